@@ -1,0 +1,35 @@
+//! Schemas, executable documents and field sets, as the layers below validation build them.
+
+pub mod coordinates;
+pub mod definitions;
+pub mod directives;
+pub mod executables;
+pub mod names;
+pub mod nodes;
+pub mod schemas;
+pub mod spans;
+pub mod type_references;
+pub mod values;
+
+pub use coordinates::{
+    DirectiveArgumentCoordinate, DirectiveCoordinate, FieldArgumentCoordinate, SchemaCoordinate,
+    TypeAttributeCoordinate, TypeCoordinate,
+};
+pub use definitions::{
+    DirectiveDefinition, DirectiveLocation, EnumValueDefinition, FieldDefinition,
+    InputValueDefinition, OperationType, VariableDefinition,
+};
+pub use directives::{Argument, Directive};
+pub use executables::{
+    ExecutableDocument, Field, FieldSet, Fragment, FragmentSpread, InlineFragment, Operation,
+    OperationMap, Selection, SelectionSet, Valid,
+};
+pub use names::{Name, NamedType};
+pub use nodes::{Component, ComponentName, ComponentOrigin, ExtensionId, Node};
+pub use schemas::{
+    EnumType, ExtendedType, InputObjectType, InterfaceType, ObjectType, ScalarType, Schema,
+    SchemaDefinition, UnionType,
+};
+pub use spans::{FileId, SourceSpan};
+pub use type_references::Type;
+pub use values::{FloatValue, IntValue, Value};
