@@ -4,6 +4,7 @@ pub mod coordinates;
 pub mod definitions;
 pub mod directives;
 pub mod executables;
+pub mod meta_fields;
 pub mod names;
 pub mod nodes;
 pub mod schemas;
@@ -24,10 +25,11 @@ pub use executables::{
     ExecutableDocument, Field, FieldSet, Fragment, FragmentSpread, InlineFragment, Operation,
     OperationMap, Selection, SelectionSet, Valid,
 };
+pub use meta_fields::MetaFields;
 pub use names::{Name, NamedType};
 pub use nodes::{Component, ComponentName, ComponentOrigin, ExtensionId, Node};
 pub use schemas::{
-    EnumType, ExtendedType, InputObjectType, InterfaceType, ObjectType, ScalarType, Schema,
+    EnumType, ExtendedType, FieldLookupError, InputObjectType, InterfaceType, ObjectType, ScalarType, Schema,
     SchemaDefinition, UnionType,
 };
 pub use spans::{FileId, SourceSpan};

@@ -15,6 +15,20 @@ pub struct InputValueDefinition {
     pub directives: Vec<Node<Directive>>,
 }
 
+impl InputValueDefinition {
+    ghost use Rattle.std.specs.Prelude.{◌≡◌};
+    ghost use Rattle.graphql_documents.specs.Schemas.{is_required};
+
+    /// Whether a value must be given: the type is non-null, and there is no default.
+    ///
+    /// Specification: 5.4.2.1 Required Arguments.
+    pub fn is_required(&self) -> bool
+        ensures { result ≡ is_required self.now }
+    {
+        self.ty.value.is_non_null() && self.default_value.is_none()
+    }
+}
+
 /// A field of an object type or an interface.
 ///
 /// Specification: 3.6 Objects.

@@ -39,6 +39,23 @@ pub struct Field {
     pub selection_set: SelectionSet,
 }
 
+impl Field {
+    ghost use Rattle.std.specs.Prelude.{◌≡◌};
+    ghost use Rattle.graphql_documents.specs.Selections.{response_key};
+
+    /// The key of the field in a response: its alias, else its name.
+    ///
+    /// Specification: 2.7 Field Alias.
+    pub fn response_key(&self) -> &Name
+        ensures { result.now ≡ response_key self.now }
+    {
+        match &self.alias {
+            Some(alias) => alias,
+            None => &self.name,
+        }
+    }
+}
+
 /// A spread of a named fragment.
 ///
 /// Specification: 2.8 Fragments.

@@ -2,7 +2,8 @@ use super::definitions::{
     DirectiveDefinition, EnumValueDefinition, FieldDefinition, InputValueDefinition,
 };
 use super::directives::Directive;
-use super::names::Name;
+use super::meta_fields::MetaFields;
+use super::names::{Name, NamedType};
 use super::nodes::{Component, ComponentName, Node};
 use indexmap::{IndexMap, IndexSet};
 
@@ -99,4 +100,118 @@ pub struct Schema {
     pub schema_definition: Node<SchemaDefinition>,
     pub directive_definitions: IndexMap<Name, Node<DirectiveDefinition>>,
     pub types: IndexMap<Name, ExtendedType>,
+    pub meta_fields: MetaFields,
+}
+
+/// Why a field has no definition.
+#[derive(Clone, Copy, Debug, PartialEq, Eq)]
+pub enum FieldLookupError {
+    /// The schema does not define the type.
+    NoSuchType,
+    /// The type does not have the field.
+    NoSuchField,
+}
+
+impl ExtendedType {
+    ghost use Rattle.std.specs.Prelude.{◌≡◌};
+    ghost use Rattle.std.specs.Option.{option_copied};
+    ghost use Rattle.graphql_documents.specs.Schemas.{is_composite, kind_text, own_field};
+
+    /// Whether the type is an object, an interface or a union, so that its fields are selected.
+    pub fn is_composite(&self) -> bool
+        ensures { result ≡ is_composite self.now }
+    {
+        matches!(
+            self,
+            ExtendedType::Object(_) | ExtendedType::Interface(_) | ExtendedType::Union(_)
+        )
+    }
+
+    /// What a message calls the kind of the type.
+    pub fn describe(&self) -> &'static str
+        ensures { result.now ≡ kind_text self.now }
+    {
+        match self {
+            ExtendedType::Scalar(_) => "a scalar type",
+            ExtendedType::Object(_) => "an object type",
+            ExtendedType::Interface(_) => "an interface type",
+            ExtendedType::Union(_) => "a union type",
+            ExtendedType::Enum(_) => "an enum type",
+            ExtendedType::InputObject(_) => "an input object type",
+        }
+    }
+
+    /// A field that the type itself defines.
+    fn own_field(&self, field_name: &Name) -> Option<&Component<FieldDefinition>>
+        ensures { option_copied result ≡ own_field self.now field_name.now }
+    {
+        match self {
+            ExtendedType::Object(definition) => definition.value.fields.get(field_name),
+            ExtendedType::Interface(definition) => definition.value.fields.get(field_name),
+            _ => None,
+        }
+    }
+}
+
+impl Schema {
+    ghost use Rattle.std.specs.Prelude.{◌≡◌, MatchResult, Ok, Err};
+    ghost use Rattle.std.specs.Option.{option_copied};
+    ghost use Rattle.graphql_documents.specs.Schemas.{type_field, meta_field, is_query_root};
+
+    /// The definition of a field of a type: the type's own field, else a meta-field that it has.
+    ///
+    /// Specification: 5.3.1 Field Selections.
+    pub fn type_field(
+        &self,
+        type_name: &NamedType,
+        field_name: &Name,
+    ) -> Result<&Component<FieldDefinition>, FieldLookupError>
+        ensures { MatchResult result
+            (λ d. type_field self.now type_name.now field_name.now ≡ Ok d.now)
+            (λ e. type_field self.now type_name.now field_name.now ≡ Err e) }
+    {
+        let Some(definition) = self.types.get(type_name) else {
+            return Err(FieldLookupError::NoSuchType);
+        };
+        if let Some(field) = definition.own_field(field_name) {
+            return Ok(field);
+        }
+        match self.meta_field(type_name, definition, field_name) {
+            Some(field) => Ok(field),
+            None => Err(FieldLookupError::NoSuchField),
+        }
+    }
+
+    fn meta_field(
+        &self,
+        type_name: &NamedType,
+        definition: &ExtendedType,
+        field_name: &Name,
+    ) -> Option<&Component<FieldDefinition>>
+        ensures { option_copied result ≡ meta_field self.now type_name.now definition.now field_name.now }
+    {
+        if !definition.is_composite() {
+            return None;
+        }
+        if field_name.as_str() == "__typename" {
+            return Some(&self.meta_fields.typename);
+        }
+        if !self.is_query_root(type_name) {
+            return None;
+        }
+        match field_name.as_str() {
+            "__schema" => Some(&self.meta_fields.schema),
+            "__type" => Some(&self.meta_fields.type_by_name),
+            _ => None,
+        }
+    }
+
+    fn is_query_root(&self, type_name: &NamedType) -> bool
+        ensures { result ≡ is_query_root self.now type_name.now }
+    {
+        match &self.schema_definition.value.query {
+            Some(root) => root.name == *type_name,
+            None => false,
+        }
+    }
 }

@@ -1,0 +1,27 @@
+-- The meta-fields that every schema has. Specification: 4.1 Type Name Introspection, 4.2 Schema Introspection.
+use Rattle.std.specs.Prelude.{◌≡◌, ℕ, Bool, false, List, [], ◌∷◌, codes, map, is_some}
+use Rattle.graphql_documents.specs.TypeReferences.{type_text}
+use Rattle.graphql_documents.specs.declared.documents.definitions.FieldDefinition.{FieldDefinition}
+use Rattle.graphql_documents.specs.declared.documents.definitions.InputValueDefinition.{InputValueDefinition}
+
+-- the name and the type of an argument, and whether it has a default
+abbrev pub argument_signature : InputValueDefinition → List ℕ × List ℕ × Bool
+argument_signature d = (d.name.text, type_text d.ty.value.value, is_some d.default_value)
+
+-- the field has this name, these arguments and this type
+pub record HasSignature (d : FieldDefinition) (name : List ℕ) (arguments : List (List ℕ × List ℕ × Bool)) (ty : List ℕ) : Type 0 where
+  pub named : d.name.text ≡ name
+  pub takes : map (λ a. argument_signature a.value.value) d.arguments.items ≡ arguments
+  pub gives : type_text d.ty ≡ ty
+
+-- `__typename: String!`
+abbrev pub IsTypename : FieldDefinition → Type 0
+IsTypename d = HasSignature d (codes "__typename") [] (codes "String!")
+
+-- `__schema: __Schema!`
+abbrev pub IsSchemaField : FieldDefinition → Type 0
+IsSchemaField d = HasSignature d (codes "__schema") [] (codes "__Schema!")
+
+-- `__type(name: String!): __Type`
+abbrev pub IsTypeField : FieldDefinition → Type 0
+IsTypeField d = HasSignature d (codes "__type") ((codes "name", codes "String!", false) ∷ []) (codes "__Type")
