@@ -1,7 +1,12 @@
+pub mod Arguments
 pub mod Coordinates
+pub mod Diagnostics
+pub mod Fields
+pub mod Messages
 pub mod MetaFields
 pub mod Names
 pub mod Nodes
+pub mod Reports
 pub mod Schemas
 pub mod Selections
 pub mod TypeReferences

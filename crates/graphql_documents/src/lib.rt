@@ -2,4 +2,5 @@
 //! definitions that say when they are valid.
 #![tactic(auto)]
 
+pub mod diagnostics;
 pub mod documents;

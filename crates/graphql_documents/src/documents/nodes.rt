@@ -1,8 +1,9 @@
-ghost use Rattle.std.specs.Prelude.{◌≡◌, IfOk, IfErr, None, Some};
+ghost use Rattle.std.specs.Prelude.{◌≡◌, IfOk, None, Some};
 
 use super::names::Name;
 use super::spans::SourceSpan;
-use std::alloc::{AllocError, AllocFailed, Global};
+use crate::diagnostics::errors::ValidationError;
+use std::alloc::{AllocError, Global};
 use std::rc::Rc;
 
 /// A shared value, and where it stands. Nodes are compared and hashed by their values alone.
@@ -14,30 +15,29 @@ pub struct Node<T> {
     pub location: Option<SourceSpan>,
 }
 
-impl<T> Node<T> {
-    /// A node of this value with no location. Its error gives the value back.
-    pub fn new(alloc: Global, value: T) -> Result<Node<T>, AllocFailed<T>>
+impl<T: Drop> Node<T> {
+    /// A node of this value with no location.
+    pub fn new(alloc: Global, value: T) -> Result<Node<T>, ValidationError>
         ensures value { IfOk result (λ node. node.value.value ≡ value) }
         ensures location { IfOk result (λ node. node.location ≡ None) }
-        ensures value_returned { IfErr result (λ e. e.value ≡ value) }
     {
-        let value = Rc::new(alloc, value)?;
-        Ok(Node { value, location: None })
+        Ok(Node {
+            value: Rc::new(alloc, value)?,
+            location: None,
+        })
     }
 
-    /// A node of this value at this place. Its error gives the value back.
+    /// A node of this value at this place.
     pub fn new_located(
         alloc: Global,
         value: T,
         location: SourceSpan,
-    ) -> Result<Node<T>, AllocFailed<T>>
+    ) -> Result<Node<T>, ValidationError>
         ensures value { IfOk result (λ node. node.value.value ≡ value) }
         ensures location { IfOk result (λ node. node.location ≡ Some location) }
-        ensures value_returned { IfErr result (λ e. e.value ≡ value) }
     {
-        let value = Rc::new(alloc, value)?;
         Ok(Node {
-            value,
+            value: Rc::new(alloc, value)?,
             location: Some(location),
         })
     }

@@ -1,0 +1,37 @@
+-- Arguments against their definitions. Specification: 5.4 Arguments.
+use Rattle.std.specs.Prelude.{◌≡◌, ◌≢◌, Bool, true, false, List, Option, Some, None, All, AllPairs, Contains, find, IsSome, IsSomeAnd}
+use Rattle.graphql_documents.specs.Names.{NameText, same_name}
+use Rattle.graphql_documents.specs.Schemas.{is_required}
+use Rattle.graphql_documents.specs.declared.documents.nodes.Node.{Node}
+use Rattle.graphql_documents.specs.declared.documents.directives.Argument.{Argument}
+use Rattle.graphql_documents.specs.declared.documents.definitions.InputValueDefinition.{InputValueDefinition}
+use Rattle.graphql_documents.specs.declared.documents.values.Value.TheVariants.{Null}
+
+-- the first argument with this name
+abbrev pub argument_named : NameText → List (Node Argument) → Option (Node Argument)
+argument_named name given = find (λ a. same_name a.value.value.name name) given
+
+-- the first definition with this name
+abbrev pub definition_named : NameText → List (Node InputValueDefinition) → Option (Node InputValueDefinition)
+definition_named name definitions = find (λ d. same_name d.value.value.name name) definitions
+
+-- no two arguments have one name. Specification: 5.4.2 Argument Uniqueness
+abbrev pub HasDistinctNames : List (Node Argument) → Type 0
+HasDistinctNames given = AllPairs (λ a b. same_name a.value.value.name b.value.value.name ≡ false) given
+
+-- a is an argument that is defined. Specification: 5.4.1 Argument Names
+abbrev pub IsDefined : List (Node InputValueDefinition) → Node Argument → Type 0
+IsDefined definitions a = IsSome (definition_named a.value.value.name definitions)
+
+-- the first argument with this name is there, and is not literally null
+abbrev pub IsGiven : List (Node Argument) → NameText → Type 0
+IsGiven given name = IsSomeAnd (argument_named name given) (λ a. a.value.value.value.value.value ≢ Null)
+
+-- where d must be given, it is. Specification: 5.4.2.1 Required Arguments
+abbrev pub IsGivenIfRequired : List (Node Argument) → Node InputValueDefinition → Type 0
+IsGivenIfRequired given d = is_required d.value.value ≡ true → IsGiven given d.value.value.name
+
+-- the arguments agree with the definitions: each is defined, and each required one is given
+pub record ArgumentsHold (definitions : List (Node InputValueDefinition)) (given : List (Node Argument)) : Type 0 where
+  pub defined : All (IsDefined definitions) given
+  pub required : All (IsGivenIfRequired given) definitions

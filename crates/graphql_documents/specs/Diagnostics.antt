@@ -1,0 +1,8 @@
+-- Lists of reports.
+use Rattle.std.specs.Prelude.{List}
+use Rattle.graphql_documents.specs.declared.diagnostics.lists.DiagnosticEntry.{DiagnosticEntry}
+use Rattle.graphql_documents.specs.declared.diagnostics.lists.DiagnosticList.{DiagnosticList}
+
+-- the reports of a list, in the order in which they were pushed
+abbrev pub entries : DiagnosticList → List DiagnosticEntry
+entries list = list.entries.items

@@ -1,0 +1,27 @@
+-- What a call that reports has done to a list of reports.
+use Rattle.std.specs.Prelude.{◌≡◌, ◌↔◌, List, [], ◌++◌, All, Result, MatchResult}
+use Rattle.graphql_documents.specs.Diagnostics.{entries}
+use Rattle.graphql_documents.specs.declared.diagnostics.lists.DiagnosticEntry.{DiagnosticEntry}
+use Rattle.graphql_documents.specs.declared.diagnostics.lists.DiagnosticList.{DiagnosticList}
+
+module _ {Entry : Type 0} where
+  -- the new list is the old one with more reports behind it, each of them true
+  pub record KeepsReports (IsTrueReport : Entry → Type 0) (old new : List Entry) : Type 0 where
+    pub added : List Entry
+    pub appended : new ≡ old ++ added
+    pub each : All IsTrueReport added
+
+  -- the same, and there is no further report exactly where the rule holds
+  pub record Reports (Holds : Type 0) (IsTrueReport : Entry → Type 0) (old new : List Entry) : Type 0 where
+    pub added : List Entry
+    pub appended : new ≡ old ++ added
+    pub silent : (added ≡ []) ↔ Holds
+    pub each : All IsTrueReport added
+
+-- a call that checks a rule: where it answers, it reports nothing exactly where the rule holds; in
+-- any case the old reports stay, and each further one is true
+abbrev pub Checks : {T E : Type 0} → Result T E → Type 0 → (DiagnosticEntry → Type 0) → DiagnosticList → DiagnosticList → Type 0
+Checks result Holds IsTrueReport old new =
+    MatchResult result
+    (λ _. Reports Holds IsTrueReport (entries old) (entries new))
+    (λ _. KeepsReports IsTrueReport (entries old) (entries new))
