@@ -1,6 +1,8 @@
 pub mod Arguments
+pub mod BrokenRules
 pub mod Coordinates
 pub mod Diagnostics
+pub mod FieldSets
 pub mod Fields
 pub mod Messages
 pub mod MetaFields

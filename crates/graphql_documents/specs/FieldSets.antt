@@ -1,0 +1,30 @@
+-- Field sets: a selection set on a named type, without an operation.
+use Rattle.std.specs.Prelude.{◌≡◌, Some, []}
+use Rattle.graphql_documents.specs.Selections.{Written, no_fragments}
+use Rattle.graphql_documents.specs.Fields.{PlacedSelectionsHold}
+use Rattle.graphql_documents.specs.BrokenRules.{NamesBrokenRule}
+use Rattle.graphql_documents.specs.declared.documents.nodes.Node.{Node}
+use Rattle.graphql_documents.specs.declared.documents.schemas.Schema.{Schema}
+use Rattle.graphql_documents.specs.declared.documents.executables.SelectionSet.{SelectionSet}
+use Rattle.graphql_documents.specs.declared.documents.executables.Selection.{Selection}
+use Rattle.graphql_documents.specs.declared.documents.executables.Field.{Field}
+use Rattle.graphql_documents.specs.declared.documents.executables.Selection.TheVariants as kind
+use Rattle.graphql_documents.specs.declared.diagnostics.lists.DiagnosticEntry.{DiagnosticEntry}
+
+-- the selection is a field without directives
+pub record IsPlainField (s : Selection) : Type 0 where
+  pub field : Node Field
+  pub is_field : s ≡ kind.Field field
+  pub no_directives : field.value.value.directives.items ≡ []
+
+-- no selection at any depth is a fragment or has a directive
+abbrev pub IsPlain : SelectionSet → Type 0
+IsPlain set = (s : Selection) → Written set s → IsPlainField s
+
+-- every selection that is reached holds, from the set's own type
+abbrev pub FieldSetHolds : Schema → SelectionSet → Type 0
+FieldSetHolds schema set = PlacedSelectionsHold (Some schema) no_fragments (Some set.ty) set
+
+-- the report names a rule that is broken at a selection that is reached, from the set's own type
+abbrev pub NamesBrokenFieldSetRule : Schema → SelectionSet → DiagnosticEntry → Type 0
+NamesBrokenFieldSetRule schema set = NamesBrokenRule (Some schema) no_fragments (Some set.ty) set
