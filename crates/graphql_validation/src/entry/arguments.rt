@@ -1,0 +1,153 @@
+ghost use Rattle.std.specs.Prelude.{◌≡◌, ◌↔◌, IsTrue};
+ghost use Rattle.std.specs.Option.{option_copied};
+ghost use Rattle.graphql_documents.specs.Arguments.{HasDistinctNames, ArgumentsHold, argument_named, definition_named, IsDefined, IsGiven};
+ghost use Rattle.graphql_documents.specs.Reports.{Checks};
+
+use graphql_documents::diagnostics::{Details, DiagnosticData, DiagnosticList, ValidationError};
+use graphql_documents::documents::{
+    Argument, Component, Field, FieldArgumentCoordinate, FieldDefinition, InputValueDefinition,
+    Name, NamedType, Node, SchemaCoordinate, SourceSpan, TypeAttributeCoordinate, Value,
+};
+use std::collections::HashMap;
+
+/// Reports each argument that repeats the name of an earlier one, in order.
+pub(crate) fn validate_arguments(
+    diagnostics: &mut DiagnosticList,
+    arguments: &[Node<Argument>],
+) -> Result<(), ValidationError> {
+    let mut seen: HashMap<&Name, Option<SourceSpan>> = HashMap::new(diagnostics.allocator());
+    for argument in arguments {
+        let name = &argument.value.name;
+        match seen.get(&name) {
+            Some(original) => {
+                let original = *original;
+                report_repetition(diagnostics, argument, original)?;
+            }
+            None => {
+                seen.insert(name, argument.location)?;
+            }
+        }
+    }
+    Ok(())
+}
+
+fn report_repetition(
+    diagnostics: &mut DiagnosticList,
+    argument: &Node<Argument>,
+    original: Option<SourceSpan>,
+) -> Result<(), ValidationError> {
+    let name = argument.value.name.clone()?;
+    diagnostics.push(
+        argument.location,
+        Details::Diagnostic(DiagnosticData::UniqueArgument {
+            name,
+            original_definition: original,
+            redefined_definition: argument.location,
+        }),
+    )
+}
+
+/// The first definition with this name.
+fn definition_named<'a>(
+    definitions: &'a [Node<InputValueDefinition>],
+    name: &Name,
+) -> Option<&'a Node<InputValueDefinition>>
+    ensures { option_copied result ≡ definition_named name.now definitions.now }
+{
+    definitions.iter().find(|d| d.value.name == *name)
+}
+
+/// The first argument with this name.
+fn argument_named<'a>(arguments: &'a [Node<Argument>], name: &Name) -> Option<&'a Node<Argument>>
+    ensures { option_copied result ≡ argument_named name.now arguments.now }
+{
+    arguments.iter().find(|a| a.value.name == *name)
+}
+
+/// Reports each argument that the definition of the field lacks, in order.
+pub(crate) fn validate_known_arguments(
+    diagnostics: &mut DiagnosticList,
+    parent: &NamedType,
+    field: &Node<Field>,
+    definition: &Component<FieldDefinition>,
+) -> Result<(), ValidationError> {
+    for argument in &field.value.arguments {
+        validate_known_argument(diagnostics, parent, field, definition, argument)?;
+    }
+    Ok(())
+}
+
+fn validate_known_argument(
+    diagnostics: &mut DiagnosticList,
+    parent: &NamedType,
+    field: &Node<Field>,
+    definition: &Component<FieldDefinition>,
+    argument: &Node<Argument>,
+) -> Result<(), ValidationError> {
+    if definition_named(&definition.node.value.arguments, &argument.value.name).is_some() {
+        return Ok(());
+    }
+    let coordinate = TypeAttributeCoordinate {
+        ty: parent.clone()?,
+        attribute: field.value.name.clone()?,
+    };
+    let name = argument.value.name.clone()?;
+    diagnostics.push(
+        argument.location,
+        Details::Diagnostic(DiagnosticData::UndefinedArgument {
+            name,
+            coordinate: SchemaCoordinate::TypeAttribute(coordinate),
+            definition_location: definition.node.location,
+        }),
+    )
+}
+
+/// Reports each required argument that the field does not give, in order of the definition.
+pub(crate) fn validate_required_arguments(
+    diagnostics: &mut DiagnosticList,
+    parent: &NamedType,
+    field: &Node<Field>,
+    definition: &Component<FieldDefinition>,
+) -> Result<(), ValidationError> {
+    for argument in &definition.node.value.arguments {
+        validate_required_argument(diagnostics, parent, field, argument)?;
+    }
+    Ok(())
+}
+
+fn validate_required_argument(
+    diagnostics: &mut DiagnosticList,
+    parent: &NamedType,
+    field: &Node<Field>,
+    argument: &Node<InputValueDefinition>,
+) -> Result<(), ValidationError> {
+    if !argument.value.is_required() || is_given(&field.value.arguments, &argument.value.name) {
+        return Ok(());
+    }
+    let coordinate = FieldArgumentCoordinate {
+        ty: parent.clone()?,
+        field: field.value.name.clone()?,
+        argument: argument.value.name.clone()?,
+    };
+    let name = argument.value.name.clone()?;
+    let expected_type = argument.value.ty.clone()?;
+    diagnostics.push(
+        field.location,
+        Details::Diagnostic(DiagnosticData::RequiredArgument {
+            name,
+            coordinate: SchemaCoordinate::FieldArgument(coordinate),
+            expected_type,
+            definition_location: argument.location,
+        }),
+    )
+}
+
+/// Whether the first argument with this name is there and not literally null.
+fn is_given(arguments: &[Node<Argument>], name: &Name) -> bool
+    ensures { IsTrue result ↔ IsGiven arguments.now name.now }
+{
+    match argument_named(arguments, name) {
+        Some(argument) => !matches!(&*argument.value.value.value, Value::Null),
+        None => false,
+    }
+}

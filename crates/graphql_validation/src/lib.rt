@@ -1,0 +1,5 @@
+//! Validation of GraphQL documents: each call reports what breaks a rule, and its contract says what
+//! it means that nothing is reported.
+#![tactic(auto)]
+
+pub mod entry;
