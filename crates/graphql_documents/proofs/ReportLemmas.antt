@@ -1,8 +1,26 @@
 -- How what several checks report composes. Each check of a rule cites these.
-use Rattle.std.proofs.Common.{◌≡◌, ◌↔◌, List, [], ◌∷◌, ◌++◌, refl, sym, ◌∙◌, ap, All, rules}
-use Rattle.std.proofs.lemmas.List.{append-nil, append_assoc}
-use Rattle.std.proofs.lemmas.List.Elements.{All-nil, All-append, All-cons, All-weaker}
-use Rattle.graphql_documents.specs.Reports.{Reports, KeepsReports}
+use Rattle.std.proofs.Common.{◌≡◌, ◌↔◌, ℕ, ◌+◌, ◌<◌, ◌≤◌, List, [], ◌∷◌, ◌++◌, length, get_or, take, refl, sym, ◌∙◌, ap, subst, All, Contains, rules, arith}
+use Rattle.std.proofs.lemmas.List.{append-nil, append_assoc, take_more, take_all}
+use Rattle.std.proofs.lemmas.List.Elements.{All-nil, All-append, All-cons, All-head, All-more, All-weaker, All-contains, All-contains_itself, Contains-append_left, Contains-append_right}
+use Rattle.std.specs.Prelude.{Result, Ok, Err, IsErr, OnOk, OnErr}
+use Rattle.std.proofs.lemmas.Result.{MatchResult-from_err}
+use Rattle.graphql_documents.specs.Diagnostics.{entries}
+use Rattle.graphql_documents.specs.Reports.{Reports, KeepsReports, Checks}
+use Rattle.graphql_documents.specs.declared.diagnostics.lists.DiagnosticEntry.{DiagnosticEntry}
+use Rattle.graphql_documents.specs.declared.diagnostics.lists.DiagnosticList.{DiagnosticList}
+
+-- an element more of a list
+pub more_is : {X : Type 0} (xs : List X) (i : ℕ) (x : X) → i < length xs → x ≡ get_or xs i x → take (i + 1) xs ≡ take i xs ++ x ∷ []
+more_is xs i x within item = take_more xs i x within ∙ ap (λ y. take i xs ++ y ∷ []) (sym item)
+
+-- each part of a list has what the whole has
+pub All-append_left : {X : Type 0} (P : X → Type 0) (xs ys : List X) → All P (xs ++ ys) → All P xs
+All-append_left P xs ys all =
+    All-weaker (Contains xs) P (λ x in'. All-contains P (xs ++ ys) x all (Contains-append_left xs ys x in')) xs (All-contains_itself xs)
+
+pub All-append_right : {X : Type 0} (P : X → Type 0) (xs ys : List X) → All P (xs ++ ys) → All P ys
+All-append_right P xs ys all =
+    All-weaker (Contains ys) P (λ x in'. All-contains P (xs ++ ys) x all (Contains-append_right xs ys x in')) ys (All-contains_itself ys)
 
 module _ {Entry : Type 0} where
   -- two lists that make an empty one are empty
@@ -60,9 +78,44 @@ module _ {Entry : Type 0} where
     pub in_words : (P R : Type 0) (old new : List Entry) → P ↔ R → Reports P Q old new → Reports R Q old new
     in_words P R old new w r = record { added = r.added; appended = r.appended; silent = (λ e. w.0 (r.silent.0 e), λ x. r.silent.1 (w.1 x)); each = r.each }
 
+  -- a walk over a list, check by check: none yet, one more, and all
+  module _ {X : Type 0} (P : X → Type 0) (Q : Entry → Type 0) (xs : List X) where
+    pub walked_none : (old : List Entry) → Reports (All P (take 0 xs)) Q old old
+    walked_none old = holds Q (All P (take 0 xs)) old (All-nil P)
+
+    pub walked_more : (i : ℕ) (x : X) (old mid new : List Entry) → i < length xs → x ≡ get_or xs i x →
+        Reports (All P (take i xs)) Q old mid → Reports (P x) Q mid new → Reports (All P (take (i + 1) xs)) Q old new
+    walked_more i x old mid new within item a b =
+        in_words Q (All P (take i xs) × P x) (All P (take (i + 1) xs)) old new
+        (λ p. All-more P xs i x within p.0 (subst P item p.1),
+        λ (all : All P (take (i + 1) xs)).
+          let parts : All P (take i xs ++ x ∷ []) = subst (All P) (more_is xs i x within item) all in
+          (All-append_left P (take i xs) (x ∷ []) parts, All-head P x [] (All-append_right P (take i xs) (x ∷ []) parts)))
+        (both Q (All P (take i xs)) (P x) old mid new a b)
+
+    pub walked_all : (i : ℕ) (old new : List Entry) → length xs ≤ i → Reports (All P (take i xs)) Q old new → Reports (All P xs) Q old new
+    walked_all i old new past r = subst (λ l. Reports (All P l) Q old new) (take_all i xs past) r
+
   -- the same reports, seen from further off
   pub kept_wider : (Q Q' : Entry → Type 0) (old new : List Entry) → ((e : Entry) → Q e → Q' e) → KeepsReports Q old new → KeepsReports Q' old new
   kept_wider Q Q' old new w r = record { added = r.added; appended = r.appended; each = All-weaker Q Q' w r.added r.each }
 
   pub wider : (P : Type 0) (Q Q' : Entry → Type 0) (old new : List Entry) → ((e : Entry) → Q e → Q' e) → Reports P Q old new → Reports P Q' old new
   wider P Q Q' old new w r = record { added = r.added; appended = r.appended; silent = r.silent; each = All-weaker Q Q' w r.added r.each }
+
+-- a check that ends by pushing a report of the rule that is broken
+pub checks-push : {T E : Type 0} (r : Result T E) (P : Type 0) (Q : DiagnosticEntry → Type 0) (old new : DiagnosticList) (e : DiagnosticEntry) →
+    OnOk r (entries new ≡ entries old ++ e ∷ []) → OnErr r (entries new ≡ entries old) → ¬ P → Q e → Checks r P Q old new
+checks-push (Ok x) P Q old new e ok err n q = rw ok (broken Q P (entries old) e n q)
+checks-push (Err x) P Q old new e ok err n q = rw err (kept Q (entries old))
+
+-- a check that stops at a refusal
+pub checks-err : {T E : Type 0} (r : Result T E) (P : Type 0) (Q : DiagnosticEntry → Type 0) (old new : DiagnosticList) →
+    IsErr r → KeepsReports Q (entries old) (entries new) → Checks r P Q old new
+checks-err r P Q old new e k = MatchResult-from_err r _ _ e (λ y. k)
+
+-- a check keeps the reports, whatever it answers
+pub kept_by_check : {T E : Type 0} (r : Result T E) (P : Type 0) (Q : DiagnosticEntry → Type 0) (old new : DiagnosticList) →
+    Checks r P Q old new → KeepsReports Q (entries old) (entries new)
+kept_by_check (Ok x) P Q old new h = kept_by Q P (entries old) (entries new) h
+kept_by_check (Err x) P Q old new h = h

@@ -47,6 +47,12 @@ pub record RepeatsArgument (given : List (Node Argument)) (name : NameText) (ori
   pub redefined_is : redefined ≡ again.location
   pub at_is : at ≡ again.location
 
+-- the report says that one of these arguments repeats a name
+abbrev pub ReportsRepetition : List (Node Argument) → DiagnosticEntry → Type 0
+ReportsRepetition given entry =
+    (name : NameText) × (original redefined : Option SourceSpan) ×
+    (entry.details ≡ Diagnostic (UniqueArgument name original redefined)) × RepeatsArgument given name original redefined entry.location
+
 -- an argument is not defined: reported at the argument, with the coordinate and the place of the
 -- definition that lacks it
 pub record LacksArgument (definitions : List (Node InputValueDefinition)) (given : List (Node Argument)) (owner : SchemaCoordinate) (owner_location : Option SourceSpan) (name : NameText) (coordinate : SchemaCoordinate) (definition_location at : Option SourceSpan) : Type 0 where

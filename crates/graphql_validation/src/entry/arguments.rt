@@ -1,7 +1,13 @@
-ghost use Rattle.std.specs.Prelude.{◌≡◌, ◌↔◌, IsTrue};
+ghost use Rattle.std.specs.Prelude.{◌≡◌, ◌↔◌, IsTrue, List, All, Contains};
 ghost use Rattle.std.specs.Option.{option_copied};
-ghost use Rattle.graphql_documents.specs.Arguments.{HasDistinctNames, ArgumentsHold, argument_named, definition_named, IsDefined, IsGiven};
+ghost use Rattle.graphql_documents.specs.Arguments.{HasDistinctNames, argument_named, definition_named, IsDefined, IsGiven, IsGivenIfRequired};
+ghost use Rattle.graphql_documents.specs.BrokenRules.{IsRepetition, ReportsRepetition};
 ghost use Rattle.graphql_documents.specs.Reports.{Checks};
+ghost use Rattle.graphql_documents.specs.declared.documents.nodes.Node.{Node};
+ghost use Rattle.graphql_documents.specs.declared.documents.nodes.Component.{Component};
+ghost use Rattle.graphql_documents.specs.declared.documents.directives.Argument.{Argument};
+ghost use Rattle.graphql_documents.specs.declared.documents.definitions.FieldDefinition.{FieldDefinition};
+ghost use Rattle.graphql_validation.specs.FieldWalk.{ReportsDefinedField};
 
 use graphql_documents::diagnostics::{Details, DiagnosticData, DiagnosticList, ValidationError};
 use graphql_documents::documents::{
@@ -14,7 +20,9 @@ use std::collections::HashMap;
 pub(crate) fn validate_arguments(
     diagnostics: &mut DiagnosticList,
     arguments: &[Node<Argument>],
-) -> Result<(), ValidationError> {
+) -> Result<(), ValidationError>
+    ensures { Checks result (HasDistinctNames arguments.now) (ReportsRepetition arguments.now) diagnostics.old diagnostics.new }
+{
     let mut seen: HashMap<&Name, Option<SourceSpan>> = HashMap::new(diagnostics.allocator());
     for argument in arguments {
         let name = &argument.value.name;
@@ -35,7 +43,11 @@ fn report_repetition(
     diagnostics: &mut DiagnosticList,
     argument: &Node<Argument>,
     original: Option<SourceSpan>,
-) -> Result<(), ValidationError> {
+) -> Result<(), ValidationError>
+    ensures { (given : List (Node Argument)) (first : Node Argument) →
+        IsRepetition given first argument.now → original ≡ first.location →
+        Checks result ⊥ (ReportsRepetition given) diagnostics.old diagnostics.new }
+{
     let name = argument.value.name.clone()?;
     diagnostics.push(
         argument.location,
@@ -70,7 +82,11 @@ pub(crate) fn validate_known_arguments(
     parent: &NamedType,
     field: &Node<Field>,
     definition: &Component<FieldDefinition>,
-) -> Result<(), ValidationError> {
+) -> Result<(), ValidationError>
+    ensures { Checks result
+        (All (IsDefined definition.now.node.value.value.arguments.items) field.now.value.value.arguments.items)
+        (ReportsDefinedField parent.now field.now definition.now) diagnostics.old diagnostics.new }
+{
     for argument in &field.value.arguments {
         validate_known_argument(diagnostics, parent, field, definition, argument)?;
     }
@@ -83,7 +99,12 @@ fn validate_known_argument(
     field: &Node<Field>,
     definition: &Component<FieldDefinition>,
     argument: &Node<Argument>,
-) -> Result<(), ValidationError> {
+) -> Result<(), ValidationError>
+    requires { Contains field.now.value.value.arguments.items argument.now }
+    ensures { Checks result
+        (IsDefined definition.now.node.value.value.arguments.items argument.now)
+        (ReportsDefinedField parent.now field.now definition.now) diagnostics.old diagnostics.new }
+{
     if definition_named(&definition.node.value.arguments, &argument.value.name).is_some() {
         return Ok(());
     }
@@ -108,7 +129,11 @@ pub(crate) fn validate_required_arguments(
     parent: &NamedType,
     field: &Node<Field>,
     definition: &Component<FieldDefinition>,
-) -> Result<(), ValidationError> {
+) -> Result<(), ValidationError>
+    ensures { Checks result
+        (All (IsGivenIfRequired field.now.value.value.arguments.items) definition.now.node.value.value.arguments.items)
+        (ReportsDefinedField parent.now field.now definition.now) diagnostics.old diagnostics.new }
+{
     for argument in &definition.node.value.arguments {
         validate_required_argument(diagnostics, parent, field, argument)?;
     }
@@ -120,7 +145,11 @@ fn validate_required_argument(
     parent: &NamedType,
     field: &Node<Field>,
     argument: &Node<InputValueDefinition>,
-) -> Result<(), ValidationError> {
+) -> Result<(), ValidationError>
+    ensures { (d : Component FieldDefinition) → Contains d.node.value.value.arguments.items argument.now →
+        Checks result (IsGivenIfRequired field.now.value.value.arguments.items argument.now)
+        (ReportsDefinedField parent.now field.now d) diagnostics.old diagnostics.new }
+{
     if !argument.value.is_required() || is_given(&field.value.arguments, &argument.value.name) {
         return Ok(());
     }

@@ -1,0 +1,46 @@
+-- The first argument with a name, and lists of arguments with distinct names.
+use Rattle.std.proofs.Common.{◌≡◌, ◌↔◌, ℕ, zero, suc, ◌+◌, ◌<◌, List, [], ◌∷◌, ◌++◌, length, get_or, take, Bool, true, false, cond, Option, Some, None, refl, sym, ◌∙◌, ap, subst, All, Contains, AllPairs, find, arith}
+use Rattle.std.specs.Option.{option_or}
+use Rattle.std.proofs.lemmas.List.{get_or_append_left, get_or_push, length-append}
+use Rattle.std.proofs.lemmas.List.Folds.{find-append}
+use Rattle.std.proofs.lemmas.List.Quantifiers.{all_pairs_push}
+use Rattle.graphql_documents.specs.Names.{NameText, same_name}
+use Rattle.graphql_documents.specs.Arguments.{argument_named, HasDistinctNames}
+use Rattle.graphql_documents.specs.BrokenRules.{IsRepetition}
+use Rattle.graphql_documents.specs.declared.documents.nodes.Node.{Node}
+use Rattle.graphql_documents.specs.declared.documents.directives.Argument.{Argument}
+use Rattle.graphql_documents.proofs.ReportLemmas.{more_is}
+
+-- a first choice that is none was not taken
+cond_none : {X : Type 0} (b : Bool) (x : X) (o : Option X) → cond b (Some x) o ≡ None → (b ≡ false) × (o ≡ None)
+cond_none true x o e = absurd (let h : ⊥ = cc in h)
+cond_none false x o e = (refl, e)
+
+-- no element passes a test that finds none
+pub find_none : {X : Type 0} (p : X → Bool) (xs : List X) (k : ℕ) (d : X) → find p xs ≡ None → k < length xs → p (get_or xs k d) ≡ false
+find_none p [] k d e h = absurd (omega arith)
+find_none p (x ∷ xs) zero d e h = (cond_none (p x) x (find p xs) e).0
+find_none p (x ∷ xs) (suc k) d e h = find_none p xs k d (cond_none (p x) x (find p xs) e).1 (omega arith)
+
+-- a test that no element passes finds none
+pub none_found : {X : Type 0} (p : X → Bool) (xs : List X) → ((k : ℕ) (d : X) → k < length xs → p (get_or xs k d) ≡ false) → find p xs ≡ None
+none_found p [] h = refl
+none_found p (x ∷ xs) h =
+    let head : p x ≡ false = h 0 x (omega arith) in
+    rw head (none_found p xs (λ k d l. h (suc k) d (omega arith)))
+
+-- names stay distinct exactly where the next one is new
+pub distinct_more : (xs : List (Node Argument)) (x : Node Argument) →
+    (HasDistinctNames xs × (argument_named x.value.value.name xs ≡ None)) ↔ HasDistinctNames (xs ++ x ∷ [])
+distinct_more xs x =
+    (λ p. all_pairs_push (λ (a b : Node Argument). same_name a.value.value.name b.value.value.name ≡ false) xs x p.0
+      (λ k d h. find_none (λ a. same_name a.value.value.name x.value.value.name) xs k d p.1 h),
+    λ all.
+      (λ i j d lt h.
+        let at_i = get_or_append_left xs (x ∷ []) d i (omega arith) in
+        let at_j = get_or_append_left xs (x ∷ []) d j h in
+        rw (at_i, at_j) at (all i j d lt (omega (arith, length-append xs (x ∷ [])))),
+      none_found (λ a. same_name a.value.value.name x.value.value.name) xs (λ k d h.
+        let at_k = get_or_append_left xs (x ∷ []) d k h in
+        let at_end = get_or_push xs x d (length xs) refl in
+        rw (at_k, at_end) at (all k (length xs) d h (omega (arith, length-append xs (x ∷ [])))))))

@@ -1,0 +1,42 @@
+-- The steps of the walk over fields, for the contracts of its private functions.
+use Rattle.std.specs.Prelude.{◌≡◌, Option, Some, Contains, Ok}
+use Rattle.graphql_documents.specs.Names.{NameText}
+use Rattle.graphql_documents.specs.TypeReferences.{inner_named_type}
+use Rattle.graphql_documents.specs.Schemas.{type_field}
+use Rattle.graphql_documents.specs.Selections.{selections_of, definition_at, no_fragments}
+use Rattle.graphql_documents.specs.Fields.{FieldHolds}
+use Rattle.graphql_documents.specs.BrokenRules.{ReportsField, NamesBrokenRule}
+use Rattle.graphql_documents.specs.declared.documents.nodes.Node.{Node}
+use Rattle.graphql_documents.specs.declared.documents.nodes.Component.{Component}
+use Rattle.graphql_documents.specs.declared.documents.definitions.FieldDefinition.{FieldDefinition}
+use Rattle.graphql_documents.specs.declared.documents.schemas.Schema.{Schema}
+use Rattle.graphql_documents.specs.declared.documents.executables.SelectionSet.{SelectionSet}
+use Rattle.graphql_documents.specs.declared.documents.executables.Field.{Field}
+use Rattle.graphql_documents.specs.declared.documents.executables.Selection.TheVariants as kind
+use Rattle.graphql_documents.specs.declared.diagnostics.lists.DiagnosticEntry.{DiagnosticEntry}
+
+-- the report names a rule that the field breaks, in a schema where it has this definition
+abbrev pub ReportsDefinedField : NameText → Node Field → Component FieldDefinition → DiagnosticEntry → Type 0
+ReportsDefinedField parent f d entry =
+    (schema : Option Schema) → definition_at schema (Some parent) f.value.value.name ≡ Some d →
+    ReportsField schema (Some parent) f entry
+
+-- the field is reached from the set through sets of fields alone, and stands on a type of this name
+pub data ReachedByFields (schema : Schema) : NameText → SelectionSet → Node Field → NameText → Type 0 where
+  stands : {parent : NameText} {set : SelectionSet} {f : Node Field} →
+      Contains (selections_of set) (kind.Field f) → ReachedByFields schema parent set f parent
+  below : {parent at : NameText} {set : SelectionSet} {f g : Node Field} {d : Component FieldDefinition} →
+      Contains (selections_of set) (kind.Field g) → type_field schema parent g.value.value.name ≡ Ok d →
+      ReachedByFields schema (inner_named_type d.node.value.value.ty) g.value.value.selection_set f at →
+      ReachedByFields schema parent set f at
+
+-- each field that is so reached holds
+abbrev pub ReachedFieldsHold : Schema → NameText → SelectionSet → Type 0
+ReachedFieldsHold schema parent set =
+    (f : Node Field) (at : NameText) → ReachedByFields schema parent set f at → FieldHolds (Some schema) (Some at) f.value.value
+
+-- the field holds, and so does each field reached from its set
+pub record FieldHoldsBelow (schema : Schema) (parent : NameText) (f : Node Field) : Type 0 where
+  pub itself : FieldHolds (Some schema) (Some parent) f.value.value
+  pub below_it : (d : Component FieldDefinition) → type_field schema parent f.value.value.name ≡ Ok d →
+      ReachedFieldsHold schema (inner_named_type d.node.value.value.ty) f.value.value.selection_set
