@@ -2,12 +2,9 @@
 use Rattle.std.proofs.Common.{◌≡◌, ◌↔◌, ℕ, ◌+◌, ◌<◌, ◌≤◌, List, [], ◌∷◌, ◌++◌, length, get_or, take, refl, sym, ◌∙◌, ap, subst, All, Contains, rules, arith}
 use Rattle.std.proofs.lemmas.List.{append-nil, append_assoc, take_more, take_all}
 use Rattle.std.proofs.lemmas.List.Elements.{All-nil, All-append, All-cons, All-head, All-more, All-weaker, All-contains, All-contains_itself, Contains-append_left, Contains-append_right}
-use Rattle.std.specs.Prelude.{Result, Ok, Err, IsErr, OnOk, OnErr}
+use Rattle.std.specs.Prelude.{Result, Ok, Err, IsErr, OnOk, OnErr, MatchResult}
 use Rattle.std.proofs.lemmas.Result.{MatchResult-from_err}
-use Rattle.graphql_documents.specs.Diagnostics.{entries}
-use Rattle.graphql_documents.specs.Reports.{Reports, KeepsReports, Checks}
-use Rattle.graphql_documents.specs.declared.diagnostics.lists.DiagnosticEntry.{DiagnosticEntry}
-use Rattle.graphql_documents.specs.declared.diagnostics.lists.DiagnosticList.{DiagnosticList}
+use Rattle.graphql_documents.specs.Reports.{Reports, KeepsReports}
 
 -- an element more of a list
 pub more_is : {X : Type 0} (xs : List X) (i : ℕ) (x : X) → i < length xs → x ≡ get_or xs i x → take (i + 1) xs ≡ take i xs ++ x ∷ []
@@ -60,8 +57,8 @@ module _ {Entry : Type 0} where
     holds P old p = record { added = []; appended = sym (append-nil old); silent = (λ _. p, λ _. refl); each = All-nil Q }
 
     -- the rule is broken, and one report says so
-    pub broken : (P : Type 0) (old : List Entry) (e : Entry) → ¬ P → Q e → Reports P Q old (old ++ e ∷ [])
-    broken P old e n q = record { added = e ∷ []; appended = refl; silent = (λ (h : e ∷ [] ≡ []). absurd (let h' : ⊥ = cc in h'), λ p. absurd (n p)); each = All-cons Q e [] q (All-nil Q) }
+    pub broken : (P : Type 0) (old new : List Entry) (e : Entry) → new ≡ old ++ e ∷ [] → ¬ P → Q e → Reports P Q old new
+    broken P old new e is n q = record { added = e ∷ []; appended = is; silent = (λ (h : e ∷ [] ≡ []). absurd (let h' : ⊥ = cc in h'), λ p. absurd (n p)); each = All-cons Q e [] q (All-nil Q) }
 
     -- two checks, one after another
     pub both : (P R : Type 0) (old mid new : List Entry) → Reports P Q old mid → Reports R Q mid new → Reports (P × R) Q old new
@@ -93,8 +90,9 @@ module _ {Entry : Type 0} where
           (All-append_left P (take i xs) (x ∷ []) parts, All-head P x [] (All-append_right P (take i xs) (x ∷ []) parts)))
         (both Q (All P (take i xs)) (P x) old mid new a b)
 
-    pub walked_all : (i : ℕ) (old new : List Entry) → length xs ≤ i → Reports (All P (take i xs)) Q old new → Reports (All P xs) Q old new
-    walked_all i old new past r = subst (λ l. Reports (All P l) Q old new) (take_all i xs past) r
+    pub walked_all : (i : ℕ) (ys : List X) (old new : List Entry) → xs ≡ ys → length xs ≤ i →
+        Reports (All P (take i xs)) Q old new → Reports (All P ys) Q old new
+    walked_all i ys old new same past r = subst (λ l. Reports (All P l) Q old new) (take_all i xs past ∙ same) r
 
   -- the same reports, seen from further off
   pub kept_wider : (Q Q' : Entry → Type 0) (old new : List Entry) → ((e : Entry) → Q e → Q' e) → KeepsReports Q old new → KeepsReports Q' old new
@@ -103,19 +101,23 @@ module _ {Entry : Type 0} where
   pub wider : (P : Type 0) (Q Q' : Entry → Type 0) (old new : List Entry) → ((e : Entry) → Q e → Q' e) → Reports P Q old new → Reports P Q' old new
   wider P Q Q' old new w r = record { added = r.added; appended = r.appended; silent = r.silent; each = All-weaker Q Q' w r.added r.each }
 
+-- what `Checks` says, of the reports as lists
+abbrev pub ChecksList : {T E Entry : Type 0} → Result T E → Type 0 → (Entry → Type 0) → List Entry → List Entry → Type 0
+ChecksList r P Q old new = MatchResult r (λ _. Reports P Q old new) (λ _. KeepsReports Q old new)
+
 -- a check that ends by pushing a report of the rule that is broken
-pub checks-push : {T E : Type 0} (r : Result T E) (P : Type 0) (Q : DiagnosticEntry → Type 0) (old new : DiagnosticList) (e : DiagnosticEntry) →
-    OnOk r (entries new ≡ entries old ++ e ∷ []) → OnErr r (entries new ≡ entries old) → ¬ P → Q e → Checks r P Q old new
-checks-push (Ok x) P Q old new e ok err n q = rw ok (broken Q P (entries old) e n q)
-checks-push (Err x) P Q old new e ok err n q = rw err (kept Q (entries old))
+pub checks-push : {T E Entry : Type 0} (r : Result T E) (P : Type 0) (Q : Entry → Type 0) (old new : List Entry) (e : Entry) →
+    OnOk r (new ≡ old ++ e ∷ []) → OnErr r (new ≡ old) → ¬ P → Q e → ChecksList r P Q old new
+checks-push (Ok x) P Q old new e ok err n q = broken Q P old new e ok n q
+checks-push (Err x) P Q old new e ok err n q = subst (KeepsReports Q old) (sym err) (kept Q old)
 
 -- a check that stops at a refusal
-pub checks-err : {T E : Type 0} (r : Result T E) (P : Type 0) (Q : DiagnosticEntry → Type 0) (old new : DiagnosticList) →
-    IsErr r → KeepsReports Q (entries old) (entries new) → Checks r P Q old new
-checks-err r P Q old new e k = MatchResult-from_err r _ _ e (λ y. k)
+pub checks-err : {T E Entry : Type 0} (r : Result T E) (P : Type 0) (Q : Entry → Type 0) (old new : List Entry) →
+    IsErr r → KeepsReports Q old new → ChecksList r P Q old new
+checks-err r P Q old new e k = MatchResult-from_err r (λ _. Reports P Q old new) (λ _. KeepsReports Q old new) e (λ y. k)
 
 -- a check keeps the reports, whatever it answers
-pub kept_by_check : {T E : Type 0} (r : Result T E) (P : Type 0) (Q : DiagnosticEntry → Type 0) (old new : DiagnosticList) →
-    Checks r P Q old new → KeepsReports Q (entries old) (entries new)
-kept_by_check (Ok x) P Q old new h = kept_by Q P (entries old) (entries new) h
+pub kept_by_check : {T E Entry : Type 0} (r : Result T E) (P : Type 0) (Q : Entry → Type 0) (old new : List Entry) →
+    ChecksList r P Q old new → KeepsReports Q old new
+kept_by_check (Ok x) P Q old new h = kept_by Q P old new h
 kept_by_check (Err x) P Q old new h = h

@@ -1,19 +1,26 @@
 -- The steps of the walk over fields, for the contracts of its private functions.
-use Rattle.std.specs.Prelude.{◌≡◌, Option, Some, Contains, Ok}
+use Rattle.std.specs.Prelude.{◌≡◌, true, Option, Some, [], Contains, Ok}
 use Rattle.graphql_documents.specs.Names.{NameText}
 use Rattle.graphql_documents.specs.TypeReferences.{inner_named_type}
-use Rattle.graphql_documents.specs.Schemas.{type_field}
+use Rattle.graphql_documents.specs.Schemas.{type_field, is_composite}
 use Rattle.graphql_documents.specs.Selections.{selections_of, definition_at, no_fragments}
-use Rattle.graphql_documents.specs.Fields.{FieldHolds}
+use Rattle.graphql_documents.specs.Fields.{FieldHolds, HasDefinition}
 use Rattle.graphql_documents.specs.BrokenRules.{ReportsField, NamesBrokenRule}
 use Rattle.graphql_documents.specs.declared.documents.nodes.Node.{Node}
 use Rattle.graphql_documents.specs.declared.documents.nodes.Component.{Component}
 use Rattle.graphql_documents.specs.declared.documents.definitions.FieldDefinition.{FieldDefinition}
 use Rattle.graphql_documents.specs.declared.documents.schemas.Schema.{Schema}
+use Rattle.graphql_documents.specs.declared.documents.schemas.ExtendedType.{ExtendedType}
 use Rattle.graphql_documents.specs.declared.documents.executables.SelectionSet.{SelectionSet}
 use Rattle.graphql_documents.specs.declared.documents.executables.Field.{Field}
 use Rattle.graphql_documents.specs.declared.documents.executables.Selection.TheVariants as kind
 use Rattle.graphql_documents.specs.declared.diagnostics.lists.DiagnosticEntry.{DiagnosticEntry}
+
+-- the field's type is this composite one, and the field selects nothing
+pub record IsUnselected (schema : Option Schema) (f : Field) (definition : FieldDefinition) (ty : ExtendedType) : Type 0 where
+  pub is_defined : HasDefinition schema (inner_named_type definition.ty) ty
+  pub composite : is_composite ty ≡ true
+  pub empty : selections_of f.selection_set ≡ []
 
 -- the report names a rule that the field breaks, in a schema where it has this definition
 abbrev pub ReportsDefinedField : NameText → Node Field → Component FieldDefinition → DiagnosticEntry → Type 0

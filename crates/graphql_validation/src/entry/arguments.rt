@@ -1,4 +1,4 @@
-ghost use Rattle.std.specs.Prelude.{◌≡◌, ◌↔◌, IsTrue, List, All, Contains};
+ghost use Rattle.std.specs.Prelude.{◌≡◌, ◌↔◌, IsTrue, IfOk, List, All, Contains};
 ghost use Rattle.std.specs.Option.{option_copied};
 ghost use Rattle.graphql_documents.specs.Arguments.{HasDistinctNames, argument_named, definition_named, IsDefined, IsGiven, IsGivenIfRequired};
 ghost use Rattle.graphql_documents.specs.BrokenRules.{IsRepetition, ReportsRepetition};
@@ -59,6 +59,13 @@ fn report_repetition(
     )
 }
 
+/// Whether a definition has the name of the argument.
+fn is_defined(definitions: &[Node<InputValueDefinition>], argument: &Node<Argument>) -> bool
+    ensures { IsTrue result ↔ IsDefined definitions.now argument.now }
+{
+    definition_named(definitions, &argument.value.name).is_some()
+}
+
 /// The first definition with this name.
 fn definition_named<'a>(
     definitions: &'a [Node<InputValueDefinition>],
@@ -69,11 +76,32 @@ fn definition_named<'a>(
     definitions.iter().find(|d| d.value.name == *name)
 }
 
-/// The first argument with this name.
-fn argument_named<'a>(arguments: &'a [Node<Argument>], name: &Name) -> Option<&'a Node<Argument>>
-    ensures { option_copied result ≡ argument_named name.now arguments.now }
+/// The coordinate of a field of this type.
+pub(crate) fn field_coordinate(
+    parent: &NamedType,
+    field: &Field,
+) -> Result<TypeAttributeCoordinate, ValidationError>
+    ensures { IfOk result (λ c. c ≡ record { ty = parent.now; attribute = field.now.name }) }
 {
-    arguments.iter().find(|a| a.value.name == *name)
+    Ok(TypeAttributeCoordinate {
+        ty: parent.clone()?,
+        attribute: field.name.clone()?,
+    })
+}
+
+/// The coordinate of an argument of a field of this type.
+fn argument_coordinate(
+    parent: &NamedType,
+    field: &Field,
+    argument: &InputValueDefinition,
+) -> Result<FieldArgumentCoordinate, ValidationError>
+    ensures { IfOk result (λ c. c ≡ record { ty = parent.now; field = field.now.name; argument = argument.now.name }) }
+{
+    Ok(FieldArgumentCoordinate {
+        ty: parent.clone()?,
+        field: field.name.clone()?,
+        argument: argument.name.clone()?,
+    })
 }
 
 /// Reports each argument that the definition of the field lacks, in order.
@@ -105,13 +133,10 @@ fn validate_known_argument(
         (IsDefined definition.now.node.value.value.arguments.items argument.now)
         (ReportsDefinedField parent.now field.now definition.now) diagnostics.old diagnostics.new }
 {
-    if definition_named(&definition.node.value.arguments, &argument.value.name).is_some() {
+    if is_defined(&definition.node.value.arguments, argument) {
         return Ok(());
     }
-    let coordinate = TypeAttributeCoordinate {
-        ty: parent.clone()?,
-        attribute: field.value.name.clone()?,
-    };
+    let coordinate = field_coordinate(parent, &field.value)?;
     let name = argument.value.name.clone()?;
     diagnostics.push(
         argument.location,
@@ -153,11 +178,7 @@ fn validate_required_argument(
     if !argument.value.is_required() || is_given(&field.value.arguments, &argument.value.name) {
         return Ok(());
     }
-    let coordinate = FieldArgumentCoordinate {
-        ty: parent.clone()?,
-        field: field.value.name.clone()?,
-        argument: argument.value.name.clone()?,
-    };
+    let coordinate = argument_coordinate(parent, &field.value, &argument.value)?;
     let name = argument.value.name.clone()?;
     let expected_type = argument.value.ty.clone()?;
     diagnostics.push(
@@ -179,4 +200,11 @@ fn is_given(arguments: &[Node<Argument>], name: &Name) -> bool
         Some(argument) => !matches!(&*argument.value.value.value, Value::Null),
         None => false,
     }
+}
+
+/// The first argument with this name.
+fn argument_named<'a>(arguments: &'a [Node<Argument>], name: &Name) -> Option<&'a Node<Argument>>
+    ensures { option_copied result ≡ argument_named name.now arguments.now }
+{
+    arguments.iter().find(|a| a.value.name == *name)
 }

@@ -1,18 +1,18 @@
-ghost use Rattle.std.specs.Prelude.{◌≡◌, Some, false, [], Contains, IfOk};
+ghost use Rattle.std.specs.Prelude.{◌≡◌, Some, false, [], Contains, IfOk, MatchOption};
 ghost use Rattle.graphql_documents.specs.Selections.{selections_of, definition_at, no_fragments};
 ghost use Rattle.graphql_documents.specs.Fields.{HasNeededSelection};
 ghost use Rattle.graphql_documents.specs.BrokenRules.{ReportsField, NamesBrokenRule};
 ghost use Rattle.graphql_documents.specs.Reports.{Checks};
 ghost use Rattle.graphql_documents.specs.declared.documents.executables.SelectionSet.{SelectionSet};
-ghost use Rattle.graphql_validation.specs.FieldWalk.{ReachedFieldsHold, FieldHoldsBelow};
+ghost use Rattle.graphql_validation.specs.FieldWalk.{ReachedFieldsHold, FieldHoldsBelow, IsUnselected};
 
 use super::arguments::{
-    validate_arguments, validate_known_arguments, validate_required_arguments,
+    field_coordinate, validate_arguments, validate_known_arguments, validate_required_arguments,
 };
 use graphql_documents::diagnostics::{Details, DiagnosticData, DiagnosticList, ValidationError};
 use graphql_documents::documents::{
-    Component, Field, FieldDefinition, NamedType, Node, Schema, Selection, SelectionSet,
-    TypeAttributeCoordinate,
+    Component, ExtendedType, Field, FieldDefinition, NamedType, Node, Schema, Selection,
+    SelectionSet,
 };
 
 /// Validates each field of a set that stands on this type, with what is below it, in order.
@@ -77,18 +77,12 @@ fn validate_leaf_field_selection(
     // Below a field that was reported there is nothing to select.
     ensures answer { IfOk result (λ silent. silent ≡ false → selections_of field.now.value.value.selection_set ≡ []) }
 {
-    let field_type = definition.node.value.ty.inner_named_type();
-    let Some(type_definition) = schema.types.get(field_type) else {
+    let Some(type_definition) = type_without_selection(schema, &field.value, &definition.node.value)
+    else {
         return Ok(true);
     };
-    if !type_definition.is_composite() || !field.value.selection_set.selections.is_empty() {
-        return Ok(true);
-    }
-    let coordinate = TypeAttributeCoordinate {
-        ty: parent.clone()?,
-        attribute: field.value.name.clone()?,
-    };
-    let output_type = field_type.clone()?;
+    let coordinate = field_coordinate(parent, &field.value)?;
+    let output_type = definition.node.value.ty.inner_named_type().clone()?;
     diagnostics.push(
         field.location,
         Details::Diagnostic(DiagnosticData::MissingSubselection {
@@ -98,4 +92,22 @@ fn validate_leaf_field_selection(
         }),
     )?;
     Ok(false)
+}
+
+/// The composite type of a field that selects nothing, if it is such a field.
+fn type_without_selection<'a>(
+    schema: &'a Schema,
+    field: &Field,
+    definition: &FieldDefinition,
+) -> Option<&'a ExtendedType>
+    ensures { MatchOption result
+        (HasNeededSelection (Some schema.now) field.now definition.now)
+        (λ ty. IsUnselected (Some schema.now) field.now definition.now ty.now) }
+{
+    let type_definition = schema.types.get(definition.ty.inner_named_type())?;
+    if type_definition.is_composite() && field.selection_set.selections.is_empty() {
+        Some(type_definition)
+    } else {
+        None
+    }
 }

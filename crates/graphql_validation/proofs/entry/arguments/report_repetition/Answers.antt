@@ -1,15 +1,16 @@
-use Rattle.std.proofs.Common.{rules, ◌≡◌, ◌↔◌, IsTrue, List, All, Contains, ℕ, ◌+◌, ◌-◌, ◌*◌, ◌<◌, ◌≤◌, length, ◌/◌, ◌%◌, Bool, true, false, nat_eq, nat_lt, [], ◌∷◌, ◌++◌, slice_index_or, slice_set, bit_and, bit_or, Fits, w8, w32, w64, Bor, MutBor}
-use Rattle.std.specs.Option.{option_copied}
-use Rattle.graphql_documents.specs.Arguments.{HasDistinctNames, argument_named, definition_named, IsDefined, IsGiven, IsGivenIfRequired}
-use Rattle.graphql_documents.specs.BrokenRules.{IsRepetition, ReportsRepetition}
-use Rattle.graphql_documents.specs.Reports.{Checks}
-use Rattle.graphql_documents.specs.declared.documents.nodes.Node.{Node}
-use Rattle.graphql_documents.specs.declared.documents.nodes.Component.{Component}
-use Rattle.graphql_documents.specs.declared.documents.directives.Argument.{Argument}
-use Rattle.graphql_documents.specs.declared.documents.definitions.FieldDefinition.{FieldDefinition}
-use Rattle.graphql_validation.specs.FieldWalk.{ReportsDefinedField}
+use Rattle.std.proofs.Common.{refl, ap, ◌∙◌}
+use Rattle.graphql_documents.proofs.ReportLemmas.{checks-push}
 use Rattle.graphql_validation.proofs.entry.arguments.report_repetition.Goals as goal
 
--- src/entry/arguments.rt:42:1
 pub returns : goal.returns
-returns c = ?
+returns c = λ given first rep is.
+    checks-push _ _ _ _ _ _ c.push.ensures.ok c.push.ensures.err (λ x. x)
+    (_, _, _, refl, record {
+      first = first;
+      again = c.args.argument.now;
+      repetition = rep;
+      name_is = c.in_ok-name.ensures.cases ∙ ap (λ a. a.name) c.deref.ensures;
+      original_is = is;
+      redefined_is = refl;
+      at_is = refl;
+    })

@@ -1,31 +1,81 @@
-use Rattle.std.proofs.Common.{rules, ◌≡◌, ◌↔◌, IsTrue, List, All, Contains, ℕ, ◌+◌, ◌-◌, ◌*◌, ◌<◌, ◌≤◌, length, ◌/◌, ◌%◌, Bool, true, false, nat_eq, nat_lt, [], ◌∷◌, ◌++◌, slice_index_or, slice_set, bit_and, bit_or, Fits, w8, w32, w64, Bor, MutBor}
-use Rattle.std.specs.Option.{option_copied}
-use Rattle.graphql_documents.specs.Arguments.{HasDistinctNames, argument_named, definition_named, IsDefined, IsGiven, IsGivenIfRequired}
-use Rattle.graphql_documents.specs.BrokenRules.{IsRepetition, ReportsRepetition}
-use Rattle.graphql_documents.specs.Reports.{Checks}
-use Rattle.graphql_documents.specs.declared.documents.nodes.Node.{Node}
-use Rattle.graphql_documents.specs.declared.documents.nodes.Component.{Component}
-use Rattle.graphql_documents.specs.declared.documents.directives.Argument.{Argument}
-use Rattle.graphql_documents.specs.declared.documents.definitions.FieldDefinition.{FieldDefinition}
-use Rattle.graphql_validation.specs.FieldWalk.{ReportsDefinedField}
+-- Each argument is looked up among those before it, by what `seen` has of them.
+use Rattle.std.proofs.Common.{◌≡◌, ℕ, ◌+◌, ◌<◌, List, length, get_or, take, cond, Option, Some, None, Bor, refl, sym, ap, ◌∙◌, subst, rules, arith}
+use Rattle.std.proofs.lemmas.List.{take_all}
+use Rattle.std.proofs.lemmas.Option.{none-some}
+use Rattle.graphql_documents.specs.Reports.{Reports}
+use Rattle.std.specs.HashMap.{get_by}
+use Rattle.graphql_documents.specs.Names.{NameText, same_name}
+use Rattle.graphql_documents.specs.declared.documents.spans.SourceSpan.{SourceSpan}
+use Rattle.graphql_documents.specs.Arguments.{HasDistinctNames, argument_named}
+use Rattle.graphql_documents.specs.BrokenRules.{ReportsRepetition}
+use Rattle.graphql_documents.specs.Diagnostics.{entries}
+use Rattle.graphql_documents.proofs.ReportLemmas.{checks-err, kept_then, kept_by, holds, both, in_words}
+use Rattle.graphql_documents.proofs.ArgumentLemmas.{place_of, place_found, place_missing, distinct_at, repetition_at, still_found, newly_found}
 use Rattle.graphql_validation.proofs.entry.arguments.validate_arguments.Goals as goal
+use Rattle.graphql_validation.proofs.entry.arguments.validate_arguments.Goals.{in-Some+in_ok-report_repetition-in-Some, in-None+in_ok-insert-in-None}
 
--- src/entry/arguments.rt:27:5
 pub loop-argument-init : goal.loop-argument-init
-loop-argument-init c = ?
+loop-argument-init c =
+    (holds _ _ _ (λ i j d lt h. absurd (let none : ⊥ = omega arith in none)), λ name. search rules)
 
--- src/entry/arguments.rt:32:17
 pub returns-in_err-report_repetition-in-Some : goal.returns-in_err-report_repetition-in-Some
-returns-in_err-report_repetition-in-Some c = ?
+returns-in_err-report_repetition-in-Some c =
+    let xs = c.args.arguments.now in
+    let i = c.loop-argument.argument-index in
+    let x = c.argument-item.result in
+    let seen = subst (λ a. place_of (argument_named a.name (take i xs)) ≡ Some c.in-Some.original.now) c.deref.ensures
+      (sym (c.in-Some.ensures.value ∙ c.loop-argument.invariant.1 c.deref.result.now.name)) in
+    let first = place_found (argument_named x.value.value.name (take i xs)) c.in-Some.original.now seen in
+    checks-err _ _ _ _ _ c.from_residual.ensures.0
+    (kept_then _ _ _ _ (kept_by _ _ _ _ c.loop-argument.invariant.0)
+      (c.in_err-report_repetition-in-Some.ensures xs first.0
+        (repetition_at xs i x c.loop-argument-test.true c.argument-item.is first.0 first.1) first.2))
 
--- src/entry/arguments.rt:35:17
 pub returns-in_err-insert-in-None : goal.returns-in_err-insert-in-None
-returns-in_err-insert-in-None c = ?
+returns-in_err-insert-in-None c =
+    checks-err _ _ _ _ _ c.from_residual-in_err-insert-in-None.ensures.0 (kept_by _ _ _ _ c.loop-argument.invariant.0)
 
--- src/entry/arguments.rt:27:5
 pub loop-argument-preserved : goal.loop-argument-preserved
-loop-argument-preserved c = ?
+loop-argument-preserved c =
+    let xs = c.args.arguments.now in
+    let i = c.loop-argument.argument-index in
+    let x = c.argument-item.result in
+    let Q = ReportsRepetition xs in
+    let is_new = argument_named x.value.value.name (take i xs) ≡ None in
+    let old = entries c.args.diagnostics.now in
+    let mid = entries c.loop-argument.diagnostics in
+    let distinct = distinct_at xs i x c.loop-argument-test.true c.argument-item.is in
+    elim c.match-get.branch [
+      in-Some+in_ok-report_repetition-in-Some w ↦
+        let seen = subst (λ a. place_of (argument_named a.name (take i xs)) ≡ Some w.in-Some.original.now) c.deref.ensures
+          (sym (w.in-Some.ensures.value ∙ c.loop-argument.invariant.1 c.deref.result.now.name)) in
+        let first = place_found (argument_named x.value.value.name (take i xs)) w.in-Some.original.now seen in
+        let report = w.in_ok-report_repetition-in-Some.ensures xs first.0
+          (repetition_at xs i x c.loop-argument-test.true c.argument-item.is first.0 first.1) first.2 in
+        rw (w.diagnostics-is, w.seen-is)
+        (in_words Q _ _ old _ distinct
+          (both Q _ is_new old mid _ c.loop-argument.invariant.0
+            (in_words Q ⊥ is_new mid _ ((λ no. absurd no), λ none. none-some first.0 (sym none ∙ first.1)) report)),
+        λ name. c.loop-argument.invariant.1 name ∙
+          ap place_of (sym (still_found xs i x c.loop-argument-test.true c.argument-item.is first.0 first.1 name)))
+    | in-None+in_ok-insert-in-None w ↦
+        let seen = subst (λ a. place_of (argument_named a.name (take i xs)) ≡ None) c.deref.ensures
+          (sym (w.in-None.ensures.value ∙ c.loop-argument.invariant.1 c.deref.result.now.name)) in
+        let none = place_missing (argument_named x.value.value.name (take i xs)) seen in
+        rw (w.diagnostics-is, w.seen-is)
+        (in_words Q _ _ old _ distinct (both Q _ is_new old mid mid c.loop-argument.invariant.0 (holds Q is_new mid none)),
+        λ name.
+          let key : Bor NameText = record { ref_ptr = (0, 0); now = name } in
+          let Seen = Option (Option SourceSpan) in
+          let chosen : NameText → Seen → Seen = λ first o. cond (same_name first name) (Some x.location) o in
+          w.in_ok-insert-in-None.ensures.updates.0 key ∙
+          ap (λ a. chosen a.name (get_by (λ b. same_name name b.now) c.loop-argument.seen)) c.deref.ensures ∙
+          ap (chosen x.value.value.name) (c.loop-argument.invariant.1 name) ∙
+          sym (newly_found xs i x c.loop-argument-test.true c.argument-item.is none name))
+    ]
 
--- src/entry/arguments.rt:20:1
 pub returns : goal.returns
-returns c = ?
+returns c =
+    let xs = c.args.arguments.now in
+    subst (λ l. Reports (HasDistinctNames l) (ReportsRepetition xs) (entries c.args.diagnostics.now) (entries c.loop-argument.diagnostics))
+    (take_all c.loop-argument.argument-index xs c.loop-argument-test.false) c.loop-argument.invariant.0

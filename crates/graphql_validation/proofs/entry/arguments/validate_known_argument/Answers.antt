@@ -1,15 +1,18 @@
-use Rattle.std.proofs.Common.{rules, ◌≡◌, ◌↔◌, IsTrue, List, All, Contains, ℕ, ◌+◌, ◌-◌, ◌*◌, ◌<◌, ◌≤◌, length, ◌/◌, ◌%◌, Bool, true, false, nat_eq, nat_lt, [], ◌∷◌, ◌++◌, slice_index_or, slice_set, bit_and, bit_or, Fits, w8, w32, w64, Bor, MutBor}
-use Rattle.std.specs.Option.{option_copied}
-use Rattle.graphql_documents.specs.Arguments.{HasDistinctNames, argument_named, definition_named, IsDefined, IsGiven, IsGivenIfRequired}
-use Rattle.graphql_documents.specs.BrokenRules.{IsRepetition, ReportsRepetition}
-use Rattle.graphql_documents.specs.Reports.{Checks}
-use Rattle.graphql_documents.specs.declared.documents.nodes.Node.{Node}
-use Rattle.graphql_documents.specs.declared.documents.nodes.Component.{Component}
-use Rattle.graphql_documents.specs.declared.documents.directives.Argument.{Argument}
-use Rattle.graphql_documents.specs.declared.documents.definitions.FieldDefinition.{FieldDefinition}
-use Rattle.graphql_validation.specs.FieldWalk.{ReportsDefinedField}
+use Rattle.std.proofs.Common.{refl, ap, ◌∙◌, rules}
+use Rattle.graphql_documents.specs.Arguments.{IsDefined}
+use Rattle.graphql_documents.proofs.ReportLemmas.{checks-push}
 use Rattle.graphql_validation.proofs.entry.arguments.validate_known_argument.Goals as goal
 
--- src/entry/arguments.rt:96:1
 pub returns : goal.returns
-returns c = ?
+returns c =
+    let undefined : ¬ IsDefined c.args.definition.now.node.value.value.arguments.items c.args.argument.now = search rules in
+    checks-push _ _ _ _ _ _ c.push.ensures.ok c.push.ensures.err undefined
+    (λ schema is. (c.args.parent.now, c.args.definition.now, record { place_is = refl; definition_is = is }, record {
+      argument = c.args.argument.now;
+      is_given = c.requires;
+      undefined = undefined;
+      name_is = search rules;
+      coordinate_is = search rules;
+      definition_location_is = refl;
+      at_is = refl;
+    }))

@@ -1,27 +1,26 @@
-use Rattle.std.proofs.Common.{rules, ◌≡◌, ◌↔◌, IsTrue, List, All, Contains, ℕ, ◌+◌, ◌-◌, ◌*◌, ◌<◌, ◌≤◌, length, ◌/◌, ◌%◌, Bool, true, false, nat_eq, nat_lt, [], ◌∷◌, ◌++◌, slice_index_or, slice_set, bit_and, bit_or, Fits, w8, w32, w64, Bor, MutBor}
-use Rattle.std.specs.Option.{option_copied}
-use Rattle.graphql_documents.specs.Arguments.{HasDistinctNames, argument_named, definition_named, IsDefined, IsGiven, IsGivenIfRequired}
-use Rattle.graphql_documents.specs.BrokenRules.{IsRepetition, ReportsRepetition}
-use Rattle.graphql_documents.specs.Reports.{Checks}
-use Rattle.graphql_documents.specs.declared.documents.nodes.Node.{Node}
-use Rattle.graphql_documents.specs.declared.documents.nodes.Component.{Component}
-use Rattle.graphql_documents.specs.declared.documents.directives.Argument.{Argument}
-use Rattle.graphql_documents.specs.declared.documents.definitions.FieldDefinition.{FieldDefinition}
+use Rattle.std.proofs.Common.{List, All, subst, ap, ◌∙◌, rules}
+use Rattle.graphql_documents.specs.Arguments.{IsDefined, IsGivenIfRequired}
+use Rattle.graphql_documents.specs.Diagnostics.{entries}
+use Rattle.graphql_documents.specs.Reports.{Reports}
+use Rattle.graphql_documents.proofs.ReportLemmas.{checks-err, kept_then, kept_by, walked_more, walked_all}
 use Rattle.graphql_validation.specs.FieldWalk.{ReportsDefinedField}
 use Rattle.graphql_validation.proofs.entry.arguments.validate_known_arguments.Goals as goal
 
--- src/entry/arguments.rt:90:5
-pub loop-argument-init : goal.loop-argument-init
-loop-argument-init c = ?
-
--- src/entry/arguments.rt:91:9
 pub returns-in_err-validate_known_argument : goal.returns-in_err-validate_known_argument
-returns-in_err-validate_known_argument c = ?
+returns-in_err-validate_known_argument c =
+    checks-err _ _ _ _ _ c.from_residual.ensures.0
+    (kept_then _ _ _ _ (kept_by _ _ _ _ c.loop-argument.invariant) (c.in_err-validate_known_argument.ensures))
 
--- src/entry/arguments.rt:90:5
 pub loop-argument-preserved : goal.loop-argument-preserved
-loop-argument-preserved c = ?
+loop-argument-preserved c =
+    walked_more (IsDefined c.args.definition.now.node.value.value.arguments.items) (ReportsDefinedField c.args.parent.now c.args.field.now c.args.definition.now)
+    c.deref-argument-items.result.now c.loop-argument.argument-index c.argument-item.result _ _ _
+    c.loop-argument-test.true c.argument-item.is c.loop-argument.invariant (c.in_ok-validate_known_argument.ensures)
 
--- src/entry/arguments.rt:80:1
 pub returns : goal.returns
-returns c = ?
+returns c =
+    let P = IsDefined c.args.definition.now.node.value.value.arguments.items in
+    let Q = ReportsDefinedField c.args.parent.now c.args.field.now c.args.definition.now in
+    walked_all P Q c.deref-argument-items.result.now c.loop-argument.argument-index _ _ _
+    (c.deref-argument-items.ensures.value ∙ ap (λ f. f.arguments.items) c.deref.ensures)
+    c.loop-argument-test.false c.loop-argument.invariant

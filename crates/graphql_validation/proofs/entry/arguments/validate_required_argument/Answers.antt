@@ -1,19 +1,26 @@
-use Rattle.std.proofs.Common.{rules, ◌≡◌, ◌↔◌, IsTrue, List, All, Contains, ℕ, ◌+◌, ◌-◌, ◌*◌, ◌<◌, ◌≤◌, length, ◌/◌, ◌%◌, Bool, true, false, nat_eq, nat_lt, [], ◌∷◌, ◌++◌, slice_index_or, slice_set, bit_and, bit_or, Fits, w8, w32, w64, Bor, MutBor}
-use Rattle.std.specs.Option.{option_copied}
-use Rattle.graphql_documents.specs.Arguments.{HasDistinctNames, argument_named, definition_named, IsDefined, IsGiven, IsGivenIfRequired}
-use Rattle.graphql_documents.specs.BrokenRules.{IsRepetition, ReportsRepetition}
-use Rattle.graphql_documents.specs.Reports.{Checks}
-use Rattle.graphql_documents.specs.declared.documents.nodes.Node.{Node}
-use Rattle.graphql_documents.specs.declared.documents.nodes.Component.{Component}
-use Rattle.graphql_documents.specs.declared.documents.directives.Argument.{Argument}
-use Rattle.graphql_documents.specs.declared.documents.definitions.FieldDefinition.{FieldDefinition}
-use Rattle.graphql_validation.specs.FieldWalk.{ReportsDefinedField}
+use Rattle.std.proofs.Common.{◌≡◌, true, refl, ap, ◌∙◌, rules}
+use Rattle.graphql_documents.specs.Nodes.{SameNode}
+use Rattle.graphql_documents.specs.Schemas.{is_required}
+use Rattle.graphql_documents.specs.Arguments.{IsGiven}
+use Rattle.graphql_documents.proofs.ReportLemmas.{checks-push, checks-err, kept}
 use Rattle.graphql_validation.proofs.entry.arguments.validate_required_argument.Goals as goal
 
--- src/entry/arguments.rt:162:25
 pub returns-in_err-expected_type : goal.returns-in_err-expected_type
-returns-in_err-expected_type c = ?
+returns-in_err-expected_type c = λ d among. checks-err _ _ _ _ _ c.from_residual-in_err-expected_type.ensures.0 (kept _ _)
 
--- src/entry/arguments.rt:143:1
 pub returns : goal.returns
-returns c = ?
+returns c = λ d among.
+    let required : is_required c.args.argument.now.value.value ≡ true = search rules in
+    let missing : ¬ IsGiven c.args.field.now.value.value.arguments.items c.args.argument.now.value.value.name = search rules in
+    checks-push _ _ _ _ _ _ c.push.ensures.ok c.push.ensures.err (λ holds. missing (holds required))
+    (λ schema is. (c.args.parent.now, d, record { place_is = refl; definition_is = is }, record {
+      definition = c.args.argument.now;
+      is_defined = among;
+      required = required;
+      missing = missing;
+      name_is = search rules;
+      coordinate_is = search rules;
+      expected_is = record { same_value = search rules; same_location = search rules };
+      definition_location_is = refl;
+      at_is = refl;
+    }))
