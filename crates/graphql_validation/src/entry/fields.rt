@@ -28,9 +28,8 @@ pub(crate) fn validate_selection_set(
         diagnostics.old diagnostics.new }
 {
     for selection in &selection_set.selections {
-        match selection {
-            Selection::Field(field) => validate_field(diagnostics, schema, against_type, field)?,
-            Selection::FragmentSpread(_) | Selection::InlineFragment(_) => {}
+        if let Selection::Field(field) = selection {
+            validate_field(diagnostics, schema, against_type, field)?;
         }
     }
     Ok(())

@@ -1,0 +1,166 @@
+-- The walk over fields, in the words of the definitions.
+use Rattle.std.proofs.Common.{◌≡◌, ◌↔◌, List, [], Option, Some, None, Ok, Err, refl, sym, ap, ◌∙◌, subst, All, Contains}
+use Rattle.std.specs.Result.{result_ok}
+use Rattle.std.proofs.lemmas.Option.{same_Some, none-some}
+use Rattle.std.specs.Prelude.{Result}
+use Rattle.std.proofs.lemmas.List.Elements.{All-nil, All-weaker, All-contains, All-contains_itself}
+use Rattle.graphql_documents.specs.Names.{NameText}
+use Rattle.graphql_documents.specs.TypeReferences.{inner_named_type}
+use Rattle.graphql_documents.specs.Schemas.{type_field}
+use Rattle.graphql_documents.specs.Selections.{selections_of, definition_at, no_fragments, standing_at, placed_in_field, below_known}
+use Rattle.graphql_documents.specs.Arguments.{HasDistinctNames, ArgumentsHold, IsDefined, IsGivenIfRequired}
+use Rattle.graphql_documents.specs.Fields.{FieldHolds, AgreesWithDefinition, HasNeededSelection}
+use Rattle.graphql_documents.specs.BrokenRules.{FieldBreaks, ReportsField, ReportsRepetition, RepeatsArgument, NamesBrokenRule}
+use Rattle.graphql_documents.specs.Reports.{Reports}
+use Rattle.graphql_documents.proofs.ReportLemmas.{wider}
+use Rattle.graphql_documents.specs.declared.documents.nodes.Node.{Node}
+use Rattle.graphql_documents.specs.declared.documents.nodes.Component.{Component}
+use Rattle.graphql_documents.specs.declared.documents.directives.Argument.{Argument}
+use Rattle.graphql_documents.specs.declared.documents.definitions.FieldDefinition.{FieldDefinition}
+use Rattle.graphql_documents.specs.declared.documents.schemas.Schema.{Schema}
+use Rattle.graphql_documents.specs.declared.documents.schemas.FieldLookupError.{FieldLookupError}
+use Rattle.graphql_documents.specs.declared.documents.executables.SelectionSet.{SelectionSet}
+use Rattle.graphql_documents.specs.declared.documents.executables.Selection.{Selection, out-Selection}
+use Rattle.graphql_documents.specs.declared.documents.executables.Selection.TheOpen as Open
+use Rattle.graphql_documents.specs.declared.documents.executables.Selection.TheVariants.{outs-Field}
+use Rattle.graphql_documents.specs.declared.documents.executables.Field.{Field}
+use Rattle.graphql_documents.specs.declared.documents.executables.Selection.TheVariants as kind
+use Rattle.graphql_documents.specs.declared.diagnostics.data.Details.{Details}
+use Rattle.graphql_documents.specs.declared.diagnostics.data.Details.TheVariants.{Diagnostic}
+use Rattle.graphql_documents.specs.declared.diagnostics.data.DiagnosticData.TheVariants.{UniqueArgument}
+use Rattle.graphql_documents.specs.declared.diagnostics.lists.DiagnosticEntry.{DiagnosticEntry}
+use Rattle.graphql_validation.specs.FieldWalk.{ReportsDefinedField, ReachedByFields, stands, below, ReachedFieldsHold, FieldHoldsBelow}
+
+-- a selection holds, with what is below it, if it is a field that does
+abbrev pub SelectionHolds : Schema → NameText → Selection → Type 0
+SelectionHolds schema parent s = (f : Node Field) → s ≡ kind.Field f → FieldHoldsBelow schema parent f
+
+-- a selection that is a field is one field
+pub same_field : (f g : Node Field) → kind.Field f ≡ kind.Field g → f ≡ g
+same_field f g e = let opened : Open.Field f ≡ Open.Field g = sym (outs-Field f) ∙ ap out-Selection e ∙ outs-Field g in cc
+
+-- so it holds as a selection where the field holds
+pub field_selection : (schema : Schema) (parent : NameText) (s : Selection) (f : Node Field) → s ≡ kind.Field f →
+    FieldHoldsBelow schema parent f ↔ SelectionHolds schema parent s
+field_selection schema parent s f is =
+    (λ h g e. subst (FieldHoldsBelow schema parent) (same_field f g (sym is ∙ e)) h, λ h. h f is)
+
+-- the fields of a set and those below them are the reached ones
+pub reached_hold : (schema : Schema) (parent : NameText) (set : SelectionSet) →
+    All (SelectionHolds schema parent) (selections_of set) → ReachedFieldsHold schema parent set
+reached_hold schema parent set all f at (stands in') = (All-contains (SelectionHolds schema parent) (selections_of set) (kind.Field f) all in' f refl).itself
+reached_hold schema parent set all f at (below {g = g} {d = d} in' is r) =
+    (All-contains (SelectionHolds schema parent) (selections_of set) (kind.Field g) all in' g refl).below_it d is f at r
+
+pub all_hold : (schema : Schema) (parent : NameText) (set : SelectionSet) →
+    ReachedFieldsHold schema parent set → All (SelectionHolds schema parent) (selections_of set)
+all_hold schema parent set h =
+    All-weaker (Contains (selections_of set)) (SelectionHolds schema parent)
+    (λ s in' f e.
+      let stands_here = subst (Contains (selections_of set)) e in' in
+      record {
+        itself = h f parent (stands stands_here);
+        below_it = λ d is g at r. h g at (below stands_here is r);
+      })
+    (selections_of set) (All-contains_itself (selections_of set))
+
+-- from an empty set nothing is reached
+pub none_reached : (schema : Schema) (parent : NameText) (set : SelectionSet) → selections_of set ≡ [] → ReachedFieldsHold schema parent set
+none_reached schema parent set e =
+    reached_hold schema parent set (subst (All (SelectionHolds schema parent)) (sym e) (All-nil (SelectionHolds schema parent)))
+
+module _ (schema : Schema) (parent : NameText) (set : SelectionSet) (f : Node Field) (in' : Contains (selections_of set) (kind.Field f)) where
+  -- a report on a field of the set
+  pub names_field : (e : DiagnosticEntry) → ReportsField (Some schema) (Some parent) f e → NamesBrokenRule (Some schema) no_fragments (Some parent) set e
+  names_field e r = record { field = f; at = Some parent; placed = standing_at in'; broken = r }
+
+  -- a report on a repeated argument of it
+  pub names_repetition : (given : List (Node Argument)) → given ≡ f.value.value.arguments.items →
+      (e : DiagnosticEntry) → ReportsRepetition given e → NamesBrokenRule (Some schema) no_fragments (Some parent) set e
+  names_repetition given same e r =
+      let broken = subst (λ l. RepeatsArgument l r.0 r.1 r.2 e.location) same r.4 in
+      let Breaks : Details → Type 0 =
+        λ details. elim details [ Diagnostic report ↦ FieldBreaks (Some schema) (Some parent) f report e.location ] in
+      names_field e (subst Breaks (sym r.3) broken)
+
+  module _ (old new : List DiagnosticEntry) where
+    pub distinct_in_set : (given : List (Node Argument)) → given ≡ f.value.value.arguments.items →
+        Reports (HasDistinctNames given) (ReportsRepetition given) old new →
+        Reports (HasDistinctNames f.value.value.arguments.items) (NamesBrokenRule (Some schema) no_fragments (Some parent) set) old new
+    distinct_in_set given same r =
+        subst (λ l. Reports (HasDistinctNames l) (NamesBrokenRule (Some schema) no_fragments (Some parent) set) old new) same
+        (wider _ _ _ old new (names_repetition given same) r)
+
+  -- a report on what its definition asks, or on what is below it
+  module _ (d : Component FieldDefinition) (is : type_field schema parent f.value.value.name ≡ Ok d) where
+    pub names_defined : (e : DiagnosticEntry) → ReportsDefinedField parent f d e → NamesBrokenRule (Some schema) no_fragments (Some parent) set e
+    names_defined e r = names_field e (r (Some schema) (ap result_ok is))
+
+    pub names_checked : (e : DiagnosticEntry) →
+        (definition_at (Some schema) (Some parent) f.value.value.name ≡ Some d → ReportsField (Some schema) (Some parent) f e) →
+        NamesBrokenRule (Some schema) no_fragments (Some parent) set e
+    names_checked e r = names_field e (r (ap result_ok is))
+
+    pub names_below : (e : DiagnosticEntry) →
+        NamesBrokenRule (Some schema) no_fragments (Some (inner_named_type d.node.value.value.ty)) f.value.value.selection_set e →
+        NamesBrokenRule (Some schema) no_fragments (Some parent) set e
+    names_below e r = record {
+      field = r.field;
+      at = r.at;
+      placed = placed_in_field in' (below_known (ap result_ok is)) r.placed;
+      broken = r.broken;
+    }
+
+    pub below_in_set : (ty : NameText) (inner : SelectionSet) (old new : List DiagnosticEntry) →
+        ty ≡ inner_named_type d.node.value.value.ty → inner ≡ f.value.value.selection_set →
+        Reports (ReachedFieldsHold schema ty inner) (NamesBrokenRule (Some schema) no_fragments (Some ty) inner) old new →
+        Reports (ReachedFieldsHold schema (inner_named_type d.node.value.value.ty) f.value.value.selection_set)
+        (NamesBrokenRule (Some schema) no_fragments (Some parent) set) old new
+    below_in_set ty inner old new same_type same_set r =
+        wider _ _ _ old new names_below
+        (subst (λ s. Reports (ReachedFieldsHold schema (inner_named_type d.node.value.value.ty) s)
+          (NamesBrokenRule (Some schema) no_fragments (Some (inner_named_type d.node.value.value.ty)) s) old new) same_set
+        (subst (λ t. Reports (ReachedFieldsHold schema t inner) (NamesBrokenRule (Some schema) no_fragments (Some t) inner) old new) same_type r))
+
+-- without a definition a field holds where its argument names are distinct
+pub holds_undefined : (schema : Schema) (parent : NameText) (f : Node Field) (e : FieldLookupError) →
+    type_field schema parent f.value.value.name ≡ Err e →
+    HasDistinctNames f.value.value.arguments.items ↔ FieldHoldsBelow schema parent f
+holds_undefined schema parent f e is =
+    (λ distinct. record {
+      itself = record { distinct = distinct; agrees = λ d found. absurd (none-some d (sym (ap result_ok is) ∙ found)) };
+      below_it = λ d found. absurd (let h : ◌≡◌ {A = Result (Component FieldDefinition) FieldLookupError} (Err e) (Ok d) = sym is ∙ found in let no : ⊥ = cc in no);
+    },
+    λ h. h.itself.distinct)
+
+-- what a field with a definition must do
+abbrev pub DefinedFieldHolds : Schema → Node Field → Component FieldDefinition → Type 0
+DefinedFieldHolds schema f d =
+    (((HasDistinctNames f.value.value.arguments.items ×
+    All (IsDefined d.node.value.value.arguments.items) f.value.value.arguments.items) ×
+    All (IsGivenIfRequired f.value.value.arguments.items) d.node.value.value.arguments.items) ×
+    HasNeededSelection (Some schema) f.value.value d.node.value.value) ×
+    ReachedFieldsHold schema (inner_named_type d.node.value.value.ty) f.value.value.selection_set
+
+-- with a definition it must agree with that, and what is below it must hold
+pub holds_defined : (schema : Schema) (parent : NameText) (f : Node Field) (d : Component FieldDefinition) →
+    type_field schema parent f.value.value.name ≡ Ok d → DefinedFieldHolds schema f d ↔ FieldHoldsBelow schema parent f
+holds_defined schema parent f d is = (there, back) where
+  there : DefinedFieldHolds schema f d → FieldHoldsBelow schema parent f
+  there p = record {
+    itself = record {
+      distinct = p.0.0.0.0;
+      agrees = λ d' found.
+        let same : d ≡ d' = same_Some d d' (sym (ap result_ok is) ∙ found) in
+        subst (λ x. AgreesWithDefinition (Some schema) f.value.value x.node.value.value) same
+        (record { arguments = record { defined = p.0.0.0.1; required = p.0.0.1 }; selection = p.0.1 });
+    };
+    below_it = λ d' found.
+      let same : d ≡ d' = same_Some d d' (sym (ap result_ok is) ∙ ap result_ok found) in
+      subst (λ x. ReachedFieldsHold schema (inner_named_type x.node.value.value.ty) f.value.value.selection_set) same p.1;
+  }
+
+  back : FieldHoldsBelow schema parent f → DefinedFieldHolds schema f d
+  back h =
+      let agrees = h.itself.agrees d (ap result_ok is) in
+      ((((h.itself.distinct, agrees.arguments.defined), agrees.arguments.required), agrees.selection), h.below_it d is)

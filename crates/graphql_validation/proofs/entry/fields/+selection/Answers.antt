@@ -1,0 +1,157 @@
+-- Each exit of the walk: what was reported so far, in the words of the set around it.
+use Rattle.std.proofs.Common.{◌≡◌, List, Some, Ok, Contains, refl, sym, ap, ◌∙◌, subst, rules}
+use Rattle.graphql_documents.specs.TypeReferences.{inner_named_type}
+use Rattle.graphql_documents.specs.Schemas.{type_field}
+use Rattle.graphql_documents.specs.Selections.{selections_of, no_fragments}
+use Rattle.graphql_documents.specs.BrokenRules.{NamesBrokenRule}
+use Rattle.graphql_documents.specs.Diagnostics.{entries}
+use Rattle.graphql_documents.specs.Reports.{Reports, KeepsReports}
+use Rattle.graphql_documents.specs.declared.documents.executables.SelectionSet.{SelectionSet}
+use Rattle.graphql_documents.proofs.ReportLemmas.{checks-err, kept_then, kept_by, kept_wider, wider, both, holds, in_words, walked_more, walked_all}
+use Rattle.graphql_validation.specs.FieldWalk.{ReachedFieldsHold, FieldHoldsBelow}
+use Rattle.graphql_validation.proofs.FieldWalkLemmas.{SelectionHolds, field_selection, reached_hold, all_hold, none_reached, names_repetition, distinct_in_set, names_defined, names_checked, below_in_set, names_below, holds_undefined, holds_defined}
+use Rattle.graphql_documents.specs.declared.documents.executables.Selection.TheVariants as kind
+use Rattle.graphql_validation.proofs.entry.fields.+selection.Goals as goal
+use Rattle.graphql_validation.proofs.entry.fields.+selection.Goals.{validate_selection_set-in-Field+in_ok-validate_field, validate_selection_set-in_default}
+
+pub validate_field-returns-in_err-validate_arguments : goal.validate_field-returns-in_err-validate_arguments
+validate_field-returns-in_err-validate_arguments t c = λ set in'.
+    let same = c.deref-2.ensures.value ∙ ap (λ f. f.arguments.items) c.deref.ensures in
+    checks-err _ _ _ _ _ c.from_residual.ensures.0
+    (kept_wider _ _ _ _ (names_repetition c.args.schema.now c.args.against_type.now set c.args.field.now in' _ same)
+      c.in_err-validate_arguments.ensures)
+
+pub validate_field-returns-in_default : goal.validate_field-returns-in_default
+validate_field-returns-in_default t c = λ set in'.
+    let same = c.deref-2.ensures.value ∙ ap (λ f. f.arguments.items) c.deref.ensures in
+    in_words _ _ _ _ _
+    (holds_undefined c.args.schema.now c.args.against_type.now c.args.field.now c.in_default.field-0 (search rules))
+    (distinct_in_set c.args.schema.now c.args.against_type.now set c.args.field.now in' _ _ _ same c.in_ok-validate_arguments.ensures)
+
+pub validate_field-returns-in_err-validate_known_arguments : goal.validate_field-returns-in_err-validate_known_arguments
+validate_field-returns-in_err-validate_known_arguments t c = λ set in'.
+    let schema = c.args.schema.now in
+    let parent = c.args.against_type.now in
+    let f = c.args.field.now in
+    let d = c.in-Ok.definition.now in
+    let is : type_field schema parent f.value.value.name ≡ Ok d = search rules in
+    let same = c.deref-2.ensures.value ∙ ap (λ f. f.arguments.items) c.deref.ensures in
+    let distinct = distinct_in_set schema parent set f in' _ _ _ same c.in_ok-validate_arguments.ensures in
+    checks-err _ _ _ _ _ c.from_residual-in_err-validate_known_arguments.ensures.0
+    (kept_then _ _ _ _ (kept_by _ _ _ _ distinct)
+      (kept_wider _ _ _ _ (names_defined schema parent set f in' d is) c.in_err-validate_known_arguments.ensures))
+
+pub validate_field-returns-in_err-validate_required_arguments : goal.validate_field-returns-in_err-validate_required_arguments
+validate_field-returns-in_err-validate_required_arguments t c = λ set in'.
+    let schema = c.args.schema.now in
+    let parent = c.args.against_type.now in
+    let f = c.args.field.now in
+    let d = c.in-Ok.definition.now in
+    let is : type_field schema parent f.value.value.name ≡ Ok d = search rules in
+    let same = c.deref-2.ensures.value ∙ ap (λ f. f.arguments.items) c.deref.ensures in
+    let distinct = distinct_in_set schema parent set f in' _ _ _ same c.in_ok-validate_arguments.ensures in
+    let known = wider _ _ _ _ _ (names_defined schema parent set f in' d is) c.in_ok-validate_known_arguments.ensures in
+    checks-err _ _ _ _ _ c.from_residual-in_err-validate_required_arguments.ensures.0
+    (kept_then _ _ _ _ (kept_by _ _ _ _ (both _ _ _ _ _ _ distinct known))
+      (kept_wider _ _ _ _ (names_defined schema parent set f in' d is) c.in_err-validate_required_arguments.ensures))
+
+pub validate_field-returns-in_err-validate_leaf_field_selection : goal.validate_field-returns-in_err-validate_leaf_field_selection
+validate_field-returns-in_err-validate_leaf_field_selection t c = λ set in'.
+    let schema = c.args.schema.now in
+    let parent = c.args.against_type.now in
+    let f = c.args.field.now in
+    let d = c.in-Ok.definition.now in
+    let is : type_field schema parent f.value.value.name ≡ Ok d = search rules in
+    let same = c.deref-2.ensures.value ∙ ap (λ f. f.arguments.items) c.deref.ensures in
+    let distinct = distinct_in_set schema parent set f in' _ _ _ same c.in_ok-validate_arguments.ensures in
+    let known = wider _ _ _ _ _ (names_defined schema parent set f in' d is) c.in_ok-validate_known_arguments.ensures in
+    let required = wider _ _ _ _ _ (names_defined schema parent set f in' d is) c.in_ok-validate_required_arguments.ensures in
+    checks-err _ _ _ _ _ c.from_residual-in_err-validate_leaf_field_selection.ensures.0
+    (kept_then _ _ _ _ (kept_by _ _ _ _ (both _ _ _ _ _ _ (both _ _ _ _ _ _ distinct known) required))
+      (kept_wider _ _ _ _ (names_checked schema parent set f in' d is) c.in_err-validate_leaf_field_selection.ensures.checks))
+
+pub validate_field-returns-in_err-validate_selection_set : goal.validate_field-returns-in_err-validate_selection_set
+validate_field-returns-in_err-validate_selection_set t c = λ set in'.
+    let schema = c.args.schema.now in
+    let parent = c.args.against_type.now in
+    let f = c.args.field.now in
+    let d = c.in-Ok.definition.now in
+    let is : type_field schema parent f.value.value.name ≡ Ok d = search rules in
+    let same = c.deref-2.ensures.value ∙ ap (λ f. f.arguments.items) c.deref.ensures in
+    let distinct = distinct_in_set schema parent set f in' _ _ _ same c.in_ok-validate_arguments.ensures in
+    let known = wider _ _ _ _ _ (names_defined schema parent set f in' d is) c.in_ok-validate_known_arguments.ensures in
+    let required = wider _ _ _ _ _ (names_defined schema parent set f in' d is) c.in_ok-validate_required_arguments.ensures in
+    let needed = wider _ _ _ _ _ (names_checked schema parent set f in' d is) c.in_ok-validate_leaf_field_selection.ensures.checks in
+    let before = both _ _ _ _ _ _ (both _ _ _ _ _ _ (both _ _ _ _ _ _ distinct known) required) needed in
+    checks-err _ _ _ _ _ c.from_residual-in_err-validate_selection_set.ensures.0
+    (kept_then _ _ _ _ (kept_by _ _ _ _ before)
+      (kept_wider _ _ _ _ (names_below schema parent set f in' d is) (search rules)))
+
+pub validate_field-returns-in_ok-validate_selection_set : goal.validate_field-returns-in_ok-validate_selection_set
+validate_field-returns-in_ok-validate_selection_set t c = λ set in'.
+    let schema = c.args.schema.now in
+    let parent = c.args.against_type.now in
+    let f = c.args.field.now in
+    let d = c.in-Ok.definition.now in
+    let is : type_field schema parent f.value.value.name ≡ Ok d = search rules in
+    let same = c.deref-2.ensures.value ∙ ap (λ f. f.arguments.items) c.deref.ensures in
+    let distinct = distinct_in_set schema parent set f in' _ _ _ same c.in_ok-validate_arguments.ensures in
+    let known = wider _ _ _ _ _ (names_defined schema parent set f in' d is) c.in_ok-validate_known_arguments.ensures in
+    let required = wider _ _ _ _ _ (names_defined schema parent set f in' d is) c.in_ok-validate_required_arguments.ensures in
+    let needed = wider _ _ _ _ _ (names_checked schema parent set f in' d is) c.in_ok-validate_leaf_field_selection.ensures.checks in
+    let before = both _ _ _ _ _ _ (both _ _ _ _ _ _ (both _ _ _ _ _ _ distinct known) required) needed in
+    in_words _ _ _ _ _ (holds_defined schema parent f d is)
+    (both _ _ _ _ _ _ before (below_in_set schema parent set f in' d is _ _ _ _ (search rules) (search rules) c.in_ok-validate_selection_set.ensures))
+
+pub validate_field-returns-else-branch : goal.validate_field-returns-else-branch
+validate_field-returns-else-branch t c = λ set in'.
+    let schema = c.args.schema.now in
+    let parent = c.args.against_type.now in
+    let f = c.args.field.now in
+    let d = c.in-Ok.definition.now in
+    let is : type_field schema parent f.value.value.name ≡ Ok d = search rules in
+    let same = c.deref-2.ensures.value ∙ ap (λ f. f.arguments.items) c.deref.ensures in
+    let distinct = distinct_in_set schema parent set f in' _ _ _ same c.in_ok-validate_arguments.ensures in
+    let known = wider _ _ _ _ _ (names_defined schema parent set f in' d is) c.in_ok-validate_known_arguments.ensures in
+    let required = wider _ _ _ _ _ (names_defined schema parent set f in' d is) c.in_ok-validate_required_arguments.ensures in
+    let needed = wider _ _ _ _ _ (names_checked schema parent set f in' d is) c.in_ok-validate_leaf_field_selection.ensures.checks in
+    let before = both _ _ _ _ _ _ (both _ _ _ _ _ _ (both _ _ _ _ _ _ distinct known) required) needed in
+    in_words _ _ _ _ _ (holds_defined schema parent f d is)
+    (both _ _ _ _ _ _ before (holds _ _ _ (none_reached schema (inner_named_type d.node.value.value.ty) f.value.value.selection_set (search rules))))
+
+pub validate_selection_set-returns-in_err-validate_field : goal.validate_selection_set-returns-in_err-validate_field
+validate_selection_set-returns-in_err-validate_field t c =
+    checks-err _ _ _ _ _ c.from_residual.ensures.0
+    (kept_then _ _ _ _ (kept_by _ _ _ _ c.loop-selection.invariant)
+      (c.in_err-validate_field.ensures c.args.selection_set.now (search rules)))
+
+pub validate_selection_set-loop-selection-preserved : goal.validate_selection_set-loop-selection-preserved
+validate_selection_set-loop-selection-preserved t c =
+    let schema = c.args.schema.now in
+    let parent = c.args.against_type.now in
+    let set = c.args.selection_set.now in
+    let xs = c.deref-selection-items.result.now in
+    let i = c.loop-selection.selection-index in
+    let x = c.selection-item.result in
+    let Q = NamesBrokenRule (Some schema) no_fragments (Some parent) set in
+    elim c.match-selection.branch [
+      validate_selection_set-in-Field+in_ok-validate_field w ↦
+        let stands_here : Contains (selections_of set) (kind.Field w.in-Field.field) = search rules in
+        rw w.diagnostics-is
+        (walked_more (SelectionHolds schema parent) Q xs i x _ _ _ c.loop-selection-test.true c.selection-item.is c.loop-selection.invariant
+          (in_words _ _ _ _ _ (field_selection schema parent x w.in-Field.field w.in-Field.is)
+            (w.in_ok-validate_field.ensures set stands_here)))
+    | validate_selection_set-in_default w ↦
+        rw w.diagnostics-is
+        (walked_more (SelectionHolds schema parent) Q xs i x _ _ _ c.loop-selection-test.true c.selection-item.is c.loop-selection.invariant
+          (holds _ _ _ (λ f e. absurd (w.in_default.not-Field f e))))
+    ]
+
+pub validate_selection_set-returns : goal.validate_selection_set-returns
+validate_selection_set-returns t c =
+    let schema = c.args.schema.now in
+    let parent = c.args.against_type.now in
+    let set = c.args.selection_set.now in
+    in_words _ _ _ _ _ (reached_hold schema parent set, all_hold schema parent set)
+    (walked_all (SelectionHolds schema parent) (NamesBrokenRule (Some schema) no_fragments (Some parent) set) c.deref-selection-items.result.now c.loop-selection.selection-index (selections_of set) _ _
+      c.deref-selection-items.ensures.value c.loop-selection-test.false c.loop-selection.invariant)
