@@ -1,1 +1,2 @@
+pub mod FieldSetLemmas
 pub mod FieldWalkLemmas

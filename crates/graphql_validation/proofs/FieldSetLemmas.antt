@@ -1,0 +1,76 @@
+-- In a set of plain fields the places that are reached are those reached by fields alone.
+use Rattle.std.proofs.Common.{◌≡◌, ◌↔◌, Option, Some, None, Result, Ok, Err, refl, sym, ap, ◌∙◌, subst, Contains}
+use Rattle.std.specs.Result.{result_ok}
+use Rattle.std.proofs.lemmas.Option.{same_Some, none-some}
+use Rattle.graphql_documents.specs.Names.{NameText}
+use Rattle.graphql_documents.specs.TypeReferences.{inner_named_type}
+use Rattle.graphql_documents.specs.Schemas.{type_field}
+use Rattle.graphql_documents.specs.Selections.{selections_of, definition_at, no_fragments, Written, standing, in_field, TypeBelow, below_unknown, below_known, Placed, standing_at, placed_in_field, placed_in_inline_fragment, placed_in_spread}
+use Rattle.graphql_documents.specs.Fields.{FieldHolds}
+use Rattle.graphql_documents.specs.FieldSets.{IsPlain, FieldSetHolds}
+use Rattle.graphql_documents.specs.declared.documents.nodes.Node.{Node}
+use Rattle.graphql_documents.specs.declared.documents.nodes.Component.{Component}
+use Rattle.graphql_documents.specs.declared.documents.definitions.FieldDefinition.{FieldDefinition}
+use Rattle.graphql_documents.specs.declared.documents.schemas.Schema.{Schema}
+use Rattle.graphql_documents.specs.declared.documents.executables.SelectionSet.{SelectionSet}
+use Rattle.graphql_documents.specs.declared.documents.executables.Selection.{Selection, out-Selection}
+use Rattle.graphql_documents.specs.declared.documents.executables.Selection.TheOpen as Open
+use Rattle.graphql_documents.specs.declared.documents.executables.Selection.TheVariants.{outs-Field, outs-InlineFragment}
+use Rattle.graphql_documents.specs.declared.documents.executables.Selection.TheVariants as kind
+use Rattle.graphql_documents.specs.declared.documents.executables.Field.{Field}
+use Rattle.graphql_documents.specs.declared.documents.executables.InlineFragment.{InlineFragment}
+use Rattle.graphql_validation.specs.FieldWalk.{ReachedByFields, stands, below, ReachedFieldsHold}
+
+-- an inline fragment is no field
+pub inline_is_no_field : (i : Node InlineFragment) (f : Node Field) → kind.InlineFragment i ≡ kind.Field f → ⊥
+inline_is_no_field i f e =
+    let opened : Open.InlineFragment i ≡ Open.Field f = sym (outs-InlineFragment i) ∙ ap out-Selection e ∙ outs-Field f in cc
+
+-- a definition that was found is an answer
+pub found_ok : {T E : Type 0} (r : Result T E) (d : T) → result_ok r ≡ Some d → r ≡ Ok d
+found_ok (Ok x) d e = ap Ok (same_Some x d e)
+found_ok (Err x) d e = absurd (none-some d e)
+
+-- the place in the set of a field that stands on a known type
+pub known_below : (schema : Schema) (place : Option NameText) (field : NameText) (at : Option NameText) → TypeBelow (Some schema) place field at →
+    (parent : NameText) → place ≡ Some parent →
+    (d : Component FieldDefinition) × (type_field schema parent field ≡ Ok d) × (at ≡ Some (inner_named_type d.node.value.value.ty))
+known_below schema place field at below_unknown parent is = absurd (none-some parent is)
+known_below schema place field at (below_known {d = d} e) parent is =
+    (d, found_ok (type_field schema parent field) d (subst (λ p. definition_at (Some schema) p field ≡ Some d) is e), refl)
+
+-- what is placed is reached by fields
+pub placed_reached : (schema : Schema) (place : Option NameText) (set : SelectionSet) (s : Selection) (at : Option NameText) →
+    Placed (Some schema) no_fragments place set s at →
+    (parent : NameText) → place ≡ Some parent → IsPlain set → (f : Node Field) → s ≡ kind.Field f →
+    (t : NameText) × (at ≡ Some t) × ReachedByFields schema parent set f t
+placed_reached schema place set s at (standing_at in') parent is plain f e =
+    (parent, is, stands (subst (Contains (selections_of set)) e in'))
+placed_reached schema place set s at (placed_in_field {below = u} {f = g} in' under p) parent is plain f e =
+    let k = known_below schema place g.value.value.name u under parent is in
+    let r = placed_reached schema u g.value.value.selection_set s at p (inner_named_type k.0.node.value.value.ty) k.2
+      (λ x w. plain x (in_field in' w)) f e in
+    (r.0, r.1, below in' k.1 r.2)
+placed_reached schema place set s at (placed_in_inline_fragment {i = i} in' p) parent is plain f e =
+    let field = plain (kind.InlineFragment i) (standing in') in
+    absurd (inline_is_no_field i field.field field.is_field)
+placed_reached schema place set s at (placed_in_spread {d = d} in' found p) parent is plain f e =
+    absurd (none-some d found)
+
+-- what is reached by fields is placed
+pub reached_placed : (schema : Schema) (parent : NameText) (set : SelectionSet) (f : Node Field) (t : NameText) →
+    ReachedByFields schema parent set f t → Placed (Some schema) no_fragments (Some parent) set (kind.Field f) (Some t)
+reached_placed schema parent set f t (stands in') = standing_at in'
+reached_placed schema parent set f t (below {g = g} {d = d} in' is r) =
+    placed_in_field in' (below_known (ap result_ok is))
+    (reached_placed schema (inner_named_type d.node.value.value.ty) g.value.value.selection_set f t r)
+
+-- so a plain set holds where the fields reached by fields do
+pub plain_holds : (schema : Schema) (set : SelectionSet) → IsPlain set → ReachedFieldsHold schema set.ty set ↔ FieldSetHolds schema set
+plain_holds schema set plain =
+    (λ h. record {
+      fields = λ f at placed.
+        let r = placed_reached schema (Some set.ty) set (kind.Field f) at placed set.ty refl plain f refl in
+        subst (λ t. FieldHolds (Some schema) t f.value.value) (sym r.1) (h f r.0 r.2);
+    },
+    λ h f t r. h.fields f (Some t) (reached_placed schema set.ty set f t r))
