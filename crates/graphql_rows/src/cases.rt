@@ -28,7 +28,10 @@ pub fn build_case(alloc: Global, id: &str) -> Result<Option<Case>, RowError> {
         return Ok(None);
     };
     match field_sets::subject(alloc, known)? {
-        Some(subject) => Ok(Some(Case { id: *known, subject })),
+        Some(subject) => Ok(Some(Case {
+            id: *known,
+            subject,
+        })),
         None => Ok(None),
     }
 }

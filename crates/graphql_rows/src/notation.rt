@@ -10,4 +10,6 @@ pub use definitions::{
     object_implementing, output, output_taking, scalar, union_type,
 };
 pub use literals::{ArgumentNotation, DirectiveNotation, Literal, argument, directive};
-pub use selections::{SelectionKind, SelectionNotation, aliased, field, inline, leaf, spread};
+pub use selections::{
+    FieldNotation, SelectionKind, SelectionNotation, aliased, field, inline, leaf, spread,
+};

@@ -31,11 +31,7 @@ pub(super) fn add_directives(alloc: Global, directives: &mut Directives) -> Resu
         DirectiveLocation::EnumValue,
     ];
     let condition = [input("if", "Boolean!")];
-    let reason = [input_or(
-        "reason",
-        "String",
-        Literal::String("No longer supported"),
-    )];
+    let reason = [input_or("reason", "String", Literal::String("No longer supported"))];
     let url = [input("url", "String!")];
     for definition in [
         directive_definition("skip", &condition, &selections),

@@ -18,39 +18,67 @@ pub(super) fn type_definition(
 ) -> Result<ExtendedType, RowError> {
     let location = notation.location;
     let name = name(alloc, notation.name, location)?;
-    let directives = Vec::new(alloc);
     match notation.kind {
         TypeKind::Scalar => {
-            let definition = ScalarType { name, directives };
-            Ok(ExtendedType::Scalar(node(alloc, definition, location)?))
+            let scalar = scalar_type(alloc, name);
+            Ok(ExtendedType::Scalar(node(alloc, scalar, location)?))
         }
         TypeKind::Object { interfaces, fields } => {
-            let definition = ObjectType {
-                name,
-                implements_interfaces: names(alloc, interfaces)?,
-                directives,
-                fields: fields_by_name(alloc, fields)?,
-            };
-            Ok(ExtendedType::Object(node(alloc, definition, location)?))
+            let object = object_type(alloc, name, interfaces, fields)?;
+            Ok(ExtendedType::Object(node(alloc, object, location)?))
         }
         TypeKind::Interface { interfaces, fields } => {
-            let definition = InterfaceType {
-                name,
-                implements_interfaces: names(alloc, interfaces)?,
-                directives,
-                fields: fields_by_name(alloc, fields)?,
-            };
-            Ok(ExtendedType::Interface(node(alloc, definition, location)?))
+            let interface = interface_type(alloc, name, interfaces, fields)?;
+            Ok(ExtendedType::Interface(node(alloc, interface, location)?))
         }
         TypeKind::Union { members } => {
-            let definition = UnionType {
-                name,
-                directives,
-                members: names(alloc, members)?,
-            };
-            Ok(ExtendedType::Union(node(alloc, definition, location)?))
+            let union = union_type(alloc, name, members)?;
+            Ok(ExtendedType::Union(node(alloc, union, location)?))
         }
     }
+}
+
+fn scalar_type(alloc: Global, name: Name) -> ScalarType {
+    ScalarType {
+        name,
+        directives: Vec::new(alloc),
+    }
+}
+
+fn object_type(
+    alloc: Global,
+    name: Name,
+    interfaces: &[&str],
+    fields: &[OutputNotation<'_>],
+) -> Result<ObjectType, RowError> {
+    Ok(ObjectType {
+        name,
+        implements_interfaces: names(alloc, interfaces)?,
+        directives: Vec::new(alloc),
+        fields: fields_by_name(alloc, fields)?,
+    })
+}
+
+fn interface_type(
+    alloc: Global,
+    name: Name,
+    interfaces: &[&str],
+    fields: &[OutputNotation<'_>],
+) -> Result<InterfaceType, RowError> {
+    Ok(InterfaceType {
+        name,
+        implements_interfaces: names(alloc, interfaces)?,
+        directives: Vec::new(alloc),
+        fields: fields_by_name(alloc, fields)?,
+    })
+}
+
+fn union_type(alloc: Global, name: Name, members: &[&str]) -> Result<UnionType, RowError> {
+    Ok(UnionType {
+        name,
+        directives: Vec::new(alloc),
+        members: names(alloc, members)?,
+    })
 }
 
 /// The definition of a directive. Its arguments stand where it stands.

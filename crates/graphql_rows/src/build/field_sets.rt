@@ -1,9 +1,10 @@
 use super::literals::{arguments, directives};
 use super::names::{name, node};
 use crate::errors::RowError;
-use crate::notation::{SelectionKind, SelectionNotation};
+use crate::notation::{FieldNotation, SelectionKind, SelectionNotation};
 use graphql_documents::documents::{
-    Field, FieldSet, FragmentSpread, InlineFragment, Name, Schema, Selection, SelectionSet,
+    Directive, Field, FieldSet, FragmentSpread, InlineFragment, Name, Node, Schema, Selection,
+    SelectionSet,
 };
 use std::alloc::Global;
 
@@ -48,32 +49,14 @@ fn selection(
     let location = notation.location;
     let directives = directives(alloc, notation.directives)?;
     match notation.kind {
-        SelectionKind::Field {
-            alias,
-            name: field_name,
-            arguments: given,
-            selections,
-        } => {
-            let name = name(alloc, field_name, None)?;
-            let definition = schema.type_field(ty, &name)?.node.clone()?;
-            let field = Field {
-                selection_set: selection_set(
-                    alloc,
-                    schema,
-                    definition.value.ty.inner_named_type(),
-                    selections,
-                )?,
-                definition,
-                alias: optional_name(alloc, alias)?,
-                name,
-                arguments: arguments(alloc, given)?,
-                directives,
-            };
+        SelectionKind::Field(written) => {
+            let field = field(alloc, schema, ty, &written, directives)?;
             Ok(Selection::Field(node(alloc, field, location)?))
         }
         SelectionKind::Spread { fragment } => {
+            let fragment_name = name(alloc, fragment, None)?;
             let spread = FragmentSpread {
-                fragment_name: name(alloc, fragment, None)?,
+                fragment_name,
                 directives,
             };
             Ok(Selection::FragmentSpread(node(alloc, spread, location)?))
@@ -92,6 +75,27 @@ fn selection(
             Ok(Selection::InlineFragment(node(alloc, inline, location)?))
         }
     }
+}
+
+#[cycle(selection)]
+fn field(
+    alloc: Global,
+    schema: &Schema,
+    ty: &Name,
+    notation: &FieldNotation<'_>,
+    directives: Vec<Node<Directive>>,
+) -> Result<Field, RowError> {
+    let name = name(alloc, notation.name, None)?;
+    let definition = schema.type_field(ty, &name)?.node.clone()?;
+    let below = definition.value.ty.inner_named_type();
+    Ok(Field {
+        alias: optional_name(alloc, notation.alias)?,
+        name,
+        arguments: arguments(alloc, notation.arguments)?,
+        directives,
+        selection_set: selection_set(alloc, schema, below, notation.selections)?,
+        definition,
+    })
 }
 
 fn optional_name(alloc: Global, text: Option<&str>) -> Result<Option<Name>, RowError> {

@@ -14,20 +14,26 @@ pub struct SelectionNotation<'a> {
 #[derive(Clone, Copy)]
 #[cycle(selection)]
 pub enum SelectionKind<'a> {
-    /// `alias: name(arguments) { selections }`
-    Field {
-        alias: Option<&'a str>,
-        name: &'a str,
-        arguments: &'a [ArgumentNotation<'a>],
-        selections: &'a [SelectionNotation<'a>],
-    },
+    Field(FieldNotation<'a>),
     /// `...fragment`
-    Spread { fragment: &'a str },
+    Spread {
+        fragment: &'a str,
+    },
     /// `... on condition { selections }`
     Inline {
         condition: Option<&'a str>,
         selections: &'a [SelectionNotation<'a>],
     },
+}
+
+/// A field: `alias: name(arguments) { selections }`.
+#[derive(Clone, Copy)]
+#[cycle(selection)]
+pub struct FieldNotation<'a> {
+    pub alias: Option<&'a str>,
+    pub name: &'a str,
+    pub arguments: &'a [ArgumentNotation<'a>],
+    pub selections: &'a [SelectionNotation<'a>],
 }
 
 impl<'a> SelectionNotation<'a> {
@@ -65,12 +71,12 @@ pub fn field<'a>(
     arguments: &'a [ArgumentNotation<'a>],
     selections: &'a [SelectionNotation<'a>],
 ) -> SelectionNotation<'a> {
-    SelectionNotation::bare(SelectionKind::Field {
+    SelectionNotation::bare(SelectionKind::Field(FieldNotation {
         alias: None,
         name,
         arguments,
         selections,
-    })
+    }))
 }
 
 /// `alias: name(arguments) { selections }`
@@ -80,12 +86,12 @@ pub fn aliased<'a>(
     arguments: &'a [ArgumentNotation<'a>],
     selections: &'a [SelectionNotation<'a>],
 ) -> SelectionNotation<'a> {
-    SelectionNotation::bare(SelectionKind::Field {
+    SelectionNotation::bare(SelectionKind::Field(FieldNotation {
         alias: Some(alias),
         name,
         arguments,
         selections,
-    })
+    }))
 }
 
 /// `...fragment`

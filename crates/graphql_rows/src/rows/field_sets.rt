@@ -7,9 +7,15 @@ use std::alloc::Global;
 /// The field sets on `Query`.
 pub(crate) fn subject(alloc: Global, id: &str) -> Result<Option<Subject>, RowError> {
     match id {
-        "1a" => on_query(alloc, &[leaf("id"), field("organization", &[], &[leaf("id")])]),
+        "1a" => on_query(
+            alloc,
+            &[leaf("id"), field("organization", &[], &[leaf("id")])],
+        ),
         "1b" => on_query(alloc, &[leaf("id"), leaf("organization")]),
-        "1c" => on_query(alloc, &[field("id", &[argument("arg", Literal::Boolean(true))], &[])]),
+        "1c" => on_query(
+            alloc,
+            &[field("id", &[argument("arg", Literal::Boolean(true))], &[])],
+        ),
         _ => Ok(None),
     }
 }
@@ -21,7 +27,10 @@ fn on_query(
     let schema = schema(
         alloc,
         &[
-            object("Query", &[output("id", "ID"), output("organization", "Org")]),
+            object(
+                "Query",
+                &[output("id", "ID"), output("organization", "Org")],
+            ),
             object("Org", &[output("id", "ID")]),
         ],
         &[],
