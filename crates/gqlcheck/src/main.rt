@@ -1,11 +1,11 @@
 //! Validates worked examples, and prints what is reported of each.
 #![tactic(auto)]
 
-mod command;
+pub mod command;
 mod faults;
 mod places;
 mod reports;
-mod statuses;
+pub mod statuses;
 
 use command::run;
 use std::process::ExitCode;
@@ -24,6 +24,9 @@ fn main(rt: HostRuntime) -> ExitCode {
 
 /// The words after the program's name.
 fn given_words(rt: &(impl Env + AllocGlobal)) -> io::Result<Vec<String>> {
-    let words = env::args(rt)?.skip(1).collect(rt.alloc())?;
+    let mut words = Vec::new(rt.alloc());
+    for word in env::args(rt)?.skip(1) {
+        words.push(word)?;
+    }
     Ok(words)
 }

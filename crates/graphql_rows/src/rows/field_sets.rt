@@ -1,3 +1,6 @@
+ghost use Rattle.std.specs.Prelude.{◌≡◌, IfOk, IsSome, is_some};
+ghost use Rattle.graphql_rows.specs.Rows.{is_field_set_row};
+
 use crate::build::{field_set, schema};
 use crate::cases::Subject;
 use crate::errors::RowError;
@@ -5,7 +8,9 @@ use crate::notation::{Literal, SelectionNotation, argument, field, leaf, object,
 use std::alloc::Global;
 
 /// The field sets on `Query`.
-pub(crate) fn subject(alloc: Global, id: &str) -> Result<Option<Subject>, RowError> {
+pub(crate) fn subject(alloc: Global, id: &str) -> Result<Option<Subject>, RowError>
+    ensures { IfOk result (λ subject. is_some subject ≡ is_field_set_row id.now) }
+{
     match id {
         "1a" => on_query(
             alloc,
@@ -23,7 +28,9 @@ pub(crate) fn subject(alloc: Global, id: &str) -> Result<Option<Subject>, RowErr
 fn on_query(
     alloc: Global,
     selections: &[SelectionNotation<'_>],
-) -> Result<Option<Subject>, RowError> {
+) -> Result<Option<Subject>, RowError>
+    ensures { IfOk result (λ subject. IsSome subject) }
+{
     let schema = schema(
         alloc,
         &[
