@@ -1,0 +1,88 @@
+use super::base::{add_directives, add_scalars};
+use super::definitions::{directive_definition, type_definition};
+use super::names::{component_name, name};
+use crate::errors::RowError;
+use crate::notation::{DirectiveDefinitionNotation, TypeNotation};
+use graphql_documents::documents::{
+    ComponentName, DirectiveDefinition, ExtendedType, MetaFields, Name, Node, Schema,
+    SchemaDefinition, Valid,
+};
+use indexmap::IndexMap;
+use std::alloc::Global;
+
+/// The types of a schema, by name.
+pub(super) type Types = IndexMap<Name, ExtendedType>;
+
+/// The directive definitions of a schema, by name.
+pub(super) type Directives = IndexMap<Name, Node<DirectiveDefinition>>;
+
+/// The schema of the built-in definitions, and then these. Its roots are the types that are called
+/// `Query`, `Mutation` and `Subscription`.
+pub fn schema(
+    alloc: Global,
+    types: &[TypeNotation<'_>],
+    directives: &[DirectiveDefinitionNotation<'_>],
+) -> Result<Valid<Schema>, RowError> {
+    let mut all_types = IndexMap::new(alloc);
+    add_scalars(alloc, &mut all_types)?;
+    for notation in types {
+        add_type(alloc, &mut all_types, notation)?;
+    }
+    let mut all_directives = IndexMap::new(alloc);
+    add_directives(alloc, &mut all_directives)?;
+    for notation in directives {
+        add_directive(alloc, &mut all_directives, notation)?;
+    }
+    Ok(Valid(Schema {
+        schema_definition: Node::new(alloc, roots(alloc, &all_types)?)?,
+        directive_definitions: all_directives,
+        types: all_types,
+        meta_fields: MetaFields::new(alloc)?,
+    }))
+}
+
+/// Adds a type under its name.
+pub(super) fn add_type(
+    alloc: Global,
+    types: &mut Types,
+    notation: &TypeNotation<'_>,
+) -> Result<(), RowError> {
+    let key = name(alloc, notation.name, notation.location)?;
+    let definition = type_definition(alloc, notation)?;
+    match types.insert(key, definition)? {
+        Some(_) => Err(RowError::RepeatedName),
+        None => Ok(()),
+    }
+}
+
+/// Adds a directive definition under its name.
+pub(super) fn add_directive(
+    alloc: Global,
+    directives: &mut Directives,
+    notation: &DirectiveDefinitionNotation<'_>,
+) -> Result<(), RowError> {
+    let key = name(alloc, notation.name, notation.location)?;
+    let definition = directive_definition(alloc, notation)?;
+    match directives.insert(key, definition)? {
+        Some(_) => Err(RowError::RepeatedName),
+        None => Ok(()),
+    }
+}
+
+fn roots(alloc: Global, types: &Types) -> Result<SchemaDefinition, RowError> {
+    Ok(SchemaDefinition {
+        directives: Vec::new(alloc),
+        query: root(alloc, types, "Query")?,
+        mutation: root(alloc, types, "Mutation")?,
+        subscription: root(alloc, types, "Subscription")?,
+    })
+}
+
+fn root(alloc: Global, types: &Types, text: &str) -> Result<Option<ComponentName>, RowError> {
+    let root = component_name(alloc, text)?;
+    if types.contains_key(&root.name) {
+        Ok(Some(root))
+    } else {
+        Ok(None)
+    }
+}

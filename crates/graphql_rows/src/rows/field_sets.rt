@@ -1,0 +1,47 @@
+ghost use Rattle.std.specs.Prelude.{◌≡◌, IfOk, IsSome, is_some};
+ghost use Rattle.graphql_rows.specs.Rows.{is_field_set_row};
+
+use crate::build::{field_set, schema};
+use crate::cases::Subject;
+use crate::errors::RowError;
+use crate::notation::{Literal, SelectionNotation, argument, field, leaf, object, output};
+use std::alloc::Global;
+
+/// The field sets on `Query`.
+pub(crate) fn subject(alloc: Global, id: &str) -> Result<Option<Subject>, RowError>
+    ensures { IfOk result (λ subject. is_some subject ≡ is_field_set_row id.now) }
+{
+    match id {
+        "1a" => on_query(
+            alloc,
+            &[leaf("id"), field("organization", &[], &[leaf("id")])],
+        ),
+        "1b" => on_query(alloc, &[leaf("id"), leaf("organization")]),
+        "1c" => on_query(
+            alloc,
+            &[field("id", &[argument("arg", Literal::Boolean(true))], &[])],
+        ),
+        _ => Ok(None),
+    }
+}
+
+fn on_query(
+    alloc: Global,
+    selections: &[SelectionNotation<'_>],
+) -> Result<Option<Subject>, RowError>
+    ensures { IfOk result (λ subject. IsSome subject) }
+{
+    let schema = schema(
+        alloc,
+        &[
+            object(
+                "Query",
+                &[output("id", "ID"), output("organization", "Org")],
+            ),
+            object("Org", &[output("id", "ID")]),
+        ],
+        &[],
+    )?;
+    let field_set = field_set(alloc, &schema.0, "Query", selections)?;
+    Ok(Some(Subject::FieldSet { schema, field_set }))
+}
