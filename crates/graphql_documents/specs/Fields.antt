@@ -7,7 +7,7 @@ use Rattle.graphql_documents.specs.Schemas.{type_definition, is_composite}
 use Rattle.graphql_documents.specs.Selections.{selections_of, definition_at, Fragments, Placed}
 use Rattle.graphql_documents.specs.Arguments.{HasDistinctNames, ArgumentsHold}
 use Rattle.graphql_documents.specs.declared.documents.nodes.Node.{Node}
-use Rattle.graphql_documents.specs.declared.documents.nodes.Component.{Component}
+use Rattle.graphql_documents.specs.declared.documents.components.Component.{Component}
 use Rattle.graphql_documents.specs.declared.documents.definitions.FieldDefinition.{FieldDefinition}
 use Rattle.graphql_documents.specs.declared.documents.schemas.Schema.{Schema}
 use Rattle.graphql_documents.specs.declared.documents.schemas.ExtendedType.{ExtendedType}

@@ -1,5 +1,6 @@
 //! Schemas, executable documents and field sets, as the layers below validation build them.
 
+pub mod components;
 pub mod coordinates;
 pub mod definitions;
 pub mod directives;
@@ -12,6 +13,7 @@ pub mod spans;
 pub mod type_references;
 pub mod values;
 
+pub use components::{Component, ComponentName, ComponentOrigin, ExtensionId};
 pub use coordinates::{
     DirectiveArgumentCoordinate, DirectiveCoordinate, FieldArgumentCoordinate, SchemaCoordinate,
     TypeAttributeCoordinate, TypeCoordinate,
@@ -27,7 +29,7 @@ pub use executables::{
 };
 pub use meta_fields::MetaFields;
 pub use names::{Name, NamedType};
-pub use nodes::{Component, ComponentName, ComponentOrigin, ExtensionId, Node};
+pub use nodes::Node;
 pub use schemas::{
     EnumType, ExtendedType, FieldLookupError, InputObjectType, InterfaceType, ObjectType, ScalarType, Schema,
     SchemaDefinition, UnionType,

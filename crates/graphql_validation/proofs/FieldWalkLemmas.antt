@@ -14,7 +14,7 @@ use Rattle.graphql_documents.specs.BrokenRules.{FieldBreaks, ReportsField, Repor
 use Rattle.graphql_documents.specs.Reports.{Reports}
 use Rattle.graphql_documents.proofs.ReportLemmas.{wider}
 use Rattle.graphql_documents.specs.declared.documents.nodes.Node.{Node}
-use Rattle.graphql_documents.specs.declared.documents.nodes.Component.{Component}
+use Rattle.graphql_documents.specs.declared.documents.components.Component.{Component}
 use Rattle.graphql_documents.specs.declared.documents.directives.Argument.{Argument}
 use Rattle.graphql_documents.specs.declared.documents.definitions.FieldDefinition.{FieldDefinition}
 use Rattle.graphql_documents.specs.declared.documents.schemas.Schema.{Schema}

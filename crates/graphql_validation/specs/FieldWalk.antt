@@ -7,7 +7,7 @@ use Rattle.graphql_documents.specs.Selections.{selections_of, definition_at, no_
 use Rattle.graphql_documents.specs.Fields.{FieldHolds, HasDefinition}
 use Rattle.graphql_documents.specs.BrokenRules.{ReportsField, NamesBrokenRule}
 use Rattle.graphql_documents.specs.declared.documents.nodes.Node.{Node}
-use Rattle.graphql_documents.specs.declared.documents.nodes.Component.{Component}
+use Rattle.graphql_documents.specs.declared.documents.components.Component.{Component}
 use Rattle.graphql_documents.specs.declared.documents.definitions.FieldDefinition.{FieldDefinition}
 use Rattle.graphql_documents.specs.declared.documents.schemas.Schema.{Schema}
 use Rattle.graphql_documents.specs.declared.documents.schemas.ExtendedType.{ExtendedType}

@@ -5,7 +5,8 @@ ghost use Rattle.graphql_documents.specs.MetaFields.{IsTypename, IsSchemaField, 
 
 use super::definitions::{FieldDefinition, InputValueDefinition};
 use super::names::Name;
-use super::nodes::{Component, ComponentOrigin, Node};
+use super::components::{Component, ComponentOrigin};
+use super::nodes::Node;
 use super::type_references::Type;
 use crate::diagnostics::errors::ValidationError;
 use std::alloc::Global;

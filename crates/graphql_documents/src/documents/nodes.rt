@@ -1,17 +1,17 @@
 ghost use Rattle.std.specs.Prelude.{◌≡◌, IfOk, None, Some};
+ghost use Rattle.std.specs.Cmp.{on_per, on_equiv};
 
-use super::names::Name;
 use super::spans::SourceSpan;
 use crate::diagnostics::errors::ValidationError;
 use std::alloc::{AllocError, Global};
+use std::hash::{Hash, Hasher};
 use std::rc::Rc;
 
 /// A shared value, and where it stands. Nodes are compared and hashed by their values alone.
 #[derive(Drop)]
-#[derive_where(Debug, PartialEq, Eq, Hash; T)]
+#[derive_where(Debug; T)]
 pub struct Node<T> {
     pub value: Rc<T>,
-    #[derive_where(skip(EqHashOrd))]
     pub location: Option<SourceSpan>,
 }
 
@@ -56,34 +56,26 @@ impl<T: Drop> Clone for Node<T> {
     }
 }
 
-/// An extension of a definition, by its number in the document.
-#[derive(Clone, Copy, Debug, PartialEq, Eq, Hash)]
-pub struct ExtensionId {
-    pub number: u32,
-    pub location: Option<SourceSpan>,
+impl<T: PartialEq> PartialEq for Node<T> {
+    ghost eq = { λ a b. T.eq a.value.value b.value.value };
+
+    ghost laws = { on_per (λ a. a.value.value) T.laws };
+
+    fn eq(&self, other: &Node<T>) -> bool {
+        self.value == other.value
+    }
 }
 
-/// Where a part of a definition was written: in the definition itself, or in an extension of it.
-#[derive(Clone, Copy, Debug, PartialEq, Eq, Hash)]
-pub enum ComponentOrigin {
-    Definition,
-    Extension(ExtensionId),
+impl<T: Eq> Eq for Node<T> {
+    ghost laws = { on_equiv (λ a. a.value.value) T.Eq.laws };
 }
 
-/// A part of a definition, with its origin. Components are compared and hashed by their values alone.
-#[derive(Drop)]
-#[derive_where(Debug, PartialEq, Eq, Hash; T)]
-pub struct Component<T> {
-    #[derive_where(skip(EqHashOrd))]
-    pub origin: ComponentOrigin,
-    pub node: Node<T>,
-}
+impl<T: Hash> Hash for Node<T> {
+    ghost hash_input = { λ node. T.hash_input node.value.value };
 
-/// A name in a list of a definition, with its origin. Compared and hashed by the name alone.
-#[derive(Drop)]
-#[derive_where(Debug, PartialEq, Eq, Hash)]
-pub struct ComponentName {
-    #[derive_where(skip(EqHashOrd))]
-    pub origin: ComponentOrigin,
-    pub name: Name,
+    ghost respects_eq = { λ a b e. T.respects_eq a.value.value b.value.value e };
+
+    fn hash<H: Hasher>(&self, state: &mut H) {
+        self.value.hash(state);
+    }
 }

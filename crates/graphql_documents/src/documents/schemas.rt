@@ -4,7 +4,8 @@ use super::definitions::{
 use super::directives::Directive;
 use super::meta_fields::MetaFields;
 use super::names::{Name, NamedType};
-use super::nodes::{Component, ComponentName, Node};
+use super::components::{Component, ComponentName};
+use super::nodes::Node;
 use indexmap::{IndexMap, IndexSet};
 
 /// A scalar type.
