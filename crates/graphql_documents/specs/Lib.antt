@@ -8,6 +8,7 @@ pub mod Messages
 pub mod MetaFields
 pub mod Names
 pub mod Nodes
+pub mod Numbers
 pub mod Reports
 pub mod Schemas
 pub mod Selections

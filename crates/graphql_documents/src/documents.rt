@@ -8,6 +8,7 @@ pub mod executables;
 pub mod meta_fields;
 pub mod names;
 pub mod nodes;
+pub mod numbers;
 pub mod schemas;
 pub mod spans;
 pub mod type_references;
@@ -30,10 +31,11 @@ pub use executables::{
 pub use meta_fields::MetaFields;
 pub use names::{Name, NamedType};
 pub use nodes::Node;
+pub use numbers::{FloatValue, IntValue};
 pub use schemas::{
     EnumType, ExtendedType, FieldLookupError, InputObjectType, InterfaceType, ObjectType, ScalarType, Schema,
     SchemaDefinition, UnionType,
 };
 pub use spans::{FileId, SourceSpan};
 pub use type_references::Type;
-pub use values::{FloatValue, IntValue, Value};
+pub use values::Value;

@@ -1,21 +1,6 @@
 use super::names::Name;
 use super::nodes::Node;
-
-/// The text of an integer literal. Compared by the text.
-///
-/// Specification: 2.9.1 Int Value.
-#[derive(Debug, Drop, PartialEq, Eq, Hash)]
-pub struct IntValue {
-    text: String,
-}
-
-/// The text of a float literal. Compared by the text.
-///
-/// Specification: 2.9.2 Float Value.
-#[derive(Debug, Drop, PartialEq, Eq, Hash)]
-pub struct FloatValue {
-    text: String,
-}
+use super::numbers::{FloatValue, IntValue};
 
 /// An input value as written.
 ///
