@@ -36,18 +36,20 @@ none_found p (x ∷ xs) h =
 -- names stay distinct exactly where the next one is new
 pub distinct_more : (xs : List (Node Argument)) (x : Node Argument) →
     (HasDistinctNames xs × (argument_named x.value.value.name xs ≡ None)) ↔ HasDistinctNames (xs ++ x ∷ [])
-distinct_more xs x =
-    (λ p. all_pairs_push (λ (a b : Node Argument). same_name a.value.value.name b.value.value.name ≡ false) xs x p.0
+distinct_more xs x = (
+  λ p. all_pairs_push (λ (a b : Node Argument). same_name a.value.value.name b.value.value.name ≡ false) xs x p.0
       (λ k d h. find_none (λ a. same_name a.value.value.name x.value.value.name) xs k d p.1 h),
-    λ all.
-      (λ i j d lt h.
+  λ all. (
+    λ i j d lt h.
         let at_i = get_or_append_left xs (x ∷ []) d i (omega arith) in
         let at_j = get_or_append_left xs (x ∷ []) d j h in
         rw (at_i, at_j) at (all i j d lt (omega (arith, length-append xs (x ∷ [])))),
-      none_found (λ a. same_name a.value.value.name x.value.value.name) xs (λ k d h.
+    none_found (λ a. same_name a.value.value.name x.value.value.name) xs (λ k d h.
         let at_k = get_or_append_left xs (x ∷ []) d k h in
         let at_end = get_or_push xs x d (length xs) refl in
-        rw (at_k, at_end) at (all k (length xs) d h (omega (arith, length-append xs (x ∷ [])))))))
+        rw (at_k, at_end) at (all k (length xs) d h (omega (arith, length-append xs (x ∷ []))))),
+  ),
+)
 
 -- arguments are found by the text of the name
 pub same_query : (a b : NameText) (xs : List (Node Argument)) → same_name a b ≡ true → argument_named a xs ≡ argument_named b xs

@@ -23,9 +23,10 @@ module _ {Entry : Type 0} where
   -- two lists that make an empty one are empty
   pub both_nil : (xs ys : List Entry) → (xs ++ ys ≡ []) ↔ ((xs ≡ []) × (ys ≡ []))
   both_nil [] ys = (λ e. (refl, e), λ p. p.1)
-  both_nil (x ∷ xs) ys =
-      (λ (e : x ∷ (xs ++ ys) ≡ []). absurd (let h : ⊥ = cc in h),
-      λ (p : (x ∷ xs ≡ []) × (ys ≡ [])). absurd (let h : ⊥ = cc in h))
+  both_nil (x ∷ xs) ys = (
+    λ (e : x ∷ (xs ++ ys) ≡ []). absurd (let h : ⊥ = cc in h),
+    λ (p : (x ∷ xs ≡ []) × (ys ≡ [])). absurd (let h : ⊥ = cc in h),
+  )
 
   -- what was added in two steps was added
   pub appended_then : (old mid new xs ys : List Entry) → mid ≡ old ++ xs → new ≡ mid ++ ys → new ≡ old ++ (xs ++ ys)
@@ -65,9 +66,10 @@ module _ {Entry : Type 0} where
     both P R old mid new a b = record {
       added = a.added ++ b.added;
       appended = appended_then old mid new a.added b.added a.appended b.appended;
-      silent =
-        (λ e. let s = (both_nil a.added b.added).0 e in (a.silent.0 s.0, b.silent.0 s.1),
-        λ p. (both_nil a.added b.added).1 (a.silent.1 p.0, b.silent.1 p.1));
+      silent = (
+        λ e. let s = (both_nil a.added b.added).0 e in (a.silent.0 s.0, b.silent.0 s.1),
+        λ p. (both_nil a.added b.added).1 (a.silent.1 p.0, b.silent.1 p.1),
+      );
       each = All-append Q a.added b.added a.each b.each;
     }
 
@@ -83,11 +85,12 @@ module _ {Entry : Type 0} where
     pub walked_more : (i : ℕ) (x : X) (old mid new : List Entry) → i < length xs → x ≡ get_or xs i x →
         Reports (All P (take i xs)) Q old mid → Reports (P x) Q mid new → Reports (All P (take (i + 1) xs)) Q old new
     walked_more i x old mid new within item a b =
-        in_words Q (All P (take i xs) × P x) (All P (take (i + 1) xs)) old new
-        (λ p. All-more P xs i x within p.0 (subst P item p.1),
-        λ (all : All P (take (i + 1) xs)).
-          let parts : All P (take i xs ++ x ∷ []) = subst (All P) (more_is xs i x within item) all in
-          (All-append_left P (take i xs) (x ∷ []) parts, All-head P x [] (All-append_right P (take i xs) (x ∷ []) parts)))
+        in_words Q (All P (take i xs) × P x) (All P (take (i + 1) xs)) old new (
+          λ p. All-more P xs i x within p.0 (subst P item p.1),
+          λ (all : All P (take (i + 1) xs)).
+              let parts : All P (take i xs ++ x ∷ []) = subst (All P) (more_is xs i x within item) all in
+              (All-append_left P (take i xs) (x ∷ []) parts, All-head P x [] (All-append_right P (take i xs) (x ∷ []) parts)),
+        )
         (both Q (All P (take i xs)) (P x) old mid new a b)
 
     pub walked_all : (i : ℕ) (ys : List X) (old new : List Entry) → xs ≡ ys → length xs ≤ i →

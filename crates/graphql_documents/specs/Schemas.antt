@@ -56,10 +56,10 @@ abbrev pub meta_field : Schema → NameText → ExtendedType → NameText → Op
 meta_field schema type_name definition field =
     if is_composite definition
     then (if bytes_eq field.text (codes "__typename") then Some schema.meta_fields.typename
-      else (if is_query_root schema type_name
-        then (if bytes_eq field.text (codes "__schema") then Some schema.meta_fields.schema
-          else (if bytes_eq field.text (codes "__type") then Some schema.meta_fields.type_by_name else None))
-        else None))
+    else (if is_query_root schema type_name
+    then (if bytes_eq field.text (codes "__schema") then Some schema.meta_fields.schema
+    else (if bytes_eq field.text (codes "__type") then Some schema.meta_fields.type_by_name else None))
+    else None))
     else None
 
 -- the first of two definitions that is there
@@ -71,7 +71,7 @@ first_of (Some d) other = Some d
 abbrev pub type_field : Schema → NameText → NameText → Result (Component FieldDefinition) FieldLookupError
 type_field schema type_name field =
     option_map_or (λ definition.
-      option_map_or Ok (first_of (own_field definition field) (meta_field schema type_name definition field)) (Err NoSuchField))
+    option_map_or Ok (first_of (own_field definition field) (meta_field schema type_name definition field)) (Err NoSuchField))
     (type_definition schema type_name) (Err NoSuchType)
 
 -- an argument or input field that must be given: its type is non-null, and it has no default.

@@ -33,8 +33,8 @@ pub use names::{Name, NamedType};
 pub use nodes::Node;
 pub use numbers::{FloatValue, IntValue};
 pub use schemas::{
-    EnumType, ExtendedType, FieldLookupError, InputObjectType, InterfaceType, ObjectType, ScalarType, Schema,
-    SchemaDefinition, UnionType,
+    EnumType, ExtendedType, FieldLookupError, InputObjectType, InterfaceType, ObjectType,
+    ScalarType, Schema, SchemaDefinition, UnionType,
 };
 pub use spans::{FileId, SourceSpan};
 pub use type_references::Type;

@@ -10,6 +10,8 @@ pub enum RowError {
     OutOfMemory,
     #[error("a text of the notation is no name")]
     NotAName,
+    #[error("a text of the notation is no integer")]
+    NotAnInteger,
     #[error("a text of the notation is no type reference")]
     NotATypeReference,
     #[error("two definitions of one list have the same name")]

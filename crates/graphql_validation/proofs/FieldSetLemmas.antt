@@ -49,7 +49,7 @@ placed_reached schema place set s at (standing_at in') parent is plain f e =
 placed_reached schema place set s at (placed_in_field {below = u} {f = g} in' under p) parent is plain f e =
     let k = known_below schema place g.value.value.name u under parent is in
     let r = placed_reached schema u g.value.value.selection_set s at p (inner_named_type k.0.node.value.value.ty) k.2
-      (λ x w. plain x (in_field in' w)) f e in
+    (λ x w. plain x (in_field in' w)) f e in
     (r.0, r.1, below in' k.1 r.2)
 placed_reached schema place set s at (placed_in_inline_fragment {i = i} in' p) parent is plain f e =
     let field = plain (kind.InlineFragment i) (standing in') in
@@ -67,10 +67,11 @@ reached_placed schema parent set f t (below {g = g} {d = d} in' is r) =
 
 -- so a plain set holds where the fields reached by fields do
 pub plain_holds : (schema : Schema) (set : SelectionSet) → IsPlain set → ReachedFieldsHold schema set.ty set ↔ FieldSetHolds schema set
-plain_holds schema set plain =
-    (λ h. record {
-      fields = λ f at placed.
+plain_holds schema set plain = (
+  λ h. record {
+    fields = λ f at placed.
         let r = placed_reached schema (Some set.ty) set (kind.Field f) at placed set.ty refl plain f refl in
         subst (λ t. FieldHolds (Some schema) t f.value.value) (sym r.1) (h f r.0 r.2);
-    },
-    λ h f t r. h.fields f (Some t) (reached_placed schema set.ty set f t r))
+  },
+  λ h f t r. h.fields f (Some t) (reached_placed schema set.ty set f t r),
+)

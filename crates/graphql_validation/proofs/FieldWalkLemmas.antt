@@ -57,11 +57,11 @@ pub all_hold : (schema : Schema) (parent : NameText) (set : SelectionSet) →
 all_hold schema parent set h =
     All-weaker (Contains (selections_of set)) (SelectionHolds schema parent)
     (λ s in' f e.
-      let stands_here = subst (Contains (selections_of set)) e in' in
-      record {
-        itself = h f parent (stands stands_here);
-        below_it = λ d is g at r. h g at (below stands_here is r);
-      })
+    let stands_here = subst (Contains (selections_of set)) e in' in
+    record {
+      itself = h f parent (stands stands_here);
+      below_it = λ d is g at r. h g at (below stands_here is r);
+    })
     (selections_of set) (All-contains_itself (selections_of set))
 
 -- from an empty set nothing is reached
@@ -80,7 +80,7 @@ module _ (schema : Schema) (parent : NameText) (set : SelectionSet) (f : Node Fi
   names_repetition given same e r =
       let broken = subst (λ l. RepeatsArgument l r.0 r.1 r.2 e.location) same r.4 in
       let Breaks : Details → Type 0 =
-        λ details. elim details [ Diagnostic report ↦ FieldBreaks (Some schema) (Some parent) f report e.location ] in
+      λ details. elim details [ Diagnostic report ↦ FieldBreaks (Some schema) (Some parent) f report e.location ] in
       names_field e (subst Breaks (sym r.3) broken)
 
   module _ (old new : List DiagnosticEntry) where
@@ -119,19 +119,20 @@ module _ (schema : Schema) (parent : NameText) (set : SelectionSet) (f : Node Fi
     below_in_set ty inner old new same_type same_set r =
         wider _ _ _ old new names_below
         (subst (λ s. Reports (ReachedFieldsHold schema (inner_named_type d.node.value.value.ty) s)
-          (NamesBrokenRule (Some schema) no_fragments (Some (inner_named_type d.node.value.value.ty)) s) old new) same_set
+        (NamesBrokenRule (Some schema) no_fragments (Some (inner_named_type d.node.value.value.ty)) s) old new) same_set
         (subst (λ t. Reports (ReachedFieldsHold schema t inner) (NamesBrokenRule (Some schema) no_fragments (Some t) inner) old new) same_type r))
 
 -- without a definition a field holds where its argument names are distinct
 pub holds_undefined : (schema : Schema) (parent : NameText) (f : Node Field) (e : FieldLookupError) →
     type_field schema parent f.value.value.name ≡ Err e →
     HasDistinctNames f.value.value.arguments.items ↔ FieldHoldsBelow schema parent f
-holds_undefined schema parent f e is =
-    (λ distinct. record {
-      itself = record { distinct = distinct; agrees = λ d found. absurd (none-some d (sym (ap result_ok is) ∙ found)) };
-      below_it = λ d found. absurd (let h : ◌≡◌ {A = Result (Component FieldDefinition) FieldLookupError} (Err e) (Ok d) = sym is ∙ found in let no : ⊥ = cc in no);
-    },
-    λ h. h.itself.distinct)
+holds_undefined schema parent f e is = (
+  λ distinct. record {
+    itself = record { distinct = distinct; agrees = λ d found. absurd (none-some d (sym (ap result_ok is) ∙ found)) };
+    below_it = λ d found. absurd (let h : ◌≡◌ {A = Result (Component FieldDefinition) FieldLookupError} (Err e) (Ok d) = sym is ∙ found in let no : ⊥ = cc in no);
+  },
+  λ h. h.itself.distinct,
+)
 
 -- what a field with a definition must do
 abbrev pub DefinedFieldHolds : Schema → Node Field → Component FieldDefinition → Type 0
@@ -151,13 +152,13 @@ holds_defined schema parent f d is = (there, back) where
     itself = record {
       distinct = p.0.0.0.0;
       agrees = λ d' found.
-        let same : d ≡ d' = same_Some d d' (sym (ap result_ok is) ∙ found) in
-        subst (λ x. AgreesWithDefinition (Some schema) f.value.value x.node.value.value) same
-        (record { arguments = record { defined = p.0.0.0.1; required = p.0.0.1 }; selection = p.0.1 });
+          let same : d ≡ d' = same_Some d d' (sym (ap result_ok is) ∙ found) in
+          subst (λ x. AgreesWithDefinition (Some schema) f.value.value x.node.value.value) same
+          (record { arguments = record { defined = p.0.0.0.1; required = p.0.0.1 }; selection = p.0.1 });
     };
     below_it = λ d' found.
-      let same : d ≡ d' = same_Some d d' (sym (ap result_ok is) ∙ ap result_ok found) in
-      subst (λ x. ReachedFieldsHold schema (inner_named_type x.node.value.value.ty) f.value.value.selection_set) same p.1;
+        let same : d ≡ d' = same_Some d d' (sym (ap result_ok is) ∙ ap result_ok found) in
+        subst (λ x. ReachedFieldsHold schema (inner_named_type x.node.value.value.ty) f.value.value.selection_set) same p.1;
   }
 
   back : FieldHoldsBelow schema parent f → DefinedFieldHolds schema f d

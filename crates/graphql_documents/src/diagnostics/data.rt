@@ -59,8 +59,13 @@ impl fmt::Display for DiagnosticData {
                 write!(f, "the argument `{name}` is provided multiple times")
             }
             DiagnosticData::UndefinedArgument {
-                name, coordinate, ..
-            } => write!(f, "the argument `{name}` is not supported by `{coordinate}`"),
+                name,
+                coordinate,
+                ..
+            } => write!(
+                f,
+                "the argument `{name}` is not supported by `{coordinate}`"
+            ),
             DiagnosticData::RequiredArgument { coordinate, .. } => {
                 write!(f, "the required argument `{coordinate}` is not provided")
             }

@@ -106,4 +106,3 @@ pub struct VariableDefinition {
     pub default_value: Option<Node<Value>>,
     pub directives: Vec<Node<Directive>>,
 }
-

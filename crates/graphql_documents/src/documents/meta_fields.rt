@@ -3,9 +3,9 @@ ghost use Rattle.std.proofs.Props.{props};
 ghost use Rattle.graphql_documents.specs.Names.{is_name};
 ghost use Rattle.graphql_documents.specs.MetaFields.{IsTypename, IsSchemaField, IsTypeField};
 
+use super::components::{Component, ComponentOrigin};
 use super::definitions::{FieldDefinition, InputValueDefinition};
 use super::names::Name;
-use super::components::{Component, ComponentOrigin};
 use super::nodes::Node;
 use super::type_references::Type;
 use crate::diagnostics::errors::ValidationError;

@@ -1,10 +1,10 @@
+use super::components::{Component, ComponentName};
 use super::definitions::{
     DirectiveDefinition, EnumValueDefinition, FieldDefinition, InputValueDefinition,
 };
 use super::directives::Directive;
 use super::meta_fields::MetaFields;
 use super::names::{Name, NamedType};
-use super::components::{Component, ComponentName};
 use super::nodes::Node;
 use indexmap::{IndexMap, IndexSet};
 

@@ -1,7 +1,7 @@
 use super::names::{name, node};
 use crate::errors::RowError;
 use crate::notation::{ArgumentNotation, DirectiveNotation, Literal};
-use graphql_documents::documents::{Argument, Directive, Name, Node, Value};
+use graphql_documents::documents::{Argument, Directive, IntValue, Name, Node, Value};
 use std::alloc::Global;
 
 /// The value that a literal writes.
@@ -10,6 +10,10 @@ pub(super) fn value(alloc: Global, literal: &Literal<'_>) -> Result<Value, RowEr
     match literal {
         Literal::Null => Ok(Value::Null),
         Literal::Boolean(boolean) => Ok(Value::Boolean(*boolean)),
+        Literal::Int(text) => {
+            let integer = IntValue::new(String::from_str(alloc, text)?);
+            Ok(Value::Int(integer.ok_or(RowError::NotAnInteger)?))
+        }
         Literal::String(text) => Ok(Value::String(String::from_str(alloc, text)?)),
         Literal::Enum(text) => Ok(Value::Enum(name(alloc, text, None)?)),
         Literal::Variable(text) => Ok(Value::Variable(name(alloc, text, None)?)),

@@ -4,6 +4,7 @@
 pub enum Literal<'a> {
     Null,
     Boolean(bool),
+    Int(&'a str),
     String(&'a str),
     Enum(&'a str),
     Variable(&'a str),

@@ -70,7 +70,7 @@ fn validate_leaf_field_selection(
 ) -> Result<bool, ValidationError>
     ensures checks { Checks result (HasNeededSelection (Some schema.now) field.now.value.value definition.now.node.value.value)
         (λ e. definition_at (Some schema.now) (Some parent.now) field.now.value.value.name ≡ Some definition.now →
-          ReportsField (Some schema.now) (Some parent.now) field.now e)
+        ReportsField (Some schema.now) (Some parent.now) field.now e)
         diagnostics.old diagnostics.new }
 
     // Below a field that was reported there is nothing to select.

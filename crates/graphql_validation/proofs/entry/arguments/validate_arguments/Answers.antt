@@ -24,12 +24,12 @@ returns-in_err-report_repetition-in-Some c =
     let i = c.loop-argument.argument-index in
     let x = c.argument-item.result in
     let seen = subst (λ a. place_of (argument_named a.name (take i xs)) ≡ Some c.in-Some.original.now) c.deref.ensures
-      (sym (c.in-Some.ensures.value ∙ c.loop-argument.invariant.1 c.deref.result.now.name)) in
+    (sym (c.in-Some.ensures.value ∙ c.loop-argument.invariant.1 c.deref.result.now.name)) in
     let first = place_found (argument_named x.value.value.name (take i xs)) c.in-Some.original.now seen in
     checks-err _ _ _ _ _ c.from_residual.ensures.0
     (kept_then _ _ _ _ (kept_by _ _ _ _ c.loop-argument.invariant.0)
-      (c.in_err-report_repetition-in-Some.ensures xs first.0
-        (repetition_at xs i x c.loop-argument-test.true c.argument-item.is first.0 first.1) first.2))
+    (c.in_err-report_repetition-in-Some.ensures xs first.0
+    (repetition_at xs i x c.loop-argument-test.true c.argument-item.is first.0 first.1) first.2))
 
 pub returns-in_err-insert-in-None : goal.returns-in_err-insert-in-None
 returns-in_err-insert-in-None c =
@@ -46,32 +46,34 @@ loop-argument-preserved c =
     let mid = entries c.loop-argument.diagnostics in
     let distinct = distinct_at xs i x c.loop-argument-test.true c.argument-item.is in
     elim c.match-get.branch [
-      in-Some+in_ok-report_repetition-in-Some w ↦
-        let seen = subst (λ a. place_of (argument_named a.name (take i xs)) ≡ Some w.in-Some.original.now) c.deref.ensures
+      | in-Some+in_ok-report_repetition-in-Some w ↦
+          let seen = subst (λ a. place_of (argument_named a.name (take i xs)) ≡ Some w.in-Some.original.now) c.deref.ensures
           (sym (w.in-Some.ensures.value ∙ c.loop-argument.invariant.1 c.deref.result.now.name)) in
-        let first = place_found (argument_named x.value.value.name (take i xs)) w.in-Some.original.now seen in
-        let report = w.in_ok-report_repetition-in-Some.ensures xs first.0
+          let first = place_found (argument_named x.value.value.name (take i xs)) w.in-Some.original.now seen in
+          let report = w.in_ok-report_repetition-in-Some.ensures xs first.0
           (repetition_at xs i x c.loop-argument-test.true c.argument-item.is first.0 first.1) first.2 in
-        rw (w.diagnostics-is, w.seen-is)
-        (in_words Q _ _ old _ distinct
-          (both Q _ is_new old mid _ c.loop-argument.invariant.0
-            (in_words Q ⊥ is_new mid _ ((λ no. absurd no), λ none. none-some first.0 (sym none ∙ first.1)) report)),
-        λ name. c.loop-argument.invariant.1 name ∙
-          ap place_of (sym (still_found xs i x c.loop-argument-test.true c.argument-item.is first.0 first.1 name)))
-    | in-None+in_ok-insert-in-None w ↦
-        let seen = subst (λ a. place_of (argument_named a.name (take i xs)) ≡ None) c.deref.ensures
+          rw (w.diagnostics-is, w.seen-is) (
+            in_words Q _ _ old _ distinct
+                (both Q _ is_new old mid _ c.loop-argument.invariant.0
+                (in_words Q ⊥ is_new mid _ ((λ no. absurd no), λ none. none-some first.0 (sym none ∙ first.1)) report)),
+            λ name. c.loop-argument.invariant.1 name ∙
+                ap place_of (sym (still_found xs i x c.loop-argument-test.true c.argument-item.is first.0 first.1 name)),
+          )
+      | in-None+in_ok-insert-in-None w ↦
+          let seen = subst (λ a. place_of (argument_named a.name (take i xs)) ≡ None) c.deref.ensures
           (sym (w.in-None.ensures.value ∙ c.loop-argument.invariant.1 c.deref.result.now.name)) in
-        let none = place_missing (argument_named x.value.value.name (take i xs)) seen in
-        rw (w.diagnostics-is, w.seen-is)
-        (in_words Q _ _ old _ distinct (both Q _ is_new old mid mid c.loop-argument.invariant.0 (holds Q is_new mid none)),
-        λ name.
-          let key : Bor NameText = record { ref_ptr = (0, 0); now = name } in
-          let Seen = Option (Option SourceSpan) in
-          let chosen : NameText → Seen → Seen = λ first o. cond (same_name first name) (Some x.location) o in
-          w.in_ok-insert-in-None.ensures.updates.0 key ∙
-          ap (λ a. chosen a.name (get_by (λ b. same_name name b.now) c.loop-argument.seen)) c.deref.ensures ∙
-          ap (chosen x.value.value.name) (c.loop-argument.invariant.1 name) ∙
-          sym (newly_found xs i x c.loop-argument-test.true c.argument-item.is none name))
+          let none = place_missing (argument_named x.value.value.name (take i xs)) seen in
+          rw (w.diagnostics-is, w.seen-is) (
+            in_words Q _ _ old _ distinct (both Q _ is_new old mid mid c.loop-argument.invariant.0 (holds Q is_new mid none)),
+            λ name.
+                let key : Bor NameText = record { ref_ptr = (0, 0); now = name } in
+                let Seen = Option (Option SourceSpan) in
+                let chosen : NameText → Seen → Seen = λ first o. cond (same_name first name) (Some x.location) o in
+                w.in_ok-insert-in-None.ensures.updates.0 key ∙
+                ap (λ a. chosen a.name (get_by (λ b. same_name name b.now) c.loop-argument.seen)) c.deref.ensures ∙
+                ap (chosen x.value.value.name) (c.loop-argument.invariant.1 name) ∙
+                sym (newly_found xs i x c.loop-argument-test.true c.argument-item.is none name),
+          )
     ]
 
 pub returns : goal.returns

@@ -13,14 +13,19 @@ returns c = λ d among.
     let required : is_required c.args.argument.now.value.value ≡ true = search rules in
     let missing : ¬ IsGiven c.args.field.now.value.value.arguments.items c.args.argument.now.value.value.name = search rules in
     checks-push _ _ _ _ _ _ c.push.ensures.ok c.push.ensures.err (λ holds. missing (holds required))
-    (λ schema is. (c.args.parent.now, d, record { place_is = refl; definition_is = is }, record {
-      definition = c.args.argument.now;
-      is_defined = among;
-      required = required;
-      missing = missing;
-      name_is = search rules;
-      coordinate_is = search rules;
-      expected_is = record { same_value = search rules; same_location = search rules };
-      definition_location_is = refl;
-      at_is = refl;
-    }))
+    (λ schema is. (
+      c.args.parent.now,
+      d,
+      record { place_is = refl; definition_is = is },
+      record {
+        definition = c.args.argument.now;
+        is_defined = among;
+        required = required;
+        missing = missing;
+        name_is = search rules;
+        coordinate_is = search rules;
+        expected_is = record { same_value = search rules; same_location = search rules };
+        definition_location_is = refl;
+        at_is = refl;
+      },
+    ))

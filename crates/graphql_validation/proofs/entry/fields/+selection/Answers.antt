@@ -19,7 +19,7 @@ validate_field-returns-in_err-validate_arguments t c = λ set in'.
     let same = c.deref-2.ensures.value ∙ ap (λ f. f.arguments.items) c.deref.ensures in
     checks-err _ _ _ _ _ c.from_residual.ensures.0
     (kept_wider _ _ _ _ (names_repetition c.args.schema.now c.args.against_type.now set c.args.field.now in' _ same)
-      c.in_err-validate_arguments.ensures)
+    c.in_err-validate_arguments.ensures)
 
 pub validate_field-returns-in_default : goal.validate_field-returns-in_default
 validate_field-returns-in_default t c = λ set in'.
@@ -39,7 +39,7 @@ validate_field-returns-in_err-validate_known_arguments t c = λ set in'.
     let distinct = distinct_in_set schema parent set f in' _ _ _ same c.in_ok-validate_arguments.ensures in
     checks-err _ _ _ _ _ c.from_residual-in_err-validate_known_arguments.ensures.0
     (kept_then _ _ _ _ (kept_by _ _ _ _ distinct)
-      (kept_wider _ _ _ _ (names_defined schema parent set f in' d is) c.in_err-validate_known_arguments.ensures))
+    (kept_wider _ _ _ _ (names_defined schema parent set f in' d is) c.in_err-validate_known_arguments.ensures))
 
 pub validate_field-returns-in_err-validate_required_arguments : goal.validate_field-returns-in_err-validate_required_arguments
 validate_field-returns-in_err-validate_required_arguments t c = λ set in'.
@@ -53,7 +53,7 @@ validate_field-returns-in_err-validate_required_arguments t c = λ set in'.
     let known = wider _ _ _ _ _ (names_defined schema parent set f in' d is) c.in_ok-validate_known_arguments.ensures in
     checks-err _ _ _ _ _ c.from_residual-in_err-validate_required_arguments.ensures.0
     (kept_then _ _ _ _ (kept_by _ _ _ _ (both _ _ _ _ _ _ distinct known))
-      (kept_wider _ _ _ _ (names_defined schema parent set f in' d is) c.in_err-validate_required_arguments.ensures))
+    (kept_wider _ _ _ _ (names_defined schema parent set f in' d is) c.in_err-validate_required_arguments.ensures))
 
 pub validate_field-returns-in_err-validate_leaf_field_selection : goal.validate_field-returns-in_err-validate_leaf_field_selection
 validate_field-returns-in_err-validate_leaf_field_selection t c = λ set in'.
@@ -68,7 +68,7 @@ validate_field-returns-in_err-validate_leaf_field_selection t c = λ set in'.
     let required = wider _ _ _ _ _ (names_defined schema parent set f in' d is) c.in_ok-validate_required_arguments.ensures in
     checks-err _ _ _ _ _ c.from_residual-in_err-validate_leaf_field_selection.ensures.0
     (kept_then _ _ _ _ (kept_by _ _ _ _ (both _ _ _ _ _ _ (both _ _ _ _ _ _ distinct known) required))
-      (kept_wider _ _ _ _ (names_checked schema parent set f in' d is) c.in_err-validate_leaf_field_selection.ensures.checks))
+    (kept_wider _ _ _ _ (names_checked schema parent set f in' d is) c.in_err-validate_leaf_field_selection.ensures.checks))
 
 pub validate_field-returns-in_err-validate_selection_set : goal.validate_field-returns-in_err-validate_selection_set
 validate_field-returns-in_err-validate_selection_set t c = λ set in'.
@@ -85,7 +85,7 @@ validate_field-returns-in_err-validate_selection_set t c = λ set in'.
     let before = both _ _ _ _ _ _ (both _ _ _ _ _ _ (both _ _ _ _ _ _ distinct known) required) needed in
     checks-err _ _ _ _ _ c.from_residual-in_err-validate_selection_set.ensures.0
     (kept_then _ _ _ _ (kept_by _ _ _ _ before)
-      (kept_wider _ _ _ _ (names_below schema parent set f in' d is) (search rules)))
+    (kept_wider _ _ _ _ (names_below schema parent set f in' d is) (search rules)))
 
 pub validate_field-returns-in_ok-validate_selection_set : goal.validate_field-returns-in_ok-validate_selection_set
 validate_field-returns-in_ok-validate_selection_set t c = λ set in'.
@@ -123,7 +123,7 @@ pub validate_selection_set-returns-in_err-validate_field : goal.validate_selecti
 validate_selection_set-returns-in_err-validate_field t c =
     checks-err _ _ _ _ _ c.from_residual.ensures.0
     (kept_then _ _ _ _ (kept_by _ _ _ _ c.loop-selection.invariant)
-      (c.in_err-validate_field.ensures c.args.selection_set.now (search rules)))
+    (c.in_err-validate_field.ensures c.args.selection_set.now (search rules)))
 
 pub validate_selection_set-loop-selection-preserved : goal.validate_selection_set-loop-selection-preserved
 validate_selection_set-loop-selection-preserved t c =
@@ -135,15 +135,15 @@ validate_selection_set-loop-selection-preserved t c =
     let x = c.selection-item.result in
     let Q = NamesBrokenRule (Some schema) no_fragments (Some parent) set in
     elim c.match-selection.branch [
-      validate_selection_set-in-Field+in_ok-validate_field w ↦
-        let stands_here : Contains (selections_of set) (kind.Field w.in-Field.field) = search rules in
-        rw w.diagnostics-is
-        (walked_more (SelectionHolds schema parent) Q xs i x _ _ _ c.loop-selection-test.true c.selection-item.is c.loop-selection.invariant
+      | validate_selection_set-in-Field+in_ok-validate_field w ↦
+          let stands_here : Contains (selections_of set) (kind.Field w.in-Field.field) = search rules in
+          rw w.diagnostics-is
+          (walked_more (SelectionHolds schema parent) Q xs i x _ _ _ c.loop-selection-test.true c.selection-item.is c.loop-selection.invariant
           (in_words _ _ _ _ _ (field_selection schema parent x w.in-Field.field w.in-Field.is)
-            (w.in_ok-validate_field.ensures set stands_here)))
-    | validate_selection_set-in_default w ↦
-        rw w.diagnostics-is
-        (walked_more (SelectionHolds schema parent) Q xs i x _ _ _ c.loop-selection-test.true c.selection-item.is c.loop-selection.invariant
+          (w.in_ok-validate_field.ensures set stands_here)))
+      | validate_selection_set-in_default w ↦
+          rw w.diagnostics-is
+          (walked_more (SelectionHolds schema parent) Q xs i x _ _ _ c.loop-selection-test.true c.selection-item.is c.loop-selection.invariant
           (holds _ _ _ (λ f e. absurd (w.in_default.not-Field f e))))
     ]
 
@@ -154,4 +154,4 @@ validate_selection_set-returns t c =
     let set = c.args.selection_set.now in
     in_words _ _ _ _ _ (reached_hold schema parent set, all_hold schema parent set)
     (walked_all (SelectionHolds schema parent) (NamesBrokenRule (Some schema) no_fragments (Some parent) set) c.deref-selection-items.result.now c.loop-selection.selection-index (selections_of set) _ _
-      c.deref-selection-items.ensures.value c.loop-selection-test.false c.loop-selection.invariant)
+    c.deref-selection-items.ensures.value c.loop-selection-test.false c.loop-selection.invariant)

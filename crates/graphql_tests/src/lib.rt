@@ -1,0 +1,13 @@
+//! Tests of the libraries over the bench: what no contract says, and that each call can succeed.
+#![tactic(auto)]
+
+#[cfg(test)]
+mod diagnostics;
+#[cfg(test)]
+mod documents;
+#[cfg(test)]
+mod field_sets;
+#[cfg(test)]
+mod notation;
+#[cfg(test)]
+mod schemas;
