@@ -5,10 +5,11 @@ pub mod coordinates;
 pub mod definitions;
 pub mod directives;
 pub mod executables;
+pub mod floats;
+pub mod integers;
 pub mod meta_fields;
 pub mod names;
 pub mod nodes;
-pub mod numbers;
 pub mod schemas;
 pub mod spans;
 pub mod type_references;
@@ -28,10 +29,11 @@ pub use executables::{
     ExecutableDocument, Field, FieldSet, Fragment, FragmentSpread, InlineFragment, Operation,
     OperationMap, Selection, SelectionSet, Valid,
 };
+pub use floats::FloatValue;
+pub use integers::IntValue;
 pub use meta_fields::MetaFields;
 pub use names::{Name, NamedType};
 pub use nodes::Node;
-pub use numbers::{FloatValue, IntValue};
 pub use schemas::{
     EnumType, ExtendedType, FieldLookupError, InputObjectType, InterfaceType, ObjectType,
     ScalarType, Schema, SchemaDefinition, UnionType,

@@ -1,6 +1,7 @@
+use super::floats::FloatValue;
+use super::integers::IntValue;
 use super::names::Name;
 use super::nodes::Node;
-use super::numbers::{FloatValue, IntValue};
 
 /// An input value as written.
 ///

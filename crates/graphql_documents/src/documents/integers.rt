@@ -5,7 +5,7 @@ ghost use Rattle.std.specs.List.{list_all};
 ghost use Rattle.std.specs.Char.{is_ascii_digit};
 ghost use Rattle.std.specs.Str.{bytes_eq};
 ghost use Rattle.std.specs.Cmp.Rules.{comparing, hashing};
-ghost use Rattle.graphql_documents.specs.Numbers.{is_whole_number, is_integer, IsFloat};
+ghost use Rattle.graphql_documents.specs.Numbers.{is_whole_number, is_integer};
 
 use std::hash::{Hash, Hasher};
 use std::marker::Model;
@@ -18,14 +18,6 @@ pub struct IntValue {
     text: String,
 }
 
-/// A float literal, as its text. Compared by the text.
-///
-/// Specification: 2.9.2 Float Value.
-#[derive(Debug, Drop)]
-pub struct FloatValue {
-    text: String,
-}
-
 impl Model for IntValue {
     ghost use Rattle.std.specs.Prelude.{ℕ, List, IsTrue, string_bytes};
     ghost use Rattle.graphql_documents.specs.Numbers.{is_integer};
@@ -35,17 +27,6 @@ impl Model for IntValue {
     ghost view = { λ v. string_bytes v.text };
 
     ghost invariant = { λ v. IsTrue (is_integer (string_bytes v.text)) };
-}
-
-impl Model for FloatValue {
-    ghost use Rattle.std.specs.Prelude.{ℕ, List, string_bytes};
-    ghost use Rattle.graphql_documents.specs.Numbers.{IsFloat};
-
-    ghost Value = { List ℕ };
-
-    ghost view = { λ v. string_bytes v.text };
-
-    ghost invariant = { λ v. IsFloat (string_bytes v.text) };
 }
 
 impl IntValue {
@@ -66,16 +47,6 @@ impl IntValue {
     pub fn as_str(&self) -> &str
         ensures text { result.now ≡ self.now }
         ensures integer { IsTrue (is_integer self.now) }
-    {
-        self.text.as_str()
-    }
-}
-
-impl FloatValue {
-    /// The text of the literal.
-    pub fn as_str(&self) -> &str
-        ensures text { result.now ≡ self.now }
-        ensures float { IsFloat self.now }
     {
         self.text.as_str()
     }
@@ -121,30 +92,6 @@ impl Eq for IntValue {
 }
 
 impl Hash for IntValue {
-    ghost hash_input = { λ value. fed.str value };
-
-    ghost respects_eq = { Prim.search (hashing, rules) };
-
-    fn hash<H: Hasher>(&self, state: &mut H) {
-        self.as_str().hash(state);
-    }
-}
-
-impl PartialEq for FloatValue {
-    ghost eq = { bytes_eq };
-
-    ghost laws = { Prim.search (comparing, rules) };
-
-    fn eq(&self, other: &FloatValue) -> bool {
-        self.as_str() == other.as_str()
-    }
-}
-
-impl Eq for FloatValue {
-    ghost laws = { Prim.search (comparing, rules) };
-}
-
-impl Hash for FloatValue {
     ghost hash_input = { λ value. fed.str value };
 
     ghost respects_eq = { Prim.search (hashing, rules) };
