@@ -4,7 +4,7 @@ ghost use Rattle.graphql_documents.specs.Arguments.{HasDistinctNames, argument_n
 ghost use Rattle.graphql_documents.specs.BrokenRules.{IsRepetition, ReportsRepetition};
 ghost use Rattle.graphql_documents.specs.Reports.{Checks};
 ghost use Rattle.graphql_documents.specs.declared.documents.nodes.Node.{Node};
-ghost use Rattle.graphql_documents.specs.declared.documents.nodes.Component.{Component};
+ghost use Rattle.graphql_documents.specs.declared.documents.components.Component.{Component};
 ghost use Rattle.graphql_documents.specs.declared.documents.directives.Argument.{Argument};
 ghost use Rattle.graphql_documents.specs.declared.documents.definitions.FieldDefinition.{FieldDefinition};
 ghost use Rattle.graphql_validation.specs.FieldWalk.{ReportsDefinedField};
