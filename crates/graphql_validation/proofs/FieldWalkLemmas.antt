@@ -12,7 +12,7 @@ use Rattle.graphql_documents.specs.Arguments.{HasDistinctNames, ArgumentsHold, I
 use Rattle.graphql_documents.specs.Fields.{FieldHolds, AgreesWithDefinition, HasNeededSelection}
 use Rattle.graphql_documents.specs.BrokenRules.{FieldBreaks, ReportsField, ReportsRepetition, RepeatsArgument, NamesBrokenRule}
 use Rattle.graphql_documents.specs.Reports.{Reports}
-use Rattle.graphql_documents.proofs.ReportLemmas.{wider}
+use Rattle.graphql_documents.proofs.ReportLemmas.{wider, both}
 use Rattle.graphql_documents.specs.declared.documents.nodes.Node.{Node}
 use Rattle.graphql_documents.specs.declared.documents.components.Component.{Component}
 use Rattle.graphql_documents.specs.declared.documents.directives.Argument.{Argument}
@@ -110,6 +110,34 @@ module _ (schema : Schema) (parent : NameText) (set : SelectionSet) (f : Node Fi
       placed = placed_in_field in' (below_known (ap result_ok is)) r.placed;
       broken = r.broken;
     }
+
+    -- the checks of its arguments, one after another
+    pub arguments_in_set : (given : List (Node Argument)) (old distinct known new : List DiagnosticEntry) → given ≡ f.value.value.arguments.items →
+        Reports (HasDistinctNames given) (ReportsRepetition given) old distinct →
+        Reports (All (IsDefined d.node.value.value.arguments.items) f.value.value.arguments.items) (ReportsDefinedField parent f d) distinct known →
+        Reports (All (IsGivenIfRequired f.value.value.arguments.items) d.node.value.value.arguments.items) (ReportsDefinedField parent f d) known new →
+        Reports ((HasDistinctNames f.value.value.arguments.items ×
+        All (IsDefined d.node.value.value.arguments.items) f.value.value.arguments.items) ×
+        All (IsGivenIfRequired f.value.value.arguments.items) d.node.value.value.arguments.items)
+        (NamesBrokenRule (Some schema) no_fragments (Some parent) set) old new
+    arguments_in_set given old distinct known new same r s t =
+        both _ _ _ _ _ _ (both _ _ _ _ _ _ (distinct_in_set old distinct given same r) (wider _ _ _ _ _ names_defined s))
+        (wider _ _ _ _ _ names_defined t)
+
+    -- and then whether it selects what it must
+    pub checked_in_set : (given : List (Node Argument)) (old distinct known required new : List DiagnosticEntry) → given ≡ f.value.value.arguments.items →
+        Reports (HasDistinctNames given) (ReportsRepetition given) old distinct →
+        Reports (All (IsDefined d.node.value.value.arguments.items) f.value.value.arguments.items) (ReportsDefinedField parent f d) distinct known →
+        Reports (All (IsGivenIfRequired f.value.value.arguments.items) d.node.value.value.arguments.items) (ReportsDefinedField parent f d) known required →
+        Reports (HasNeededSelection (Some schema) f.value.value d.node.value.value)
+        (λ e. definition_at (Some schema) (Some parent) f.value.value.name ≡ Some d → ReportsField (Some schema) (Some parent) f e) required new →
+        Reports (((HasDistinctNames f.value.value.arguments.items ×
+        All (IsDefined d.node.value.value.arguments.items) f.value.value.arguments.items) ×
+        All (IsGivenIfRequired f.value.value.arguments.items) d.node.value.value.arguments.items) ×
+        HasNeededSelection (Some schema) f.value.value d.node.value.value)
+        (NamesBrokenRule (Some schema) no_fragments (Some parent) set) old new
+    checked_in_set given old distinct known required new same r s t u =
+        both _ _ _ _ _ _ (arguments_in_set given old distinct known required same r s t) (wider _ _ _ _ _ names_checked u)
 
     pub below_in_set : (ty : NameText) (inner : SelectionSet) (old new : List DiagnosticEntry) →
         ty ≡ inner_named_type d.node.value.value.ty → inner ≡ f.value.value.selection_set →

@@ -20,11 +20,12 @@ pub struct DiagnosticList {
 impl DiagnosticList {
     ghost use Rattle.std.specs.Prelude.{◌≡◌, ◌↔◌, IsTrue, [], ◌∷◌, ◌++◌, length, OnOk, OnErr};
     ghost use Rattle.std.specs.Slice.Iter.{iter_rest};
-    ghost use Rattle.graphql_documents.specs.Diagnostics.{entries};
+    ghost use Rattle.graphql_documents.specs.Diagnostics.{entries, allocator_of};
 
     /// A list of no reports, which grows by this allocator.
     pub fn new(alloc: Global) -> DiagnosticList
-        ensures { entries result ≡ [] }
+        ensures empty { entries result ≡ [] }
+        ensures allocator { allocator_of result ≡ alloc }
     {
         DiagnosticList {
             entries: Vec::new(alloc),
@@ -32,7 +33,9 @@ impl DiagnosticList {
     }
 
     /// The allocator of the list.
-    pub fn allocator(&self) -> Global {
+    pub fn allocator(&self) -> Global
+        ensures { result ≡ allocator_of self.now }
+    {
         *self.entries.allocator()
     }
 
