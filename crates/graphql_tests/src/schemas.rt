@@ -1,31 +1,10 @@
-use graphql_documents::documents::{
-    Component, FieldDefinition, FieldLookupError, MetaFields, Name, Schema, Selection, Valid,
-};
-use graphql_rows::RowError;
-use graphql_rows::build::{field_set, schema};
-use graphql_rows::notation::{
-    Literal, aliased, input, input_or, interface, leaf, object, output, output_taking, scalar,
-    union_type,
-};
+use graphql_documents::documents::{FieldLookupError, MetaFields, Name, Schema, Selection};
+use graphql_rows::{Subject, build_case};
 use std::alloc::Global;
 use std::test::Fail;
 
 fn name(alloc: Global, text: &str) -> Result<Name, Fail> {
     Ok(Name::new(String::from_str(alloc, text)?, None).ok_or("no name")?)
-}
-
-fn example(alloc: Global) -> Result<Valid<Schema>, RowError> {
-    schema(
-        alloc,
-        &[
-            object("Query", &[output("a", "Int")]),
-            object("Other", &[output("b", "[Int!]")]),
-            interface("Named", &[output("c", "ID!")]),
-            union_type("Either", &["Query", "Other"]),
-            scalar("Date"),
-        ],
-        &[],
-    )
 }
 
 /// The type of a field as written, or why it has none.
@@ -46,58 +25,61 @@ fn type_of(
 
 #[test]
 fn fields_are_looked_up(rt: HostRuntime) -> Result<(), Fail> {
-    let schema = example(rt.alloc())?;
+    let case = build_case(rt.alloc(), "1a")?.ok_or("no such row")?;
+    let Subject::FieldSet {
+        schema,
+        field_set: _set,
+    } = case.subject;
     let found = [
-        ("Query", "a", "Int"),
-        ("Other", "b", "[Int!]"),
-        ("Named", "c", "ID!"),
-        ("Query", "__typename", "String!"),
-        ("Other", "__typename", "String!"),
-        ("Named", "__typename", "String!"),
-        ("Either", "__typename", "String!"),
+        ("Query", "organization", "Org"),
+        ("Org", "id", "ID"),
+        ("Org", "__typename", "String!"),
         ("Query", "__schema", "__Schema!"),
         ("Query", "__type", "__Type"),
     ];
     for (type_name, field, text) in found {
-        match type_of(rt.alloc(), &schema.0, type_name, field)? {
-            Ok(ty) => assert_eq!(rt; ty.as_str(), text, "{type_name}.{field}"),
-            Err(_) => panic!(rt; "{type_name}.{field} has no definition"),
-        }
-    }
-    let missing = [
-        ("Query", "b", FieldLookupError::NoSuchField),
-        ("Other", "__schema", FieldLookupError::NoSuchField),
-        ("Either", "__type", FieldLookupError::NoSuchField),
-        ("Date", "__typename", FieldLookupError::NoSuchField),
-        ("Nothing", "__typename", FieldLookupError::NoSuchType),
-    ];
-    for (type_name, field, expected) in missing {
-        match type_of(rt.alloc(), &schema.0, type_name, field)? {
-            Ok(_) => panic!(rt; "{type_name}.{field} has a definition"),
-            Err(error) => assert_eq!(rt; error, expected, "{type_name}.{field}"),
-        }
+        let ty = type_of(rt.alloc(), &schema.0, type_name, field)?;
+        assert!(rt;
+            ty.is_ok_and(|ty| ty.as_str() == text),
+            "{type_name}.{field}"
+        );
     }
     Ok(())
 }
 
 #[test]
-fn query_root_that_is_no_composite_has_no_meta_fields(rt: HostRuntime) -> Result<(), Fail> {
-    let schema = schema(rt.alloc(), &[scalar("Query")], &[])?;
-    for field in ["__typename", "__schema", "__type"] {
-        let found = type_of(rt.alloc(), &schema.0, "Query", field)?;
-        assert!(rt; found.is_err(), "{field}");
+fn missing_fields_are_told_apart(rt: HostRuntime) -> Result<(), Fail> {
+    let case = build_case(rt.alloc(), "1a")?.ok_or("no such row")?;
+    let Subject::FieldSet {
+        schema,
+        field_set: _set,
+    } = case.subject;
+    let missing = [
+        ("Query", "name", FieldLookupError::NoSuchField),
+        ("Org", "__schema", FieldLookupError::NoSuchField),
+        ("ID", "__typename", FieldLookupError::NoSuchField),
+        ("Nothing", "__typename", FieldLookupError::NoSuchType),
+    ];
+    for (type_name, field, expected) in missing {
+        let ty = type_of(rt.alloc(), &schema.0, type_name, field)?;
+        assert!(rt;
+            ty.is_err_and(|error| error == expected),
+            "{type_name}.{field}"
+        );
     }
     Ok(())
 }
 
 #[test]
 fn kinds_describe_themselves(rt: HostRuntime) -> Result<(), Fail> {
-    let schema = example(rt.alloc())?;
+    let case = build_case(rt.alloc(), "1a")?.ok_or("no such row")?;
+    let Subject::FieldSet {
+        schema,
+        field_set: _set,
+    } = case.subject;
     let kinds = [
         ("Query", "an object type", true),
-        ("Named", "an interface type", true),
-        ("Either", "a union type", true),
-        ("Date", "a scalar type", false),
+        ("ID", "a scalar type", false),
     ];
     for (type_name, text, composite) in kinds {
         let key = name(rt.alloc(), type_name)?;
@@ -111,63 +93,29 @@ fn kinds_describe_themselves(rt: HostRuntime) -> Result<(), Fail> {
 #[test]
 fn meta_fields_are_made(rt: HostRuntime) -> Result<(), Fail> {
     let made = MetaFields::new(rt.alloc())?;
-    let signatures: [(&Component<FieldDefinition>, &str, usize); 3] = [
-        (&made.typename, "__typename", 0),
-        (&made.schema, "__schema", 0),
-        (&made.type_by_name, "__type", 1),
-    ];
-    for (field, text, arguments) in signatures {
-        assert_eq!(rt; field.node.value.name.as_str(), text);
-        assert_eq!(rt; field.node.value.arguments.len(), arguments, "{text}");
+    assert_eq!(rt; made.typename.node.value.name.as_str(), "__typename");
+    assert_eq!(rt; made.schema.node.value.name.as_str(), "__schema");
+    assert_eq!(rt; made.type_by_name.node.value.name.as_str(), "__type");
+    for argument in &made.type_by_name.node.value.arguments {
+        assert_eq!(rt; argument.value.name.as_str(), "name");
+        assert!(rt; argument.value.is_required());
     }
     Ok(())
 }
 
 #[test]
-fn arguments_are_required_or_not(rt: HostRuntime) -> Result<(), Fail> {
-    let inputs = &[
-        input("nullable", "Int"),
-        input("required", "Int!"),
-        input("list", "[Int!]!"),
-        input("inner", "[Int!]"),
-        input_or("defaulted", "Int!", Literal::Int("1")),
-    ];
-    let schema = schema(
-        rt.alloc(),
-        &[object("Query", &[output_taking("f", inputs, "Int")])],
-        &[],
-    )?;
-    let query = name(rt.alloc(), "Query")?;
-    let field = name(rt.alloc(), "f")?;
-    let Ok(found) = schema.0.type_field(&query, &field) else {
-        panic!(rt; "the field has no definition");
-    };
-    let mut required = Vec::new(rt.alloc());
-    for argument in &found.node.value.arguments {
-        required.push(argument.value.is_required())?;
-    }
-    assert_eq!(rt;
-        required.as_slice(),
-        [false, true, true, false, false].as_slice()
-    );
-    Ok(())
-}
-
-#[test]
-fn response_keys_are_aliases_or_names(rt: HostRuntime) -> Result<(), Fail> {
-    let schema = example(rt.alloc())?;
-    let set = field_set(
-        rt.alloc(),
-        &schema.0,
-        "Query",
-        &[leaf("a"), aliased("x", "a", &[], &[])],
-    )?;
+fn response_keys_are_names_without_an_alias(rt: HostRuntime) -> Result<(), Fail> {
+    let case = build_case(rt.alloc(), "1b")?.ok_or("no such row")?;
+    let Subject::FieldSet {
+        schema: _schema,
+        field_set,
+    } = case.subject;
     let mut keys = String::new(rt.alloc());
-    for selection in &set.selection_set.selections {
+    for selection in &field_set.selection_set.selections {
         if let Selection::Field(field) = selection {
             keys.push_str(field.value.response_key().as_str())?;
         }
     }
-    assert_eq!(rt; keys.as_str(), "ax");
+    assert_eq!(rt; keys.as_str(), "idorganization");
     Ok(())
 }
