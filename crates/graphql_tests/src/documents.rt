@@ -1,6 +1,6 @@
 use graphql_documents::documents::{
-    DirectiveArgumentCoordinate, DirectiveCoordinate, FieldArgumentCoordinate, FileId, IntValue,
-    Name, Node, SchemaCoordinate, SourceSpan, Type, TypeAttributeCoordinate, TypeCoordinate,
+    DirectiveArgumentCoordinate, DirectiveCoordinate, FieldArgumentCoordinate, FileId, Name, Node,
+    SchemaCoordinate, SourceSpan, Type, TypeAttributeCoordinate, TypeCoordinate,
 };
 use std::alloc::Global;
 use std::hash::{DefaultHasher, Hash, Hasher};
@@ -20,33 +20,6 @@ fn hash_of<T: Hash>(value: &T) -> u64 {
     let mut state = DefaultHasher::new();
     value.hash(&mut state);
     state.finish()
-}
-
-#[test]
-fn names_follow_the_grammar(rt: HostRuntime) -> Result<(), Fail> {
-    let texts = [
-        ("a", true),
-        ("_", true),
-        ("__typename", true),
-        ("Z9_z", true),
-        ("", false),
-        ("9a", false),
-        ("a-b", false),
-        ("a b", false),
-        ("é", false),
-        ("aé", false),
-    ];
-    for (text, is_name) in texts {
-        let made = Name::new(String::from_str(rt.alloc(), text)?, Some(PLACE));
-        assert_eq!(rt; made.is_some(), is_name, "{text}");
-        if let Some(name) = made {
-            assert_eq!(rt; name.as_str(), text);
-            assert_eq!(rt; name.location(), Some(PLACE));
-            let printed = format!(in rt.alloc(); "{name}")?;
-            assert_eq!(rt; printed.as_str(), text);
-        }
-    }
-    Ok(())
 }
 
 #[test]
@@ -93,32 +66,6 @@ fn types_print_as_written(rt: HostRuntime) -> Result<(), Fail> {
         assert_eq!(rt; printed.as_str(), text);
         assert_eq!(rt; ty.is_non_null(), non_null, "{text}");
         assert_eq!(rt; ty.inner_named_type().as_str(), "Int");
-    }
-    Ok(())
-}
-
-#[test]
-fn integers_follow_the_grammar(rt: HostRuntime) -> Result<(), Fail> {
-    let texts = [
-        ("0", true),
-        ("-0", true),
-        ("7", true),
-        ("-2147483649", true),
-        ("", false),
-        ("-", false),
-        ("00", false),
-        ("-01", false),
-        ("+1", false),
-        ("1.0", false),
-        ("1e3", false),
-        ("--1", false),
-    ];
-    for (text, is_integer) in texts {
-        let made = IntValue::new(String::from_str(rt.alloc(), text)?);
-        assert_eq!(rt; made.is_some(), is_integer, "{text}");
-        if let Some(value) = made {
-            assert_eq!(rt; value.as_str(), text);
-        }
     }
     Ok(())
 }

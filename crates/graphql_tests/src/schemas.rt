@@ -71,26 +71,6 @@ fn missing_fields_are_told_apart(rt: HostRuntime) -> Result<(), Fail> {
 }
 
 #[test]
-fn kinds_describe_themselves(rt: HostRuntime) -> Result<(), Fail> {
-    let case = build_case(rt.alloc(), "1a")?.ok_or("no such row")?;
-    let Subject::FieldSet {
-        schema,
-        field_set: _set,
-    } = case.subject;
-    let kinds = [
-        ("Query", "an object type", true),
-        ("ID", "a scalar type", false),
-    ];
-    for (type_name, text, composite) in kinds {
-        let key = name(rt.alloc(), type_name)?;
-        let definition = schema.0.types.get(&key).ok_or("no such type")?;
-        assert_eq!(rt; definition.describe(), text);
-        assert_eq!(rt; definition.is_composite(), composite, "{text}");
-    }
-    Ok(())
-}
-
-#[test]
 fn meta_fields_are_made(rt: HostRuntime) -> Result<(), Fail> {
     let made = MetaFields::new(rt.alloc())?;
     assert_eq!(rt; made.typename.node.value.name.as_str(), "__typename");
