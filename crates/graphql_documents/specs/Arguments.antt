@@ -2,10 +2,15 @@
 use Rattle.std.specs.Prelude.{◌≡◌, ◌≢◌, Bool, true, false, List, Option, Some, None, All, AllPairs, Contains, find, IsSome, IsSomeAnd}
 use Rattle.graphql_documents.specs.Names.{NameText, same_name}
 use Rattle.graphql_documents.specs.Schemas.{is_required}
+use Rattle.graphql_documents.specs.VariableUsage.{UsageHolds}
+use Rattle.graphql_documents.specs.InputCoercion.{Accepts}
 use Rattle.graphql_documents.specs.declared.documents.nodes.Node.{Node}
 use Rattle.graphql_documents.specs.declared.documents.directives.Argument.{Argument}
 use Rattle.graphql_documents.specs.declared.documents.definitions.InputValueDefinition.{InputValueDefinition}
+use Rattle.graphql_documents.specs.declared.documents.definitions.VariableDefinition.{VariableDefinition}
+use Rattle.graphql_documents.specs.declared.documents.values.Value.{Value}
 use Rattle.graphql_documents.specs.declared.documents.values.Value.TheVariants.{Null}
+use Rattle.graphql_documents.specs.declared.documents.schemas.Schema.{Schema}
 
 -- the first argument with this name
 abbrev pub argument_named : NameText → List (Node Argument) → Option (Node Argument)
@@ -31,7 +36,24 @@ IsGiven given name = IsSomeAnd (argument_named name given) (λ a. a.value.value.
 abbrev pub IsGivenIfRequired : List (Node Argument) → Node InputValueDefinition → Type 0
 IsGivenIfRequired given d = is_required d.value.value ≡ true → IsGiven given d.value.value.name
 
--- the arguments agree with the definitions: each is defined, and each required one is given
-pub record ArgumentsHold (definitions : List (Node InputValueDefinition)) (given : List (Node Argument)) : Type 0 where
+-- the names of the arguments agree with the definitions: each is defined, and each required one is given
+pub record ArgumentNamesHold (definitions : List (Node InputValueDefinition)) (given : List (Node Argument)) : Type 0 where
   pub defined : All (IsDefined definitions) given
   pub required : All (IsGivenIfRequired given) definitions
+
+-- the value of a defined argument is accepted; where it is a variable, this may be used there
+pub record ArgumentValueHolds (schema : Schema) (variables : List (Node VariableDefinition)) (definition : InputValueDefinition) (value : Value) : Type 0 where
+  pub usage : UsageHolds variables definition value
+  pub accepted : Accepts schema variables definition.ty.value.value value
+
+-- each argument's value holds, by the first definition with its name. Specification: 5.6 Values
+abbrev pub ArgumentValuesHold : Schema → List (Node VariableDefinition) → List (Node InputValueDefinition) → List (Node Argument) → Type 0
+ArgumentValuesHold schema variables definitions given =
+    All (λ a. (d : Node InputValueDefinition) → definition_named a.value.value.name definitions ≡ Some d →
+    ArgumentValueHolds schema variables d.value.value a.value.value.value.value.value) given
+
+-- the arguments agree with the definitions
+pub record ArgumentsHold (schema : Schema) (variables : List (Node VariableDefinition)) (definitions : List (Node InputValueDefinition)) (given : List (Node Argument)) : Type 0 where
+  pub distinct : HasDistinctNames given
+  pub names : ArgumentNamesHold definitions given
+  pub values : ArgumentValuesHold schema variables definitions given

@@ -1,5 +1,5 @@
 -- Names and their sameness. Specification: 2.1.9 Names.
-use Rattle.std.specs.Prelude.{ℕ, Bool, false, ◌||◌, ◌&&◌, ◌==◌, List, [], ◌∷◌, Option}
+use Rattle.std.specs.Prelude.{◌≡◌, ℕ, Bool, false, ◌||◌, ◌&&◌, ◌==◌, List, [], ◌∷◌, Option, None, Some, length, IsTrue, IsFalse, All, AllPairs, Contains}
 use Rattle.std.specs.List.{list_all}
 use Rattle.std.specs.Char.{is_ascii_alphabetic, is_ascii_alphanumeric}
 use Rattle.std.specs.Str.{bytes_eq}
@@ -26,3 +26,34 @@ is_name (c ∷ cs) = starts_name c && list_all continues_name cs
 -- two names are the same where their texts are, wherever they stand
 abbrev pub same_name : NameText → NameText → Bool
 same_name a b = bytes_eq a.text b.text
+
+-- the two names are the same
+abbrev pub SameName : NameText → NameText → Type 0
+SameName a b = IsTrue (same_name a b)
+
+-- the two names differ
+abbrev pub DifferentNames : NameText → NameText → Type 0
+DifferentNames a b = IsFalse (same_name a b)
+
+-- no two of the names are the same
+abbrev pub AreDistinct : List NameText → Type 0
+AreDistinct names = AllPairs DifferentNames names
+
+-- there are this many different names in the list, or more
+abbrev pub HasDifferentNames : ℕ → List NameText → Type 0
+HasDifferentNames count names =
+    (chosen : List NameText) × (length chosen ≡ count) × AreDistinct chosen × All (Contains names) chosen
+
+-- a text that begins with two underscores
+abbrev pub begins_with_two_underscores : List ℕ → Bool
+begins_with_two_underscores (c ∷ (d ∷ cs)) = c == 95 && d == 95
+begins_with_two_underscores _ = false
+
+-- a place in the file of the definitions that every schema has
+abbrev pub is_built_in_place : Option SourceSpan → Bool
+is_built_in_place None = false
+is_built_in_place (Some span) = span.file_id.0 == 0
+
+-- names that begin with two underscores are kept for introspection. Specification: 2.1.9 Names, Reserved Names
+abbrev pub IsFreeName : NameText → Type 0
+IsFreeName name = IsTrue (begins_with_two_underscores name.text) → IsTrue (is_built_in_place name.location)

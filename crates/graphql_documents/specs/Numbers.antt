@@ -1,5 +1,5 @@
 -- The texts of numbers. Specification: 2.9.1 Int Value, 2.9.2 Float Value.
-use Rattle.std.specs.Prelude.{◌≡◌, ℕ, Bool, true, false, ◌&&◌, ◌||◌, ◌==◌, List, [], ◌∷◌, ◌++◌, IsTrue, cond}
+use Rattle.std.specs.Prelude.{◌≡◌, ℕ, ◌+◌, ◌-◌, ◌*◌, ℤ, pos, neg_ℤ, fold, Bool, true, false, ◌&&◌, ◌||◌, ◌==◌, List, [], ◌∷◌, ◌++◌, IsTrue, cond}
 use Rattle.std.specs.List.{list_all}
 use Rattle.std.specs.Char.{is_ascii_digit}
 
@@ -13,6 +13,15 @@ is_whole_number (c ∷ d ∷ ds) = (is_ascii_digit c && (cond (c == 48) false tr
 abbrev pub is_integer : List ℕ → Bool
 is_integer [] = false
 is_integer (c ∷ cs) = cond (c == 45) (is_whole_number cs) (is_whole_number (c ∷ cs))
+
+-- the number that digits write
+abbrev pub digits_value : List ℕ → ℕ
+digits_value digits = fold (λ n digit. n * 10 + (digit - 48)) 0 digits
+
+-- the number that an integer writes
+abbrev pub integer_value : List ℕ → ℤ
+integer_value [] = pos 0
+integer_value (c ∷ cs) = cond (c == 45) (neg_ℤ (pos (digits_value cs))) (pos (digits_value (c ∷ cs)))
 
 -- one digit or more
 abbrev pub is_digits : List ℕ → Bool

@@ -1,11 +1,20 @@
 -- Types and fields of a schema. Specification: 3 Type System.
-use Rattle.std.specs.Prelude.{ℕ, Bool, true, false, ◌&&◌, List, Option, None, Some, Result, Ok, Err, codes, is_none, if◌then◌else◌, MatchOption}
+use Rattle.std.specs.Prelude.{◌≡◌, ℕ, Bool, true, false, ◌&&◌, List, [], ◌∷◌, ◌++◌, Option, None, Some, Result, Ok, Err, codes, is_none, if◌then◌else◌, MatchOption, Any, Contains}
 use Rattle.std.specs.Option.{option_map_or}
 use Rattle.std.specs.Str.{bytes_eq}
 use Rattle.indexmap.specs.IndexMap.{get}
-use Rattle.graphql_documents.specs.Names.{NameText, same_name}
+use Rattle.graphql_documents.specs.Names.{NameText, SameName, same_name, is_built_in_place}
 use Rattle.graphql_documents.specs.TypeReferences.{inner_named_type, is_non_null}
+use Rattle.graphql_documents.specs.declared.documents.spans.SourceSpan.{SourceSpan}
+use Rattle.graphql_documents.specs.declared.documents.nodes.Node.{Node}
 use Rattle.graphql_documents.specs.declared.documents.components.Component.{Component}
+use Rattle.graphql_documents.specs.declared.documents.components.ComponentName.{ComponentName}
+use Rattle.graphql_documents.specs.declared.documents.definitions.OperationType.{OperationType}
+use Rattle.graphql_documents.specs.declared.documents.definitions.OperationType.TheVariants.{Query, Mutation, Subscription}
+use Rattle.graphql_documents.specs.declared.documents.schemas.ObjectType.{ObjectType}
+use Rattle.graphql_documents.specs.declared.documents.schemas.InterfaceType.{InterfaceType}
+use Rattle.graphql_documents.specs.declared.documents.schemas.InputObjectType.{InputObjectType}
+use Rattle.graphql_documents.specs.declared.documents.schemas.SchemaDefinition.{SchemaDefinition}
 use Rattle.graphql_documents.specs.declared.documents.definitions.FieldDefinition.{FieldDefinition}
 use Rattle.graphql_documents.specs.declared.documents.definitions.InputValueDefinition.{InputValueDefinition}
 use Rattle.graphql_documents.specs.declared.documents.schemas.Schema.{Schema}
@@ -35,6 +44,61 @@ kind_text (Interface d) = codes "an interface type"
 kind_text (Union d) = codes "a union type"
 kind_text (Enum d) = codes "an enum type"
 kind_text (InputObject d) = codes "an input object type"
+
+-- types that an argument, a variable or an input field may have. Specification: 3.4.2 Input and Output Types
+abbrev pub is_input_type : ExtendedType → Bool
+is_input_type (Scalar d) = true
+is_input_type (Enum d) = true
+is_input_type (InputObject d) = true
+is_input_type _ = false
+
+-- types that a field may have. Specification: 3.4.2 Input and Output Types
+abbrev pub is_output_type : ExtendedType → Bool
+is_output_type (InputObject d) = false
+is_output_type _ = true
+
+-- where the definition stands
+abbrev pub place_of_type : ExtendedType → Option SourceSpan
+place_of_type (Scalar d) = d.location
+place_of_type (Object d) = d.location
+place_of_type (Interface d) = d.location
+place_of_type (Union d) = d.location
+place_of_type (Enum d) = d.location
+place_of_type (InputObject d) = d.location
+
+-- one of the definitions that every schema has
+abbrev pub is_built_in : ExtendedType → Bool
+is_built_in definition = is_built_in_place (place_of_type definition)
+
+-- the name that the definition itself has
+abbrev pub own_name : ExtendedType → NameText
+own_name (Scalar d) = d.value.value.name
+own_name (Object d) = d.value.value.name
+own_name (Interface d) = d.value.value.name
+own_name (Union d) = d.value.value.name
+own_name (Enum d) = d.value.value.name
+own_name (InputObject d) = d.value.value.name
+
+-- the interfaces that an object or interface lists. Specification: 3.6 Objects, 3.7 Interfaces
+abbrev pub interfaces_of : ExtendedType → List ComponentName
+interfaces_of (Object d) = d.value.value.implements_interfaces.keys
+interfaces_of (Interface d) = d.value.value.implements_interfaces.keys
+interfaces_of _ = []
+
+-- the fields of an object or interface, by the names under which they stand
+abbrev pub fields_of : ExtendedType → List (NameText × Component FieldDefinition)
+fields_of (Object d) = d.value.value.fields.entries
+fields_of (Interface d) = d.value.value.fields.entries
+fields_of _ = []
+
+-- the fields of an input object. Specification: 3.10 Input Objects
+abbrev pub input_fields_of : ExtendedType → List (NameText × Component InputValueDefinition)
+input_fields_of (InputObject d) = d.value.value.fields.entries
+input_fields_of _ = []
+
+-- the name is in a list of a definition
+abbrev pub IsListed : NameText → List ComponentName → Type 0
+IsListed name names = Any (λ listed. SameName listed.name name) names
 
 -- a field that a type itself defines. Specification: 3.6 Objects, 3.7 Interfaces
 abbrev pub own_field : ExtendedType → NameText → Option (Component FieldDefinition)
@@ -78,3 +142,56 @@ type_field schema type_name field =
 -- Specification: 5.4.2.1 Required Arguments
 abbrev pub is_required : InputValueDefinition → Bool
 is_required d = is_non_null d.ty.value.value && is_none d.default_value
+
+-- the interface with this name. Specification: 3.7 Interfaces
+abbrev pub IsInterface : Schema → NameText → Node InterfaceType → Type 0
+IsInterface schema name d = type_definition schema name ≡ Some (Interface d)
+
+-- the input object with this name. Specification: 3.10 Input Objects
+abbrev pub IsInputObject : Schema → NameText → Node InputObjectType → Type 0
+IsInputObject schema name d = type_definition schema name ≡ Some (InputObject d)
+
+-- the root type of the operations of a kind. Specification: 3.3.1 Root Operation Types
+abbrev pub root_operation : SchemaDefinition → OperationType → Option ComponentName
+root_operation d Query = d.query
+root_operation d Mutation = d.mutation
+root_operation d Subscription = d.subscription
+
+-- a root with its kind, if there is one
+abbrev pub rooted : OperationType → Option ComponentName → List (OperationType × ComponentName)
+rooted kind None = []
+rooted kind (Some root) = (kind, root) ∷ []
+
+-- the root types that the schema names, in order
+abbrev pub roots_of : SchemaDefinition → List (OperationType × ComponentName)
+roots_of d = rooted Query d.query ++ (rooted Mutation d.mutation ++ rooted Subscription d.subscription)
+
+-- the type with this name lists the interface. Specification: 3.6 Objects, 3.7 Interfaces
+pub record Implements (schema : Schema) (name interface : NameText) : Type 0 where
+  pub definition : ExtendedType
+  pub defined : type_definition schema name ≡ Some definition
+  pub lists : IsListed interface (interfaces_of definition)
+
+-- an object of this own name lists the interface
+abbrev pub IsImplementedBy : Schema → NameText → NameText → Type 0
+IsImplementedBy schema interface name =
+    (key : NameText) × (d : Node ObjectType) × Contains schema.types.entries (key, Object d) ×
+    SameName d.value.value.name name × IsListed interface d.value.value.implements_interfaces.keys
+
+-- the same, of the definition of the first
+abbrev pub IsSubtypeOf : Schema → NameText → Option ExtendedType → NameText → Type 0
+IsSubtypeOf schema wide (Some (Union d)) narrow = IsListed narrow d.value.value.members.keys
+IsSubtypeOf schema wide (Some (Interface d)) narrow = Implements schema narrow wide
+IsSubtypeOf schema wide _ narrow = ⊥
+
+-- each value of the second type is one of the first: a member of the union, or what lists the
+-- interface. Specification: 3.6 Objects, IsValidImplementationFieldType
+abbrev pub IsSubtype : Schema → NameText → NameText → Type 0
+IsSubtype schema wide narrow = IsSubtypeOf schema wide (type_definition schema wide) narrow
+
+-- objects of this name are values of the type. Specification: 5.5.2.3 Fragment Spread Is Possible, GetPossibleTypes
+abbrev pub IsPossibleType : Schema → ExtendedType → NameText → Type 0
+IsPossibleType schema (Object d) name = SameName d.value.value.name name
+IsPossibleType schema (Interface d) name = IsImplementedBy schema d.value.value.name name
+IsPossibleType schema (Union d) name = IsListed name d.value.value.members.keys
+IsPossibleType schema _ name = ⊥

@@ -1,20 +1,25 @@
 -- Selections and the places where they stand. Specification: 2.4 Selection Sets to 2.8 Fragments.
-use Rattle.std.specs.Prelude.{◌≡◌, List, Option, None, Some, Contains, unwrap_or}
+use Rattle.std.specs.Prelude.{◌≡◌, List, [], Option, None, Some, Contains, unwrap_or}
 use Rattle.std.specs.Option.{option_and_then}
 use Rattle.std.specs.Result.{result_ok}
-use Rattle.graphql_documents.specs.Names.{NameText}
+use Rattle.indexmap.specs.IndexMap.{get}
+use Rattle.graphql_documents.specs.Names.{NameText, same_name}
 use Rattle.graphql_documents.specs.TypeReferences.{inner_named_type}
 use Rattle.graphql_documents.specs.Schemas.{type_field}
 use Rattle.graphql_documents.specs.declared.documents.nodes.Node.{Node}
 use Rattle.graphql_documents.specs.declared.documents.components.Component.{Component}
 use Rattle.graphql_documents.specs.declared.documents.definitions.FieldDefinition.{FieldDefinition}
+use Rattle.graphql_documents.specs.declared.documents.directives.Argument.{Argument}
+use Rattle.graphql_documents.specs.declared.documents.directives.Directive.{Directive}
 use Rattle.graphql_documents.specs.declared.documents.schemas.Schema.{Schema}
-use Rattle.graphql_documents.specs.declared.documents.executables.Selection.{Selection}
+use Rattle.graphql_documents.specs.declared.documents.executables.Selection.{Selection, out-Selection}
+use Rattle.graphql_documents.specs.declared.documents.executables.Selection.TheOpen as Open
 use Rattle.graphql_documents.specs.declared.documents.executables.SelectionSet.{SelectionSet}
 use Rattle.graphql_documents.specs.declared.documents.executables.Field.{Field}
 use Rattle.graphql_documents.specs.declared.documents.executables.InlineFragment.{InlineFragment}
 use Rattle.graphql_documents.specs.declared.documents.executables.FragmentSpread.{FragmentSpread}
 use Rattle.graphql_documents.specs.declared.documents.executables.Fragment.{Fragment}
+use Rattle.graphql_documents.specs.declared.documents.executables.ExecutableDocument.{ExecutableDocument}
 use Rattle.graphql_documents.specs.declared.documents.executables.Selection.TheVariants as kind
 
 -- the key of a field in a response: its alias, else its name. Specification: 2.7 Field Alias
@@ -33,6 +38,20 @@ pub data Written : SelectionSet → Selection → Type 0 where
   in_inline_fragment : {set : SelectionSet} {s : Selection} {i : Node InlineFragment} →
       Contains (selections_of set) (kind.InlineFragment i) → Written i.value.value.selection_set s → Written set s
 
+-- the directives of a selection
+abbrev pub directives_of : Selection → List (Node Directive)
+directives_of s = elim (out-Selection s) [
+    Open.Field f ↦ f.value.value.directives.items
+    | Open.FragmentSpread p ↦ p.value.value.directives.items
+    | Open.InlineFragment i ↦ i.value.value.directives.items ]
+
+-- the arguments of a field; other selections have none
+abbrev pub arguments_of : Selection → List (Node Argument)
+arguments_of s = elim (out-Selection s) [
+    Open.Field f ↦ f.value.value.arguments.items
+    | Open.FragmentSpread p ↦ []
+    | Open.InlineFragment i ↦ [] ]
+
 -- how a name finds its fragment, if any is defined. Specification: 5.5.2.1 Fragment Spread Target Defined
 abbrev pub Fragments : Type 0
 Fragments = NameText → Option (Node Fragment)
@@ -40,6 +59,35 @@ Fragments = NameText → Option (Node Fragment)
 -- a field set has no fragments of its own
 abbrev pub no_fragments : Fragments
 no_fragments name = None
+
+-- the fragments of a document
+abbrev pub fragments_of : ExecutableDocument → Fragments
+fragments_of document name = get same_name document.fragments name
+
+-- a set, and the sets of the inline fragments and spread fragments in it, at any depth but not below
+-- a field
+pub data Includes (fragments : Fragments) : SelectionSet → SelectionSet → Type 0 where
+  includes_itself : {set : SelectionSet} → Includes fragments set set
+  includes_inline_fragment : {set inner : SelectionSet} {i : Node InlineFragment} →
+      Contains (selections_of set) (kind.InlineFragment i) →
+      Includes fragments i.value.value.selection_set inner →
+      Includes fragments set inner
+  includes_spread : {set inner : SelectionSet} {p : Node FragmentSpread} {d : Node Fragment} →
+      Contains (selections_of set) (kind.FragmentSpread p) →
+      fragments p.value.value.fragment_name ≡ Some d →
+      Includes fragments d.value.value.selection_set inner →
+      Includes fragments set inner
+
+-- the selection stands in the set, or in that of a fragment in it. Specification: 5.3.2 Field Selection
+-- Merging, "including visiting fragments and inline fragments"
+abbrev pub Inside : Fragments → SelectionSet → Selection → Type 0
+Inside fragments set s = (inner : SelectionSet) × Includes fragments set inner × Contains (selections_of inner) s
+
+-- the selection stands inside the set, or inside the set of a field that is reached
+pub data Reached (fragments : Fragments) : SelectionSet → Selection → Type 0 where
+  reached_inside : {set : SelectionSet} {s : Selection} → Inside fragments set s → Reached fragments set s
+  reached_below : {set : SelectionSet} {s : Selection} {f : Node Field} →
+      Inside fragments set (kind.Field f) → Reached fragments f.value.value.selection_set s → Reached fragments set s
 
 -- the definition of a field at a place: none without a schema, at a place of no known type, or
 -- where the type lacks the field. Specification: 5.3.1 Field Selections

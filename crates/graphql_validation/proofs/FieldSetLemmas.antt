@@ -6,8 +6,8 @@ use Rattle.graphql_documents.specs.Names.{NameText}
 use Rattle.graphql_documents.specs.TypeReferences.{inner_named_type}
 use Rattle.graphql_documents.specs.Schemas.{type_field}
 use Rattle.graphql_documents.specs.Selections.{selections_of, definition_at, no_fragments, Written, standing, in_field, TypeBelow, below_unknown, below_known, Placed, standing_at, placed_in_field, placed_in_inline_fragment, placed_in_spread}
-use Rattle.graphql_documents.specs.Fields.{FieldHolds}
-use Rattle.graphql_documents.specs.FieldSets.{IsPlain, FieldSetHolds}
+use Rattle.graphql_documents.specs.Fields.{FieldFormHolds}
+use Rattle.graphql_documents.specs.FieldSets.{IsPlain, FieldSetFormHolds}
 use Rattle.graphql_documents.specs.declared.documents.nodes.Node.{Node}
 use Rattle.graphql_documents.specs.declared.documents.components.Component.{Component}
 use Rattle.graphql_documents.specs.declared.documents.definitions.FieldDefinition.{FieldDefinition}
@@ -66,12 +66,10 @@ reached_placed schema parent set f t (below {g = g} {d = d} in' is r) =
     (reached_placed schema (inner_named_type d.node.value.value.ty) g.value.value.selection_set f t r)
 
 -- so a plain set holds where the fields reached by fields do
-pub plain_holds : (schema : Schema) (set : SelectionSet) → IsPlain set → ReachedFieldsHold schema set.ty set ↔ FieldSetHolds schema set
+pub plain_holds : (schema : Schema) (set : SelectionSet) → IsPlain set → ReachedFieldsHold schema set.ty set ↔ FieldSetFormHolds schema set
 plain_holds schema set plain = (
-  λ h. record {
-    fields = λ f at placed.
-        let r = placed_reached schema (Some set.ty) set (kind.Field f) at placed set.ty refl plain f refl in
-        subst (λ t. FieldHolds (Some schema) t f.value.value) (sym r.1) (h f r.0 r.2);
-  },
-  λ h f t r. h.fields f (Some t) (reached_placed schema set.ty set f t r),
+  λ h f at placed.
+      let r = placed_reached schema (Some set.ty) set (kind.Field f) at placed set.ty refl plain f refl in
+      subst (λ t. FieldFormHolds (Some schema) t f.value.value) (sym r.1) (h f r.0 r.2),
+  λ h f t r. h f (Some t) (reached_placed schema set.ty set f t r),
 )

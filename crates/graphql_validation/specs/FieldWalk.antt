@@ -4,7 +4,7 @@ use Rattle.graphql_documents.specs.Names.{NameText}
 use Rattle.graphql_documents.specs.TypeReferences.{inner_named_type}
 use Rattle.graphql_documents.specs.Schemas.{type_field, is_composite}
 use Rattle.graphql_documents.specs.Selections.{selections_of, definition_at, no_fragments}
-use Rattle.graphql_documents.specs.Fields.{FieldHolds, HasDefinition}
+use Rattle.graphql_documents.specs.Fields.{FieldFormHolds, HasDefinition}
 use Rattle.graphql_documents.specs.BrokenRules.{ReportsField, NamesBrokenRule}
 use Rattle.graphql_documents.specs.declared.documents.nodes.Node.{Node}
 use Rattle.graphql_documents.specs.declared.documents.components.Component.{Component}
@@ -40,10 +40,10 @@ pub data ReachedByFields (schema : Schema) : NameText → SelectionSet → Node 
 -- each field that is so reached holds
 abbrev pub ReachedFieldsHold : Schema → NameText → SelectionSet → Type 0
 ReachedFieldsHold schema parent set =
-    (f : Node Field) (at : NameText) → ReachedByFields schema parent set f at → FieldHolds (Some schema) (Some at) f.value.value
+    (f : Node Field) (at : NameText) → ReachedByFields schema parent set f at → FieldFormHolds (Some schema) (Some at) f.value.value
 
 -- the field holds, and so does each field reached from its set
 pub record FieldHoldsBelow (schema : Schema) (parent : NameText) (f : Node Field) : Type 0 where
-  pub itself : FieldHolds (Some schema) (Some parent) f.value.value
+  pub itself : FieldFormHolds (Some schema) (Some parent) f.value.value
   pub below_it : (d : Component FieldDefinition) → type_field schema parent f.value.value.name ≡ Ok d →
       ReachedFieldsHold schema (inner_named_type d.node.value.value.ty) f.value.value.selection_set

@@ -1,0 +1,61 @@
+-- The fields that an object answers, by response key. Specification: 6.3.2 Field Collection, without
+-- `@skip` and `@include`.
+use Rattle.std.specs.Prelude.{◌≡◌, ◌⊎◌, List, [], ◌∷◌, ◌++◌, Option, Some, Any, Contains, IsSomeAnd, IfSome}
+use Rattle.graphql_documents.specs.Names.{NameText, SameName}
+use Rattle.graphql_documents.specs.Schemas.{type_definition, interfaces_of, IsListed, IsInterface}
+use Rattle.graphql_documents.specs.Selections.{Fragments, response_key, selections_of}
+use Rattle.graphql_documents.specs.Merging.{FieldSelection, set_of}
+use Rattle.graphql_documents.specs.declared.documents.nodes.Node.{Node}
+use Rattle.graphql_documents.specs.declared.documents.schemas.Schema.{Schema}
+use Rattle.graphql_documents.specs.declared.documents.schemas.ObjectType.{ObjectType}
+use Rattle.graphql_documents.specs.declared.documents.schemas.InterfaceType.{InterfaceType}
+use Rattle.graphql_documents.specs.declared.documents.schemas.UnionType.{UnionType}
+use Rattle.graphql_documents.specs.declared.documents.schemas.ExtendedType.TheVariants.{Object, Interface, Union}
+use Rattle.graphql_documents.specs.declared.documents.executables.SelectionSet.{SelectionSet}
+use Rattle.graphql_documents.specs.declared.documents.executables.Selection.TheVariants as kind
+use Rattle.graphql_documents.specs.declared.documents.executables.InlineFragment.{InlineFragment}
+use Rattle.graphql_documents.specs.declared.documents.executables.FragmentSpread.{FragmentSpread}
+use Rattle.graphql_documents.specs.declared.documents.executables.Fragment.{Fragment}
+use Rattle.graphql_documents.specs.declared.documents.executables.Operation.{Operation}
+
+-- what is selected on the type is selected on the object: it is the type itself, or lists it as an
+-- interface, or is a member of it as a union. Specification: DoesFragmentTypeApply
+pub data AppliesTo (schema : Schema) (object : NameText) : NameText → Type 0 where
+  applies_itself : {ty : NameText} → SameName ty object → AppliesTo schema object ty
+  applies_interface : {ty : NameText} {d : Node ObjectType} {i : Node InterfaceType} →
+      type_definition schema object ≡ Some (Object d) → type_definition schema ty ≡ Some (Interface i) →
+      IsListed ty d.value.value.implements_interfaces.keys → AppliesTo schema object ty
+  applies_union : {ty : NameText} {d : Node ObjectType} {u : Node UnionType} →
+      type_definition schema object ≡ Some (Object d) → type_definition schema ty ≡ Some (Union u) →
+      IsListed object u.value.value.members.keys → AppliesTo schema object ty
+
+-- the field is collected from the set: it stands there or in the set of a fragment, through sets and
+-- conditions that all apply to the object
+pub data CollectedFrom (schema : Schema) (fragments : Fragments) (object : NameText) : SelectionSet → FieldSelection → Type 0 where
+  collected_here : {set : SelectionSet} {x : FieldSelection} →
+      AppliesTo schema object set.ty → Contains (selections_of set) (kind.Field x.field) → x.parent ≡ set.ty →
+      CollectedFrom schema fragments object set x
+  collected_in_inline_fragment : {set : SelectionSet} {x : FieldSelection} {i : Node InlineFragment} →
+      AppliesTo schema object set.ty → Contains (selections_of set) (kind.InlineFragment i) →
+      IfSome i.value.value.type_condition (AppliesTo schema object) →
+      CollectedFrom schema fragments object i.value.value.selection_set x →
+      CollectedFrom schema fragments object set x
+  collected_in_spread : {set : SelectionSet} {x : FieldSelection} {p : Node FragmentSpread} {d : Node Fragment} →
+      AppliesTo schema object set.ty → Contains (selections_of set) (kind.FragmentSpread p) →
+      fragments p.value.value.fragment_name ≡ Some d →
+      CollectedFrom schema fragments object d.value.value.selection_set x →
+      CollectedFrom schema fragments object set x
+
+-- the field is collected from one of the sets, under this key
+abbrev pub Collected : Schema → Fragments → NameText → List SelectionSet → NameText → FieldSelection → Type 0
+Collected schema fragments object sets key x =
+    Any (λ set. CollectedFrom schema fragments object set x) sets × SameName (response_key x.field.value.value) key
+
+-- the set is gathered along a path of objects and keys: the operation's own set at first, then the
+-- sets of the fields collected under each key
+pub data Gathered (schema : Schema) (fragments : Fragments) (operation : Operation) : List (NameText × NameText) → SelectionSet → Type 0 where
+  gathered_at_root : Gathered schema fragments operation [] operation.selection_set
+  gathered_below : {path : List (NameText × NameText)} {set : SelectionSet} (object key : NameText) (x : FieldSelection) →
+      Gathered schema fragments operation path set →
+      CollectedFrom schema fragments object set x → SameName (response_key x.field.value.value) key →
+      Gathered schema fragments operation (path ++ (object, key) ∷ []) (set_of x)

@@ -1,0 +1,64 @@
+-- Subscriptions have one root field. Specification: 5.2.3.1 Single Root Field; draft, on introspection
+-- fields and conditions at the root.
+use Rattle.std.specs.Prelude.{◌≡◌, ℕ, ◌+◌, ◌≤◌, Bool, ◌||◌, List, [], ◌∷◌, ◌++◌, Some, All, AllPairs, IsTrue, IsFalse, codes, length, sum_by}
+use Rattle.std.specs.List.{list_any}
+use Rattle.std.specs.Str.{bytes_eq}
+use Rattle.graphql_documents.specs.Names.{NameText, SameName, DifferentNames}
+use Rattle.graphql_documents.specs.Selections.{Fragments, Inside, selections_of, directives_of}
+use Rattle.graphql_documents.specs.declared.documents.nodes.Node.{Node}
+use Rattle.graphql_documents.specs.declared.documents.directives.Directive.{Directive}
+use Rattle.graphql_documents.specs.declared.documents.executables.SelectionSet.{SelectionSet}
+use Rattle.graphql_documents.specs.declared.documents.executables.Selection.{Selection}
+use Rattle.graphql_documents.specs.declared.documents.executables.Selection.TheVariants as kind
+use Rattle.graphql_documents.specs.declared.documents.executables.Field.{Field}
+use Rattle.graphql_documents.specs.declared.documents.executables.InlineFragment.{InlineFragment}
+use Rattle.graphql_documents.specs.declared.documents.executables.FragmentSpread.{FragmentSpread}
+use Rattle.graphql_documents.specs.declared.documents.executables.Fragment.{Fragment}
+
+-- a field of introspection
+abbrev pub is_introspection : NameText → Bool
+is_introspection name =
+    bytes_eq name.text (codes "__type") || bytes_eq name.text (codes "__schema") || bytes_eq name.text (codes "__typename")
+
+-- `@skip` or `@include`
+abbrev pub is_conditional : NameText → Bool
+is_conditional name = bytes_eq name.text (codes "skip") || bytes_eq name.text (codes "include")
+
+-- a directive among these is `@skip` or `@include`
+abbrev pub has_condition : List (Node Directive) → Bool
+has_condition directives = list_any (λ d. is_conditional d.value.value.name) directives
+
+-- these fields are written among the selections, or in their inline fragments, in order
+pub data RootFields : List Selection → List (Node Field) → Type 0 where
+  no_selections : RootFields [] []
+  root_field : (f : Node Field) {rest : List Selection} {fields : List (Node Field)} →
+      RootFields rest fields → RootFields (kind.Field f ∷ rest) (f ∷ fields)
+  root_inline_fragment : (i : Node InlineFragment) {rest : List Selection} {within fields : List (Node Field)} →
+      RootFields (selections_of i.value.value.selection_set) within → RootFields rest fields →
+      RootFields (kind.InlineFragment i ∷ rest) (within ++ fields)
+  root_spread : (p : Node FragmentSpread) {rest : List Selection} {fields : List (Node Field)} →
+      RootFields rest fields → RootFields (kind.FragmentSpread p ∷ rest) fields
+
+-- a fragment that a spread inside the set names, with the fields written in it
+pub record SpreadFields (fragments : Fragments) (set : SelectionSet) (name : NameText) (fields : List (Node Field)) : Type 0 where
+  pub spread : Node FragmentSpread
+  pub definition : Node Fragment
+  pub inside : Inside fragments set (kind.FragmentSpread spread)
+  pub named : SameName spread.value.value.fragment_name name
+  pub defined : fragments spread.value.value.fragment_name ≡ Some definition
+  pub written : RootFields (selections_of definition.value.value.selection_set) fields
+
+-- one field at most is written in the set and in the different fragments that are spread inside it
+abbrev pub HasOneRootField : Fragments → SelectionSet → Type 0
+HasOneRootField fragments set =
+    (own : List (Node Field)) (spread : List (NameText × List (Node Field))) →
+    RootFields (selections_of set) own →
+    All (λ part. SpreadFields fragments set part.0 part.1) spread →
+    AllPairs (λ a b. DifferentNames a.0 b.0) spread →
+    length own + sum_by (λ part. length part.1) spread ≤ 1
+
+-- a subscription with this set holds
+pub record SubscriptionHolds (fragments : Fragments) (set : SelectionSet) : Type 0 where
+  pub no_introspection : (f : Node Field) → Inside fragments set (kind.Field f) → IsFalse (is_introspection f.value.value.name)
+  pub no_condition : (s : Selection) → Inside fragments set s → IsFalse (has_condition (directives_of s))
+  pub one_field : HasOneRootField fragments set
