@@ -2,6 +2,7 @@ pub mod Arguments
 pub mod BrokenRules
 pub mod Coordinates
 pub mod Diagnostics
+pub mod Directives
 pub mod FieldSets
 pub mod Fields
 pub mod Messages
@@ -9,7 +10,9 @@ pub mod MetaFields
 pub mod Names
 pub mod Nodes
 pub mod Numbers
+pub mod OperationTypes
 pub mod Reports
 pub mod Schemas
 pub mod Selections
 pub mod TypeReferences
+pub mod Values
