@@ -1,5 +1,5 @@
 -- Arguments against their definitions. Specification: 5.4 Arguments.
-use Rattle.std.specs.Prelude.{◌≡◌, ◌≢◌, Bool, true, false, List, Option, Some, None, All, AllPairs, Contains, find, IsSome, IsSomeAnd}
+use Rattle.std.specs.Prelude.{◌≡◌, ◌≢◌, true, false, List, Option, Some, All, AllPairs, find, IsSome, IsSomeAnd}
 use Rattle.graphql_documents.specs.Names.{NameText, same_name}
 use Rattle.graphql_documents.specs.Schemas.{is_required}
 use Rattle.graphql_documents.specs.VariableUsage.{UsageHolds}

@@ -1,6 +1,5 @@
 -- Which broken rule a report names, with which fields and at which place.
 use Rattle.std.specs.Prelude.{◌≡◌, true, Option, Some, List, [], ◌∷◌, ◌++◌, Contains}
-use Rattle.std.specs.Borrow.{Bor}
 use Rattle.std.specs.Prelude.{ℕ}
 use Rattle.graphql_documents.specs.Names.{NameText}
 use Rattle.graphql_documents.specs.Nodes.{SameNode}
@@ -26,8 +25,7 @@ use Rattle.graphql_documents.specs.declared.documents.coordinates.SchemaCoordina
 use Rattle.graphql_documents.specs.declared.documents.coordinates.TypeAttributeCoordinate.{TypeAttributeCoordinate}
 use Rattle.graphql_documents.specs.declared.diagnostics.data.DiagnosticData.{DiagnosticData}
 use Rattle.graphql_documents.specs.declared.diagnostics.data.DiagnosticData.TheVariants.{UniqueArgument, UndefinedArgument, RequiredArgument, MissingSubselection}
-use Rattle.graphql_documents.specs.declared.diagnostics.data.Details.{Details}
-use Rattle.graphql_documents.specs.declared.diagnostics.data.Details.TheVariants.{Diagnostic}
+use Rattle.graphql_documents.specs.declared.diagnostics.details.Details.TheVariants.{Diagnostic}
 use Rattle.graphql_documents.specs.declared.diagnostics.lists.DiagnosticEntry.{DiagnosticEntry}
 
 -- `again` stands behind `first`, the first argument with its name
@@ -109,10 +107,11 @@ FieldBreaks schema place f (RequiredArgument name coordinate expected location) 
 FieldBreaks schema place f (MissingSubselection coordinate output describe) at =
     (parent : NameText) × (d : Component FieldDefinition) × IsFieldOf schema place f.value.value parent d ×
     MissesSelection schema parent f d.node.value.value coordinate output describe.now at
+FieldBreaks schema place f _ at = ⊥
 
 -- the same of a whole report
 abbrev pub ReportsField : Option Schema → Option NameText → Node Field → DiagnosticEntry → Type 0
-ReportsField schema place f entry = elim entry.details [ Diagnostic report ↦ FieldBreaks schema place f report entry.location ]
+ReportsField schema place f entry = elim entry.details [ Diagnostic report ↦ FieldBreaks schema place f report entry.location | _ ↦ ⊥ ]
 
 -- the report names a rule that is broken at a selection reached from the set
 pub record NamesBrokenRule (schema : Option Schema) (fragments : Fragments) (place : Option NameText) (set : SelectionSet) (entry : DiagnosticEntry) : Type 0 where

@@ -1,6 +1,6 @@
 -- Documents that were built against a schema: definitions stand under their own names, and each set and
 -- field has the type and definition of its place.
-use Rattle.std.specs.Prelude.{◌≡◌, Bool, List, Option, Some, Result, Ok, All, Contains, IsTrue, unwrap_or, ⊤}
+use Rattle.std.specs.Prelude.{◌≡◌, Bool, Some, Ok, All, Contains, IsTrue, unwrap_or, ⊤}
 use Rattle.graphql_documents.specs.Names.{NameText, SameName}
 use Rattle.graphql_documents.specs.TypeReferences.{inner_named_type}
 use Rattle.graphql_documents.specs.Schemas.{type_definition, type_field, is_output_type, own_name, fields_of, input_fields_of, root_operation}

@@ -1,8 +1,8 @@
 -- The fields that an object answers, by response key. Specification: 6.3.2 Field Collection, without
 -- `@skip` and `@include`.
-use Rattle.std.specs.Prelude.{◌≡◌, ◌⊎◌, List, [], ◌∷◌, ◌++◌, Option, Some, Any, Contains, IsSomeAnd, IfSome}
+use Rattle.std.specs.Prelude.{◌≡◌, List, [], ◌∷◌, ◌++◌, Some, Any, Contains, IfSome}
 use Rattle.graphql_documents.specs.Names.{NameText, SameName}
-use Rattle.graphql_documents.specs.Schemas.{type_definition, interfaces_of, IsListed, IsInterface}
+use Rattle.graphql_documents.specs.Schemas.{type_definition, IsListed}
 use Rattle.graphql_documents.specs.Selections.{Fragments, response_key, selections_of}
 use Rattle.graphql_documents.specs.Merging.{FieldSelection, set_of}
 use Rattle.graphql_documents.specs.declared.documents.nodes.Node.{Node}

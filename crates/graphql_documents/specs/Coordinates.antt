@@ -1,5 +1,6 @@
 -- The texts of schema coordinates. Specification: draft, 3.14 Schema Coordinates.
 use Rattle.std.specs.Prelude.{ℕ, List, ◌++◌, codes}
+use Rattle.graphql_documents.specs.Names.{NameText}
 use Rattle.graphql_documents.specs.declared.documents.coordinates.TypeCoordinate.{TypeCoordinate}
 use Rattle.graphql_documents.specs.declared.documents.coordinates.TypeAttributeCoordinate.{TypeAttributeCoordinate}
 use Rattle.graphql_documents.specs.declared.documents.coordinates.FieldArgumentCoordinate.{FieldArgumentCoordinate}
@@ -12,9 +13,13 @@ use Rattle.graphql_documents.specs.declared.documents.coordinates.SchemaCoordina
 abbrev pub type_coordinate_text : TypeCoordinate → List ℕ
 type_coordinate_text c = c.ty.text
 
+-- a field of a type: `T.f`
+abbrev pub field_text : NameText → NameText → List ℕ
+field_text ty field = ty.text ++ (codes "." ++ field.text)
+
 -- `T.f`
 abbrev pub type_attribute_text : TypeAttributeCoordinate → List ℕ
-type_attribute_text c = c.ty.text ++ (codes "." ++ c.attribute.text)
+type_attribute_text c = field_text c.ty c.attribute
 
 -- `T.f(a:)`
 abbrev pub field_argument_text : FieldArgumentCoordinate → List ℕ

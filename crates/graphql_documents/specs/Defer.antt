@@ -1,7 +1,6 @@
 -- Where `@defer` may stand. Specification: the incremental delivery proposal, Defer And Stream
 -- Directives Are Used On Valid Root Field, In Valid Operations, and Directive Labels Are Unique.
-use Rattle.std.specs.Prelude.{◌≡◌, ◌≢◌, ◌⊎◌, ℕ, Bool, true, false, not, ◌&&◌, ◌||◌, List, [], ◌∷◌, ◌++◌, Option, None, Some, All, AllPairs, Contains, IsTrue, IsFalse, String, codes, filter, filter_map, find, flat_map, map, option_map, option_to_list, string_bytes, IsSomeAnd}
-use Rattle.std.specs.Option.{option_and_then}
+use Rattle.std.specs.Prelude.{◌≡◌, ◌≢◌, ◌⊎◌, ℕ, Bool, true, false, List, [], ◌∷◌, ◌++◌, Option, Some, All, AllPairs, Contains, IsTrue, String, codes, filter, find, flat_map, map, option_map, option_to_list, string_bytes, IsSomeAnd}
 use Rattle.std.specs.List.{AllZip}
 use Rattle.std.specs.declared.alloc.Global.{Global}
 use Rattle.std.specs.Str.{bytes_eq}
@@ -11,7 +10,6 @@ use Rattle.graphql_documents.specs.Selections.{Fragments, Inside, fragments_of, 
 use Rattle.graphql_documents.specs.declared.documents.nodes.Node.{Node}
 use Rattle.graphql_documents.specs.declared.documents.values.Value.{Value}
 use Rattle.graphql_documents.specs.declared.documents.values.Value.TheVariants as literal
-use Rattle.graphql_documents.specs.declared.documents.directives.Argument.{Argument}
 use Rattle.graphql_documents.specs.declared.documents.directives.Directive.{Directive}
 use Rattle.graphql_documents.specs.declared.documents.definitions.OperationType.TheVariants.{Query, Subscription}
 use Rattle.graphql_documents.specs.declared.documents.executables.SelectionSet.{SelectionSet}

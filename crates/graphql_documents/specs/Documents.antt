@@ -1,5 +1,5 @@
 -- When an executable document holds. Specification: 5 Validation.
-use Rattle.std.specs.Prelude.{◌≡◌, List, [], Option, Some, All, Any, option_map}
+use Rattle.std.specs.Prelude.{◌≡◌, Option, Some, All, Any, option_map}
 use Rattle.std.specs.Option.{option_and_then}
 use Rattle.indexmap.specs.IndexMap.{values}
 use Rattle.graphql_documents.specs.Names.{NameText, SameName}

@@ -1,6 +1,5 @@
 -- Fragments, where they may be spread, and ways back to them. Specification: 5.5 Fragments.
 use Rattle.std.specs.Prelude.{◌≡◌, ◌⊎◌, ℕ, List, Option, None, Some, IsTrue, ⊤}
-use Rattle.std.specs.Option.{option_and_then}
 use Rattle.graphql_documents.specs.Names.{NameText, SameName}
 use Rattle.graphql_documents.specs.Schemas.{type_definition, is_composite, IsPossibleType}
 use Rattle.graphql_documents.specs.Selections.{Fragments, Written}

@@ -2,7 +2,7 @@
 use Rattle.std.specs.Prelude.{◌≡◌, ◌⊎◌, List, Option, Some, All, Contains, IsTrue, IsSome, find, option_map}
 use Rattle.graphql_documents.specs.Names.{NameText, SameName, same_name}
 use Rattle.graphql_documents.specs.TypeReferences.{same_type}
-use Rattle.graphql_documents.specs.Schemas.{is_required, fields_of, IsInterface, IsListed, IsSubtype}
+use Rattle.graphql_documents.specs.Schemas.{is_required, IsInterface, IsListed, IsSubtype}
 use Rattle.graphql_documents.specs.Arguments.{definition_named}
 use Rattle.graphql_documents.specs.declared.documents.nodes.Node.{Node}
 use Rattle.graphql_documents.specs.declared.documents.components.Component.{Component}

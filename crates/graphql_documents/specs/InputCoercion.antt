@@ -1,6 +1,6 @@
 -- When a value is accepted for a type. Specification: 5.6 Values; 3.5 Scalars, 3.9 Enums, 3.10 Input
 -- Objects and 3.11 List, each under Input Coercion.
-use Rattle.std.specs.Prelude.{◌≡◌, ◌≢◌, ◌⊎◌, ℕ, ℤ, pos, negsuc, ◌≤ℤ◌, Bool, true, false, ◌||◌, not, List, [], Option, None, Some, Vec, String, All, Contains, codes, IsTrue, IsFalse, IsSome, cond}
+use Rattle.std.specs.Prelude.{◌≡◌, ◌≢◌, ◌⊎◌, ℕ, pos, negsuc, ◌≤ℤ◌, Bool, false, ◌||◌, not, List, [], None, Some, Vec, All, Contains, codes, IsTrue, IsFalse, IsSome, cond}
 use Rattle.std.specs.declared.alloc.Global.{Global}
 use Rattle.std.specs.Str.{bytes_eq}
 use Rattle.indexmap.specs.IndexMap.{get}
@@ -20,7 +20,7 @@ use Rattle.graphql_documents.specs.declared.documents.definitions.VariableDefini
 use Rattle.graphql_documents.specs.declared.documents.schemas.InputObjectType.{InputObjectType}
 use Rattle.graphql_documents.specs.declared.documents.schemas.Schema.{Schema}
 use Rattle.graphql_documents.specs.declared.documents.schemas.ExtendedType.{ExtendedType}
-use Rattle.graphql_documents.specs.declared.documents.schemas.ExtendedType.TheVariants.{Scalar, Enum, InputObject}
+use Rattle.graphql_documents.specs.declared.documents.schemas.ExtendedType.TheVariants.{Scalar, Enum}
 
 -- a scalar that is not one of those that every schema has. Specification: 3.5 Scalars, Custom Scalars
 abbrev pub is_custom_scalar : ExtendedType → Bool

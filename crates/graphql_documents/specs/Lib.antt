@@ -5,6 +5,7 @@ pub mod CollectFields
 pub mod Coordinates
 pub mod Defer
 pub mod Diagnostics
+pub mod DirectiveLocations
 pub mod Directives
 pub mod Documents
 pub mod Expansion
@@ -19,6 +20,7 @@ pub mod MetaFields
 pub mod Names
 pub mod Nodes
 pub mod Numbers
+pub mod OperationTypes
 pub mod Paths
 pub mod Reports
 pub mod SchemaReferences

@@ -1,5 +1,5 @@
 -- Nodes: values with a place.
-use Rattle.std.specs.Prelude.{◌≡◌, Option}
+use Rattle.std.specs.Prelude.{◌≡◌}
 use Rattle.graphql_documents.specs.declared.documents.nodes.Node.{Node}
 
 -- b has the value and the place of a

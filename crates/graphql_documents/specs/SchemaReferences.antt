@@ -1,6 +1,6 @@
 -- References between the definitions of a schema, and ways back. Specification: 3.10 Input Objects, Circular
 -- References; 3.13 Directives, on definitions that refer to themselves.
-use Rattle.std.specs.Prelude.{◌≡◌, ℕ, List, [], ◌∷◌, ◌++◌, Option, None, Some, Contains, IsSome, flat_map, filter_map, map, option_map}
+use Rattle.std.specs.Prelude.{ℕ, List, [], ◌∷◌, ◌++◌, Option, None, Some, Contains, IsSome, flat_map, filter_map, map, option_map}
 use Rattle.std.specs.Option.{option_and_then}
 use Rattle.graphql_documents.specs.Names.{NameText, SameName, HasDifferentNames}
 use Rattle.graphql_documents.specs.TypeReferences.{inner_named_type}
@@ -8,7 +8,6 @@ use Rattle.graphql_documents.specs.Schemas.{type_definition}
 use Rattle.graphql_documents.specs.Directives.{directive_definition}
 use Rattle.graphql_documents.specs.Paths.{Path, LeadsBack, HasNoWayBack, HasLongPath}
 use Rattle.graphql_documents.specs.declared.documents.nodes.Node.{Node}
-use Rattle.graphql_documents.specs.declared.documents.components.Component.{Component}
 use Rattle.graphql_documents.specs.declared.documents.type_references.Type.{«Type»}
 use Rattle.graphql_documents.specs.declared.documents.type_references.Type.TheVariants.{NonNullNamed}
 use Rattle.graphql_documents.specs.declared.documents.directives.Directive.{Directive}

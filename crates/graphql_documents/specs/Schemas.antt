@@ -1,10 +1,10 @@
 -- Types and fields of a schema. Specification: 3 Type System.
-use Rattle.std.specs.Prelude.{◌≡◌, ℕ, Bool, true, false, ◌&&◌, List, [], ◌∷◌, ◌++◌, Option, None, Some, Result, Ok, Err, codes, is_none, if◌then◌else◌, MatchOption, Any, Contains}
+use Rattle.std.specs.Prelude.{◌≡◌, ℕ, Bool, true, false, ◌&&◌, List, [], ◌∷◌, ◌++◌, Option, None, Some, Result, Ok, Err, codes, is_none, if◌then◌else◌, Any, Contains}
 use Rattle.std.specs.Option.{option_map_or}
 use Rattle.std.specs.Str.{bytes_eq}
 use Rattle.indexmap.specs.IndexMap.{get}
 use Rattle.graphql_documents.specs.Names.{NameText, SameName, same_name, is_built_in_place}
-use Rattle.graphql_documents.specs.TypeReferences.{inner_named_type, is_non_null}
+use Rattle.graphql_documents.specs.TypeReferences.{is_non_null}
 use Rattle.graphql_documents.specs.declared.documents.spans.SourceSpan.{SourceSpan}
 use Rattle.graphql_documents.specs.declared.documents.nodes.Node.{Node}
 use Rattle.graphql_documents.specs.declared.documents.components.Component.{Component}

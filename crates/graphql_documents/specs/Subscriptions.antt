@@ -1,6 +1,6 @@
 -- Subscriptions have one root field. Specification: 5.2.3.1 Single Root Field; draft, on introspection
 -- fields and conditions at the root.
-use Rattle.std.specs.Prelude.{◌≡◌, ℕ, ◌+◌, ◌≤◌, Bool, ◌||◌, List, [], ◌∷◌, ◌++◌, Some, All, AllPairs, IsTrue, IsFalse, codes, length, sum_by}
+use Rattle.std.specs.Prelude.{◌≡◌, ◌+◌, ◌≤◌, Bool, ◌||◌, List, [], ◌∷◌, ◌++◌, Some, All, AllPairs, IsFalse, codes, length, sum_by}
 use Rattle.std.specs.List.{list_any}
 use Rattle.std.specs.Str.{bytes_eq}
 use Rattle.graphql_documents.specs.Names.{NameText, SameName, DifferentNames}

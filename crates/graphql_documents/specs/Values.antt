@@ -1,10 +1,22 @@
 -- Input values: their kinds, their sameness, and the variables in them. Specification: 2.9 Input Values.
-use Rattle.std.specs.Prelude.{◌≡◌, ℕ, Bool, Option, Some, List, [], ◌∷◌, ◌++◌, Contains, Vec, String, find, option_map, is_some, slice_get, string_bytes, length}
+use Rattle.std.specs.Prelude.{◌≡◌, ℕ, Bool, Option, Some, List, [], ◌∷◌, ◌++◌, Contains, Vec, String, codes, find, option_map, is_some, slice_get, string_bytes, length}
 use Rattle.std.specs.declared.alloc.Global.{Global}
 use Rattle.graphql_documents.specs.Names.{NameText, SameName, same_name}
 use Rattle.graphql_documents.specs.declared.documents.nodes.Node.{Node}
 use Rattle.graphql_documents.specs.declared.documents.values.Value.{Value}
 use Rattle.graphql_documents.specs.declared.documents.values.Value.TheVariants as literal
+
+-- what a message calls the kind of a value
+abbrev pub value_kind_text : Value → List ℕ
+value_kind_text literal.Null = codes "null"
+value_kind_text (literal.Enum name) = codes "an enum"
+value_kind_text (literal.Variable name) = codes "a variable"
+value_kind_text (literal.String text) = codes "a string"
+value_kind_text (literal.Float number) = codes "a float"
+value_kind_text (literal.Int number) = codes "an integer"
+value_kind_text (literal.Boolean truth) = codes "a boolean"
+value_kind_text (literal.List' shape items) = codes "a list"
+value_kind_text (literal.Object' shape entries) = codes "an input object"
 
 -- the first entry of an object value under this name
 abbrev pub entry_named : NameText → List (NameText × Node Value) → Option (Node Value)
@@ -28,6 +40,29 @@ pub data SameValue : Value → Value → Type 0 where
       ((name : NameText) → is_some (entry_named name a.items) ≡ is_some (entry_named name b.items)) →
       ((name : NameText) (x y : Node Value) → entry_named name a.items ≡ Some x → entry_named name b.items ≡ Some y → SameValue x.value.value y.value.value) →
       SameValue (literal.Object a) (literal.Object b)
+
+-- the second value is a copy of the first, as written: items and entries in order, places apart
+mutual
+  pub data IsCopy : Value → Value → Type 0 where
+    copy_of_null : IsCopy literal.Null literal.Null
+    copy_of_enum : {a b : NameText} → SameName a b → IsCopy (literal.Enum a) (literal.Enum b)
+    copy_of_variable : {a b : NameText} → SameName a b → IsCopy (literal.Variable a) (literal.Variable b)
+    copy_of_string : (a b : String Global) → string_bytes a ≡ string_bytes b → IsCopy (literal.String a) (literal.String b)
+    copy_of_float : {a b : List ℕ} → a ≡ b → IsCopy (literal.Float a) (literal.Float b)
+    copy_of_int : {a b : List ℕ} → a ≡ b → IsCopy (literal.Int a) (literal.Int b)
+    copy_of_boolean : {a : Bool} → IsCopy (literal.Boolean a) (literal.Boolean a)
+    copy_of_list : (a b : Vec (Node Value) Global) → AreCopies a.items b.items → IsCopy (literal.List a) (literal.List b)
+    copy_of_object : (a b : Vec (NameText × Node Value) Global) → AreEntryCopies a.items b.items → IsCopy (literal.Object a) (literal.Object b)
+
+  pub data AreCopies : List (Node Value) → List (Node Value) → Type 0 where
+    no_item_copies : AreCopies [] []
+    more_item_copies : {x y : Node Value} {xs ys : List (Node Value)} →
+        IsCopy x.value.value y.value.value → AreCopies xs ys → AreCopies (x ∷ xs) (y ∷ ys)
+
+  pub data AreEntryCopies : List (NameText × Node Value) → List (NameText × Node Value) → Type 0 where
+    no_entry_copies : AreEntryCopies [] []
+    more_entry_copies : {x y : NameText × Node Value} {xs ys : List (NameText × Node Value)} →
+        SameName x.0 y.0 → IsCopy x.1.value.value y.1.value.value → AreEntryCopies xs ys → AreEntryCopies (x ∷ xs) (y ∷ ys)
 
 -- these variables stand in a value, in order, at any depth
 mutual

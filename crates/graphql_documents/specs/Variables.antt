@@ -1,6 +1,6 @@
 -- Variables of operations: their definitions and their uses. Specification: 5.8 Variables.
-use Rattle.std.specs.Prelude.{◌≡◌, ◌≢◌, List, [], Option, Some, All, Any, Contains, IsTrue, map}
-use Rattle.graphql_documents.specs.Names.{NameText, SameName, AreDistinct}
+use Rattle.std.specs.Prelude.{◌≡◌, List, [], Option, Some, All, Any, IsTrue, map}
+use Rattle.graphql_documents.specs.Names.{NameText, AreDistinct}
 use Rattle.graphql_documents.specs.TypeReferences.{inner_named_type}
 use Rattle.graphql_documents.specs.Values.{StandsIn}
 use Rattle.graphql_documents.specs.Schemas.{type_definition, is_input_type}

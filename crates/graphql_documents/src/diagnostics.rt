@@ -1,9 +1,15 @@
 //! Reports on documents and schemas: what is wrong, where, and with which text.
 
+pub mod build_errors;
 pub mod data;
+pub mod details;
 pub mod errors;
 pub mod lists;
+pub mod names;
 
-pub use data::{Details, DiagnosticData};
-pub use errors::ValidationError;
+pub use build_errors::BuildError;
+pub use data::DiagnosticData;
+pub use details::Details;
+pub use errors::{RecursionLimitError, ValidationError};
 pub use lists::{DiagnosticEntry, DiagnosticList};
+pub use names::NameOrAnon;

@@ -25,8 +25,8 @@ use Rattle.graphql_documents.specs.declared.documents.executables.Selection.TheO
 use Rattle.graphql_documents.specs.declared.documents.executables.Selection.TheVariants.{outs-Field}
 use Rattle.graphql_documents.specs.declared.documents.executables.Field.{Field}
 use Rattle.graphql_documents.specs.declared.documents.executables.Selection.TheVariants as kind
-use Rattle.graphql_documents.specs.declared.diagnostics.data.Details.{Details}
-use Rattle.graphql_documents.specs.declared.diagnostics.data.Details.TheVariants.{Diagnostic}
+use Rattle.graphql_documents.specs.declared.diagnostics.details.Details.{Details}
+use Rattle.graphql_documents.specs.declared.diagnostics.details.Details.TheVariants.{Diagnostic}
 use Rattle.graphql_documents.specs.declared.diagnostics.data.DiagnosticData.TheVariants.{UniqueArgument}
 use Rattle.graphql_documents.specs.declared.diagnostics.lists.DiagnosticEntry.{DiagnosticEntry}
 use Rattle.graphql_validation.specs.FieldWalk.{ReportsDefinedField, ReachedByFields, stands, below, ReachedFieldsHold, FieldHoldsBelow}
@@ -80,7 +80,7 @@ module _ (schema : Schema) (parent : NameText) (set : SelectionSet) (f : Node Fi
   names_repetition given same e r =
       let broken = subst (λ l. RepeatsArgument l r.0 r.1 r.2 e.location) same r.4 in
       let Breaks : Details → Type 0 =
-      λ details. elim details [ Diagnostic report ↦ FieldBreaks (Some schema) (Some parent) f report e.location ] in
+      λ details. elim details [ Diagnostic report ↦ FieldBreaks (Some schema) (Some parent) f report e.location | _ ↦ ⊥ ] in
       names_field e (subst Breaks (sym r.3) broken)
 
   module _ (old new : List DiagnosticEntry) where

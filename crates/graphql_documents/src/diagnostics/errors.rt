@@ -19,3 +19,8 @@ impl<T: Drop> From<AllocFailed<T>> for ValidationError {
         ValidationError::OutOfMemory
     }
 }
+
+/// A walk passed its limit.
+#[derive(Clone, Copy, Debug, PartialEq, Eq, Error)]
+#[error("too much recursion")]
+pub struct RecursionLimitError;

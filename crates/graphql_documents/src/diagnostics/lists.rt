@@ -1,4 +1,4 @@
-use super::data::Details;
+use super::details::Details;
 use super::errors::ValidationError;
 use crate::documents::spans::SourceSpan;
 use std::alloc::Global;

@@ -1,8 +1,13 @@
+ghost use Rattle.std.specs.Prelude.{Some};
+ghost use Rattle.graphql_documents.specs.DirectiveLocations.{location_text};
+ghost use Rattle.graphql_documents.specs.OperationTypes.{operation_type_text};
+
 use super::directives::Directive;
 use super::names::Name;
 use super::nodes::Node;
 use super::type_references::Type;
 use super::values::Value;
+use std::fmt;
 
 /// An argument of a field or directive definition, or a field of an input object.
 ///
@@ -75,6 +80,35 @@ pub enum DirectiveLocation {
     InputFieldDefinition,
 }
 
+/// The location in capitals, as a directive definition writes it.
+impl fmt::Display for DirectiveLocation {
+    ghost output = { λ location. Some (location_text location) };
+
+    fn fmt<W: fmt::Write>(&self, f: &mut fmt::Formatter<W>) -> fmt::Result {
+        match self {
+            DirectiveLocation::Query => write!(f, "QUERY"),
+            DirectiveLocation::Mutation => write!(f, "MUTATION"),
+            DirectiveLocation::Subscription => write!(f, "SUBSCRIPTION"),
+            DirectiveLocation::Field => write!(f, "FIELD"),
+            DirectiveLocation::FragmentDefinition => write!(f, "FRAGMENT_DEFINITION"),
+            DirectiveLocation::FragmentSpread => write!(f, "FRAGMENT_SPREAD"),
+            DirectiveLocation::InlineFragment => write!(f, "INLINE_FRAGMENT"),
+            DirectiveLocation::VariableDefinition => write!(f, "VARIABLE_DEFINITION"),
+            DirectiveLocation::Schema => write!(f, "SCHEMA"),
+            DirectiveLocation::Scalar => write!(f, "SCALAR"),
+            DirectiveLocation::Object => write!(f, "OBJECT"),
+            DirectiveLocation::FieldDefinition => write!(f, "FIELD_DEFINITION"),
+            DirectiveLocation::ArgumentDefinition => write!(f, "ARGUMENT_DEFINITION"),
+            DirectiveLocation::Interface => write!(f, "INTERFACE"),
+            DirectiveLocation::Union => write!(f, "UNION"),
+            DirectiveLocation::Enum => write!(f, "ENUM"),
+            DirectiveLocation::EnumValue => write!(f, "ENUM_VALUE"),
+            DirectiveLocation::InputObject => write!(f, "INPUT_OBJECT"),
+            DirectiveLocation::InputFieldDefinition => write!(f, "INPUT_FIELD_DEFINITION"),
+        }
+    }
+}
+
 /// A directive definition.
 ///
 /// Specification: 3.13 Directives.
@@ -94,6 +128,19 @@ pub enum OperationType {
     Query,
     Mutation,
     Subscription,
+}
+
+/// The keyword of the operation.
+impl fmt::Display for OperationType {
+    ghost output = { λ operation. Some (operation_type_text operation) };
+
+    fn fmt<W: fmt::Write>(&self, f: &mut fmt::Formatter<W>) -> fmt::Result {
+        match self {
+            OperationType::Query => write!(f, "query"),
+            OperationType::Mutation => write!(f, "mutation"),
+            OperationType::Subscription => write!(f, "subscription"),
+        }
+    }
 }
 
 /// A variable of an operation.
