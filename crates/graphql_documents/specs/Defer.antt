@@ -1,7 +1,8 @@
 -- Where `@defer` may stand. Specification: the incremental delivery proposal, Defer And Stream
 -- Directives Are Used On Valid Root Field, In Valid Operations, and Directive Labels Are Unique.
-use Rattle.std.specs.Prelude.{◌≡◌, ◌≢◌, ◌⊎◌, ℕ, Bool, true, false, List, [], ◌∷◌, ◌++◌, Option, Some, All, AllPairs, Contains, IsTrue, String, codes, filter, find, flat_map, map, option_map, option_to_list, string_bytes, IsSomeAnd}
-use Rattle.std.specs.List.{AllZip}
+use Rattle.std.specs.Prelude.{◌≡◌, ◌≢◌, ◌⊎◌, ℕ, Bool, true, false, List, [], ◌∷◌, ◌++◌, Option, Some, All, AllPairs, Contains, IsTrue, String, codes, filter, find, flat_map, map, option_map, option_to_list, string_bytes, IsSomeAnd, cond, not, ◌&&◌, ◌||◌, IsFalse}
+use Rattle.std.specs.List.{AllZip, list_any}
+use Rattle.std.specs.Option.{option_map_or}
 use Rattle.std.specs.declared.alloc.Global.{Global}
 use Rattle.std.specs.Str.{bytes_eq}
 use Rattle.indexmap.specs.IndexMap.{values}
@@ -83,39 +84,44 @@ LabelsHold document =
     (applications : List (Node Directive)) → DefersIn document applications →
     AllPairs HaveDifferentLabels applications × All HasFixedLabel applications
 
--- the argument `if` has this truth value as its literal
-abbrev pub HasCondition : Bool → Directive → Type 0
-HasCondition b d = IsSomeAnd (argument_value (codes "if") d) (λ value. value.value.value ≡ literal.Boolean b)
+-- the value is this truth value
+abbrev pub is_boolean : Bool → Value → Bool
+is_boolean b (literal.Boolean c) = cond b c (not c)
+is_boolean b _ = false
 
--- `@skip` or `@include` may leave the selection out
-abbrev pub MayExclude : Node Directive → Type 0
-MayExclude d =
-    (IsTrue (bytes_eq d.value.value.name.text (codes "skip")) × ¬ HasCondition false d.value.value) ⊎
-    (IsTrue (bytes_eq d.value.value.name.text (codes "include")) × ¬ HasCondition true d.value.value)
+-- the argument `if` is literally this truth value
+abbrev pub is_literally : Bool → Directive → Bool
+is_literally b d = option_map_or (λ value. is_boolean b value.value.value) (argument_value (codes "if") d) false
 
--- no directive may leave the selection out
-abbrev pub CannotBeExcluded : Selection → Type 0
-CannotBeExcluded s = All (λ d. ¬ MayExclude d) (directives_of s)
+-- `@skip` or `@include` that may leave a selection out
+abbrev pub may_exclude : Directive → Bool
+may_exclude d =
+    (bytes_eq d.name.text (codes "skip") && not (is_literally false d)) ||
+    (bytes_eq d.name.text (codes "include") && not (is_literally true d))
+
+-- a directive may leave the selection out
+abbrev pub can_be_excluded : Selection → Bool
+can_be_excluded s = list_any (λ d. may_exclude d.value.value) (directives_of s)
 
 -- the selection is met whatever the conditions above it: it and those above it cannot be excluded
 pub data Open (fragments : Fragments) : SelectionSet → Selection → Type 0 where
   open_here : {set : SelectionSet} {s : Selection} →
-      Contains (selections_of set) s → CannotBeExcluded s → Open fragments set s
+      Contains (selections_of set) s → IsFalse (can_be_excluded s) → Open fragments set s
   open_in_field : {set : SelectionSet} {s : Selection} {f : Node Field} →
-      Contains (selections_of set) (kind.Field f) → CannotBeExcluded (kind.Field f) →
+      Contains (selections_of set) (kind.Field f) → IsFalse (can_be_excluded (kind.Field f)) →
       Open fragments f.value.value.selection_set s → Open fragments set s
   open_in_inline_fragment : {set : SelectionSet} {s : Selection} {i : Node InlineFragment} →
-      Contains (selections_of set) (kind.InlineFragment i) → CannotBeExcluded (kind.InlineFragment i) →
+      Contains (selections_of set) (kind.InlineFragment i) → IsFalse (can_be_excluded (kind.InlineFragment i)) →
       Open fragments i.value.value.selection_set s → Open fragments set s
   open_in_spread : {set : SelectionSet} {s : Selection} {p : Node FragmentSpread} {d : Node Fragment} →
-      Contains (selections_of set) (kind.FragmentSpread p) → CannotBeExcluded (kind.FragmentSpread p) →
+      Contains (selections_of set) (kind.FragmentSpread p) → IsFalse (can_be_excluded (kind.FragmentSpread p)) →
       fragments p.value.value.fragment_name ≡ Some d →
       Open fragments d.value.value.selection_set s → Open fragments set s
 
 -- the argument `if` is `false` or a variable
 abbrev pub CanBeDisabled : Node Directive → Type 0
 CanBeDisabled d =
-    HasCondition false d.value.value ⊎
+    IsTrue (is_literally false d.value.value) ⊎
     IsSomeAnd (argument_value (codes "if") d.value.value) (λ value. (name : NameText) × (value.value.value ≡ literal.Variable name))
 
 -- no inline fragment or spread at the root has `@defer`

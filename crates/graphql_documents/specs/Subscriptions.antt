@@ -1,9 +1,9 @@
 -- Subscriptions have one root field. Specification: 5.2.3.1 Single Root Field; draft, on introspection
 -- fields and conditions at the root.
-use Rattle.std.specs.Prelude.{◌≡◌, ◌+◌, ◌≤◌, Bool, ◌||◌, List, [], ◌∷◌, ◌++◌, Some, All, AllPairs, IsFalse, codes, length, sum_by}
+use Rattle.std.specs.Prelude.{◌≡◌, ◌+◌, ◌≤◌, Bool, ◌||◌, List, [], ◌∷◌, ◌++◌, Some, None, All, AllPairs, IsFalse, IsTrue, codes, length, sum_by}
 use Rattle.std.specs.List.{list_any}
 use Rattle.std.specs.Str.{bytes_eq}
-use Rattle.graphql_documents.specs.Names.{NameText, SameName, DifferentNames}
+use Rattle.graphql_documents.specs.Names.{NameText, SameName, DifferentNames, same_name}
 use Rattle.graphql_documents.specs.Selections.{Fragments, Inside, selections_of, directives_of}
 use Rattle.graphql_documents.specs.declared.documents.nodes.Node.{Node}
 use Rattle.graphql_documents.specs.declared.documents.directives.Directive.{Directive}
@@ -38,6 +38,32 @@ pub data RootFields : List Selection → List (Node Field) → Type 0 where
       RootFields (kind.InlineFragment i ∷ rest) (within ++ fields)
   root_spread : (p : Node FragmentSpread) {rest : List Selection} {fields : List (Node Field)} →
       RootFields rest fields → RootFields (kind.FragmentSpread p ∷ rest) fields
+
+-- these fields are met by a walk over the selections and the fragments in them, depth first, where
+-- these names of fragments were met before; and the names met by then
+pub data WalkedFields (fragments : Fragments) : List NameText → List Selection → List (Node Field) → List NameText → Type 0 where
+  walked_none : {seen : List NameText} → WalkedFields fragments seen [] [] seen
+  walked_field : {seen met : List NameText} {fields : List (Node Field)} (f : Node Field) (rest : List Selection) →
+      WalkedFields fragments seen rest fields met →
+      WalkedFields fragments seen (kind.Field f ∷ rest) (f ∷ fields) met
+  walked_inline_fragment : {seen between met : List NameText} {within fields : List (Node Field)} (i : Node InlineFragment) (rest : List Selection) →
+      WalkedFields fragments seen (selections_of i.value.value.selection_set) within between →
+      WalkedFields fragments between rest fields met →
+      WalkedFields fragments seen (kind.InlineFragment i ∷ rest) (within ++ fields) met
+  walked_known_spread : {seen met : List NameText} {fields : List (Node Field)} (p : Node FragmentSpread) (rest : List Selection) →
+      IsTrue (list_any (same_name p.value.value.fragment_name) seen) →
+      WalkedFields fragments seen rest fields met →
+      WalkedFields fragments seen (kind.FragmentSpread p ∷ rest) fields met
+  walked_undefined_spread : {seen met : List NameText} {fields : List (Node Field)} (p : Node FragmentSpread) (rest : List Selection) →
+      fragments p.value.value.fragment_name ≡ None →
+      WalkedFields fragments (p.value.value.fragment_name ∷ seen) rest fields met →
+      WalkedFields fragments seen (kind.FragmentSpread p ∷ rest) fields met
+  walked_spread : {seen between met : List NameText} {d : Node Fragment} {within fields : List (Node Field)} (p : Node FragmentSpread) (rest : List Selection) →
+      IsFalse (list_any (same_name p.value.value.fragment_name) seen) →
+      fragments p.value.value.fragment_name ≡ Some d →
+      WalkedFields fragments (p.value.value.fragment_name ∷ seen) (selections_of d.value.value.selection_set) within between →
+      WalkedFields fragments between rest fields met →
+      WalkedFields fragments seen (kind.FragmentSpread p ∷ rest) (within ++ fields) met
 
 -- a fragment that a spread inside the set names, with the fields written in it
 pub record SpreadFields (fragments : Fragments) (set : SelectionSet) (name : NameText) (fields : List (Node Field)) : Type 0 where

@@ -1,0 +1,158 @@
+-- When a report of a limit is true: a chain in the document or schema really passes the bound.
+use Rattle.std.specs.Prelude.{◌≡◌, ◌≢◌, ℕ, suc, ◌<◌, ◌≤◌, Bool, true, false, not, ◌⊎◌, List, [], ◌∷◌, ◌++◌, length, Option, None, Some, IsTrue, codes, Contains, AllPairs}
+use Rattle.indexmap.specs.IndexMap.{values}
+use Rattle.std.specs.Borrow.{Bor}
+use Rattle.graphql_documents.specs.Defer.{can_be_excluded, operations_of, sets_of}
+use Rattle.graphql_documents.specs.Expansion.{Expansion, MergesBelow, Pass}
+use Rattle.graphql_documents.specs.FragmentSpreads.{HasLongSpreadPath}
+use Rattle.graphql_documents.specs.Merging.{Chain, FieldSelection, set_of}
+use Rattle.graphql_documents.specs.Names.{AreDistinct, NameText}
+use Rattle.graphql_documents.specs.SchemaReferences.{HasLongDirectivePath, HasLongRequiredPath, HasLongTypePath}
+use Rattle.graphql_documents.specs.Selections.{Fragments, fragments_of, selections_of}
+use Rattle.graphql_documents.specs.Spans.{recompose}
+use Rattle.graphql_documents.specs.declared.diagnostics.data.DiagnosticData.TheVariants as report
+use Rattle.graphql_documents.specs.declared.diagnostics.data.DiagnosticData.{DiagnosticData}
+use Rattle.graphql_documents.specs.declared.diagnostics.details.Details.TheVariants as details
+use Rattle.graphql_documents.specs.declared.diagnostics.details.Details.{Details}
+use Rattle.graphql_documents.specs.declared.diagnostics.errors.RecursionLimitError.{RecursionLimitError}
+use Rattle.graphql_documents.specs.declared.documents.definitions.DirectiveDefinition.{DirectiveDefinition}
+use Rattle.graphql_documents.specs.declared.documents.executables.ExecutableDocument.{ExecutableDocument}
+use Rattle.graphql_documents.specs.declared.documents.executables.Field.{Field}
+use Rattle.graphql_documents.specs.declared.documents.executables.Fragment.{Fragment}
+use Rattle.graphql_documents.specs.declared.documents.executables.FragmentSpread.{FragmentSpread}
+use Rattle.graphql_documents.specs.declared.documents.executables.InlineFragment.{InlineFragment}
+use Rattle.graphql_documents.specs.declared.documents.executables.Operation.{Operation}
+use Rattle.graphql_documents.specs.declared.documents.executables.Selection.TheVariants as kind
+use Rattle.graphql_documents.specs.declared.documents.executables.Selection.{Selection}
+use Rattle.graphql_documents.specs.declared.documents.executables.SelectionSet.{SelectionSet}
+use Rattle.graphql_documents.specs.declared.documents.nodes.Node.{Node}
+use Rattle.graphql_documents.specs.declared.documents.schemas.ExtendedType.TheVariants as types
+use Rattle.graphql_documents.specs.declared.documents.schemas.ExtendedType.{ExtendedType}
+use Rattle.graphql_documents.specs.declared.documents.schemas.InputObjectType.{InputObjectType}
+use Rattle.graphql_documents.specs.declared.documents.schemas.Schema.{Schema}
+use Rattle.graphql_documents.specs.declared.documents.spans.SourceSpan.{SourceSpan}
+
+-- which steps a walk over selections takes: into the sets of fields, into the fragments that spreads
+-- name, and from which selections
+pub record Walk : Type 0 where
+  pub into_fields : Bool
+  pub into_fragments : Bool
+  pub goes_through : Selection → Bool
+
+-- a descent of the walk: so many sets, each of a selection of the set before it or of the fragment that
+-- it spreads; and the names of the fragments on the way
+pub data Descent (fragments : Fragments) (walk : Walk) : SelectionSet → ℕ → List NameText → Type 0 where
+  descent_ends : {set : SelectionSet} → Descent fragments walk set 0 []
+  descent_into_field : {set : SelectionSet} {f : Node Field} {n : ℕ} {names : List NameText} →
+      IsTrue walk.into_fields → Contains (selections_of set) (kind.Field f) → IsTrue (walk.goes_through (kind.Field f)) →
+      Descent fragments walk f.value.value.selection_set n names → Descent fragments walk set (suc n) names
+  descent_into_inline_fragment : {set : SelectionSet} {i : Node InlineFragment} {n : ℕ} {names : List NameText} →
+      Contains (selections_of set) (kind.InlineFragment i) → IsTrue (walk.goes_through (kind.InlineFragment i)) →
+      Descent fragments walk i.value.value.selection_set n names → Descent fragments walk set (suc n) names
+  descent_into_fragment : {set : SelectionSet} {p : Node FragmentSpread} {d : Node Fragment} {n : ℕ} {names : List NameText} →
+      IsTrue walk.into_fragments → Contains (selections_of set) (kind.FragmentSpread p) → IsTrue (walk.goes_through (kind.FragmentSpread p)) →
+      fragments p.value.value.fragment_name ≡ Some d →
+      Descent fragments walk d.value.value.selection_set n names → Descent fragments walk set (suc n) (p.value.value.fragment_name ∷ names)
+
+-- a descent from the set passes through more than 500 sets, and enters no fragment twice
+pub record PassesDepth (fragments : Fragments) (walk : Walk) (set : SelectionSet) : Type 0 where
+  pub depth : ℕ
+  pub entered : List NameText
+  pub descent : Descent fragments walk set depth entered
+  pub once : AreDistinct entered
+  pub passes : 500 < depth
+
+-- into everything: for variables and for fragments
+abbrev pub full_walk : Walk
+full_walk = record { into_fields = true; into_fragments = true; goes_through = λ s. true }
+
+-- into fragments alone: for the root of subscriptions and of `@defer`
+abbrev pub root_walk : Walk
+root_walk = record { into_fields = false; into_fragments = true; goes_through = λ s. true }
+
+-- into what is written alone: for labels
+abbrev pub written_walk : Walk
+written_walk = record { into_fields = true; into_fragments = false; goes_through = λ s. true }
+
+-- into what cannot be left out: for the conditions of `@defer`
+abbrev pub open_walk : Walk
+open_walk = record { into_fields = true; into_fragments = true; goes_through = λ s. not (can_be_excluded s) }
+
+-- a report that a definition nests too deep is true of a fragment: reported at its head
+pub record FragmentNestsTooDeep (fragments : Fragments) (d : Node Fragment) (name : NameText) (describe : List ℕ) (at : Option SourceSpan) : Type 0 where
+  pub long : HasLongSpreadPath fragments d 101
+  pub name_is : name ≡ d.value.value.name
+  pub describe_is : describe ≡ codes "fragment"
+  pub at_is : at ≡ recompose d.location d.value.value.name.location
+
+-- the same of an input object: reported there
+pub record InputObjectNestsTooDeep (schema : Schema) (d : Node InputObjectType) (name : NameText) (describe : List ℕ) (at : Option SourceSpan) : Type 0 where
+  pub long : HasLongRequiredPath schema d 33
+  pub name_is : name ≡ d.value.value.name
+  pub describe_is : describe ≡ codes "input object"
+  pub at_is : at ≡ d.location
+
+-- the same of a directive definition: reported at its head
+pub record DirectiveNestsTooDeep (schema : Schema) (d : Node DirectiveDefinition) (name : NameText) (describe : List ℕ) (at : Option SourceSpan) : Type 0 where
+  pub long : HasLongDirectivePath schema d 33 ⊎ HasLongTypePath schema d 33
+  pub name_is : name ≡ d.value.value.name
+  pub describe_is : describe ≡ codes "directive"
+  pub at_is : at ≡ recompose d.location d.value.value.name.location
+
+-- lists of fields, each below a group of the one before; so many steps, no list twice
+pub data MergingDescent (schema : Schema) (fragments : Fragments) (pass : Pass) : List FieldSelection → List (List FieldSelection) → Type 0 where
+  merging_ends : {fields : List FieldSelection} → MergingDescent schema fragments pass fields []
+  merging_steps : {fields below : List FieldSelection} {further : List (List FieldSelection)} →
+      MergesBelow schema fragments pass fields below → MergingDescent schema fragments pass below further →
+      MergingDescent schema fragments pass fields (below ∷ further)
+
+-- the fields of an operation nest too deep to be merged: some chain of fields is longer than 128, and
+-- so are the steps of a pass from the operation's fields
+pub record MergingPasses (schema : Schema) (fragments : Fragments) (set : SelectionSet) : Type 0 where
+  pub chain : List FieldSelection
+  pub last : FieldSelection
+  pub is_chain : Chain fragments set (chain ++ last ∷ [])
+  pub chain_passes : 128 ≤ length chain
+  pub last_selects : selections_of (set_of last) ≢ []
+  pub pass : Pass
+  pub fields : List FieldSelection
+  pub steps : List (List FieldSelection)
+  pub begins : Expansion fragments (set ∷ []) fields
+  pub descent : MergingDescent schema fragments pass fields steps
+  pub once : AllPairs (λ a b. a ≢ b) (fields ∷ steps)
+  pub steps_pass : 128 < length steps
+
+-- a report of a limit is true of a document: reported without a place, but for merging, at an operation,
+-- where the fields of some operation nest too deep
+pub data DocumentLimit (schema : Option Schema) (document : ExecutableDocument) : Details → Option SourceSpan → Type 0 where
+  fragment_nests : {d : Node Fragment} {name : NameText} {describe : Bor (List ℕ)} {at : Option SourceSpan} →
+      Contains (values document.fragments) d → FragmentNestsTooDeep (fragments_of document) d name describe.now at →
+      DocumentLimit schema document (details.Diagnostic (report.DeeplyNestedType name describe)) at
+  walk_of_variables : {o : Node Operation} →
+      Contains (operations_of document) o → PassesDepth (fragments_of document) full_walk o.value.value.selection_set →
+      DocumentLimit schema document (details.Diagnostic report.RecursionError) None
+  walk_of_root : {o : Node Operation} →
+      Contains (operations_of document) o → PassesDepth (fragments_of document) root_walk o.value.value.selection_set →
+      DocumentLimit schema document (details.Diagnostic report.RecursionError) None
+  walk_of_labels : {set : SelectionSet} →
+      Contains (sets_of document) set → PassesDepth (fragments_of document) written_walk set →
+      DocumentLimit schema document (details.Diagnostic report.RecursionError) None
+  walk_of_conditions : {o : Node Operation} →
+      Contains (operations_of document) o → PassesDepth (fragments_of document) open_walk o.value.value.selection_set →
+      DocumentLimit schema document (details.Diagnostic report.RecursionError) None
+  walk_of_fragments : {o : Node Operation} {limit : RecursionLimitError} →
+      Contains (operations_of document) o → PassesDepth (fragments_of document) full_walk o.value.value.selection_set →
+      DocumentLimit schema document (details.RecursionLimit limit) None
+  merging_limit : {s : Schema} {o deep : Node Operation} {limit : RecursionLimitError} {at : Option SourceSpan} →
+      schema ≡ Some s → Contains (operations_of document) o → Contains (operations_of document) deep →
+      MergingPasses s (fragments_of document) deep.value.value.selection_set → at ≡ o.location →
+      DocumentLimit schema document (details.RecursionLimit limit) at
+
+-- a report of a limit is true of a schema
+pub data SchemaLimit (schema : Schema) : DiagnosticData → Option SourceSpan → Type 0 where
+  directive_nests : {entry : NameText × Node DirectiveDefinition} {name : NameText} {describe : Bor (List ℕ)} {at : Option SourceSpan} →
+      Contains schema.directive_definitions.entries entry → DirectiveNestsTooDeep schema entry.1 name describe.now at →
+      SchemaLimit schema (report.DeeplyNestedType name describe) at
+  input_object_nests : {entry : NameText × ExtendedType} {d : Node InputObjectType} {name : NameText} {describe : Bor (List ℕ)} {at : Option SourceSpan} →
+      Contains schema.types.entries entry → entry.1 ≡ types.InputObject d → InputObjectNestsTooDeep schema d name describe.now at →
+      SchemaLimit schema (report.DeeplyNestedType name describe) at
