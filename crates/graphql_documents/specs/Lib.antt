@@ -4,6 +4,7 @@ pub mod Coordinates
 pub mod Diagnostics
 pub mod FieldSets
 pub mod Fields
+pub mod Guards
 pub mod Messages
 pub mod MetaFields
 pub mod Names
@@ -12,4 +13,5 @@ pub mod Numbers
 pub mod Reports
 pub mod Schemas
 pub mod Selections
+pub mod Spans
 pub mod TypeReferences

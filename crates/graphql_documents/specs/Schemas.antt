@@ -1,11 +1,12 @@
 -- Types and fields of a schema. Specification: 3 Type System.
-use Rattle.std.specs.Prelude.{ℕ, Bool, true, false, ◌&&◌, List, Option, None, Some, Result, Ok, Err, codes, is_none, if◌then◌else◌, MatchOption}
+use Rattle.std.specs.Prelude.{ℕ, Bool, true, false, ◌&&◌, List, Option, None, Some, Result, Ok, Err, codes, is_none, ◌==◌, if◌then◌else◌, MatchOption}
 use Rattle.std.specs.Option.{option_map_or}
 use Rattle.std.specs.Str.{bytes_eq}
 use Rattle.indexmap.specs.IndexMap.{get}
 use Rattle.graphql_documents.specs.Names.{NameText, same_name}
 use Rattle.graphql_documents.specs.TypeReferences.{inner_named_type, is_non_null}
 use Rattle.graphql_documents.specs.declared.documents.components.Component.{Component}
+use Rattle.graphql_documents.specs.declared.documents.spans.SourceSpan.{SourceSpan}
 use Rattle.graphql_documents.specs.declared.documents.definitions.FieldDefinition.{FieldDefinition}
 use Rattle.graphql_documents.specs.declared.documents.definitions.InputValueDefinition.{InputValueDefinition}
 use Rattle.graphql_documents.specs.declared.documents.schemas.Schema.{Schema}
@@ -35,6 +36,38 @@ kind_text (Interface d) = codes "an interface type"
 kind_text (Union d) = codes "a union type"
 kind_text (Enum d) = codes "an enum type"
 kind_text (InputObject d) = codes "an input object type"
+
+-- scalars, enums and input objects, which arguments and variables may have. Specification: 3.4.2 Input
+-- and Output Types
+abbrev pub is_input_type : ExtendedType → Bool
+is_input_type (Scalar d) = true
+is_input_type (Object d) = false
+is_input_type (Interface d) = false
+is_input_type (Union d) = false
+is_input_type (Enum d) = true
+is_input_type (InputObject d) = true
+
+-- every type but an input object, which fields may have. Specification: 3.4.2 Input and Output Types
+abbrev pub is_output_type : ExtendedType → Bool
+is_output_type (Scalar d) = true
+is_output_type (Object d) = true
+is_output_type (Interface d) = true
+is_output_type (Union d) = true
+is_output_type (Enum d) = true
+is_output_type (InputObject d) = false
+
+-- where the definition of a type stands
+abbrev pub location_of : ExtendedType → Option SourceSpan
+location_of (Scalar d) = d.location
+location_of (Object d) = d.location
+location_of (Interface d) = d.location
+location_of (Union d) = d.location
+location_of (Enum d) = d.location
+location_of (InputObject d) = d.location
+
+-- the definition stands in the file of the definitions that every schema has, which is file 0
+abbrev pub is_built_in : ExtendedType → Bool
+is_built_in ty = option_map_or (λ place. place.file_id.0 == 0) (location_of ty) false
 
 -- a field that a type itself defines. Specification: 3.6 Objects, 3.7 Interfaces
 abbrev pub own_field : ExtendedType → NameText → Option (Component FieldDefinition)

@@ -5,5 +5,5 @@ pub mod errors;
 pub mod lists;
 
 pub use data::{Details, DiagnosticData};
-pub use errors::ValidationError;
+pub use errors::{RecursionLimitError, ValidationError};
 pub use lists::{DiagnosticEntry, DiagnosticList};

@@ -8,6 +8,11 @@ pub enum ValidationError {
     OutOfMemory,
 }
 
+/// A walk went deeper than it may.
+#[derive(Clone, Copy, Debug, PartialEq, Eq, Error)]
+#[error("too much recursion")]
+pub struct RecursionLimitError;
+
 impl From<AllocError> for ValidationError {
     fn from(_refusal: AllocError) -> ValidationError {
         ValidationError::OutOfMemory
