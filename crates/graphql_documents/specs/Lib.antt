@@ -4,6 +4,7 @@ pub mod Coordinates
 pub mod Diagnostics
 pub mod FieldSets
 pub mod Fields
+pub mod GuardLoans
 pub mod Guards
 pub mod Messages
 pub mod MetaFields

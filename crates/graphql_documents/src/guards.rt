@@ -4,9 +4,9 @@ pub mod depth;
 pub mod limits;
 pub mod recursion;
 
-pub use depth::DepthCounter;
+pub use depth::{DepthCounter, DepthGuard};
 pub use limits::LimitCounter;
-pub use recursion::{CycleError, RecursionStack};
+pub use recursion::{CycleError, RecursionGuard, RecursionStack};
 
 /// How many names a path may hold, and how deep a walk may go, unless it is set.
 pub const DEFAULT_RECURSION_LIMIT: usize = 32;
