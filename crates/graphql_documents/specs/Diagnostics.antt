@@ -1,7 +1,10 @@
 -- Lists of reports.
-use Rattle.std.specs.Prelude.{List}
+use Rattle.std.specs.Prelude.{List, Option}
 use Rattle.std.specs.Vec.{vec_allocator}
 use Rattle.std.specs.declared.alloc.Global.{Global}
+use Rattle.graphql_documents.specs.declared.documents.spans.SourceSpan.{SourceSpan}
+use Rattle.graphql_documents.specs.declared.diagnostics.data.DiagnosticData.{DiagnosticData}
+use Rattle.graphql_documents.specs.declared.diagnostics.details.Details.TheVariants.{Diagnostic}
 use Rattle.graphql_documents.specs.declared.diagnostics.lists.DiagnosticEntry.{DiagnosticEntry}
 use Rattle.graphql_documents.specs.declared.diagnostics.lists.DiagnosticList.{DiagnosticList}
 
@@ -12,3 +15,7 @@ entries list = list.entries.items
 -- what a list grows by
 abbrev pub allocator_of : DiagnosticList → Global
 allocator_of list = vec_allocator list.entries
+
+-- the entry is a broken rule, and this holds of it and its place
+abbrev pub IsDiagnostic : (DiagnosticData → Option SourceSpan → Type 0) → DiagnosticEntry → Type 0
+IsDiagnostic P entry = elim entry.details [ Diagnostic broken ↦ P broken entry.location | _ ↦ ⊥ ]

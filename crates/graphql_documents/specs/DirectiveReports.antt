@@ -1,8 +1,8 @@
 -- What a report says of arguments with their values, and of applications of directives. Specification: 5.4
 -- Arguments, 5.7 Directives, 5.8.5 All Variable Usages Are Allowed.
 use Rattle.std.specs.Prelude.{◌≡◌, List, ◌∷◌, ◌++◌, Option, None, Some, IsTrue, Contains, find}
+use Rattle.graphql_documents.specs.ArgumentReports.{LacksArgument, MissesArgument, RepeatsArgument}
 use Rattle.graphql_documents.specs.Arguments.{definition_named}
-use Rattle.graphql_documents.specs.BrokenRules.{LacksArgument, MissesArgument, RepeatsArgument}
 use Rattle.graphql_documents.specs.Directives.{IsRepeatable, directive_definition, directive_in}
 use Rattle.graphql_documents.specs.Names.{NameText, same_name}
 use Rattle.graphql_documents.specs.Spans.{recompose}

@@ -2,7 +2,7 @@
 use Rattle.std.specs.Prelude.{◌≡◌, Some, []}
 use Rattle.graphql_documents.specs.Selections.{Written, no_fragments}
 use Rattle.graphql_documents.specs.Fields.{PlacedFormsHold, PlacedSelectionsHold}
-use Rattle.graphql_documents.specs.BrokenRules.{NamesBrokenRule}
+use Rattle.graphql_documents.specs.FieldReports.{NamesBrokenRule}
 use Rattle.graphql_documents.specs.declared.documents.nodes.Node.{Node}
 use Rattle.graphql_documents.specs.declared.documents.schemas.Schema.{Schema}
 use Rattle.graphql_documents.specs.declared.documents.executables.SelectionSet.{SelectionSet}

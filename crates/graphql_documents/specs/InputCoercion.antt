@@ -1,11 +1,11 @@
 -- When a value is accepted for a type. Specification: 5.6 Values; 3.5 Scalars, 3.9 Enums, 3.10 Input
 -- Objects and 3.11 List, each under Input Coercion.
-use Rattle.std.specs.Prelude.{◌≡◌, ◌≢◌, ◌⊎◌, ℕ, pos, negsuc, ◌≤ℤ◌, Bool, false, ◌||◌, not, List, [], None, Some, Vec, All, Contains, codes, IsTrue, IsFalse, IsSome, cond}
+use Rattle.std.specs.Prelude.{◌≡◌, ◌≢◌, ◌⊎◌, ℕ, Bool, false, ◌||◌, not, List, [], None, Some, Vec, All, Contains, codes, IsTrue, IsFalse, IsSome, cond}
 use Rattle.std.specs.declared.alloc.Global.{Global}
 use Rattle.std.specs.Str.{bytes_eq}
 use Rattle.indexmap.specs.IndexMap.{get}
 use Rattle.graphql_documents.specs.Names.{NameText, SameName, same_name}
-use Rattle.graphql_documents.specs.Numbers.{integer_value}
+use Rattle.graphql_documents.specs.Numbers.{FitsInt, integer_value}
 use Rattle.graphql_documents.specs.TypeReferences.{inner_named_type, item_type, is_list, is_non_null}
 use Rattle.graphql_documents.specs.Values.{VariablesIn, entry_named}
 use Rattle.graphql_documents.specs.Schemas.{type_definition, is_built_in, is_input_type, is_required, IsInputObject}
@@ -32,10 +32,6 @@ abbrev pub is_built_in_scalar : List ℕ → ExtendedType → Bool
 is_built_in_scalar name (Scalar d) = cond (is_built_in (Scalar d)) (bytes_eq d.value.value.name.text name) false
 is_built_in_scalar name _ = false
 
--- a number of 32 bits with a sign. Specification: 3.5.1 Int
-abbrev pub FitsInt : List ℕ → Type 0
-FitsInt text = (negsuc 2147483647 ≤ℤ integer_value text) × (integer_value text ≤ℤ pos 2147483647)
-
 -- the enum type has this value. Specification: 3.9 Enums
 abbrev pub HasEnumValue : ExtendedType → NameText → Type 0
 HasEnumValue (Enum d) name = IsSome (get same_name d.value.value.values name)
@@ -49,7 +45,7 @@ AcceptsLeaf d (literal.String text) =
 AcceptsLeaf d (literal.Float text) = IsTrue (is_custom_scalar d || is_built_in_scalar (codes "Float") d)
 AcceptsLeaf d (literal.Int text) =
     IsTrue (is_custom_scalar d || is_built_in_scalar (codes "ID") d || is_built_in_scalar (codes "Float") d) ⊎
-    (IsTrue (is_built_in_scalar (codes "Int") d) × FitsInt text)
+    (IsTrue (is_built_in_scalar (codes "Int") d) × FitsInt (integer_value text))
 AcceptsLeaf d (literal.Boolean b) = IsTrue (is_custom_scalar d || is_built_in_scalar (codes "Boolean") d)
 AcceptsLeaf d _ = ⊥
 

@@ -58,17 +58,17 @@ is_output_type (InputObject d) = false
 is_output_type _ = true
 
 -- where the definition stands
-abbrev pub place_of_type : ExtendedType → Option SourceSpan
-place_of_type (Scalar d) = d.location
-place_of_type (Object d) = d.location
-place_of_type (Interface d) = d.location
-place_of_type (Union d) = d.location
-place_of_type (Enum d) = d.location
-place_of_type (InputObject d) = d.location
+abbrev pub location_of : ExtendedType → Option SourceSpan
+location_of (Scalar d) = d.location
+location_of (Object d) = d.location
+location_of (Interface d) = d.location
+location_of (Union d) = d.location
+location_of (Enum d) = d.location
+location_of (InputObject d) = d.location
 
 -- one of the definitions that every schema has
 abbrev pub is_built_in : ExtendedType → Bool
-is_built_in definition = is_built_in_place (place_of_type definition)
+is_built_in definition = is_built_in_place (location_of definition)
 
 -- the name that the definition itself has
 abbrev pub own_name : ExtendedType → NameText

@@ -1,12 +1,12 @@
 -- What a report says of a selection at its place. Specification: 5.3 Fields, 5.5 Fragments.
 use Rattle.std.specs.Prelude.{◌≡◌, List, reverse, Option, None, Some}
 use Rattle.std.specs.List.{AllZip}
-use Rattle.graphql_documents.specs.BrokenRules.{FieldBreaks}
 use Rattle.graphql_documents.specs.DirectiveReports.{ArgumentValuesBreak, DirectivesBreak}
+use Rattle.graphql_documents.specs.FieldReports.{FieldBreaks}
 use Rattle.graphql_documents.specs.FragmentSpreads.{FragmentLeadsBack, IsPossibleAt, NamesComposite}
 use Rattle.graphql_documents.specs.Names.{NameText}
 use Rattle.graphql_documents.specs.Nodes.{SameNode}
-use Rattle.graphql_documents.specs.Schemas.{place_of_type, type_definition}
+use Rattle.graphql_documents.specs.Schemas.{location_of, type_definition}
 use Rattle.graphql_documents.specs.Selections.{Fragments, Placed, definition_at}
 use Rattle.graphql_documents.specs.Spans.{recompose}
 use Rattle.graphql_documents.specs.declared.diagnostics.data.DiagnosticData.TheVariants as report
@@ -47,7 +47,7 @@ pub record IsImpossible (schema : Option Schema) (condition : NameText) (place :
   pub type_condition_is : type_condition ≡ condition
   pub type_name_is : type_name ≡ parent
   pub fragment_location_is : fragment_location ≡ fragment_place
-  pub type_location_is : type_location ≡ place_of_type definition
+  pub type_location_is : type_location ≡ location_of definition
   pub at_is : at ≡ selection_place
 
 -- the report names what is wrong with an inline fragment, its directives apart

@@ -1,5 +1,5 @@
 -- References to types. Specification: 2.11 Type References.
-use Rattle.std.specs.Prelude.{ℕ, Bool, true, false, List, ◌++◌, codes}
+use Rattle.std.specs.Prelude.{ℕ, Bool, true, false, not, List, ◌++◌, codes}
 use Rattle.graphql_documents.specs.Names.{NameText, same_name}
 use Rattle.graphql_documents.specs.declared.documents.type_references.Type.{«Type»}
 use Rattle.graphql_documents.specs.declared.documents.type_references.Type.TheVariants.{Named, NonNullNamed, List', NonNullList'}
@@ -30,6 +30,10 @@ abbrev pub is_list : «Type» → Bool
 is_list (List' place item) = true
 is_list (NonNullList' place item) = true
 is_list _ = false
+
+-- a name outside any list
+abbrev pub is_named : «Type» → Bool
+is_named ty = not (is_list ty)
 
 -- the type of the items of a list; of a named type, the type itself
 abbrev pub item_type : «Type» → «Type»

@@ -2,18 +2,17 @@
 use Rattle.std.specs.Prelude.{◌≡◌, ℕ, Bool, true, false, ◌||◌, List, ◌∷◌, ◌++◌, IsNone, Option, None, Some, IsTrue, IsFalse, Vec, string_bytes, codes, All, Contains}
 use Rattle.indexmap.specs.IndexMap.{get}
 use Rattle.std.specs.declared.alloc.Global.{Global}
-use Rattle.graphql_documents.specs.InputCoercion.{AcceptsLeaf, FitsInt, IsFieldGiven, IsInputField, is_built_in_scalar, is_custom_scalar}
+use Rattle.graphql_documents.specs.InputCoercion.{AcceptsLeaf, IsFieldGiven, IsInputField, is_built_in_scalar, is_custom_scalar}
 use Rattle.graphql_documents.specs.Names.{NameText, SameName, same_name}
 use Rattle.graphql_documents.specs.Nodes.{SameNode}
+use Rattle.graphql_documents.specs.Numbers.{FitsInt, integer_value}
 use Rattle.graphql_documents.specs.SchemaReferences.{as_input_object, named}
-use Rattle.graphql_documents.specs.Schemas.{IsInputObject, is_input_type, place_of_type, type_definition}
+use Rattle.graphql_documents.specs.Schemas.{IsInputObject, is_input_type, location_of, type_definition}
 use Rattle.graphql_documents.specs.TypeReferences.{inner_named_type, is_list, is_non_null, item_type, same_type}
 use Rattle.graphql_documents.specs.Values.{entry_named}
 use Rattle.graphql_documents.specs.VariableUsage.{variable_named}
 use Rattle.graphql_documents.specs.declared.diagnostics.data.DiagnosticData.TheVariants as report
 use Rattle.graphql_documents.specs.declared.diagnostics.data.DiagnosticData.{DiagnosticData}
-use Rattle.graphql_documents.specs.declared.diagnostics.details.Details.TheVariants as details
-use Rattle.graphql_documents.specs.declared.diagnostics.lists.DiagnosticEntry.{DiagnosticEntry}
 use Rattle.graphql_documents.specs.declared.documents.components.Component.{Component}
 use Rattle.graphql_documents.specs.declared.documents.coordinates.TypeAttributeCoordinate.{TypeAttributeCoordinate}
 use Rattle.graphql_documents.specs.declared.documents.definitions.InputValueDefinition.{InputValueDefinition}
@@ -40,7 +39,7 @@ is_leaf_literal _ = false
 
 -- an integer that Int does not hold
 abbrev pub IsOutOfRange : ExtendedType → Value → Type 0
-IsOutOfRange d (literal.Int number) = IsTrue (is_built_in_scalar (codes "Int") d) × ¬ FitsInt number
+IsOutOfRange d (literal.Int number) = IsTrue (is_built_in_scalar (codes "Int") d) × ¬ FitsInt (integer_value number)
 IsOutOfRange d _ = ⊥
 
 -- an enum value that the enum lacks
@@ -91,7 +90,7 @@ pub record HasUnsupportedType (schema : Schema) (variables : List (Node Variable
   pub cannot : CannotStandFor variables ty definition value.value.value as_type
   pub value_is : SameNode value reported
   pub type_is : IsTrue (same_type named.value.value as_type)
-  pub definition_location_is : definition_location ≡ place_of_type definition
+  pub definition_location_is : definition_location ≡ location_of definition
   pub at_is : at ≡ value.location
 
 -- an integer is too large or too small for Int: reported at the value, with its text
@@ -173,7 +172,3 @@ pub record ValueReport (schema : Schema) (variables : List (Node VariableDefinit
   pub inner : Node Value
   pub lies : LiesWithin schema ty value inner_ty inner
   pub broken : ValueBreaks schema variables inner_ty inner r at
-
--- an entry of a list of reports, as a broken rule and its place
-abbrev pub SaysOf : (DiagnosticData → Option SourceSpan → Type 0) → DiagnosticEntry → Type 0
-SaysOf P entry = elim entry.details [ details.Diagnostic r ↦ P r entry.location | _ ↦ ⊥ ]

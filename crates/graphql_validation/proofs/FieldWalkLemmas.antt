@@ -10,7 +10,8 @@ use Rattle.graphql_documents.specs.Schemas.{type_field}
 use Rattle.graphql_documents.specs.Selections.{selections_of, definition_at, no_fragments, standing_at, placed_in_field, below_known}
 use Rattle.graphql_documents.specs.Arguments.{HasDistinctNames, ArgumentNamesHold, IsDefined, IsGivenIfRequired}
 use Rattle.graphql_documents.specs.Fields.{FieldFormHolds, AgreesWithDefinition, HasNeededSelection}
-use Rattle.graphql_documents.specs.BrokenRules.{FieldBreaks, ReportsField, ReportsRepetition, RepeatsArgument, NamesBrokenRule}
+use Rattle.graphql_documents.specs.ArgumentReports.{ReportsRepetition, RepeatsArgument}
+use Rattle.graphql_documents.specs.FieldReports.{FieldBreaks, ReportsField, NamesBrokenRule}
 use Rattle.graphql_documents.specs.Reports.{Reports}
 use Rattle.graphql_documents.proofs.ReportLemmas.{wider, both}
 use Rattle.graphql_documents.specs.declared.documents.nodes.Node.{Node}

@@ -5,7 +5,7 @@ use Rattle.graphql_documents.specs.TypeReferences.{inner_named_type}
 use Rattle.graphql_documents.specs.Schemas.{type_field, is_composite}
 use Rattle.graphql_documents.specs.Selections.{selections_of, definition_at, no_fragments}
 use Rattle.graphql_documents.specs.Fields.{FieldFormHolds, HasDefinition}
-use Rattle.graphql_documents.specs.BrokenRules.{ReportsField, NamesBrokenRule}
+use Rattle.graphql_documents.specs.FieldReports.{ReportsField, NamesBrokenRule}
 use Rattle.graphql_documents.specs.declared.documents.nodes.Node.{Node}
 use Rattle.graphql_documents.specs.declared.documents.components.Component.{Component}
 use Rattle.graphql_documents.specs.declared.documents.definitions.FieldDefinition.{FieldDefinition}

@@ -8,6 +8,11 @@ pub enum ValidationError {
     OutOfMemory,
 }
 
+/// A walk went deeper than it may.
+#[derive(Clone, Copy, Debug, PartialEq, Eq, Error)]
+#[error("too much recursion")]
+pub struct RecursionLimitError;
+
 impl From<AllocError> for ValidationError {
     fn from(_refusal: AllocError) -> ValidationError {
         ValidationError::OutOfMemory
@@ -19,8 +24,3 @@ impl<T: Drop> From<AllocFailed<T>> for ValidationError {
         ValidationError::OutOfMemory
     }
 }
-
-/// A walk passed its limit.
-#[derive(Clone, Copy, Debug, PartialEq, Eq, Error)]
-#[error("too much recursion")]
-pub struct RecursionLimitError;

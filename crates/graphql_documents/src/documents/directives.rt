@@ -19,3 +19,16 @@ pub struct Directive {
     pub name: Name,
     pub arguments: Vec<Node<Argument>>,
 }
+
+impl Directive {
+    ghost use Rattle.std.specs.Prelude.{◌≡◌};
+    ghost use Rattle.std.specs.Option.{option_copied};
+    ghost use Rattle.graphql_documents.specs.Arguments.{argument_named};
+
+    /// The first argument with this name, as given.
+    pub fn specified_argument_by_name(&self, name: &Name) -> Option<&Node<Argument>>
+        ensures { option_copied result ≡ argument_named name.now self.now.arguments.items }
+    {
+        self.arguments.iter().find(|a| a.value.name == *name)
+    }
+}

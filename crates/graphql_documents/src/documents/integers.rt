@@ -5,7 +5,7 @@ ghost use Rattle.std.specs.List.{list_all};
 ghost use Rattle.std.specs.Char.{is_ascii_digit};
 ghost use Rattle.std.specs.Str.{bytes_eq};
 ghost use Rattle.std.specs.Cmp.Rules.{comparing, hashing};
-ghost use Rattle.graphql_documents.specs.Numbers.{is_whole_number, is_integer};
+ghost use Rattle.graphql_documents.specs.Numbers.{is_whole_number, is_integer, integer_value, FitsInt};
 
 use std::hash::{Hash, Hasher};
 use std::marker::Model;
@@ -50,9 +50,19 @@ impl IntValue {
     {
         self.text.as_str()
     }
+
+    /// The number, where 32 bits hold it.
+    ///
+    /// Specification: 3.5.1 Int.
+    pub fn try_to_i32(&self) -> Option<i32>
+        ensures fits { IsSome result ↔ FitsInt (integer_value self.now) }
+        ensures value { IfSome result (λ n. n ≡ integer_value self.now) }
+    {
+        self.as_str().parse::<i32>().ok()
+    }
 }
 
-fn is_integer_text(text: &[u8]) -> bool
+pub(super) fn is_integer_text(text: &[u8]) -> bool
     ensures { result ≡ is_integer text.now }
 {
     match text {
@@ -71,7 +81,7 @@ fn is_whole_number_text(text: &[u8]) -> bool
     }
 }
 
-fn are_digits(text: &[u8]) -> bool
+pub(super) fn are_digits(text: &[u8]) -> bool
     ensures { result ≡ list_all is_ascii_digit text.now }
 {
     text.iter().all(|c| c.is_ascii_digit())

@@ -6,6 +6,7 @@ use super::directives::Directive;
 use super::meta_fields::MetaFields;
 use super::names::{Name, NamedType};
 use super::nodes::Node;
+use super::spans::{FileId, SourceSpan};
 use indexmap::{IndexMap, IndexSet};
 
 /// A scalar type.
@@ -116,7 +117,7 @@ pub enum FieldLookupError {
 impl ExtendedType {
     ghost use Rattle.std.specs.Prelude.{◌≡◌};
     ghost use Rattle.std.specs.Option.{option_copied};
-    ghost use Rattle.graphql_documents.specs.Schemas.{is_composite, kind_text, own_field};
+    ghost use Rattle.graphql_documents.specs.Schemas.{is_built_in, is_composite, is_input_type, is_output_type, kind_text, location_of, own_field};
 
     /// Whether the type is an object, an interface or a union, so that its fields are selected.
     pub fn is_composite(&self) -> bool
@@ -126,6 +127,51 @@ impl ExtendedType {
             self,
             ExtendedType::Object(_) | ExtendedType::Interface(_) | ExtendedType::Union(_)
         )
+    }
+
+    /// Whether arguments and variables may have the type.
+    ///
+    /// Specification: 3.4.2 Input and Output Types.
+    pub fn is_input_type(&self) -> bool
+        ensures { result ≡ is_input_type self.now }
+    {
+        matches!(
+            self,
+            ExtendedType::Scalar(_) | ExtendedType::Enum(_) | ExtendedType::InputObject(_)
+        )
+    }
+
+    /// Whether fields may have the type.
+    ///
+    /// Specification: 3.4.2 Input and Output Types.
+    pub fn is_output_type(&self) -> bool
+        ensures { result ≡ is_output_type self.now }
+    {
+        !matches!(self, ExtendedType::InputObject(_))
+    }
+
+    /// Whether the definition is one of those that every schema has: it stands in their file.
+    pub fn is_built_in(&self) -> bool
+        ensures { result ≡ is_built_in self.now }
+    {
+        match self.location() {
+            Some(place) => place.file_id.0 == FileId::BUILT_IN.0,
+            None => false,
+        }
+    }
+
+    /// Where the definition stands.
+    fn location(&self) -> Option<SourceSpan>
+        ensures { result ≡ location_of self.now }
+    {
+        match self {
+            ExtendedType::Scalar(definition) => definition.location,
+            ExtendedType::Object(definition) => definition.location,
+            ExtendedType::Interface(definition) => definition.location,
+            ExtendedType::Union(definition) => definition.location,
+            ExtendedType::Enum(definition) => definition.location,
+            ExtendedType::InputObject(definition) => definition.location,
+        }
     }
 
     /// What a message calls the kind of the type.

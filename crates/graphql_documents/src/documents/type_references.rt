@@ -1,5 +1,5 @@
 ghost use Rattle.std.specs.Prelude.{◌≡◌, Some};
-ghost use Rattle.graphql_documents.specs.TypeReferences.{inner_named_type, is_non_null, type_text};
+ghost use Rattle.graphql_documents.specs.TypeReferences.{inner_named_type, is_assignable, is_list, is_named, is_non_null, item_type, type_text};
 
 use super::names::NamedType;
 use std::fmt;
@@ -31,6 +31,49 @@ impl Type {
         ensures { result ≡ is_non_null self.now }
     {
         matches!(self, Type::NonNullNamed(_) | Type::NonNullList(_))
+    }
+
+    /// Whether the type is a list.
+    pub fn is_list(&self) -> bool
+        ensures { result ≡ is_list self.now }
+    {
+        matches!(self, Type::List(_) | Type::NonNullList(_))
+    }
+
+    /// Whether the type is a name outside any list.
+    pub fn is_named(&self) -> bool
+        ensures { result ≡ is_named self.now }
+    {
+        matches!(self, Type::Named(_) | Type::NonNullNamed(_))
+    }
+
+    /// The type of the items of a list; of a named type, the type itself.
+    pub fn item_type(&self) -> &Type
+        ensures { result.now ≡ item_type self.now }
+    {
+        match self {
+            Type::Named(_) | Type::NonNullNamed(_) => self,
+            Type::List(item) | Type::NonNullList(item) => item,
+        }
+    }
+
+    /// Whether a value of this type may stand where the target is asked for.
+    ///
+    /// Specification: 5.8.5 All Variable Usages Are Allowed.
+    pub fn is_assignable_to(&self, target: &Type) -> bool
+        ensures { result ≡ is_assignable self.now target.now }
+    {
+        match (self, target) {
+            (Type::Named(name), Type::Named(other)) => name == other,
+            (Type::NonNullNamed(name), Type::Named(other) | Type::NonNullNamed(other)) => {
+                name == other
+            }
+            (Type::List(item), Type::List(other)) => item.is_assignable_to(other),
+            (Type::NonNullList(item), Type::List(other) | Type::NonNullList(other)) => {
+                item.is_assignable_to(other)
+            }
+            _ => false,
+        }
     }
 }
 

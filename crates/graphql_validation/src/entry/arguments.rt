@@ -1,7 +1,7 @@
 ghost use Rattle.std.specs.Prelude.{◌≡◌, ◌↔◌, IsTrue, IfOk, List, All, Contains};
 ghost use Rattle.std.specs.Option.{option_copied};
 ghost use Rattle.graphql_documents.specs.Arguments.{HasDistinctNames, argument_named, definition_named, IsDefined, IsGiven, IsGivenIfRequired};
-ghost use Rattle.graphql_documents.specs.BrokenRules.{IsRepetition, ReportsRepetition};
+ghost use Rattle.graphql_documents.specs.ArgumentReports.{IsRepetition, ReportsRepetition};
 ghost use Rattle.graphql_documents.specs.Reports.{Checks};
 ghost use Rattle.graphql_documents.specs.declared.documents.nodes.Node.{Node};
 ghost use Rattle.graphql_documents.specs.declared.documents.components.Component.{Component};

@@ -1,7 +1,7 @@
 ghost use Rattle.std.specs.Prelude.{◌≡◌, Some, false, [], Contains, IfOk, MatchOption};
 ghost use Rattle.graphql_documents.specs.Selections.{selections_of, definition_at, no_fragments};
 ghost use Rattle.graphql_documents.specs.Fields.{HasNeededSelection};
-ghost use Rattle.graphql_documents.specs.BrokenRules.{ReportsField, NamesBrokenRule};
+ghost use Rattle.graphql_documents.specs.FieldReports.{ReportsField, NamesBrokenRule};
 ghost use Rattle.graphql_documents.specs.Reports.{Checks};
 ghost use Rattle.graphql_documents.specs.declared.documents.executables.SelectionSet.{SelectionSet};
 ghost use Rattle.graphql_validation.specs.FieldWalk.{ReachedFieldsHold, FieldHoldsBelow, IsUnselected};

@@ -7,7 +7,7 @@ use Rattle.std.specs.HashMap.{get_by}
 use Rattle.graphql_documents.specs.Names.{NameText, same_name}
 use Rattle.graphql_documents.specs.declared.documents.spans.SourceSpan.{SourceSpan}
 use Rattle.graphql_documents.specs.Arguments.{HasDistinctNames, argument_named}
-use Rattle.graphql_documents.specs.BrokenRules.{ReportsRepetition}
+use Rattle.graphql_documents.specs.ArgumentReports.{ReportsRepetition}
 use Rattle.graphql_documents.specs.Diagnostics.{entries}
 use Rattle.graphql_documents.proofs.ReportLemmas.{checks-err, kept_then, kept_by, holds, both, in_words}
 use Rattle.graphql_documents.proofs.ArgumentLemmas.{place_of, place_found, place_missing, distinct_at, repetition_at, still_found, newly_found}

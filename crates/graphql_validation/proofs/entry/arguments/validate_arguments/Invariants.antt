@@ -3,7 +3,7 @@ use Rattle.std.specs.Option.{option_map}
 use Rattle.std.specs.HashMap.{get_by}
 use Rattle.graphql_documents.specs.Names.{NameText, same_name}
 use Rattle.graphql_documents.specs.Arguments.{HasDistinctNames, argument_named}
-use Rattle.graphql_documents.specs.BrokenRules.{ReportsRepetition}
+use Rattle.graphql_documents.specs.ArgumentReports.{ReportsRepetition}
 use Rattle.graphql_documents.specs.Diagnostics.{entries}
 use Rattle.graphql_documents.specs.Reports.{Reports}
 use Rattle.graphql_validation.proofs.entry.arguments.validate_arguments.Given as goal

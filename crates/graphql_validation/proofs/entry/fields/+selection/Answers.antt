@@ -3,7 +3,7 @@ use Rattle.std.proofs.Common.{◌≡◌, List, Some, Ok, Contains, refl, sym, ap
 use Rattle.graphql_documents.specs.TypeReferences.{inner_named_type}
 use Rattle.graphql_documents.specs.Schemas.{type_field}
 use Rattle.graphql_documents.specs.Selections.{selections_of, no_fragments}
-use Rattle.graphql_documents.specs.BrokenRules.{NamesBrokenRule}
+use Rattle.graphql_documents.specs.FieldReports.{NamesBrokenRule}
 use Rattle.graphql_documents.specs.Diagnostics.{entries}
 use Rattle.graphql_documents.specs.Reports.{Reports, KeepsReports}
 use Rattle.graphql_documents.specs.declared.documents.executables.SelectionSet.{SelectionSet}

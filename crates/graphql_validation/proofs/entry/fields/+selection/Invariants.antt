@@ -1,6 +1,6 @@
 use Rattle.std.proofs.Common.{Some, All, take}
 use Rattle.graphql_documents.specs.Selections.{no_fragments}
-use Rattle.graphql_documents.specs.BrokenRules.{NamesBrokenRule}
+use Rattle.graphql_documents.specs.FieldReports.{NamesBrokenRule}
 use Rattle.graphql_documents.specs.Diagnostics.{entries}
 use Rattle.graphql_documents.specs.Reports.{Reports}
 use Rattle.graphql_validation.proofs.FieldWalkLemmas.{SelectionHolds}

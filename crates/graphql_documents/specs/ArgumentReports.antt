@@ -1,0 +1,62 @@
+-- What a report says of the names of arguments. Specification: 5.4 Arguments.
+use Rattle.std.specs.Prelude.{◌≡◌, true, List, ◌∷◌, ◌++◌, Option, Some, Contains}
+use Rattle.graphql_documents.specs.Arguments.{IsDefined, IsGiven, argument_named}
+use Rattle.graphql_documents.specs.Names.{NameText}
+use Rattle.graphql_documents.specs.Nodes.{SameNode}
+use Rattle.graphql_documents.specs.Schemas.{is_required}
+use Rattle.graphql_documents.specs.declared.diagnostics.data.DiagnosticData.TheVariants as report
+use Rattle.graphql_documents.specs.declared.diagnostics.details.Details.TheVariants as details
+use Rattle.graphql_documents.specs.declared.diagnostics.lists.DiagnosticEntry.{DiagnosticEntry}
+use Rattle.graphql_documents.specs.declared.documents.coordinates.SchemaCoordinate.{SchemaCoordinate}
+use Rattle.graphql_documents.specs.declared.documents.definitions.InputValueDefinition.{InputValueDefinition}
+use Rattle.graphql_documents.specs.declared.documents.directives.Argument.{Argument}
+use Rattle.graphql_documents.specs.declared.documents.nodes.Node.{Node}
+use Rattle.graphql_documents.specs.declared.documents.spans.SourceSpan.{SourceSpan}
+use Rattle.graphql_documents.specs.declared.documents.type_references.Type.{«Type»}
+
+-- `again` stands behind `first`, the first argument with its name
+pub record IsRepetition (given : List (Node Argument)) (first again : Node Argument) : Type 0 where
+  pub before : List (Node Argument)
+  pub after : List (Node Argument)
+  pub split : given ≡ before ++ again ∷ after
+  pub first_is : argument_named again.value.value.name before ≡ Some first
+
+-- an argument repeats a name: reported at the repetition, with the place of the first
+pub record RepeatsArgument (given : List (Node Argument)) (name : NameText) (original redefined at : Option SourceSpan) : Type 0 where
+  pub first : Node Argument
+  pub again : Node Argument
+  pub repetition : IsRepetition given first again
+  pub name_is : name ≡ again.value.value.name
+  pub original_is : original ≡ first.location
+  pub redefined_is : redefined ≡ again.location
+  pub at_is : at ≡ again.location
+
+-- the report says that one of these arguments repeats a name
+abbrev pub ReportsRepetition : List (Node Argument) → DiagnosticEntry → Type 0
+ReportsRepetition given entry =
+    (name : NameText) × (original redefined : Option SourceSpan) ×
+    (entry.details ≡ details.Diagnostic (report.UniqueArgument name original redefined)) × RepeatsArgument given name original redefined entry.location
+
+-- an argument is not defined: reported at the argument, with the coordinate and the place of the
+-- definition that lacks it
+pub record LacksArgument (definitions : List (Node InputValueDefinition)) (given : List (Node Argument)) (owner : SchemaCoordinate) (owner_location : Option SourceSpan) (name : NameText) (coordinate : SchemaCoordinate) (definition_location at : Option SourceSpan) : Type 0 where
+  pub argument : Node Argument
+  pub is_given : Contains given argument
+  pub undefined : ¬ IsDefined definitions argument
+  pub name_is : name ≡ argument.value.value.name
+  pub coordinate_is : coordinate ≡ owner
+  pub definition_location_is : definition_location ≡ owner_location
+  pub at_is : at ≡ argument.location
+
+-- a required argument is not given: reported at what should give it, with its definition's type
+-- and place
+pub record MissesArgument (definitions : List (Node InputValueDefinition)) (given : List (Node Argument)) (coordinate_of : NameText → SchemaCoordinate) (owner_location : Option SourceSpan) (name : NameText) (coordinate : SchemaCoordinate) (expected : Node «Type») (definition_location at : Option SourceSpan) : Type 0 where
+  pub definition : Node InputValueDefinition
+  pub is_defined : Contains definitions definition
+  pub required : is_required definition.value.value ≡ true
+  pub missing : ¬ IsGiven given definition.value.value.name
+  pub name_is : name ≡ definition.value.value.name
+  pub coordinate_is : coordinate ≡ coordinate_of definition.value.value.name
+  pub expected_is : SameNode definition.value.value.ty expected
+  pub definition_location_is : definition_location ≡ definition.location
+  pub at_is : at ≡ owner_location

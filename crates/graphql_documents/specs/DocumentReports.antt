@@ -1,0 +1,63 @@
+-- What a report says of a document. Specification: 5 Validation.
+use Rattle.std.specs.Prelude.{◌≡◌, Option, Some, Contains}
+use Rattle.indexmap.specs.IndexMap.{values}
+use Rattle.graphql_documents.specs.Defer.{operations_of}
+use Rattle.graphql_documents.specs.DeferReports.{DeferBreaks}
+use Rattle.graphql_documents.specs.DirectiveReports.{DirectivesBreak}
+use Rattle.graphql_documents.specs.Documents.{IsFragmentUsed, operation_location, root_place}
+use Rattle.graphql_documents.specs.MergingReports.{MergingBreaks}
+use Rattle.graphql_documents.specs.Names.{NameText}
+use Rattle.graphql_documents.specs.SelectionReports.{SelectionReport}
+use Rattle.graphql_documents.specs.Selections.{fragments_of}
+use Rattle.graphql_documents.specs.SubscriptionReports.{SubscriptionBreaks}
+use Rattle.graphql_documents.specs.VariableReports.{IsUnusedVariable, VariablesReport}
+use Rattle.graphql_documents.specs.declared.diagnostics.build_errors.BuildError.{BuildError}
+use Rattle.graphql_documents.specs.declared.diagnostics.data.DiagnosticData.TheVariants as report
+use Rattle.graphql_documents.specs.declared.diagnostics.data.DiagnosticData.{DiagnosticData}
+use Rattle.graphql_documents.specs.declared.diagnostics.details.Details.TheVariants as details
+use Rattle.graphql_documents.specs.declared.diagnostics.details.Details.{Details}
+use Rattle.graphql_documents.specs.declared.documents.definitions.OperationType.TheVariants as operation
+use Rattle.graphql_documents.specs.declared.documents.executables.ExecutableDocument.{ExecutableDocument}
+use Rattle.graphql_documents.specs.declared.documents.executables.Fragment.{Fragment}
+use Rattle.graphql_documents.specs.declared.documents.executables.Operation.{Operation}
+use Rattle.graphql_documents.specs.declared.documents.nodes.Node.{Node}
+use Rattle.graphql_documents.specs.declared.documents.schemas.Schema.{Schema}
+use Rattle.graphql_documents.specs.declared.documents.spans.SourceSpan.{SourceSpan}
+
+-- the report names a rule that an operation breaks, those of subscriptions, `@defer` and merging apart
+pub data OperationReport (schema : Option Schema) (document : ExecutableDocument) (o : Operation) : DiagnosticData → Option SourceSpan → Type 0 where
+  of_directives : {r : DiagnosticData} {at : Option SourceSpan} →
+      DirectivesBreak schema o.variables.items (operation_location o.operation_type) o.directives.items r at →
+      OperationReport schema document o r at
+  of_variables : {r : DiagnosticData} {at : Option SourceSpan} →
+      VariablesReport schema o.variables.items r at → OperationReport schema document o r at
+  of_unused_variable : {name : NameText} {at : Option SourceSpan} →
+      IsUnusedVariable (fragments_of document) o name at → OperationReport schema document o (report.UnusedVariable name) at
+  of_selection : {r : DiagnosticData} {at : Option SourceSpan} →
+      SelectionReport schema (fragments_of document) o.variables.items (root_place schema o) o.selection_set r at →
+      OperationReport schema document o r at
+
+-- a fragment is not used: reported at the fragment
+pub record IsUnusedFragment (document : ExecutableDocument) (name : NameText) (at : Option SourceSpan) : Type 0 where
+  pub d : Node Fragment
+  pub is_defined : Contains (values document.fragments) d
+  pub unused : ¬ IsFragmentUsed document d.value.value
+  pub name_is : name ≡ d.value.value.name
+  pub at_is : at ≡ d.location
+
+-- the report names a rule that the document breaks
+pub data DocumentReport (schema : Option Schema) (document : ExecutableDocument) : Details → Option SourceSpan → Type 0 where
+  of_operation : {o : Node Operation} {r : DiagnosticData} {at : Option SourceSpan} →
+      Contains (operations_of document) o → OperationReport schema document o.value.value r at →
+      DocumentReport schema document (details.Diagnostic r) at
+  of_unused_fragment : {name : NameText} {at : Option SourceSpan} →
+      IsUnusedFragment document name at → DocumentReport schema document (details.Diagnostic (report.UnusedFragment name)) at
+  of_defer : {e : BuildError} {at : Option SourceSpan} →
+      DeferBreaks document e at → DocumentReport schema document (details.Build e) at
+  of_subscription : {s : Schema} {o : Node Operation} {e : BuildError} {at : Option SourceSpan} →
+      schema ≡ Some s → Contains (operations_of document) o → o.value.value.operation_type ≡ operation.Subscription →
+      SubscriptionBreaks (fragments_of document) o e at → DocumentReport schema document (details.Build e) at
+  of_merging : {s : Schema} {o : Node Operation} {e : BuildError} {at : Option SourceSpan} →
+      schema ≡ Some s → Contains (operations_of document) o →
+      MergingBreaks s (fragments_of document) o.value.value.selection_set e at →
+      DocumentReport schema document (details.Build e) at

@@ -1,0 +1,92 @@
+-- What a report says of the variables of an operation. Specification: 5.8 Variables.
+use Rattle.std.specs.Prelude.{◌≡◌, ℕ, List, [], ◌∷◌, ◌++◌, Option, None, Some, IsFalse, Contains}
+use Rattle.graphql_documents.specs.DirectiveReports.{DirectivesBreak}
+use Rattle.graphql_documents.specs.Names.{NameText, SameName}
+use Rattle.graphql_documents.specs.Nodes.{SameNode}
+use Rattle.graphql_documents.specs.Schemas.{is_input_type, kind_text, type_definition}
+use Rattle.graphql_documents.specs.Selections.{Fragments}
+use Rattle.graphql_documents.specs.Spans.{recompose}
+use Rattle.graphql_documents.specs.TypeReferences.{inner_named_type}
+use Rattle.graphql_documents.specs.ValueReports.{ValueReport}
+use Rattle.graphql_documents.specs.VariableUsage.{variable_named}
+use Rattle.graphql_documents.specs.Variables.{UsesVariable}
+use Rattle.graphql_documents.specs.declared.diagnostics.data.DiagnosticData.TheVariants as report
+use Rattle.graphql_documents.specs.declared.diagnostics.data.DiagnosticData.{DiagnosticData}
+use Rattle.graphql_documents.specs.declared.documents.definitions.DirectiveLocation.TheVariants as allowed_at
+use Rattle.graphql_documents.specs.declared.documents.definitions.VariableDefinition.{VariableDefinition}
+use Rattle.graphql_documents.specs.declared.documents.executables.Operation.{Operation}
+use Rattle.graphql_documents.specs.declared.documents.nodes.Node.{Node}
+use Rattle.graphql_documents.specs.declared.documents.schemas.ExtendedType.{ExtendedType}
+use Rattle.graphql_documents.specs.declared.documents.schemas.Schema.{Schema}
+use Rattle.graphql_documents.specs.declared.documents.spans.SourceSpan.{SourceSpan}
+use Rattle.graphql_documents.specs.declared.documents.type_references.Type.{«Type»}
+use Rattle.graphql_documents.specs.declared.documents.values.Value.{Value}
+
+-- a variable has the name of an earlier one: reported at the later, with the place of the first
+pub record RepeatsVariable (variables : List (Node VariableDefinition)) (name : NameText) (original redefined at : Option SourceSpan) : Type 0 where
+  pub before : List (Node VariableDefinition)
+  pub first : Node VariableDefinition
+  pub again : Node VariableDefinition
+  pub after : List (Node VariableDefinition)
+  pub split : variables ≡ before ++ again ∷ after
+  pub first_is : variable_named again.value.value.name before ≡ Some first
+  pub name_is : name ≡ again.value.value.name
+  pub original_is : original ≡ first.location
+  pub redefined_is : redefined ≡ again.location
+  pub at_is : at ≡ again.location
+
+-- a variable is not of an input type: reported at the variable
+pub record HasNoInputType (schema : Option Schema) (v : Node VariableDefinition) (name : NameText) (ty : Node «Type») (describe : List ℕ) (at : Option SourceSpan) : Type 0 where
+  pub against : Schema
+  pub definition : ExtendedType
+  pub has_schema : schema ≡ Some against
+  pub defined : type_definition against (inner_named_type v.value.value.ty.value.value) ≡ Some definition
+  pub no_input : IsFalse (is_input_type definition)
+  pub name_is : name ≡ v.value.value.name
+  pub type_is : SameNode v.value.value.ty ty
+  pub describe_is : describe ≡ kind_text definition
+  pub at_is : at ≡ v.location
+
+-- the type of a variable is not defined: reported at the variable
+pub record HasUndefinedType (schema : Option Schema) (v : Node VariableDefinition) (name : NameText) (at : Option SourceSpan) : Type 0 where
+  pub against : Schema
+  pub has_schema : schema ≡ Some against
+  pub undefined : type_definition against (inner_named_type v.value.value.ty.value.value) ≡ None
+  pub name_is : name ≡ inner_named_type v.value.value.ty.value.value
+  pub at_is : at ≡ v.location
+
+-- a variable is not used: reported at the last variable of its name
+pub record IsUnusedVariable (fragments : Fragments) (o : Operation) (name : NameText) (at : Option SourceSpan) : Type 0 where
+  pub before : List (Node VariableDefinition)
+  pub v : Node VariableDefinition
+  pub after : List (Node VariableDefinition)
+  pub split : o.variables.items ≡ before ++ v ∷ after
+  pub is_last : variable_named v.value.value.name after ≡ None
+  pub unused : ¬ UsesVariable fragments o v.value.value.name
+  pub name_is : SameName name v.value.value.name
+  pub at_is : at ≡ recompose v.location v.value.value.name.location
+
+-- the default of a variable is wrong
+pub record HasWrongDefault (schema : Option Schema) (v : Node VariableDefinition) (r : DiagnosticData) (at : Option SourceSpan) : Type 0 where
+  pub against : Schema
+  pub value : Node Value
+  pub has_schema : schema ≡ Some against
+  pub is_default : v.value.value.default_value ≡ Some value
+  pub broken : ValueReport against [] v.value.value.ty.value.value value r at
+
+-- the report names what is wrong with the definition of a variable, its directives apart
+abbrev pub VariableBreaks : Option Schema → Node VariableDefinition → DiagnosticData → Option SourceSpan → Type 0
+VariableBreaks schema v (report.VariableInputType name ty describe) at = HasNoInputType schema v name ty describe.now at
+VariableBreaks schema v (report.UndefinedDefinition name) at = HasUndefinedType schema v name at
+VariableBreaks schema v r at = HasWrongDefault schema v r at
+
+-- the report names what is wrong with the definitions of variables
+pub data VariablesReport (schema : Option Schema) (variables : List (Node VariableDefinition)) : DiagnosticData → Option SourceSpan → Type 0 where
+  of_variable_directives : {v : Node VariableDefinition} {r : DiagnosticData} {at : Option SourceSpan} →
+      Contains variables v → DirectivesBreak schema [] allowed_at.VariableDefinition v.value.value.directives.items r at →
+      VariablesReport schema variables r at
+  of_variable : {v : Node VariableDefinition} {r : DiagnosticData} {at : Option SourceSpan} →
+      Contains variables v → VariableBreaks schema v r at → VariablesReport schema variables r at
+  of_repetition : {name : NameText} {original redefined at : Option SourceSpan} →
+      RepeatsVariable variables name original redefined at →
+      VariablesReport schema variables (report.UniqueVariable name original redefined) at
