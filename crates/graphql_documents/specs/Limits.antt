@@ -5,7 +5,7 @@ use Rattle.std.specs.Borrow.{Bor}
 use Rattle.graphql_documents.specs.Defer.{can_be_excluded, operations_of, sets_of}
 use Rattle.graphql_documents.specs.Expansion.{Expansion, MergesBelow, Pass}
 use Rattle.graphql_documents.specs.FragmentSpreads.{HasLongSpreadPath}
-use Rattle.graphql_documents.specs.Merging.{Chain, FieldSelection, set_of}
+use Rattle.graphql_documents.specs.Merging.{Chain, FieldSelection, SameFields, set_of}
 use Rattle.graphql_documents.specs.Names.{AreDistinct, NameText}
 use Rattle.graphql_documents.specs.SchemaReferences.{HasLongDirectivePath, HasLongRequiredPath, HasLongTypePath}
 use Rattle.graphql_documents.specs.Selections.{Fragments, fragments_of, selections_of}
@@ -107,8 +107,8 @@ pub data MergingDescent (schema : Schema) (fragments : Fragments) (pass : Pass) 
       MergingDescent schema fragments pass fields (below ∷ further)
 
 -- the fields of an operation nest too deep to be merged: some chain of fields is longer than 128, and
--- so are the steps of a pass from the operation's fields
-pub record MergingPasses (schema : Schema) (fragments : Fragments) (set : SelectionSet) : Type 0 where
+-- so are the steps of a pass from the operation's fields, no list of the same fields twice
+pub record MergingPasses (same : Field → Field → Bool) (schema : Schema) (fragments : Fragments) (set : SelectionSet) : Type 0 where
   pub chain : List FieldSelection
   pub last : FieldSelection
   pub is_chain : Chain fragments set (chain ++ last ∷ [])
@@ -119,34 +119,34 @@ pub record MergingPasses (schema : Schema) (fragments : Fragments) (set : Select
   pub steps : List (List FieldSelection)
   pub begins : Expansion fragments (set ∷ []) fields
   pub descent : MergingDescent schema fragments pass fields steps
-  pub once : AllPairs (λ a b. a ≢ b) (fields ∷ steps)
+  pub once : AllPairs (λ a b. ¬ SameFields same a b) (fields ∷ steps)
   pub steps_pass : 128 < length steps
 
 -- a report of a limit is true of a document: reported without a place, but for merging, at an operation,
 -- where the fields of some operation nest too deep
-pub data DocumentLimit (schema : Option Schema) (document : ExecutableDocument) : Details → Option SourceSpan → Type 0 where
+pub data DocumentLimit (same : Field → Field → Bool) (schema : Option Schema) (document : ExecutableDocument) : Details → Option SourceSpan → Type 0 where
   fragment_nests : {d : Node Fragment} {name : NameText} {describe : Bor (List ℕ)} {at : Option SourceSpan} →
       Contains (values document.fragments) d → FragmentNestsTooDeep (fragments_of document) d name describe.now at →
-      DocumentLimit schema document (details.Diagnostic (report.DeeplyNestedType name describe)) at
+      DocumentLimit same schema document (details.Diagnostic (report.DeeplyNestedType name describe)) at
   walk_of_variables : {o : Node Operation} →
       Contains (operations_of document) o → PassesDepth (fragments_of document) full_walk o.value.value.selection_set →
-      DocumentLimit schema document (details.Diagnostic report.RecursionError) None
+      DocumentLimit same schema document (details.Diagnostic report.RecursionError) None
   walk_of_root : {o : Node Operation} →
       Contains (operations_of document) o → PassesDepth (fragments_of document) root_walk o.value.value.selection_set →
-      DocumentLimit schema document (details.Diagnostic report.RecursionError) None
+      DocumentLimit same schema document (details.Diagnostic report.RecursionError) None
   walk_of_labels : {set : SelectionSet} →
       Contains (sets_of document) set → PassesDepth (fragments_of document) written_walk set →
-      DocumentLimit schema document (details.Diagnostic report.RecursionError) None
+      DocumentLimit same schema document (details.Diagnostic report.RecursionError) None
   walk_of_conditions : {o : Node Operation} →
       Contains (operations_of document) o → PassesDepth (fragments_of document) open_walk o.value.value.selection_set →
-      DocumentLimit schema document (details.Diagnostic report.RecursionError) None
+      DocumentLimit same schema document (details.Diagnostic report.RecursionError) None
   walk_of_fragments : {o : Node Operation} {limit : RecursionLimitError} →
       Contains (operations_of document) o → PassesDepth (fragments_of document) full_walk o.value.value.selection_set →
-      DocumentLimit schema document (details.RecursionLimit limit) None
+      DocumentLimit same schema document (details.RecursionLimit limit) None
   merging_limit : {s : Schema} {o deep : Node Operation} {limit : RecursionLimitError} {at : Option SourceSpan} →
       schema ≡ Some s → Contains (operations_of document) o → Contains (operations_of document) deep →
-      MergingPasses s (fragments_of document) deep.value.value.selection_set → at ≡ o.location →
-      DocumentLimit schema document (details.RecursionLimit limit) at
+      MergingPasses same s (fragments_of document) deep.value.value.selection_set → at ≡ o.location →
+      DocumentLimit same schema document (details.RecursionLimit limit) at
 
 -- a report of a limit is true of a schema
 pub data SchemaLimit (schema : Schema) : DiagnosticData → Option SourceSpan → Type 0 where

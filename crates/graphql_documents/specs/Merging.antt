@@ -1,5 +1,5 @@
 -- When the fields of an operation can be merged. Specification: draft, 5.3.2 Field Selection Merging.
-use Rattle.std.specs.Prelude.{◌≡◌, List, [], ◌∷◌, ◌++◌, Some, Contains, IsTrue, is_some}
+use Rattle.std.specs.Prelude.{Bool, ◌≡◌, List, [], ◌∷◌, ◌++◌, Some, Contains, IsTrue, is_some}
 use Rattle.std.specs.List.{AllZip}
 use Rattle.graphql_documents.specs.Names.{NameText, SameName}
 use Rattle.graphql_documents.specs.Values.{SameValue}
@@ -91,6 +91,12 @@ pub record SameNameAndArguments (a b : Field) : Type 0 where
 -- the two have one key in a response
 abbrev pub SameKey : FieldSelection → FieldSelection → Type 0
 SameKey a b = SameName (response_key a.field.value.value) (response_key b.field.value.value)
+
+-- the two lists have the same fields in order, on types of the same names; two fields are the same by
+-- their contents
+abbrev pub SameFields : (Field → Field → Bool) → List FieldSelection → List FieldSelection → Type 0
+SameFields same xs ys =
+    AllZip (λ a b. SameName a.parent b.parent × IsTrue (same a.field.value.value b.field.value.value)) xs ys
 
 -- two chains with the same keys at each step, which end in these two fields
 pub record Together (fragments : Fragments) (set : SelectionSet) (xs ys : List FieldSelection) (x y : FieldSelection) : Type 0 where
