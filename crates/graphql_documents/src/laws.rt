@@ -1,0 +1,5 @@
+//! Laws of the definitions: what holds of every schema and document, whatever a validator does.
+//!
+//! Each function here does nothing. Its contract is the law.
+
+pub mod values;
