@@ -1,8 +1,7 @@
 -- Names are the same where their texts are.
-use Rattle.std.proofs.Common.{◌≡◌, Bool, true, false, refl, sym, ◌∙◌}
-use Rattle.std.specs.Prelude.{IsTrue, IsFalse}
+use Rattle.std.proofs.Common.{◌≡◌, refl, sym, ◌∙◌}
 use Rattle.std.proofs.lemmas.Slice.Eq.{bytes_eq-Decides}
-use Rattle.graphql_documents.specs.Names.{NameText, SameName, DifferentNames, same_name}
+use Rattle.graphql_documents.specs.Names.{NameText, SameName, DifferentNames}
 
 pub same_text : (a b : NameText) → SameName a b → a.text ≡ b.text
 same_text a b same = (bytes_eq-Decides a.text b.text).0 same

@@ -2,4 +2,9 @@
 //!
 //! Each function here does nothing. Its contract is the law.
 
+pub mod fragments;
+pub mod merging;
+pub mod schemas;
+pub mod selections;
+pub mod type_maps;
 pub mod values;
