@@ -1,3 +1,12 @@
 pub mod ArgumentLemmas
+pub mod FragmentLaws
+pub mod ListLemmas
+pub mod MergingLaws
+pub mod NameLemmas
 pub mod NumberLemmas
+pub mod ReportLaws
 pub mod ReportLemmas
+pub mod SchemaLaws
+pub mod SelectionLaws
+pub mod TypeMapLaws
+pub mod ValueLaws

@@ -23,9 +23,10 @@ use Rattle.graphql_documents.specs.declared.documents.executables.Fragment.{Frag
 -- a selection as a field of a set of this type, if it is one
 abbrev pub as_field : NameText → Selection → Option FieldSelection
 as_field parent s = elim (out-Selection s) [
-    Open.Field f ↦ Some (record { parent = parent; field = f })
-    | Open.FragmentSpread p ↦ None
-    | Open.InlineFragment i ↦ None ]
+  | Open.Field f ↦ Some (record { parent = parent; field = f })
+  | Open.FragmentSpread p ↦ None
+  | Open.InlineFragment i ↦ None
+]
 
 -- the fields that stand in the set, in order
 abbrev pub fields_standing : SelectionSet → List FieldSelection

@@ -97,8 +97,8 @@ pub data Accepts (schema : Schema) (variables : List (Node VariableDefinition)) 
       All (λ entry. IsInputField d.value.value entry.0) entries.items →
       All (IsFieldGiven entries.items) d.value.value.fields.entries →
       ((field : NameText × Component InputValueDefinition) (value : Node Value) →
-          Contains d.value.value.fields.entries field → entry_named field.0 entries.items ≡ Some value →
-          Accepts schema variables field.1.node.value.value.ty.value.value value.value.value) →
+      Contains d.value.value.fields.entries field → entry_named field.0 entries.items ≡ Some value →
+      Accepts schema variables field.1.node.value.value.ty.value.value value.value.value) →
       Accepts schema variables ty (literal.Object entries)
 
 -- a value of the type can be written down: one without variables that is accepted

@@ -41,16 +41,18 @@ pub data Written : SelectionSet → Selection → Type 0 where
 -- the directives of a selection
 abbrev pub directives_of : Selection → List (Node Directive)
 directives_of s = elim (out-Selection s) [
-    Open.Field f ↦ f.value.value.directives.items
-    | Open.FragmentSpread p ↦ p.value.value.directives.items
-    | Open.InlineFragment i ↦ i.value.value.directives.items ]
+  | Open.Field f ↦ f.value.value.directives.items
+  | Open.FragmentSpread p ↦ p.value.value.directives.items
+  | Open.InlineFragment i ↦ i.value.value.directives.items
+]
 
 -- the arguments of a field; other selections have none
 abbrev pub arguments_of : Selection → List (Node Argument)
 arguments_of s = elim (out-Selection s) [
-    Open.Field f ↦ f.value.value.arguments.items
-    | Open.FragmentSpread p ↦ []
-    | Open.InlineFragment i ↦ [] ]
+  | Open.Field f ↦ f.value.value.arguments.items
+  | Open.FragmentSpread p ↦ []
+  | Open.InlineFragment i ↦ []
+]
 
 -- how a name finds its fragment, if any is defined. Specification: 5.5.2.1 Fragment Spread Target Defined
 abbrev pub Fragments : Type 0

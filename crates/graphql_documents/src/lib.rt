@@ -5,3 +5,4 @@
 pub mod diagnostics;
 pub mod documents;
 pub mod guards;
+pub mod laws;

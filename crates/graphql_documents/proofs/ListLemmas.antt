@@ -1,0 +1,56 @@
+-- What stands in a list, in what a map makes of it, and in what a filter keeps.
+use Rattle.std.proofs.Common.{◌≡◌, Bool, true, false, cond, List, [], ◌∷◌, map, refl, ap, All, Contains, arith}
+use Rattle.std.specs.Prelude.{filter}
+use Rattle.std.proofs.lemmas.List.Elements.{All-nil, All-cons, All-head, All-tail, All-contains, All-contains_itself, All-map, All-weaker, Contains-append_right}
+
+pub stands_first : {X : Type 0} (x : X) (xs : List X) → Contains (x ∷ xs) x
+stands_first x xs = (0, omega arith, refl)
+
+pub stands_behind : {X : Type 0} (y : X) (xs : List X) (x : X) → Contains xs x → Contains (y ∷ xs) x
+stands_behind y xs x in' = Contains-append_right (y ∷ []) xs x in'
+
+-- a list of one has nothing else
+pub only_one : {X : Type 0} (x y : X) → Contains (x ∷ []) y → y ≡ x
+only_one x y in' = All-contains (λ z. z ≡ x) (x ∷ []) y (All-cons (λ z. z ≡ x) x [] refl (All-nil (λ z. z ≡ x))) in'
+
+-- what is true of all that stands in a list
+pub each_standing : {X : Type 0} (P : X → Type 0) (xs : List X) → ((x : X) → Contains xs x → P x) → All P xs
+each_standing P xs h = All-weaker (Contains xs) P h xs (All-contains_itself xs)
+
+all_mapped : {X Y : Type 0} (f : X → Y) (xs : List X) → All (λ x. Contains (map f xs) (f x)) xs
+all_mapped f [] = All-nil (λ x. Contains (map f []) (f x))
+all_mapped {X} f (y ∷ ys) =
+    let P = λ (x : X). Contains (f y ∷ map f ys) (f x) in
+    All-cons P y ys (stands_first (f y) (map f ys))
+    (All-weaker (λ x. Contains (map f ys) (f x)) P (λ x. stands_behind (f y) (map f ys) (f x)) ys (all_mapped f ys))
+
+pub stands_mapped : {X Y : Type 0} (f : X → Y) (xs : List X) (x : X) → Contains xs x → Contains (map f xs) (f x)
+stands_mapped f xs x in' = All-contains (λ x. Contains (map f xs) (f x)) xs x (all_mapped f xs) in'
+
+-- what a map made is made of something
+pub made_of : {X Y : Type 0} (f : X → Y) (xs : List X) (y : Y) → Contains (map f xs) y → (x : X) × Contains xs x × (f x ≡ y)
+made_of {X} {Y} f xs y in' =
+    let P = λ (y : Y). (x : X) × Contains xs x × (f x ≡ y) in
+    All-contains P (map f xs) y (All-map P f xs (each_standing (λ x. P (f x)) xs (λ x in''. (x, in'', refl)))) in'
+
+still_there : {X : Type 0} (b : Bool) (y : X) (ys : List X) (x : X) → Contains ys x → Contains (cond b (y ∷ ys) ys) x
+still_there true y ys x in' = stands_behind y ys x in'
+still_there false y ys x in' = in'
+
+all_kept : {X : Type 0} (p : X → Bool) (xs : List X) → All (λ x. p x ≡ true → Contains (filter p xs) x) xs
+all_kept p [] = All-nil (λ x. p x ≡ true → Contains (filter p []) x)
+all_kept {X} p (y ∷ ys) =
+    let P = λ (x : X). p x ≡ true → Contains (filter p (y ∷ ys)) x in
+    All-cons P y ys (λ e. rw e (stands_first y (filter p ys)))
+    (All-weaker (λ x. p x ≡ true → Contains (filter p ys) x) P (λ x h e. still_there (p y) y (filter p ys) x (h e)) ys (all_kept p ys))
+
+-- what passes the test stays
+pub kept_by_filter : {X : Type 0} (p : X → Bool) (xs : List X) (x : X) → Contains xs x → p x ≡ true → Contains (filter p xs) x
+kept_by_filter p xs x in' = All-contains (λ x. p x ≡ true → Contains (filter p xs) x) xs x (all_kept p xs) in'
+
+-- a filter that all pass keeps all
+pub all_pass : {X : Type 0} (p : X → Bool) (xs : List X) → All (λ x. p x ≡ true) xs → filter p xs ≡ xs
+all_pass p [] all = refl
+all_pass p (x ∷ xs) all =
+    let here : p x ≡ true = All-head (λ x. p x ≡ true) x xs all in
+    rw here (ap (λ l. x ∷ l) (all_pass p xs (All-tail (λ x. p x ≡ true) x xs all)))

@@ -1,0 +1,53 @@
+-- What a true report cannot say.
+use Rattle.std.proofs.Common.{◌≡◌, ℕ, ◌<◌, ◌≤◌, List, Some, None, ◌∙◌, sym, ap, arith}
+use Rattle.std.specs.Prelude.{◌≢◌, Bool, Option}
+use Rattle.std.specs.Borrow.{Bor}
+use Rattle.std.proofs.lemmas.Option.{same_Some}
+use Rattle.graphql_documents.specs.Names.{NameText}
+use Rattle.graphql_documents.specs.Selections.{fragments_of}
+use Rattle.graphql_documents.specs.FieldReports.{FieldBreaks}
+use Rattle.graphql_documents.specs.Limits.{Walk, Descent, PassesDepth, DocumentLimit, fragment_nests, walk_of_variables, walk_of_root, walk_of_labels, walk_of_conditions, walk_of_fragments, merging_limit}
+use Rattle.graphql_documents.specs.declared.diagnostics.data.DiagnosticData.TheVariants as report
+use Rattle.graphql_documents.specs.declared.diagnostics.details.Details.{Details}
+use Rattle.graphql_documents.specs.declared.diagnostics.details.Details.TheVariants as details
+use Rattle.graphql_documents.specs.declared.documents.coordinates.SchemaCoordinate.{SchemaCoordinate}
+use Rattle.graphql_documents.specs.declared.documents.coordinates.SchemaCoordinate.TheVariants as coordinate
+use Rattle.graphql_documents.specs.declared.documents.coordinates.TypeAttributeCoordinate.{TypeAttributeCoordinate}
+use Rattle.graphql_documents.specs.declared.documents.executables.ExecutableDocument.{ExecutableDocument}
+use Rattle.graphql_documents.specs.declared.documents.executables.Field.{Field}
+use Rattle.graphql_documents.specs.declared.documents.executables.SelectionSet.{SelectionSet}
+use Rattle.graphql_documents.specs.declared.documents.nodes.Node.{Node}
+use Rattle.graphql_documents.specs.declared.documents.schemas.Schema.{Schema}
+use Rattle.graphql_documents.specs.declared.documents.spans.SourceSpan.{SourceSpan}
+
+module _ (document : ExecutableDocument)
+    (shallow : (walk : Walk) (set : SelectionSet) (depth : ℕ) (entered : List NameText) →
+    Descent (fragments_of document) walk set depth entered → depth ≤ 500) where
+  no_descent_passes : (walk : Walk) (set : SelectionSet) → ¬ PassesDepth (fragments_of document) walk set
+  no_descent_passes walk set p =
+      let within = shallow walk set p.depth p.entered p.descent in
+      let over = p.passes in
+      let f : ⊥ = omega arith in f
+
+  pub no_limit : (same : Field → Field → Bool) (schema : Option Schema) (d : Details) (at : Option SourceSpan) →
+      d ≡ details.Diagnostic report.RecursionError → ¬ DocumentLimit same schema document d at
+  no_limit same schema d at is (fragment_nests in' nests) = let f : ⊥ = cc in f
+  no_limit same schema d at is (walk_of_variables {o = o} in' p) = no_descent_passes _ _ p
+  no_limit same schema d at is (walk_of_root {o = o} in' p) = no_descent_passes _ _ p
+  no_limit same schema d at is (walk_of_labels {set = set} in' p) = no_descent_passes _ _ p
+  no_limit same schema d at is (walk_of_conditions {o = o} in' p) = no_descent_passes _ _ p
+  no_limit same schema d at is (walk_of_fragments in' p) = let f : ⊥ = cc in f
+  no_limit same schema d at is (merging_limit has in' deep passes at_is) = let f : ⊥ = cc in f
+
+pub other_place : (schema : Option Schema) (place : Option NameText) (f : Node Field)
+    (owner : TypeAttributeCoordinate) (output : NameText) (describe : Bor (List ℕ)) (at : Option SourceSpan) →
+    at ≢ f.location → ¬ FieldBreaks schema place f (report.MissingSubselection owner output describe) at
+other_place schema place f owner output describe at elsewhere broken = elsewhere broken.3.at_is
+
+pub other_coordinate : (schema : Option Schema) (parent : NameText) (f : Node Field)
+    (name : NameText) (owner : SchemaCoordinate) (location at : Option SourceSpan) →
+    owner ≢ coordinate.TypeAttribute (record { ty = parent; attribute = f.value.value.name }) →
+    ¬ FieldBreaks schema (Some parent) f (report.UndefinedArgument name owner location) at
+other_coordinate schema parent f name owner location at other broken =
+    other (broken.3.coordinate_is ∙
+    ap (λ ty. coordinate.TypeAttribute (record { ty = ty; attribute = f.value.value.name })) (sym (same_Some parent broken.0 broken.2.place_is)))

@@ -1,0 +1,35 @@
+//! Laws of ways back to a fragment.
+
+ghost use Rattle.std.specs.Prelude.{◌≡◌, List, Some};
+ghost use Rattle.graphql_documents.specs.Names.{NameText, SameName, DifferentNames};
+ghost use Rattle.graphql_documents.specs.Selections.{Fragments, Written};
+ghost use Rattle.graphql_documents.specs.FragmentSpreads.{FragmentLeadsBack, FragmentHasNoWayBack};
+ghost use Rattle.graphql_documents.specs.declared.documents.executables.Fragment.{Fragment};
+ghost use Rattle.graphql_documents.specs.declared.documents.executables.FragmentSpread.{FragmentSpread};
+ghost use Rattle.graphql_documents.specs.declared.documents.executables.Selection.TheVariants as kind;
+ghost use Rattle.graphql_documents.specs.declared.documents.nodes.Node.{Node};
+
+/// A fragment that spreads itself has a way back, also where the spread stands below a field.
+///
+/// Specification: 5.5.2.2 Fragment Spreads Must Not Form Cycles.
+pub fn fragment_that_spreads_itself_has_a_way_back()
+    ensures { (fragments : Fragments) (d : Node Fragment) (p : Node FragmentSpread) →
+        Written d.value.value.selection_set (kind.FragmentSpread p) →
+        SameName p.value.value.fragment_name d.value.value.name →
+        ¬ FragmentHasNoWayBack fragments d }
+{}
+
+/// A fragment that only reaches a circle has no way back itself: it spreads nothing but another, and that
+/// spreads nothing but itself.
+///
+/// Specification: 5.5.2.2 Fragment Spreads Must Not Form Cycles.
+pub fn fragment_that_only_reaches_a_circle_has_no_way_back()
+    ensures { (fragments : Fragments) (d e : Node Fragment) (path : List (Node FragmentSpread)) →
+        ((p : Node FragmentSpread) → Written d.value.value.selection_set (kind.FragmentSpread p) →
+        SameName p.value.value.fragment_name e.value.value.name) →
+        ((p : Node FragmentSpread) → Written e.value.value.selection_set (kind.FragmentSpread p) →
+        SameName p.value.value.fragment_name e.value.value.name) →
+        ((name : NameText) → SameName name e.value.value.name → fragments name ≡ Some e) →
+        DifferentNames d.value.value.name e.value.value.name →
+        ¬ FragmentLeadsBack fragments d path }
+{}

@@ -1,0 +1,100 @@
+//! Laws of field merging.
+
+ghost use Rattle.std.specs.Prelude.{◌≡◌, List, [], Some, Contains, IsTrue};
+ghost use Rattle.graphql_documents.specs.Names.{SameName, DifferentNames};
+ghost use Rattle.graphql_documents.specs.TypeReferences.{inner_named_type};
+ghost use Rattle.graphql_documents.specs.Schemas.{type_definition, is_output_type};
+ghost use Rattle.graphql_documents.specs.Selections.{Fragments, selections_of, response_key, Includes};
+ghost use Rattle.graphql_documents.specs.Merging.{FieldSelection, SameShape, OverlapThroughout, Merges};
+ghost use Rattle.graphql_documents.specs.declared.documents.executables.Field.{Field};
+ghost use Rattle.graphql_documents.specs.declared.documents.executables.Fragment.{Fragment};
+ghost use Rattle.graphql_documents.specs.declared.documents.executables.FragmentSpread.{FragmentSpread};
+ghost use Rattle.graphql_documents.specs.declared.documents.executables.Selection.TheVariants as kind;
+ghost use Rattle.graphql_documents.specs.declared.documents.executables.SelectionSet.{SelectionSet};
+ghost use Rattle.graphql_documents.specs.declared.documents.nodes.Node.{Node};
+ghost use Rattle.graphql_documents.specs.declared.documents.schemas.ExtendedType.{ExtendedType};
+ghost use Rattle.graphql_documents.specs.declared.documents.schemas.ExtendedType.TheVariants.{Object};
+ghost use Rattle.graphql_documents.specs.declared.documents.schemas.ObjectType.{ObjectType};
+ghost use Rattle.graphql_documents.specs.declared.documents.schemas.Schema.{Schema};
+ghost use Rattle.graphql_documents.specs.declared.documents.type_references.Type.{«Type»};
+
+/// Two fields of an object type with one key and different names do not merge.
+///
+/// Specification: 5.3.2 Field Selection Merging.
+pub fn different_fields_under_one_key_do_not_merge()
+    ensures { (schema : Schema) (fragments : Fragments) (set : SelectionSet) (object : Node ObjectType) (a b : Node Field) →
+        type_definition schema set.ty ≡ Some (Object object) →
+        Contains (selections_of set) (kind.Field a) → Contains (selections_of set) (kind.Field b) →
+        SameName (response_key a.value.value) (response_key b.value.value) →
+        DifferentNames a.value.value.name b.value.value.name →
+        ¬ Merges schema fragments set }
+{}
+
+/// The same holds below two fields with one key.
+///
+/// Specification: 5.3.2 Field Selection Merging.
+pub fn different_fields_below_one_key_do_not_merge()
+    ensures { (schema : Schema) (fragments : Fragments) (set : SelectionSet) (outer inner : Node ObjectType) (p q a b : Node Field) →
+        type_definition schema set.ty ≡ Some (Object outer) →
+        type_definition schema p.value.value.selection_set.ty ≡ Some (Object inner) →
+        type_definition schema q.value.value.selection_set.ty ≡ Some (Object inner) →
+        Contains (selections_of set) (kind.Field p) → Contains (selections_of set) (kind.Field q) →
+        Contains (selections_of p.value.value.selection_set) (kind.Field a) →
+        Contains (selections_of q.value.value.selection_set) (kind.Field b) →
+        SameName (response_key p.value.value) (response_key q.value.value) →
+        SameName (response_key a.value.value) (response_key b.value.value) →
+        DifferentNames a.value.value.name b.value.value.name →
+        ¬ Merges schema fragments set }
+{}
+
+/// Fields on two object types with different names never come together, whatever leads to them, so they
+/// need not be one field.
+///
+/// Specification: 5.3.2 Field Selection Merging, on fields in sets of different object types.
+pub fn fields_of_different_objects_need_not_be_one_field()
+    ensures { (schema : Schema) (xs ys : List FieldSelection) (x y : FieldSelection) (a b : Node ObjectType) →
+        type_definition schema x.parent ≡ Some (Object a) → type_definition schema y.parent ≡ Some (Object b) →
+        DifferentNames a.value.value.name b.value.value.name →
+        ¬ OverlapThroughout schema xs ys x y }
+{}
+
+/// Where a set merges, so does each set of a fragment in it.
+///
+/// Specification: 5.3.2 Field Selection Merging, "including visiting fragments and inline fragments".
+pub fn sets_of_fragments_merge_with_the_set()
+    ensures { (schema : Schema) (fragments : Fragments) (set inner : SelectionSet) →
+        Includes fragments set inner → Merges schema fragments set → Merges schema fragments inner }
+{}
+
+/// Two fields in a fragment that spreads itself do not merge where it is spread, if they have one key and
+/// different names.
+///
+/// Specification: 5.3.2 Field Selection Merging; 5.5.2.2 Fragment Spreads Must Not Form Cycles.
+pub fn cyclic_fragment_with_different_fields_does_not_merge()
+    ensures { (schema : Schema) (fragments : Fragments) (set : SelectionSet) (p q : Node FragmentSpread) (d : Node Fragment)
+        (object : Node ObjectType) (a b : Node Field) →
+        Contains (selections_of set) (kind.FragmentSpread p) → fragments p.value.value.fragment_name ≡ Some d →
+        Contains (selections_of d.value.value.selection_set) (kind.FragmentSpread q) → fragments q.value.value.fragment_name ≡ Some d →
+        type_definition schema d.value.value.selection_set.ty ≡ Some (Object object) →
+        Contains (selections_of d.value.value.selection_set) (kind.Field a) →
+        Contains (selections_of d.value.value.selection_set) (kind.Field b) →
+        SameName (response_key a.value.value) (response_key b.value.value) →
+        DifferentNames a.value.value.name b.value.value.name →
+        ¬ Merges schema fragments set }
+{}
+
+/// Where a type has the shape of another, that has its shape.
+///
+/// Specification: 5.3.2 Field Selection Merging, SameResponseShape.
+pub fn sameness_of_shapes_goes_both_ways()
+    ensures { (schema : Schema) (a b : «Type») → SameShape schema a b → SameShape schema b a }
+{}
+
+/// A type has its own shape, if what it names is an output type or not defined.
+///
+/// Specification: 5.3.2 Field Selection Merging, SameResponseShape.
+pub fn output_type_has_its_own_shape()
+    ensures { (schema : Schema) (ty : «Type») →
+        ((d : ExtendedType) → type_definition schema (inner_named_type ty) ≡ Some d → IsTrue (is_output_type d)) →
+        SameShape schema ty ty }
+{}

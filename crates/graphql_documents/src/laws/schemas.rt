@@ -1,0 +1,58 @@
+//! Laws of schemas that hold.
+
+ghost use Rattle.std.specs.Prelude.{◌≡◌, ◌≢◌, [], Contains};
+ghost use Rattle.graphql_documents.specs.Names.{NameText, SameName};
+ghost use Rattle.graphql_documents.specs.Schemas.{IsInputObject};
+ghost use Rattle.graphql_documents.specs.SchemaReferences.{InputObjectHasNoWayBack};
+ghost use Rattle.graphql_documents.specs.SchemaRules.{SchemaHolds};
+ghost use Rattle.graphql_documents.specs.declared.documents.components.Component.{Component};
+ghost use Rattle.graphql_documents.specs.declared.documents.definitions.InputValueDefinition.{InputValueDefinition};
+ghost use Rattle.graphql_documents.specs.declared.documents.nodes.Node.{Node};
+ghost use Rattle.graphql_documents.specs.declared.documents.schemas.EnumType.{EnumType};
+ghost use Rattle.graphql_documents.specs.declared.documents.schemas.ExtendedType.TheVariants.{Enum, InputObject};
+ghost use Rattle.graphql_documents.specs.declared.documents.schemas.InputObjectType.{InputObjectType};
+ghost use Rattle.graphql_documents.specs.declared.documents.schemas.Schema.{Schema};
+ghost use Rattle.graphql_documents.specs.declared.documents.type_references.Type.TheVariants.{NonNullNamed};
+
+/// A schema with an enum that has no values does not hold.
+///
+/// Specification: 3.9 Enums, Type Validation.
+pub fn schema_with_an_empty_enum_does_not_hold()
+    ensures { (schema : Schema) (key : NameText) (d : Node EnumType) →
+        Contains schema.types.entries (key, Enum d) → d.value.value.values.entries ≡ [] → ¬ SchemaHolds schema }
+{}
+
+/// Two input objects that must each hold the other have a way back.
+///
+/// Specification: 3.10 Input Objects, Circular References.
+pub fn required_fields_in_a_circle_are_a_way_back()
+    ensures { (schema : Schema) (a b : Node InputObjectType) (x y : NameText × Component InputValueDefinition) (to_b to_a : NameText) →
+        Contains a.value.value.fields.entries x → x.1.node.value.value.ty.value.value ≡ NonNullNamed to_b →
+        IsInputObject schema to_b b →
+        Contains b.value.value.fields.entries y → y.1.node.value.value.ty.value.value ≡ NonNullNamed to_a →
+        IsInputObject schema to_a a → SameName to_a a.value.value.name →
+        ¬ InputObjectHasNoWayBack schema a }
+{}
+
+/// A schema with such an input object does not hold.
+///
+/// Specification: 3.10 Input Objects, Type Validation.
+pub fn schema_with_required_fields_in_a_circle_does_not_hold()
+    ensures { (schema : Schema) (key : NameText) (a b : Node InputObjectType) (x y : NameText × Component InputValueDefinition) (to_b to_a : NameText) →
+        Contains schema.types.entries (key, InputObject a) →
+        Contains a.value.value.fields.entries x → x.1.node.value.value.ty.value.value ≡ NonNullNamed to_b →
+        IsInputObject schema to_b b →
+        Contains b.value.value.fields.entries y → y.1.node.value.value.ty.value.value ≡ NonNullNamed to_a →
+        IsInputObject schema to_a a → SameName to_a a.value.value.name →
+        ¬ SchemaHolds schema }
+{}
+
+/// Fields that are nullable or lists lead no way back, whatever they hold.
+///
+/// Specification: 3.10 Input Objects, Circular References.
+pub fn nullable_fields_and_lists_are_no_way_back()
+    ensures { (schema : Schema) (a : Node InputObjectType) →
+        ((field : NameText × Component InputValueDefinition) (name : NameText) → Contains a.value.value.fields.entries field →
+        field.1.node.value.value.ty.value.value ≢ NonNullNamed name) →
+        InputObjectHasNoWayBack schema a }
+{}
