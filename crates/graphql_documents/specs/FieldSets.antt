@@ -1,7 +1,7 @@
 -- Field sets: a selection set on a named type, without an operation.
 use Rattle.std.specs.Prelude.{◌≡◌, Some, []}
 use Rattle.graphql_documents.specs.Selections.{Written, no_fragments}
-use Rattle.graphql_documents.specs.Fields.{PlacedFormsHold, PlacedSelectionsHold}
+use Rattle.graphql_documents.specs.Fields.{PlacedSelectionsHold}
 use Rattle.graphql_documents.specs.Diagnostics.{IsDiagnostic}
 use Rattle.graphql_documents.specs.SelectionReports.{SelectionReport}
 use Rattle.graphql_documents.specs.declared.documents.nodes.Node.{Node}
@@ -21,10 +21,6 @@ pub record IsPlainField (s : Selection) : Type 0 where
 -- no selection at any depth is a fragment or has a directive
 abbrev pub IsPlain : SelectionSet → Type 0
 IsPlain set = (s : Selection) → Written set s → IsPlainField s
-
--- the form of every field that is reached holds, from the set's own type
-abbrev pub FieldSetFormHolds : Schema → SelectionSet → Type 0
-FieldSetFormHolds schema set = PlacedFormsHold (Some schema) no_fragments (Some set.ty) set
 
 -- every selection that is reached holds, from the set's own type
 abbrev pub FieldSetHolds : Schema → SelectionSet → Type 0

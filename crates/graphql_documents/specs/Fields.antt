@@ -56,12 +56,6 @@ pub record FieldHolds (schema : Option Schema) (variables : List (Node VariableD
   pub form : FieldFormHolds schema place f
   pub values : FieldValuesHold schema variables place f
 
--- the form of every field reached from the set holds at its place
-abbrev pub PlacedFormsHold : Option Schema → Fragments → Option NameText → SelectionSet → Type 0
-PlacedFormsHold schema fragments place set =
-    (f : Node Field) (here : Option NameText) →
-    Placed schema fragments place set (kind.Field f) here → FieldFormHolds schema here f.value.value
-
 -- every selection reached from the set holds at its place. Specification: 5.3 Fields, 5.4 Arguments,
 -- 5.5 Fragments
 pub record PlacedSelectionsHold (schema : Option Schema) (fragments : Fragments) (variables : List (Node VariableDefinition)) (place : Option NameText) (set : SelectionSet) : Type 0 where

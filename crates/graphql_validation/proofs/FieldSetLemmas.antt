@@ -1,13 +1,15 @@
 -- In a set of plain fields the places that are reached are those reached by fields alone.
-use Rattle.std.proofs.Common.{◌≡◌, ◌↔◌, Option, Some, None, Result, Ok, Err, refl, sym, ap, ◌∙◌, subst, Contains}
+use Rattle.std.proofs.Common.{◌≡◌, ◌↔◌, arith, List, [], Option, Some, None, Result, Ok, Err, refl, sym, ap, ◌∙◌, subst, Contains}
 use Rattle.std.specs.Result.{result_ok}
 use Rattle.std.proofs.lemmas.Option.{same_Some, none-some}
+use Rattle.std.proofs.lemmas.List.Elements.{All-nil}
 use Rattle.graphql_documents.specs.Names.{NameText}
 use Rattle.graphql_documents.specs.TypeReferences.{inner_named_type}
 use Rattle.graphql_documents.specs.Schemas.{type_field}
 use Rattle.graphql_documents.specs.Selections.{selections_of, definition_at, no_fragments, Written, standing, in_field, TypeBelow, below_unknown, below_known, Placed, standing_at, placed_in_field, placed_in_inline_fragment, placed_in_spread}
-use Rattle.graphql_documents.specs.Fields.{FieldFormHolds}
-use Rattle.graphql_documents.specs.FieldSets.{IsPlain, FieldSetFormHolds}
+use Rattle.graphql_documents.specs.Directives.{ApplicationsHold}
+use Rattle.graphql_documents.specs.Fields.{FieldHolds}
+use Rattle.graphql_documents.specs.FieldSets.{IsPlainField, IsPlain, FieldSetHolds}
 use Rattle.graphql_documents.specs.declared.documents.nodes.Node.{Node}
 use Rattle.graphql_documents.specs.declared.documents.components.Component.{Component}
 use Rattle.graphql_documents.specs.declared.documents.definitions.FieldDefinition.{FieldDefinition}
@@ -15,10 +17,15 @@ use Rattle.graphql_documents.specs.declared.documents.schemas.Schema.{Schema}
 use Rattle.graphql_documents.specs.declared.documents.executables.SelectionSet.{SelectionSet}
 use Rattle.graphql_documents.specs.declared.documents.executables.Selection.{Selection, out-Selection}
 use Rattle.graphql_documents.specs.declared.documents.executables.Selection.TheOpen as Open
-use Rattle.graphql_documents.specs.declared.documents.executables.Selection.TheVariants.{outs-Field, outs-InlineFragment}
+use Rattle.graphql_documents.specs.declared.documents.executables.Selection.TheVariants.{outs-Field, outs-InlineFragment, outs-FragmentSpread}
 use Rattle.graphql_documents.specs.declared.documents.executables.Selection.TheVariants as kind
 use Rattle.graphql_documents.specs.declared.documents.executables.Field.{Field}
 use Rattle.graphql_documents.specs.declared.documents.executables.InlineFragment.{InlineFragment}
+use Rattle.graphql_documents.specs.declared.documents.executables.FragmentSpread.{FragmentSpread}
+use Rattle.graphql_documents.specs.declared.documents.directives.Directive.{Directive}
+use Rattle.graphql_documents.specs.declared.documents.definitions.DirectiveLocation.{DirectiveLocation}
+use Rattle.graphql_documents.specs.declared.documents.definitions.VariableDefinition.{VariableDefinition}
+use Rattle.graphql_validation.proofs.FieldWalkLemmas.{same_field}
 use Rattle.graphql_validation.specs.FieldWalk.{ReachedByFields, stands, below, ReachedFieldsHold}
 
 -- an inline fragment is no field
@@ -65,11 +72,52 @@ reached_placed schema parent set f t (below {g = g} {d = d} in' is r) =
     placed_in_field in' (below_known (ap result_ok is))
     (reached_placed schema (inner_named_type d.node.value.value.ty) g.value.value.selection_set f t r)
 
+-- in a plain set only fields are placed, and these without directives
+placed_plain : (schema : Option Schema) (place : Option NameText) (set : SelectionSet) (s : Selection) (at : Option NameText) →
+    Placed schema no_fragments place set s at → IsPlain set → IsPlainField s
+placed_plain schema place set s at (standing_at in') plain = plain s (standing in')
+placed_plain schema place set s at (placed_in_field {below = u} {f = g} in' under p) plain =
+    placed_plain schema u g.value.value.selection_set s at p (λ x w. plain x (in_field in' w))
+placed_plain schema place set s at (placed_in_inline_fragment {i = i} in' p) plain =
+    let field = plain (kind.InlineFragment i) (standing in') in
+    absurd (inline_is_no_field i field.field field.is_field)
+placed_plain schema place set s at (placed_in_spread {d = d} in' found p) plain = absurd (none-some d found)
+
+-- a spread is no field
+spread_is_no_field : (p : Node FragmentSpread) (f : Node Field) → kind.FragmentSpread p ≡ kind.Field f → ⊥
+spread_is_no_field p f e =
+    let opened : Open.FragmentSpread p ≡ Open.Field f = sym (outs-FragmentSpread p) ∙ ap out-Selection e ∙ outs-Field f in cc
+
+-- no directives hold wherever they are
+none_applied : (schema : Option Schema) (variables : List (Node VariableDefinition)) (location : DirectiveLocation) (directives : List (Node Directive)) →
+    directives ≡ [] → ApplicationsHold schema variables location directives
+none_applied schema variables location directives none =
+    subst (ApplicationsHold schema variables location) (sym none) (record { each = All-nil _; repetitions = λ i j d before within. absurd (let no : ⊥ = omega arith in no) })
+
 -- so a plain set holds where the fields reached by fields do
-pub plain_holds : (schema : Schema) (set : SelectionSet) → IsPlain set → ReachedFieldsHold schema set.ty set ↔ FieldSetFormHolds schema set
-plain_holds schema set plain = (
-  λ h f at placed.
-      let r = placed_reached schema (Some set.ty) set (kind.Field f) at placed set.ty refl plain f refl in
-      subst (λ t. FieldFormHolds (Some schema) t f.value.value) (sym r.1) (h f r.0 r.2),
-  λ h f t r. h f (Some t) (reached_placed schema set.ty set f t r),
-)
+pub plain_holds : (schema : Schema) (set : SelectionSet) → IsPlain set → ReachedFieldsHold schema set.ty set ↔ FieldSetHolds schema set
+plain_holds schema set plain = (there, back) where
+  there : ReachedFieldsHold schema set.ty set → FieldSetHolds schema set
+  there h = record {
+    fields = λ f at placed.
+        let r = placed_reached schema (Some set.ty) set (kind.Field f) at placed set.ty refl plain f refl in
+        let bare = placed_plain (Some schema) (Some set.ty) set (kind.Field f) at placed plain in
+        let same : bare.field ≡ f = same_field bare.field f (sym bare.is_field) in
+        let holds = h f r.0 r.2 in
+        subst (λ t. FieldHolds (Some schema) [] t f.value.value) (sym r.1) (record {
+          directives = none_applied _ _ _ _ (subst (λ g. g.value.value.directives.items ≡ []) same bare.no_directives);
+          form = holds.form;
+          values = holds.values;
+        });
+    inline_fragments = λ i at placed.
+        let bare = placed_plain (Some schema) (Some set.ty) set (kind.InlineFragment i) at placed plain in
+        absurd (inline_is_no_field i bare.field bare.is_field);
+    spreads = λ p at placed.
+        let bare = placed_plain (Some schema) (Some set.ty) set (kind.FragmentSpread p) at placed plain in
+        absurd (spread_is_no_field p bare.field bare.is_field);
+  }
+
+  back : FieldSetHolds schema set → ReachedFieldsHold schema set.ty set
+  back h f t r =
+      let holds = h.fields f (Some t) (reached_placed schema set.ty set f t r) in
+      record { form = holds.form; values = holds.values }

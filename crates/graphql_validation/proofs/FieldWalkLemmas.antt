@@ -8,7 +8,7 @@ use Rattle.graphql_documents.specs.Names.{NameText}
 use Rattle.graphql_documents.specs.TypeReferences.{inner_named_type}
 use Rattle.graphql_documents.specs.Schemas.{type_field}
 use Rattle.graphql_documents.specs.Selections.{selections_of, definition_at, no_fragments, TypeBelow, standing_at, placed_in_field, below_known}
-use Rattle.graphql_documents.specs.Arguments.{HasDistinctNames, ArgumentNamesHold, IsDefined, IsGivenIfRequired}
+use Rattle.graphql_documents.specs.Arguments.{HasDistinctNames, ArgumentNamesHold, ArgumentValuesHold, IsDefined, IsGivenIfRequired}
 use Rattle.graphql_documents.specs.Fields.{FieldFormHolds, AgreesWithDefinition, HasNeededSelection}
 use Rattle.graphql_documents.specs.ArgumentReports.{ReportsRepetition, RepeatsArgument}
 use Rattle.graphql_documents.specs.FieldReports.{FieldBreaks, ReportsField}
@@ -29,13 +29,18 @@ use Rattle.graphql_documents.specs.declared.documents.executables.Selection.TheO
 use Rattle.graphql_documents.specs.declared.documents.executables.Selection.TheVariants.{outs-Field}
 use Rattle.graphql_documents.specs.declared.documents.executables.Field.{Field}
 use Rattle.graphql_documents.specs.declared.documents.executables.Selection.TheVariants as kind
+use mathlib.Core.Logic.{inl, inr}
+use Rattle.graphql_documents.specs.VariableUsage.{IsVariable}
+use Rattle.graphql_documents.specs.declared.documents.values.Value.{Value}
+use Rattle.graphql_documents.specs.declared.documents.definitions.InputValueDefinition.{InputValueDefinition}
+use Rattle.graphql_documents.specs.declared.documents.definitions.VariableDefinition.{VariableDefinition}
 use Rattle.graphql_documents.specs.declared.documents.spans.SourceSpan.{SourceSpan}
 use Rattle.graphql_documents.specs.declared.diagnostics.data.DiagnosticData.{DiagnosticData}
 use Rattle.graphql_documents.specs.declared.diagnostics.details.Details.{Details}
 use Rattle.graphql_documents.specs.declared.diagnostics.details.Details.TheVariants.{Diagnostic}
 use Rattle.graphql_documents.specs.declared.diagnostics.data.DiagnosticData.TheVariants.{UniqueArgument}
 use Rattle.graphql_documents.specs.declared.diagnostics.lists.DiagnosticEntry.{DiagnosticEntry}
-use Rattle.graphql_validation.specs.FieldWalk.{ReportsDefinedField, ReachedByFields, stands, below, ReachedFieldsHold, FieldHoldsBelow, NamesBrokenSelection}
+use Rattle.graphql_validation.specs.FieldWalk.{GivenArgumentHolds, BareFieldBreaks, ReportsGivenArgument, BareFieldHolds, ReportsDefinedField, ReachedByFields, stands, below, ReachedFieldsHold, FieldHoldsBelow, NamesBrokenSelection}
 
 -- a selection holds, with what is below it, if it is a field that does
 abbrev pub SelectionHolds : Schema → NameText → Selection → Type 0
@@ -116,6 +121,13 @@ module _ (schema : Schema) (parent : NameText) (set : SelectionSet) (f : Node Fi
     pub names_defined : (e : DiagnosticEntry) → ReportsDefinedField parent f d e → NamesBrokenSelection schema parent set e
     names_defined e r = names_field e (r (Some schema) (ap result_ok is))
 
+    pub names_given : (e : DiagnosticEntry) → ReportsGivenArgument schema parent f d e → NamesBrokenSelection schema parent set e
+    names_given e r = diagnostic_wider _ _ (λ said at broken. by_part said at broken) e (r (ap result_ok is)) where
+      by_part : (said : DiagnosticData) (at : Option SourceSpan) → BareFieldBreaks schema parent f said at →
+          SelectionReport (Some schema) no_fragments [] (Some parent) set said at
+      by_part said at (inl broken) = of_field_form f (standing_at in') broken
+      by_part said at (inr broken) = of_field_values f (standing_at in') broken
+
     pub names_checked : (e : DiagnosticEntry) →
         (definition_at (Some schema) (Some parent) f.value.value.name ≡ Some d → ReportsField (Some schema) (Some parent) f e) →
         NamesBrokenSelection schema parent set e
@@ -129,25 +141,25 @@ module _ (schema : Schema) (parent : NameText) (set : SelectionSet) (f : Node Fi
     -- the checks of its arguments, one after another
     pub arguments_in_set : (given : List (Node Argument)) (old distinct known new : List DiagnosticEntry) → given ≡ f.value.value.arguments.items →
         Reports (HasDistinctNames given) (ReportsRepetition given) old distinct →
-        Reports (All (IsDefined d.node.value.value.arguments.items) f.value.value.arguments.items) (ReportsDefinedField parent f d) distinct known →
+        Reports (All (GivenArgumentHolds schema d.node.value.value.arguments.items) f.value.value.arguments.items) (ReportsGivenArgument schema parent f d) distinct known →
         Reports (All (IsGivenIfRequired f.value.value.arguments.items) d.node.value.value.arguments.items) (ReportsDefinedField parent f d) known new →
         Reports ((HasDistinctNames f.value.value.arguments.items ×
-        All (IsDefined d.node.value.value.arguments.items) f.value.value.arguments.items) ×
+        All (GivenArgumentHolds schema d.node.value.value.arguments.items) f.value.value.arguments.items) ×
         All (IsGivenIfRequired f.value.value.arguments.items) d.node.value.value.arguments.items)
         (NamesBrokenSelection schema parent set) old new
     arguments_in_set given old distinct known new same r s t =
-        both _ _ _ _ _ _ (both _ _ _ _ _ _ (distinct_in_set old distinct given same r) (wider _ _ _ _ _ names_defined s))
+        both _ _ _ _ _ _ (both _ _ _ _ _ _ (distinct_in_set old distinct given same r) (wider _ _ _ _ _ names_given s))
         (wider _ _ _ _ _ names_defined t)
 
     -- and then whether it selects what it must
     pub checked_in_set : (given : List (Node Argument)) (old distinct known required new : List DiagnosticEntry) → given ≡ f.value.value.arguments.items →
         Reports (HasDistinctNames given) (ReportsRepetition given) old distinct →
-        Reports (All (IsDefined d.node.value.value.arguments.items) f.value.value.arguments.items) (ReportsDefinedField parent f d) distinct known →
+        Reports (All (GivenArgumentHolds schema d.node.value.value.arguments.items) f.value.value.arguments.items) (ReportsGivenArgument schema parent f d) distinct known →
         Reports (All (IsGivenIfRequired f.value.value.arguments.items) d.node.value.value.arguments.items) (ReportsDefinedField parent f d) known required →
         Reports (HasNeededSelection (Some schema) f.value.value d.node.value.value)
         (λ e. definition_at (Some schema) (Some parent) f.value.value.name ≡ Some d → ReportsField (Some schema) (Some parent) f e) required new →
         Reports (((HasDistinctNames f.value.value.arguments.items ×
-        All (IsDefined d.node.value.value.arguments.items) f.value.value.arguments.items) ×
+        All (GivenArgumentHolds schema d.node.value.value.arguments.items) f.value.value.arguments.items) ×
         All (IsGivenIfRequired f.value.value.arguments.items) d.node.value.value.arguments.items) ×
         HasNeededSelection (Some schema) f.value.value d.node.value.value)
         (NamesBrokenSelection schema parent set) old new
@@ -171,17 +183,40 @@ pub holds_undefined : (schema : Schema) (parent : NameText) (f : Node Field) (e 
     HasDistinctNames f.value.value.arguments.items ↔ FieldHoldsBelow schema parent f
 holds_undefined schema parent f e is = (
   λ distinct. record {
-    itself = record { distinct = distinct; agrees = λ d found. absurd (none-some d (sym (ap result_ok is) ∙ found)) };
+    itself = record {
+      form = record { distinct = distinct; agrees = λ d found. absurd (none-some d (sym (ap result_ok is) ∙ found)) };
+      values = λ s d same found. absurd (none-some d (sym (ap result_ok is) ∙ found));
+    };
     below_it = λ d found. absurd (let h : ◌≡◌ {A = Result (Component FieldDefinition) FieldLookupError} (Err e) (Ok d) = sym is ∙ found in let no : ⊥ = cc in no);
   },
-  λ h. h.itself.distinct,
+  λ h. h.itself.form.distinct,
 )
+
+-- no variables are defined
+no_variable : (value : Value) (v : Node VariableDefinition) → ¬ IsVariable [] value v
+no_variable value v is = none-some v is.2
+
+-- the arguments are defined and their values accepted, all of them
+values_hold : (schema : Schema) (definitions : List (Node InputValueDefinition)) (given : List (Node Argument)) →
+    All (GivenArgumentHolds schema definitions) given → ArgumentValuesHold schema [] definitions given
+values_hold schema definitions given all =
+    All-weaker (GivenArgumentHolds schema definitions) _
+    (λ a h d found. record { usage = λ v is. absurd (no_variable _ v is); accepted = h.accepted d found }) given all
+
+given_hold : (schema : Schema) (definitions : List (Node InputValueDefinition)) (given : List (Node Argument)) →
+    All (IsDefined definitions) given → ArgumentValuesHold schema [] definitions given → All (GivenArgumentHolds schema definitions) given
+given_hold schema definitions given defined values =
+    All-weaker (Contains given) (GivenArgumentHolds schema definitions)
+    (λ a in'. record {
+      defined = All-contains (IsDefined definitions) given a defined in';
+      accepted = λ d found. (All-contains _ given a values in' d found).accepted;
+    }) given (All-contains_itself given)
 
 -- what a field with a definition must do
 abbrev pub DefinedFieldHolds : Schema → Node Field → Component FieldDefinition → Type 0
 DefinedFieldHolds schema f d =
     (((HasDistinctNames f.value.value.arguments.items ×
-    All (IsDefined d.node.value.value.arguments.items) f.value.value.arguments.items) ×
+    All (GivenArgumentHolds schema d.node.value.value.arguments.items) f.value.value.arguments.items) ×
     All (IsGivenIfRequired f.value.value.arguments.items) d.node.value.value.arguments.items) ×
     HasNeededSelection (Some schema) f.value.value d.node.value.value) ×
     ReachedFieldsHold schema (inner_named_type d.node.value.value.ty) f.value.value.selection_set
@@ -193,11 +228,19 @@ holds_defined schema parent f d is = (there, back) where
   there : DefinedFieldHolds schema f d → FieldHoldsBelow schema parent f
   there p = record {
     itself = record {
-      distinct = p.0.0.0.0;
-      agrees = λ d' found.
+      form = record {
+        distinct = p.0.0.0.0;
+        agrees = λ d' found.
+            let same : d ≡ d' = same_Some d d' (sym (ap result_ok is) ∙ found) in
+            let defined = All-weaker _ (IsDefined d.node.value.value.arguments.items) (λ a h. h.defined) f.value.value.arguments.items p.0.0.0.1 in
+            subst (λ x. AgreesWithDefinition (Some schema) f.value.value x.node.value.value) same
+            (record { arguments = record { defined = defined; required = p.0.0.1 }; selection = p.0.1 });
+      };
+      values = λ s d' same_schema found.
           let same : d ≡ d' = same_Some d d' (sym (ap result_ok is) ∙ found) in
-          subst (λ x. AgreesWithDefinition (Some schema) f.value.value x.node.value.value) same
-          (record { arguments = record { defined = p.0.0.0.1; required = p.0.0.1 }; selection = p.0.1 });
+          subst (λ x. ArgumentValuesHold x [] d'.node.value.value.arguments.items f.value.value.arguments.items) (same_Some schema s same_schema)
+          (subst (λ x. ArgumentValuesHold schema [] x.node.value.value.arguments.items f.value.value.arguments.items) same
+          (values_hold schema d.node.value.value.arguments.items f.value.value.arguments.items p.0.0.0.1));
     };
     below_it = λ d' found.
         let same : d ≡ d' = same_Some d d' (sym (ap result_ok is) ∙ ap result_ok found) in
@@ -206,5 +249,7 @@ holds_defined schema parent f d is = (there, back) where
 
   back : FieldHoldsBelow schema parent f → DefinedFieldHolds schema f d
   back h =
-      let agrees = h.itself.agrees d (ap result_ok is) in
-      ((((h.itself.distinct, agrees.arguments.defined), agrees.arguments.required), agrees.selection), h.below_it d is)
+      let agrees = h.itself.form.agrees d (ap result_ok is) in
+      let given = given_hold schema d.node.value.value.arguments.items f.value.value.arguments.items agrees.arguments.defined
+          (h.itself.values schema d refl (ap result_ok is)) in
+      ((((h.itself.form.distinct, given), agrees.arguments.required), agrees.selection), h.below_it d is)

@@ -1,14 +1,20 @@
 -- The steps of the walk over fields, for the contracts of its private functions.
-use Rattle.std.specs.Prelude.{◌≡◌, true, Option, Some, [], Contains, Ok}
+use Rattle.std.specs.Prelude.{◌≡◌, ◌⊎◌, true, List, Option, Some, [], Contains, Ok}
 use Rattle.graphql_documents.specs.Names.{NameText}
 use Rattle.graphql_documents.specs.TypeReferences.{inner_named_type}
 use Rattle.graphql_documents.specs.Schemas.{type_field, is_composite}
 use Rattle.graphql_documents.specs.Selections.{selections_of, definition_at, no_fragments}
-use Rattle.graphql_documents.specs.Fields.{FieldFormHolds, HasDefinition}
-use Rattle.graphql_documents.specs.FieldReports.{ReportsField}
+use Rattle.graphql_documents.specs.Arguments.{definition_named, IsDefined}
+use Rattle.graphql_documents.specs.InputCoercion.{Accepts}
+use Rattle.graphql_documents.specs.Fields.{FieldFormHolds, FieldValuesHold, HasDefinition}
+use Rattle.graphql_documents.specs.FieldReports.{FieldBreaks, ReportsField}
 use Rattle.graphql_documents.specs.Diagnostics.{IsDiagnostic}
-use Rattle.graphql_documents.specs.SelectionReports.{SelectionReport}
+use Rattle.graphql_documents.specs.SelectionReports.{FieldValuesBreak, SelectionReport}
+use Rattle.graphql_documents.specs.declared.documents.spans.SourceSpan.{SourceSpan}
 use Rattle.graphql_documents.specs.declared.documents.nodes.Node.{Node}
+use Rattle.graphql_documents.specs.declared.documents.directives.Argument.{Argument}
+use Rattle.graphql_documents.specs.declared.documents.definitions.InputValueDefinition.{InputValueDefinition}
+use Rattle.graphql_documents.specs.declared.diagnostics.data.DiagnosticData.{DiagnosticData}
 use Rattle.graphql_documents.specs.declared.documents.components.Component.{Component}
 use Rattle.graphql_documents.specs.declared.documents.definitions.FieldDefinition.{FieldDefinition}
 use Rattle.graphql_documents.specs.declared.documents.schemas.Schema.{Schema}
@@ -30,6 +36,28 @@ ReportsDefinedField parent f d entry =
     (schema : Option Schema) → definition_at schema (Some parent) f.value.value.name ≡ Some d →
     ReportsField schema (Some parent) f entry
 
+-- an argument of a field is defined, and its value is accepted without variables
+pub record GivenArgumentHolds (schema : Schema) (definitions : List (Node InputValueDefinition)) (a : Node Argument) : Type 0 where
+  pub defined : IsDefined definitions a
+  pub accepted : (d : Node InputValueDefinition) → definition_named a.value.value.name definitions ≡ Some d →
+      Accepts schema [] d.value.value.ty.value.value a.value.value.value.value.value
+
+-- the report names a rule that the field breaks on this type: by its form, or by the values of its arguments
+abbrev pub BareFieldBreaks : Schema → NameText → Node Field → DiagnosticData → Option SourceSpan → Type 0
+BareFieldBreaks schema parent f r at =
+    FieldBreaks (Some schema) (Some parent) f r at ⊎ FieldValuesBreak (Some schema) [] (Some parent) f r at
+
+-- the same of a whole report, in a schema where the field has this definition
+abbrev pub ReportsGivenArgument : Schema → NameText → Node Field → Component FieldDefinition → DiagnosticEntry → Type 0
+ReportsGivenArgument schema parent f d entry =
+    definition_at (Some schema) (Some parent) f.value.value.name ≡ Some d →
+    IsDiagnostic (BareFieldBreaks schema parent f) entry
+
+-- the field holds on this type, but for its directives: its form, and the values of its arguments
+pub record BareFieldHolds (schema : Schema) (parent : NameText) (f : Field) : Type 0 where
+  pub form : FieldFormHolds (Some schema) (Some parent) f
+  pub values : FieldValuesHold (Some schema) [] (Some parent) f
+
 -- the field is reached from the set through sets of fields alone, and stands on a type of this name
 pub data ReachedByFields (schema : Schema) : NameText → SelectionSet → Node Field → NameText → Type 0 where
   stands : {parent : NameText} {set : SelectionSet} {f : Node Field} →
@@ -42,11 +70,11 @@ pub data ReachedByFields (schema : Schema) : NameText → SelectionSet → Node 
 -- each field that is so reached holds
 abbrev pub ReachedFieldsHold : Schema → NameText → SelectionSet → Type 0
 ReachedFieldsHold schema parent set =
-    (f : Node Field) (at : NameText) → ReachedByFields schema parent set f at → FieldFormHolds (Some schema) (Some at) f.value.value
+    (f : Node Field) (at : NameText) → ReachedByFields schema parent set f at → BareFieldHolds schema at f.value.value
 
 -- the field holds, and so does each field reached from its set
 pub record FieldHoldsBelow (schema : Schema) (parent : NameText) (f : Node Field) : Type 0 where
-  pub itself : FieldFormHolds (Some schema) (Some parent) f.value.value
+  pub itself : BareFieldHolds schema parent f.value.value
   pub below_it : (d : Component FieldDefinition) → type_field schema parent f.value.value.name ≡ Ok d →
       ReachedFieldsHold schema (inner_named_type d.node.value.value.ty) f.value.value.selection_set
 

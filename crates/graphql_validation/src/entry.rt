@@ -6,7 +6,7 @@ mod fields;
 ghost use Rattle.std.specs.Prelude.{OnOk};
 ghost use Rattle.graphql_documents.specs.Diagnostics.{entries};
 ghost use Rattle.graphql_documents.specs.Reports.{Reports, KeepsReports};
-ghost use Rattle.graphql_documents.specs.FieldSets.{IsPlain, FieldSetFormHolds, NamesBrokenFieldSetRule};
+ghost use Rattle.graphql_documents.specs.FieldSets.{IsPlain, FieldSetHolds, NamesBrokenFieldSetRule};
 
 use fields::validate_selection_set;
 use graphql_documents::diagnostics::{DiagnosticList, ValidationError};
@@ -27,7 +27,7 @@ pub fn validate_field_set(
     field_set: &FieldSet,
 ) -> Result<(), ValidationError>
     ensures exact { IsPlain field_set.now.selection_set →
-        OnOk result (Reports (FieldSetFormHolds schema.now.0 field_set.now.selection_set)
+        OnOk result (Reports (FieldSetHolds schema.now.0 field_set.now.selection_set)
         (NamesBrokenFieldSetRule schema.now.0 field_set.now.selection_set)
         (entries diagnostics.old) (entries diagnostics.new)) }
 

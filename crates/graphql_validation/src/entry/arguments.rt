@@ -7,13 +7,15 @@ ghost use Rattle.graphql_documents.specs.declared.documents.nodes.Node.{Node};
 ghost use Rattle.graphql_documents.specs.declared.documents.components.Component.{Component};
 ghost use Rattle.graphql_documents.specs.declared.documents.directives.Argument.{Argument};
 ghost use Rattle.graphql_documents.specs.declared.documents.definitions.FieldDefinition.{FieldDefinition};
-ghost use Rattle.graphql_validation.specs.FieldWalk.{ReportsDefinedField};
+ghost use Rattle.graphql_documents.specs.declared.documents.schemas.Schema.{Schema};
+ghost use Rattle.graphql_validation.specs.FieldWalk.{GivenArgumentHolds, ReportsGivenArgument, ReportsDefinedField};
 
 use graphql_documents::diagnostics::{Details, DiagnosticData, DiagnosticList, ValidationError};
 use graphql_documents::documents::{
     Argument, Component, Field, FieldArgumentCoordinate, FieldDefinition, InputValueDefinition,
-    Name, NamedType, Node, SchemaCoordinate, SourceSpan, TypeAttributeCoordinate, Value,
+    Name, NamedType, Node, Schema, SchemaCoordinate, SourceSpan, TypeAttributeCoordinate, Value,
 };
+use graphql_values::value::value_of_correct_type;
 use std::collections::HashMap;
 
 /// Reports each argument that repeats the name of an earlier one, in order.
@@ -59,13 +61,6 @@ fn report_repetition(
     )
 }
 
-/// Whether a definition has the name of the argument.
-fn is_defined(definitions: &[Node<InputValueDefinition>], argument: &Node<Argument>) -> bool
-    ensures { IsTrue result ↔ IsDefined definitions.now argument.now }
-{
-    definition_named(definitions, &argument.value.name).is_some()
-}
-
 /// The first definition with this name.
 fn definition_named<'a>(
     definitions: &'a [Node<InputValueDefinition>],
@@ -104,25 +99,28 @@ fn argument_coordinate(
     })
 }
 
-/// Reports each argument that the definition of the field lacks, in order.
-pub(crate) fn validate_known_arguments(
+/// Reports each argument that the definition of the field lacks, and what the values of the others
+/// break, in order.
+pub(crate) fn validate_given_arguments(
     diagnostics: &mut DiagnosticList,
+    schema: &Schema,
     parent: &NamedType,
     field: &Node<Field>,
     definition: &Component<FieldDefinition>,
 ) -> Result<(), ValidationError>
     ensures { Checks result
-        (All (IsDefined definition.now.node.value.value.arguments.items) field.now.value.value.arguments.items)
-        (ReportsDefinedField parent.now field.now definition.now) diagnostics.old diagnostics.new }
+        (All (GivenArgumentHolds schema.now definition.now.node.value.value.arguments.items) field.now.value.value.arguments.items)
+        (ReportsGivenArgument schema.now parent.now field.now definition.now) diagnostics.old diagnostics.new }
 {
     for argument in &field.value.arguments {
-        validate_known_argument(diagnostics, parent, field, definition, argument)?;
+        validate_given_argument(diagnostics, schema, parent, field, definition, argument)?;
     }
     Ok(())
 }
 
-fn validate_known_argument(
+fn validate_given_argument(
     diagnostics: &mut DiagnosticList,
+    schema: &Schema,
     parent: &NamedType,
     field: &Node<Field>,
     definition: &Component<FieldDefinition>,
@@ -130,12 +128,33 @@ fn validate_known_argument(
 ) -> Result<(), ValidationError>
     requires { Contains field.now.value.value.arguments.items argument.now }
     ensures { Checks result
-        (IsDefined definition.now.node.value.value.arguments.items argument.now)
-        (ReportsDefinedField parent.now field.now definition.now) diagnostics.old diagnostics.new }
+        (GivenArgumentHolds schema.now definition.now.node.value.value.arguments.items argument.now)
+        (ReportsGivenArgument schema.now parent.now field.now definition.now) diagnostics.old diagnostics.new }
 {
-    if is_defined(&definition.node.value.arguments, argument) {
-        return Ok(());
-    }
+    let Some(input) = definition_named(&definition.node.value.arguments, &argument.value.name) else {
+        return report_undefined_argument(diagnostics, parent, field, definition, argument);
+    };
+    value_of_correct_type(
+        diagnostics,
+        schema,
+        &input.value.ty,
+        &argument.value.value,
+        &[],
+    )
+}
+
+fn report_undefined_argument(
+    diagnostics: &mut DiagnosticList,
+    parent: &NamedType,
+    field: &Node<Field>,
+    definition: &Component<FieldDefinition>,
+    argument: &Node<Argument>,
+) -> Result<(), ValidationError>
+    requires given { Contains field.now.value.value.arguments.items argument.now }
+    requires undefined { ¬ IsDefined definition.now.node.value.value.arguments.items argument.now }
+    ensures { (schema : Schema) → Checks result ⊥
+        (ReportsGivenArgument schema parent.now field.now definition.now) diagnostics.old diagnostics.new }
+{
     let coordinate = field_coordinate(parent, &field.value)?;
     let name = argument.value.name.clone()?;
     diagnostics.push(

@@ -7,7 +7,7 @@ ghost use Rattle.graphql_documents.specs.declared.documents.executables.Selectio
 ghost use Rattle.graphql_validation.specs.FieldWalk.{ReachedFieldsHold, FieldHoldsBelow, IsUnselected, NamesBrokenSelection};
 
 use super::arguments::{
-    field_coordinate, validate_arguments, validate_known_arguments, validate_required_arguments,
+    field_coordinate, validate_arguments, validate_given_arguments, validate_required_arguments,
 };
 use graphql_documents::diagnostics::{Details, DiagnosticData, DiagnosticList, ValidationError};
 use graphql_documents::documents::{
@@ -51,7 +51,7 @@ fn validate_field(
     let Ok(definition) = schema.type_field(against_type, &field.value.name) else {
         return Ok(());
     };
-    validate_known_arguments(diagnostics, against_type, field, definition)?;
+    validate_given_arguments(diagnostics, schema, against_type, field, definition)?;
     validate_required_arguments(diagnostics, against_type, field, definition)?;
     if validate_leaf_field_selection(diagnostics, schema, against_type, field, definition)? {
         let field_type = definition.node.value.ty.inner_named_type();

@@ -1,0 +1,10 @@
+use Rattle.std.proofs.Common.{All, take}
+use Rattle.graphql_documents.specs.Diagnostics.{entries}
+use Rattle.graphql_documents.specs.Reports.{Reports}
+use Rattle.graphql_validation.specs.FieldWalk.{GivenArgumentHolds, ReportsGivenArgument}
+use Rattle.graphql_validation.proofs.entry.arguments.validate_given_arguments.Given as goal
+
+abbrev pub invariant-loop-argument : goal.invariant-loop-argument
+invariant-loop-argument l =
+    Reports (All (GivenArgumentHolds l.schema l.definition.node.value.value.arguments.items) (take l.argument-index l.argument-items))
+    (ReportsGivenArgument l.schema l.parent l.field l.definition) (entries l.initial.diagnostics) (entries l.diagnostics)
