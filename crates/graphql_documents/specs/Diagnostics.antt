@@ -4,6 +4,7 @@ use Rattle.std.specs.Vec.{vec_allocator}
 use Rattle.std.specs.declared.alloc.Global.{Global}
 use Rattle.graphql_documents.specs.declared.documents.spans.SourceSpan.{SourceSpan}
 use Rattle.graphql_documents.specs.declared.diagnostics.data.DiagnosticData.{DiagnosticData}
+use Rattle.graphql_documents.specs.declared.diagnostics.details.Details.{Details}
 use Rattle.graphql_documents.specs.declared.diagnostics.details.Details.TheVariants.{Diagnostic}
 use Rattle.graphql_documents.specs.declared.diagnostics.lists.DiagnosticEntry.{DiagnosticEntry}
 use Rattle.graphql_documents.specs.declared.diagnostics.lists.DiagnosticList.{DiagnosticList}
@@ -16,6 +17,11 @@ entries list = list.entries.items
 abbrev pub allocator_of : DiagnosticList → Global
 allocator_of list = vec_allocator list.entries
 
--- the entry is a broken rule, and this holds of it and its place
+-- what is reported is a broken rule, and this holds of it and its place
+abbrev pub Says : (DiagnosticData → Option SourceSpan → Type 0) → Details → Option SourceSpan → Type 0
+Says P (Diagnostic broken) at = P broken at
+Says P _ at = ⊥
+
+-- the same of an entry
 abbrev pub IsDiagnostic : (DiagnosticData → Option SourceSpan → Type 0) → DiagnosticEntry → Type 0
-IsDiagnostic P entry = elim entry.details [ Diagnostic broken ↦ P broken entry.location | _ ↦ ⊥ ]
+IsDiagnostic P entry = Says P entry.details entry.location

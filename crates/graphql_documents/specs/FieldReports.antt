@@ -5,7 +5,7 @@ use Rattle.graphql_documents.specs.Diagnostics.{IsDiagnostic}
 use Rattle.graphql_documents.specs.Fields.{HasDefinition}
 use Rattle.graphql_documents.specs.Names.{NameText}
 use Rattle.graphql_documents.specs.Schemas.{is_composite, kind_text}
-use Rattle.graphql_documents.specs.Selections.{Fragments, Placed, definition_at, selections_of}
+use Rattle.graphql_documents.specs.Selections.{definition_at, selections_of}
 use Rattle.graphql_documents.specs.TypeReferences.{inner_named_type}
 use Rattle.graphql_documents.specs.declared.diagnostics.data.DiagnosticData.TheVariants as report
 use Rattle.graphql_documents.specs.declared.diagnostics.data.DiagnosticData.{DiagnosticData}
@@ -15,8 +15,6 @@ use Rattle.graphql_documents.specs.declared.documents.coordinates.SchemaCoordina
 use Rattle.graphql_documents.specs.declared.documents.coordinates.TypeAttributeCoordinate.{TypeAttributeCoordinate}
 use Rattle.graphql_documents.specs.declared.documents.definitions.FieldDefinition.{FieldDefinition}
 use Rattle.graphql_documents.specs.declared.documents.executables.Field.{Field}
-use Rattle.graphql_documents.specs.declared.documents.executables.Selection.TheVariants as kind
-use Rattle.graphql_documents.specs.declared.documents.executables.SelectionSet.{SelectionSet}
 use Rattle.graphql_documents.specs.declared.documents.nodes.Node.{Node}
 use Rattle.graphql_documents.specs.declared.documents.schemas.ExtendedType.{ExtendedType}
 use Rattle.graphql_documents.specs.declared.documents.schemas.Schema.{Schema}
@@ -59,10 +57,3 @@ FieldBreaks schema place f _ at = ⊥
 -- the same of a whole report
 abbrev pub ReportsField : Option Schema → Option NameText → Node Field → DiagnosticEntry → Type 0
 ReportsField schema place f entry = IsDiagnostic (FieldBreaks schema place f) entry
-
--- the report names a rule that is broken at a selection reached from the set
-pub record NamesBrokenRule (schema : Option Schema) (fragments : Fragments) (place : Option NameText) (set : SelectionSet) (entry : DiagnosticEntry) : Type 0 where
-  pub field : Node Field
-  pub at : Option NameText
-  pub placed : Placed schema fragments place set (kind.Field field) at
-  pub broken : ReportsField schema at field entry

@@ -2,7 +2,8 @@
 use Rattle.std.specs.Prelude.{◌≡◌, Some, []}
 use Rattle.graphql_documents.specs.Selections.{Written, no_fragments}
 use Rattle.graphql_documents.specs.Fields.{PlacedFormsHold, PlacedSelectionsHold}
-use Rattle.graphql_documents.specs.FieldReports.{NamesBrokenRule}
+use Rattle.graphql_documents.specs.Diagnostics.{IsDiagnostic}
+use Rattle.graphql_documents.specs.SelectionReports.{SelectionReport}
 use Rattle.graphql_documents.specs.declared.documents.nodes.Node.{Node}
 use Rattle.graphql_documents.specs.declared.documents.schemas.Schema.{Schema}
 use Rattle.graphql_documents.specs.declared.documents.executables.SelectionSet.{SelectionSet}
@@ -31,4 +32,4 @@ FieldSetHolds schema set = PlacedSelectionsHold (Some schema) no_fragments [] (S
 
 -- the report names a rule that is broken at a selection that is reached, from the set's own type
 abbrev pub NamesBrokenFieldSetRule : Schema → SelectionSet → DiagnosticEntry → Type 0
-NamesBrokenFieldSetRule schema set = NamesBrokenRule (Some schema) no_fragments (Some set.ty) set
+NamesBrokenFieldSetRule schema set = IsDiagnostic (SelectionReport (Some schema) no_fragments [] (Some set.ty) set)

@@ -2,16 +2,19 @@
 use Rattle.std.proofs.Common.{◌≡◌, ◌↔◌, List, [], Option, Some, None, Ok, Err, refl, sym, ap, ◌∙◌, subst, All, Contains}
 use Rattle.std.specs.Result.{result_ok}
 use Rattle.std.proofs.lemmas.Option.{same_Some, none-some}
-use Rattle.std.specs.Prelude.{Result}
+use Rattle.std.specs.Prelude.{Result, Option}
 use Rattle.std.proofs.lemmas.List.Elements.{All-nil, All-weaker, All-contains, All-contains_itself}
 use Rattle.graphql_documents.specs.Names.{NameText}
 use Rattle.graphql_documents.specs.TypeReferences.{inner_named_type}
 use Rattle.graphql_documents.specs.Schemas.{type_field}
-use Rattle.graphql_documents.specs.Selections.{selections_of, definition_at, no_fragments, standing_at, placed_in_field, below_known}
+use Rattle.graphql_documents.specs.Selections.{selections_of, definition_at, no_fragments, TypeBelow, standing_at, placed_in_field, below_known}
 use Rattle.graphql_documents.specs.Arguments.{HasDistinctNames, ArgumentNamesHold, IsDefined, IsGivenIfRequired}
 use Rattle.graphql_documents.specs.Fields.{FieldFormHolds, AgreesWithDefinition, HasNeededSelection}
 use Rattle.graphql_documents.specs.ArgumentReports.{ReportsRepetition, RepeatsArgument}
-use Rattle.graphql_documents.specs.FieldReports.{FieldBreaks, ReportsField, NamesBrokenRule}
+use Rattle.graphql_documents.specs.FieldReports.{FieldBreaks, ReportsField}
+use Rattle.graphql_documents.specs.SelectionReports.{SelectionReport, of_field_directives, of_field_form, of_field_values, of_inline_fragment_directives, of_inline_fragment, of_spread_directives, of_spread, of_fragment_directives, of_fragment}
+use Rattle.graphql_documents.specs.Diagnostics.{Says}
+use Rattle.graphql_documents.proofs.DiagnosticLemmas.{diagnostic_wider}
 use Rattle.graphql_documents.specs.Reports.{Reports}
 use Rattle.graphql_documents.proofs.ReportLemmas.{wider, both}
 use Rattle.graphql_documents.specs.declared.documents.nodes.Node.{Node}
@@ -26,11 +29,13 @@ use Rattle.graphql_documents.specs.declared.documents.executables.Selection.TheO
 use Rattle.graphql_documents.specs.declared.documents.executables.Selection.TheVariants.{outs-Field}
 use Rattle.graphql_documents.specs.declared.documents.executables.Field.{Field}
 use Rattle.graphql_documents.specs.declared.documents.executables.Selection.TheVariants as kind
+use Rattle.graphql_documents.specs.declared.documents.spans.SourceSpan.{SourceSpan}
+use Rattle.graphql_documents.specs.declared.diagnostics.data.DiagnosticData.{DiagnosticData}
 use Rattle.graphql_documents.specs.declared.diagnostics.details.Details.{Details}
 use Rattle.graphql_documents.specs.declared.diagnostics.details.Details.TheVariants.{Diagnostic}
 use Rattle.graphql_documents.specs.declared.diagnostics.data.DiagnosticData.TheVariants.{UniqueArgument}
 use Rattle.graphql_documents.specs.declared.diagnostics.lists.DiagnosticEntry.{DiagnosticEntry}
-use Rattle.graphql_validation.specs.FieldWalk.{ReportsDefinedField, ReachedByFields, stands, below, ReachedFieldsHold, FieldHoldsBelow}
+use Rattle.graphql_validation.specs.FieldWalk.{ReportsDefinedField, ReachedByFields, stands, below, ReachedFieldsHold, FieldHoldsBelow, NamesBrokenSelection}
 
 -- a selection holds, with what is below it, if it is a field that does
 abbrev pub SelectionHolds : Schema → NameText → Selection → Type 0
@@ -70,47 +75,56 @@ pub none_reached : (schema : Schema) (parent : NameText) (set : SelectionSet) �
 none_reached schema parent set e =
     reached_hold schema parent set (subst (All (SelectionHolds schema parent)) (sym e) (All-nil (SelectionHolds schema parent)))
 
+-- a report on what is reached from the set of a field is one on what is reached from its own set
+below_set : {schema : Option Schema} {place below : Option NameText} {set : SelectionSet} {f : Node Field} {r : DiagnosticData} {at : Option SourceSpan} →
+    Contains (selections_of set) (kind.Field f) → TypeBelow schema place f.value.value.name below →
+    SelectionReport schema no_fragments [] below f.value.value.selection_set r at →
+    SelectionReport schema no_fragments [] place set r at
+below_set in' is (of_field_directives g p b) = of_field_directives g (placed_in_field in' is p) b
+below_set in' is (of_field_form g p b) = of_field_form g (placed_in_field in' is p) b
+below_set in' is (of_field_values g p b) = of_field_values g (placed_in_field in' is p) b
+below_set in' is (of_inline_fragment_directives i p b) = of_inline_fragment_directives i (placed_in_field in' is p) b
+below_set in' is (of_inline_fragment i p b) = of_inline_fragment i (placed_in_field in' is p) b
+below_set in' is (of_spread_directives s p b) = of_spread_directives s (placed_in_field in' is p) b
+below_set in' is (of_spread s p b) = of_spread s (placed_in_field in' is p) b
+below_set in' is (of_fragment_directives s p found b) = of_fragment_directives s (placed_in_field in' is p) found b
+below_set in' is (of_fragment s p found b) = of_fragment s (placed_in_field in' is p) found b
+
 module _ (schema : Schema) (parent : NameText) (set : SelectionSet) (f : Node Field) (in' : Contains (selections_of set) (kind.Field f)) where
   -- a report on a field of the set
-  pub names_field : (e : DiagnosticEntry) → ReportsField (Some schema) (Some parent) f e → NamesBrokenRule (Some schema) no_fragments (Some parent) set e
-  names_field e r = record { field = f; at = Some parent; placed = standing_at in'; broken = r }
+  pub names_field : (e : DiagnosticEntry) → ReportsField (Some schema) (Some parent) f e → NamesBrokenSelection schema parent set e
+  names_field e r = diagnostic_wider _ _ (λ said at broken. of_field_form f (standing_at in') broken) e r
 
   -- a report on a repeated argument of it
   pub names_repetition : (given : List (Node Argument)) → given ≡ f.value.value.arguments.items →
-      (e : DiagnosticEntry) → ReportsRepetition given e → NamesBrokenRule (Some schema) no_fragments (Some parent) set e
+      (e : DiagnosticEntry) → ReportsRepetition given e → NamesBrokenSelection schema parent set e
   names_repetition given same e r =
       let broken = subst (λ l. RepeatsArgument l r.0 r.1 r.2 e.location) same r.4 in
-      let Breaks : Details → Type 0 =
-      λ details. elim details [ Diagnostic report ↦ FieldBreaks (Some schema) (Some parent) f report e.location | _ ↦ ⊥ ] in
+      let Breaks : Details → Type 0 = λ said. Says (FieldBreaks (Some schema) (Some parent) f) said e.location in
       names_field e (subst Breaks (sym r.3) broken)
 
   module _ (old new : List DiagnosticEntry) where
     pub distinct_in_set : (given : List (Node Argument)) → given ≡ f.value.value.arguments.items →
         Reports (HasDistinctNames given) (ReportsRepetition given) old new →
-        Reports (HasDistinctNames f.value.value.arguments.items) (NamesBrokenRule (Some schema) no_fragments (Some parent) set) old new
+        Reports (HasDistinctNames f.value.value.arguments.items) (NamesBrokenSelection schema parent set) old new
     distinct_in_set given same r =
-        subst (λ l. Reports (HasDistinctNames l) (NamesBrokenRule (Some schema) no_fragments (Some parent) set) old new) same
+        subst (λ l. Reports (HasDistinctNames l) (NamesBrokenSelection schema parent set) old new) same
         (wider _ _ _ old new (names_repetition given same) r)
 
   -- a report on what its definition asks, or on what is below it
   module _ (d : Component FieldDefinition) (is : type_field schema parent f.value.value.name ≡ Ok d) where
-    pub names_defined : (e : DiagnosticEntry) → ReportsDefinedField parent f d e → NamesBrokenRule (Some schema) no_fragments (Some parent) set e
+    pub names_defined : (e : DiagnosticEntry) → ReportsDefinedField parent f d e → NamesBrokenSelection schema parent set e
     names_defined e r = names_field e (r (Some schema) (ap result_ok is))
 
     pub names_checked : (e : DiagnosticEntry) →
         (definition_at (Some schema) (Some parent) f.value.value.name ≡ Some d → ReportsField (Some schema) (Some parent) f e) →
-        NamesBrokenRule (Some schema) no_fragments (Some parent) set e
+        NamesBrokenSelection schema parent set e
     names_checked e r = names_field e (r (ap result_ok is))
 
     pub names_below : (e : DiagnosticEntry) →
-        NamesBrokenRule (Some schema) no_fragments (Some (inner_named_type d.node.value.value.ty)) f.value.value.selection_set e →
-        NamesBrokenRule (Some schema) no_fragments (Some parent) set e
-    names_below e r = record {
-      field = r.field;
-      at = r.at;
-      placed = placed_in_field in' (below_known (ap result_ok is)) r.placed;
-      broken = r.broken;
-    }
+        NamesBrokenSelection schema (inner_named_type d.node.value.value.ty) f.value.value.selection_set e →
+        NamesBrokenSelection schema parent set e
+    names_below e r = diagnostic_wider _ _ (λ said at broken. below_set in' (below_known (ap result_ok is)) broken) e r
 
     -- the checks of its arguments, one after another
     pub arguments_in_set : (given : List (Node Argument)) (old distinct known new : List DiagnosticEntry) → given ≡ f.value.value.arguments.items →
@@ -120,7 +134,7 @@ module _ (schema : Schema) (parent : NameText) (set : SelectionSet) (f : Node Fi
         Reports ((HasDistinctNames f.value.value.arguments.items ×
         All (IsDefined d.node.value.value.arguments.items) f.value.value.arguments.items) ×
         All (IsGivenIfRequired f.value.value.arguments.items) d.node.value.value.arguments.items)
-        (NamesBrokenRule (Some schema) no_fragments (Some parent) set) old new
+        (NamesBrokenSelection schema parent set) old new
     arguments_in_set given old distinct known new same r s t =
         both _ _ _ _ _ _ (both _ _ _ _ _ _ (distinct_in_set old distinct given same r) (wider _ _ _ _ _ names_defined s))
         (wider _ _ _ _ _ names_defined t)
@@ -136,20 +150,20 @@ module _ (schema : Schema) (parent : NameText) (set : SelectionSet) (f : Node Fi
         All (IsDefined d.node.value.value.arguments.items) f.value.value.arguments.items) ×
         All (IsGivenIfRequired f.value.value.arguments.items) d.node.value.value.arguments.items) ×
         HasNeededSelection (Some schema) f.value.value d.node.value.value)
-        (NamesBrokenRule (Some schema) no_fragments (Some parent) set) old new
+        (NamesBrokenSelection schema parent set) old new
     checked_in_set given old distinct known required new same r s t u =
         both _ _ _ _ _ _ (arguments_in_set given old distinct known required same r s t) (wider _ _ _ _ _ names_checked u)
 
     pub below_in_set : (ty : NameText) (inner : SelectionSet) (old new : List DiagnosticEntry) →
         ty ≡ inner_named_type d.node.value.value.ty → inner ≡ f.value.value.selection_set →
-        Reports (ReachedFieldsHold schema ty inner) (NamesBrokenRule (Some schema) no_fragments (Some ty) inner) old new →
+        Reports (ReachedFieldsHold schema ty inner) (NamesBrokenSelection schema ty inner) old new →
         Reports (ReachedFieldsHold schema (inner_named_type d.node.value.value.ty) f.value.value.selection_set)
-        (NamesBrokenRule (Some schema) no_fragments (Some parent) set) old new
+        (NamesBrokenSelection schema parent set) old new
     below_in_set ty inner old new same_type same_set r =
         wider _ _ _ old new names_below
         (subst (λ s. Reports (ReachedFieldsHold schema (inner_named_type d.node.value.value.ty) s)
-        (NamesBrokenRule (Some schema) no_fragments (Some (inner_named_type d.node.value.value.ty)) s) old new) same_set
-        (subst (λ t. Reports (ReachedFieldsHold schema t inner) (NamesBrokenRule (Some schema) no_fragments (Some t) inner) old new) same_type r))
+        (NamesBrokenSelection schema (inner_named_type d.node.value.value.ty) s) old new) same_set
+        (subst (λ t. Reports (ReachedFieldsHold schema t inner) (NamesBrokenSelection schema t inner) old new) same_type r))
 
 -- without a definition a field holds where its argument names are distinct
 pub holds_undefined : (schema : Schema) (parent : NameText) (f : Node Field) (e : FieldLookupError) →

@@ -5,7 +5,9 @@ use Rattle.graphql_documents.specs.TypeReferences.{inner_named_type}
 use Rattle.graphql_documents.specs.Schemas.{type_field, is_composite}
 use Rattle.graphql_documents.specs.Selections.{selections_of, definition_at, no_fragments}
 use Rattle.graphql_documents.specs.Fields.{FieldFormHolds, HasDefinition}
-use Rattle.graphql_documents.specs.FieldReports.{ReportsField, NamesBrokenRule}
+use Rattle.graphql_documents.specs.FieldReports.{ReportsField}
+use Rattle.graphql_documents.specs.Diagnostics.{IsDiagnostic}
+use Rattle.graphql_documents.specs.SelectionReports.{SelectionReport}
 use Rattle.graphql_documents.specs.declared.documents.nodes.Node.{Node}
 use Rattle.graphql_documents.specs.declared.documents.components.Component.{Component}
 use Rattle.graphql_documents.specs.declared.documents.definitions.FieldDefinition.{FieldDefinition}
@@ -47,3 +49,7 @@ pub record FieldHoldsBelow (schema : Schema) (parent : NameText) (f : Node Field
   pub itself : FieldFormHolds (Some schema) (Some parent) f.value.value
   pub below_it : (d : Component FieldDefinition) → type_field schema parent f.value.value.name ≡ Ok d →
       ReachedFieldsHold schema (inner_named_type d.node.value.value.ty) f.value.value.selection_set
+
+-- the report names a rule that is broken at a selection reached from the set, on this type
+abbrev pub NamesBrokenSelection : Schema → NameText → SelectionSet → DiagnosticEntry → Type 0
+NamesBrokenSelection schema parent set = IsDiagnostic (SelectionReport (Some schema) no_fragments [] (Some parent) set)

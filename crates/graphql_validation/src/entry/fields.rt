@@ -1,10 +1,10 @@
 ghost use Rattle.std.specs.Prelude.{◌≡◌, Some, false, [], Contains, IfOk, MatchOption};
-ghost use Rattle.graphql_documents.specs.Selections.{selections_of, definition_at, no_fragments};
+ghost use Rattle.graphql_documents.specs.Selections.{selections_of, definition_at};
 ghost use Rattle.graphql_documents.specs.Fields.{HasNeededSelection};
-ghost use Rattle.graphql_documents.specs.FieldReports.{ReportsField, NamesBrokenRule};
+ghost use Rattle.graphql_documents.specs.FieldReports.{ReportsField};
 ghost use Rattle.graphql_documents.specs.Reports.{Checks};
 ghost use Rattle.graphql_documents.specs.declared.documents.executables.SelectionSet.{SelectionSet};
-ghost use Rattle.graphql_validation.specs.FieldWalk.{ReachedFieldsHold, FieldHoldsBelow, IsUnselected};
+ghost use Rattle.graphql_validation.specs.FieldWalk.{ReachedFieldsHold, FieldHoldsBelow, IsUnselected, NamesBrokenSelection};
 
 use super::arguments::{
     field_coordinate, validate_arguments, validate_known_arguments, validate_required_arguments,
@@ -24,7 +24,7 @@ pub(crate) fn validate_selection_set(
     selection_set: &SelectionSet,
 ) -> Result<(), ValidationError>
     ensures { Checks result (ReachedFieldsHold schema.now against_type.now selection_set.now)
-        (NamesBrokenRule (Some schema.now) no_fragments (Some against_type.now) selection_set.now)
+        (NamesBrokenSelection schema.now against_type.now selection_set.now)
         diagnostics.old diagnostics.new }
 {
     for selection in &selection_set.selections {
@@ -44,7 +44,7 @@ fn validate_field(
 ) -> Result<(), ValidationError>
     ensures { (set : SelectionSet) → Contains (selections_of set) (Selection.Field field.now) →
         Checks result (FieldHoldsBelow schema.now against_type.now field.now)
-        (NamesBrokenRule (Some schema.now) no_fragments (Some against_type.now) set)
+        (NamesBrokenSelection schema.now against_type.now set)
         diagnostics.old diagnostics.new }
 {
     validate_arguments(diagnostics, &field.value.arguments)?;

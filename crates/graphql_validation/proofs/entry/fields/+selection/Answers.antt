@@ -2,8 +2,8 @@
 use Rattle.std.proofs.Common.{◌≡◌, List, Some, Ok, Contains, refl, sym, ap, ◌∙◌, subst, rules}
 use Rattle.graphql_documents.specs.TypeReferences.{inner_named_type}
 use Rattle.graphql_documents.specs.Schemas.{type_field}
-use Rattle.graphql_documents.specs.Selections.{selections_of, no_fragments}
-use Rattle.graphql_documents.specs.FieldReports.{NamesBrokenRule}
+use Rattle.graphql_documents.specs.Selections.{selections_of}
+use Rattle.graphql_validation.specs.FieldWalk.{NamesBrokenSelection}
 use Rattle.graphql_documents.specs.Diagnostics.{entries}
 use Rattle.graphql_documents.specs.Reports.{Reports, KeepsReports}
 use Rattle.graphql_documents.specs.declared.documents.executables.SelectionSet.{SelectionSet}
@@ -118,7 +118,7 @@ validate_selection_set-loop-selection-preserved t c =
     let xs = c.deref-selection-items.result.now in
     let i = c.loop-selection.selection-index in
     let x = c.selection-item.result in
-    let Q = NamesBrokenRule (Some schema) no_fragments (Some parent) set in
+    let Q = NamesBrokenSelection schema parent set in
     elim c.match-selection.branch [
       | validate_selection_set-in-Field+in_ok-validate_field w ↦
           let stands_here : Contains (selections_of set) (kind.Field w.in-Field.field) = search rules in
@@ -138,5 +138,5 @@ validate_selection_set-returns t c =
     let parent = c.args.against_type.now in
     let set = c.args.selection_set.now in
     in_words _ _ _ _ _ (reached_hold schema parent set, all_hold schema parent set)
-    (walked_all (SelectionHolds schema parent) (NamesBrokenRule (Some schema) no_fragments (Some parent) set) c.deref-selection-items.result.now c.loop-selection.selection-index (selections_of set) _ _
+    (walked_all (SelectionHolds schema parent) (NamesBrokenSelection schema parent set) c.deref-selection-items.result.now c.loop-selection.selection-index (selections_of set) _ _
     c.deref-selection-items.ensures.value c.loop-selection-test.false c.loop-selection.invariant)
