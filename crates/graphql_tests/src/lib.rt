@@ -8,6 +8,8 @@ mod documents;
 #[cfg(test)]
 mod field_sets;
 #[cfg(test)]
+mod messages;
+#[cfg(test)]
 mod notation;
 #[cfg(test)]
 mod schemas;
