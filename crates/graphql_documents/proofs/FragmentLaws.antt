@@ -47,3 +47,11 @@ reaches_only_another fragments d e path only itself found other leads =
     let named = leads.last.value.value.fragment_name in
     let own = d.value.value.name in
     not_both own e.value.value.name (same_name_then own named e.value.value.name (same_name_back named own leads.is_back) last) other
+
+pub no_spread_no_way_back : (fragments : Fragments) (d : Node Fragment) →
+    ((p : Node FragmentSpread) → ¬ Written d.value.value.selection_set (kind.FragmentSpread p)) → FragmentHasNoWayBack fragments d
+no_spread_no_way_back fragments d none path leads = begins leads.is_path none where
+  begins : {d : Node Fragment} {path : List (Node FragmentSpread)} → Path SpreadsBy (fragment_of fragments) d path →
+      ¬ ((p : Node FragmentSpread) → ¬ Written d.value.value.selection_set (kind.FragmentSpread p))
+  begins (path_of_one {r = p} written) none = none p written
+  begins (path_of_more {r = p} written is more) none = none p written

@@ -9,6 +9,10 @@ stands_first x xs = (0, omega arith, refl)
 pub stands_behind : {X : Type 0} (y : X) (xs : List X) (x : X) → Contains xs x → Contains (y ∷ xs) x
 stands_behind y xs x in' = Contains-append_right (y ∷ []) xs x in'
 
+-- nothing stands in an empty list
+pub none_stands : {X : Type 0} (x : X) → ¬ Contains [] x
+none_stands x in' = omega (arith, in'.1)
+
 -- a list of one has nothing else
 pub only_one : {X : Type 0} (x y : X) → Contains (x ∷ []) y → y ≡ x
 only_one x y in' = All-contains (λ z. z ≡ x) (x ∷ []) y (All-cons (λ z. z ≡ x) x [] refl (All-nil (λ z. z ≡ x))) in'

@@ -33,3 +33,12 @@ pub fn fragment_that_only_reaches_a_circle_has_no_way_back()
         DifferentNames d.value.value.name e.value.value.name →
         ¬ FragmentLeadsBack fragments d path }
 {}
+
+/// A fragment in which no fragment is spread has no way back.
+///
+/// Specification: 5.5.2.2 Fragment Spreads Must Not Form Cycles.
+pub fn fragment_without_spreads_has_no_way_back()
+    ensures { (fragments : Fragments) (d : Node Fragment) →
+        ((p : Node FragmentSpread) → ¬ Written d.value.value.selection_set (kind.FragmentSpread p)) →
+        FragmentHasNoWayBack fragments d }
+{}
