@@ -1,4 +1,5 @@
 pub mod ArgumentLemmas
+pub mod ExpansionLaws
 pub mod FragmentLaws
 pub mod ListLemmas
 pub mod MergingLaws
