@@ -1,15 +1,18 @@
 -- Which fragments have a way back to themselves.
-use Rattle.std.proofs.Common.{◌≡◌, List, [], ◌∷◌, ◌++◌, Some, refl, subst, All}
+use Rattle.std.proofs.Common.{◌≡◌, List, [], ◌∷◌, ◌++◌, Some, refl, subst, All, ℕ, ap}
 use Rattle.std.proofs.lemmas.List.Elements.{All-nil, All-cons, All-head}
+use Rattle.std.specs.Str.{bytes_eq}
+use Rattle.indexmap.specs.IndexMap.{get_by}
 use Rattle.graphql_documents.specs.Names.{NameText, SameName, DifferentNames}
-use Rattle.graphql_documents.specs.Selections.{Fragments, Written}
+use Rattle.graphql_documents.specs.Selections.{Fragments, Written, fragments_of}
 use Rattle.graphql_documents.specs.Paths.{Path, path_of_one, path_of_more}
 use Rattle.graphql_documents.specs.FragmentSpreads.{SpreadsBy, fragment_of, FragmentLeadsBack, FragmentHasNoWayBack}
 use Rattle.graphql_documents.specs.declared.documents.nodes.Node.{Node}
 use Rattle.graphql_documents.specs.declared.documents.executables.Selection.TheVariants as kind
+use Rattle.graphql_documents.specs.declared.documents.executables.ExecutableDocument.{ExecutableDocument}
 use Rattle.graphql_documents.specs.declared.documents.executables.Fragment.{Fragment}
 use Rattle.graphql_documents.specs.declared.documents.executables.FragmentSpread.{FragmentSpread}
-use Rattle.graphql_documents.proofs.NameLemmas.{same_name_back, same_name_then, not_both}
+use Rattle.graphql_documents.proofs.NameLemmas.{same_name_back, same_name_then, not_both, same_text}
 use Rattle.graphql_documents.proofs.ReportLemmas.{All-append_right}
 
 pub spreads_itself : (fragments : Fragments) (d : Node Fragment) (p : Node FragmentSpread) →
@@ -47,3 +50,15 @@ reaches_only_another fragments d e path only itself found other leads =
     let named = leads.last.value.value.fragment_name in
     let own = d.value.value.name in
     not_both own e.value.value.name (same_name_then own named e.value.value.name (same_name_back named own leads.is_back) last) other
+
+pub no_spread_no_way_back : (fragments : Fragments) (d : Node Fragment) →
+    ((p : Node FragmentSpread) → ¬ Written d.value.value.selection_set (kind.FragmentSpread p)) → FragmentHasNoWayBack fragments d
+no_spread_no_way_back fragments d none path leads = begins leads.is_path none where
+  begins : {d : Node Fragment} {path : List (Node FragmentSpread)} → Path SpreadsBy (fragment_of fragments) d path →
+      ¬ ((p : Node FragmentSpread) → ¬ Written d.value.value.selection_set (kind.FragmentSpread p))
+  begins (path_of_one {r = p} written) none = none p written
+  begins (path_of_more {r = p} written is more) none = none p written
+
+pub one_fragment_found : (document : ExecutableDocument) (a b : NameText) → SameName a b → fragments_of document a ≡ fragments_of document b
+one_fragment_found document a b same =
+    ap (λ (text : List ℕ). get_by (λ (key : NameText). bytes_eq text key.text) document.fragments) (same_text a b same)

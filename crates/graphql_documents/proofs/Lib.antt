@@ -1,5 +1,6 @@
 pub mod ArgumentLemmas
 pub mod DiagnosticLemmas
+pub mod ExpansionLaws
 pub mod FragmentLaws
 pub mod ListLemmas
 pub mod MergingLaws

@@ -1,6 +1,7 @@
 -- What stands in a list, in what a map makes of it, and in what a filter keeps.
 use Rattle.std.proofs.Common.{◌≡◌, Bool, true, false, cond, List, [], ◌∷◌, map, refl, ap, All, Contains, arith}
-use Rattle.std.specs.Prelude.{filter}
+use Rattle.std.specs.Prelude.{Option, Some, None, filter, filter_map}
+use Rattle.std.specs.List.{cons_option}
 use Rattle.std.proofs.lemmas.List.Elements.{All-nil, All-cons, All-head, All-tail, All-contains, All-contains_itself, All-map, All-weaker, Contains-append_right}
 
 pub stands_first : {X : Type 0} (x : X) (xs : List X) → Contains (x ∷ xs) x
@@ -8,6 +9,10 @@ stands_first x xs = (0, omega arith, refl)
 
 pub stands_behind : {X : Type 0} (y : X) (xs : List X) (x : X) → Contains xs x → Contains (y ∷ xs) x
 stands_behind y xs x in' = Contains-append_right (y ∷ []) xs x in'
+
+-- nothing stands in an empty list
+pub none_stands : {X : Type 0} (x : X) → ¬ Contains [] x
+none_stands x in' = omega (arith, in'.1)
 
 -- a list of one has nothing else
 pub only_one : {X : Type 0} (x y : X) → Contains (x ∷ []) y → y ≡ x
@@ -54,3 +59,34 @@ all_pass p [] all = refl
 all_pass p (x ∷ xs) all =
     let here : p x ≡ true = All-head (λ x. p x ≡ true) x xs all in
     rw here (ap (λ l. x ∷ l) (all_pass p xs (All-tail (λ x. p x ≡ true) x xs all)))
+
+-- what a map that may leave out made is made of something
+shown_by : {X Y : Type 0} (h : X → Option Y) (x : X) (rest : List Y) (P : Y → Type 0) (o : Option Y) → h x ≡ o →
+    ((y : Y) → h x ≡ Some y → P y) → All P rest → All P (cons_option o rest)
+shown_by h x rest P None e here all = all
+shown_by h x rest P (Some y) e here all = All-cons P y rest (here y e) all
+
+all_made : {X Y : Type 0} (h : X → Option Y) (xs : List X) → All (λ y. (x : X) × Contains xs x × (h x ≡ Some y)) (filter_map h xs)
+all_made h [] = All-nil (λ y. (x : _) × Contains [] x × (h x ≡ Some y))
+all_made {X} {Y} h (x ∷ xs) =
+    let P = λ (y : Y). (z : X) × Contains (x ∷ xs) z × (h z ≡ Some y) in
+    shown_by h x (filter_map h xs) P (h x) refl (λ y e. (x, stands_first x xs, e))
+    (All-weaker (λ y. (z : X) × Contains xs z × (h z ≡ Some y)) P (λ y made. (made.0, stands_behind x xs made.0 made.1, made.2)) (filter_map h xs) (all_made h xs))
+
+pub made_by : {X Y : Type 0} (h : X → Option Y) (xs : List X) (y : Y) → Contains (filter_map h xs) y → (x : X) × Contains xs x × (h x ≡ Some y)
+made_by {X} h xs y in' = All-contains (λ y. (x : X) × Contains xs x × (h x ≡ Some y)) (filter_map h xs) y (all_made h xs) in'
+
+behind_option : {Y : Type 0} (o : Option Y) (rest : List Y) (y : Y) → Contains rest y → Contains (cons_option o rest) y
+behind_option None rest y in' = in'
+behind_option (Some z) rest y in' = stands_behind z rest y in'
+
+all_mapped_by : {X Y : Type 0} (h : X → Option Y) (xs : List X) → All (λ x. (y : Y) → h x ≡ Some y → Contains (filter_map h xs) y) xs
+all_mapped_by h [] = All-nil (λ x. (y : _) → h x ≡ Some y → Contains (filter_map h []) y)
+all_mapped_by {X} {Y} h (x ∷ xs) =
+    let P = λ (z : X). (y : Y) → h z ≡ Some y → Contains (cons_option (h x) (filter_map h xs)) y in
+    All-cons P x xs (λ y e. rw e (stands_first y (filter_map h xs)))
+    (All-weaker (λ z. (y : Y) → h z ≡ Some y → Contains (filter_map h xs) y) P (λ z made y e. behind_option (h x) (filter_map h xs) y (made y e)) xs (all_mapped_by h xs))
+
+-- what the map makes of an element stands in what it makes
+pub kept_by_map : {X Y : Type 0} (h : X → Option Y) (xs : List X) (x : X) (y : Y) → Contains xs x → h x ≡ Some y → Contains (filter_map h xs) y
+kept_by_map {X} {Y} h xs x y in' e = All-contains (λ x. (y : Y) → h x ≡ Some y → Contains (filter_map h xs) y) xs x (all_mapped_by h xs) in' y e

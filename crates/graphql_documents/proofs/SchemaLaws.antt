@@ -1,8 +1,10 @@
 -- What breaks a schema: an empty enum, and input objects that must hold one another.
-use Rattle.std.proofs.Common.{◌≡◌, List, [], ◌∷◌, Some, refl, ap, subst, Contains}
+use Rattle.std.proofs.Common.{◌≡◌, List, [], ◌∷◌, Some, refl, ap, subst, Contains, ℕ}
 use Rattle.std.specs.Prelude.{◌≢◌, IsSome, is_some}
 use Rattle.std.specs.Option.{option_and_then}
 use Rattle.std.proofs.lemmas.List.Elements.{All-contains}
+use Rattle.std.specs.Str.{bytes_eq}
+use Rattle.indexmap.specs.IndexMap.{get_by}
 use Rattle.graphql_documents.specs.Names.{NameText, SameName, IsFreeName}
 use Rattle.graphql_documents.specs.Schemas.{type_definition, IsInputObject}
 use Rattle.graphql_documents.specs.Paths.{Path, path_of_one, path_of_more}
@@ -18,6 +20,7 @@ use Rattle.graphql_documents.specs.declared.documents.schemas.InputObjectType.{I
 use Rattle.graphql_documents.specs.declared.documents.schemas.Schema.{Schema}
 use Rattle.graphql_documents.specs.declared.documents.schemas.ExtendedType.{ExtendedType}
 use Rattle.graphql_documents.specs.declared.documents.schemas.ExtendedType.TheVariants.{Enum, InputObject}
+use Rattle.graphql_documents.proofs.NameLemmas.{same_text}
 use Rattle.graphql_documents.proofs.ListLemmas.{stands_mapped, made_of}
 
 -- where a schema holds, so does each of its types
@@ -90,3 +93,6 @@ no_required_field schema a none path leads =
     let entry = made_of (λ (field : InputField). field.1.node) a.value.value.fields.entries first.0 first.1.stands in
     let named = named_if_required schema first.0.value.value.ty.value.value first.1.requires in
     none entry.0 named.0 entry.1 (rw entry.2 named.1)
+
+pub one_type_found : (schema : Schema) (a b : NameText) → SameName a b → type_definition schema a ≡ type_definition schema b
+one_type_found schema a b same = ap (λ (text : List ℕ). get_by (λ (key : NameText). bytes_eq text key.text) schema.types) (same_text a b same)

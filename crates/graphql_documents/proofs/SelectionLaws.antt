@@ -29,6 +29,21 @@ same_field f g e =
     let opens : Open.Field g ≡ Open.Field f = sym (kind.outs-Field g) ∙ ap out-Selection e ∙ kind.outs-Field f in
     cc
 
+pub same_inline : (i j : Node InlineFragment) → kind.InlineFragment i ≡ kind.InlineFragment j → i ≡ j
+same_inline i j e =
+    let opens : Open.InlineFragment i ≡ Open.InlineFragment j = sym (kind.outs-InlineFragment i) ∙ ap out-Selection e ∙ kind.outs-InlineFragment j in
+    cc
+
+pub spread_not_inline : (i : Node InlineFragment) (p : Node FragmentSpread) → ¬ (kind.FragmentSpread p ≡ kind.InlineFragment i)
+spread_not_inline i p e =
+    let opens : Open.FragmentSpread p ≡ Open.InlineFragment i = sym (kind.outs-FragmentSpread p) ∙ ap out-Selection e ∙ kind.outs-InlineFragment i in
+    let h : ⊥ = cc in h
+
+pub same_spread : (p q : Node FragmentSpread) → kind.FragmentSpread p ≡ kind.FragmentSpread q → p ≡ q
+same_spread p q e =
+    let opens : Open.FragmentSpread p ≡ Open.FragmentSpread q = sym (kind.outs-FragmentSpread p) ∙ ap out-Selection e ∙ kind.outs-FragmentSpread q in
+    cc
+
 -- a set includes what an included set includes
 pub includes_then : (fragments : Fragments) {a b c : SelectionSet} → Includes fragments a b → Includes fragments b c → Includes fragments a c
 includes_then fragments includes_itself rest = rest

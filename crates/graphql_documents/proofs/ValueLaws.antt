@@ -1,10 +1,15 @@
 -- What the sameness of values comes to: kind by kind, and that it is an equivalence.
-use Rattle.std.proofs.Common.{◌≡◌, ℕ, zero, suc, String, Bool, List, [], ◌∷◌, length, Option, Some, None, refl, sym, ◌∙◌, subst, Vec, true, false, cond, find, map, get_or, All, arith, ◌⊎◌, inl, inr}
+use Rattle.std.proofs.Common.{◌≡◌, ℕ, zero, suc, String, Bool, List, [], ◌∷◌, length, Option, Some, None, refl, sym, ◌∙◌, subst, Vec, true, false, cond, find, map, get_or, All, arith, ◌⊎◌, inl, inr, ap}
 use Rattle.std.specs.Prelude.{◌≢◌, option_map, MatchBool, IsTrue, IsFalse, IsSome, IsSomeAnd, is_some, slice_get, string_bytes}
 use Rattle.std.specs.declared.alloc.Global.{Global}
 use Rattle.graphql_documents.specs.Names.{NameText, SameName, same_name}
 use Rattle.graphql_documents.specs.Values.{SameValue, same_null, same_enum, same_variable, same_string, same_float, same_int, same_boolean, same_list, same_object, entry_named}
-use Rattle.graphql_documents.specs.TypeReferences.{is_non_null, is_assignable, nullable}
+use Rattle.graphql_documents.specs.Schemas.{type_definition}
+use Rattle.graphql_documents.specs.InputCoercion.{Accepts, AcceptsLeaf, accepts_undefined, accepts_null, accepts_variable, accepts_leaf, accepts_list, accepts_custom_object, accepts_object}
+use Rattle.graphql_documents.specs.declared.documents.schemas.ExtendedType.{ExtendedType}
+use Rattle.graphql_documents.specs.declared.documents.schemas.Schema.{Schema}
+use Rattle.graphql_documents.specs.declared.documents.type_references.Type.{«Type»}
+use Rattle.graphql_documents.specs.TypeReferences.{inner_named_type, is_non_null, is_assignable, nullable}
 use Rattle.graphql_documents.specs.VariableUsage.{IsUsageAllowed, HasNonNullDefault, needs_default}
 use Rattle.graphql_documents.specs.declared.documents.directives.Argument.{Argument}
 use Rattle.graphql_documents.specs.Arguments.{argument_named}
@@ -265,3 +270,34 @@ same_arguments_then a b c ab bc = record {
       let y = there_too (argument_named name a) (argument_named name b) x (ab.names name) ex in
       same_value_then _ _ _ (ab.values name x y.0 ex y.1) (bc.values name y.0 z y.1 ez);
 }
+
+-- a leaf type has no null
+null_is_no_leaf : (d : ExtendedType) → ¬ AcceptsLeaf d literal.Null
+null_is_no_leaf d h = h
+
+-- a list or an object is not null
+list_is_not_null : (items : Vec (Node Value) Global) → ¬ (literal.List items ≡ literal.Null)
+list_is_not_null items e =
+    let opens : Open.List items ≡ Open.Null = sym (literal.outs-List items) ∙ ap out-Value e ∙ literal.outs-Null in
+    let h : ⊥ = cc in h
+
+object_is_not_null : (entries : Vec (NameText × Node Value) Global) → ¬ (literal.Object entries ≡ literal.Null)
+object_is_not_null entries e =
+    let opens : Open.Object entries ≡ Open.Null = sym (literal.outs-Object entries) ∙ ap out-Value e ∙ literal.outs-Null in
+    let h : ⊥ = cc in h
+
+not_accepted : {schema : Schema} {variables : List (Node VariableDefinition)} {ty : «Type»} {value : Value} → Accepts schema variables ty value →
+    (d : ExtendedType) → type_definition schema (inner_named_type ty) ≡ Some d → IsTrue (is_non_null ty) → ¬ (value ≡ literal.Null)
+not_accepted (accepts_undefined none) d is non_null null = let h : ⊥ = cc in h
+not_accepted (accepts_null may_be) d is non_null null = let h : ⊥ = cc in h
+not_accepted (accepts_variable {name = name} a b c e) d is non_null null =
+    let opens : Open.Variable name ≡ Open.Null = sym (literal.outs-Variable name) ∙ ap out-Value null ∙ literal.outs-Null in
+    let h : ⊥ = cc in h
+not_accepted (accepts_leaf {d = leaf} a b) d is non_null null = null_is_no_leaf leaf (subst (AcceptsLeaf leaf) null b)
+not_accepted (accepts_list items a b c e) d is non_null null = list_is_not_null items null
+not_accepted (accepts_custom_object entries a b) d is non_null null = object_is_not_null entries null
+not_accepted (accepts_object entries a b c e) d is non_null null = object_is_not_null entries null
+
+pub null_not_accepted : (schema : Schema) (variables : List (Node VariableDefinition)) (ty : «Type») (d : ExtendedType) →
+    type_definition schema (inner_named_type ty) ≡ Some d → IsTrue (is_non_null ty) → ¬ Accepts schema variables ty literal.Null
+null_not_accepted schema variables ty d is non_null accepts = not_accepted accepts d is non_null refl

@@ -2,6 +2,7 @@
 //!
 //! Each function here does nothing. Its contract is the law.
 
+pub mod expansion;
 pub mod fragments;
 pub mod merging;
 pub mod reports;

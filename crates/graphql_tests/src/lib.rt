@@ -8,6 +8,14 @@ mod documents;
 #[cfg(test)]
 mod field_sets;
 #[cfg(test)]
+mod guards;
+#[cfg(test)]
+mod messages;
+#[cfg(test)]
 mod notation;
 #[cfg(test)]
+mod numbers;
+#[cfg(test)]
 mod schemas;
+#[cfg(test)]
+mod spans;

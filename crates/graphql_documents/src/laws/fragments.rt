@@ -2,8 +2,9 @@
 
 ghost use Rattle.std.specs.Prelude.{◌≡◌, List, Some};
 ghost use Rattle.graphql_documents.specs.Names.{NameText, SameName, DifferentNames};
-ghost use Rattle.graphql_documents.specs.Selections.{Fragments, Written};
+ghost use Rattle.graphql_documents.specs.Selections.{Fragments, Written, fragments_of};
 ghost use Rattle.graphql_documents.specs.FragmentSpreads.{FragmentLeadsBack, FragmentHasNoWayBack};
+ghost use Rattle.graphql_documents.specs.declared.documents.executables.ExecutableDocument.{ExecutableDocument};
 ghost use Rattle.graphql_documents.specs.declared.documents.executables.Fragment.{Fragment};
 ghost use Rattle.graphql_documents.specs.declared.documents.executables.FragmentSpread.{FragmentSpread};
 ghost use Rattle.graphql_documents.specs.declared.documents.executables.Selection.TheVariants as kind;
@@ -32,4 +33,20 @@ pub fn fragment_that_only_reaches_a_circle_has_no_way_back()
         ((name : NameText) → SameName name e.value.value.name → fragments name ≡ Some e) →
         DifferentNames d.value.value.name e.value.value.name →
         ¬ FragmentLeadsBack fragments d path }
+{}
+
+/// A fragment in which no fragment is spread has no way back.
+///
+/// Specification: 5.5.2.2 Fragment Spreads Must Not Form Cycles.
+pub fn fragment_without_spreads_has_no_way_back()
+    ensures { (fragments : Fragments) (d : Node Fragment) →
+        ((p : Node FragmentSpread) → ¬ Written d.value.value.selection_set (kind.FragmentSpread p)) →
+        FragmentHasNoWayBack fragments d }
+{}
+
+/// Names of one text find one fragment in a document, wherever they stand.
+///
+/// Specification: 5.5.2.1 Fragment Spread Target Defined.
+pub fn names_of_one_text_find_one_fragment()
+    ensures { (document : ExecutableDocument) (a b : NameText) → SameName a b → fragments_of document a ≡ fragments_of document b }
 {}

@@ -1,14 +1,15 @@
 //! Laws of field merging.
 
-ghost use Rattle.std.specs.Prelude.{◌≡◌, List, [], Some, Contains, IsTrue};
+ghost use Rattle.std.specs.Prelude.{◌≡◌, List, [], ◌∷◌, Some, Contains, IsTrue};
 ghost use Rattle.graphql_documents.specs.Names.{SameName, DifferentNames};
 ghost use Rattle.graphql_documents.specs.TypeReferences.{inner_named_type};
 ghost use Rattle.graphql_documents.specs.Schemas.{type_definition, is_output_type};
 ghost use Rattle.graphql_documents.specs.Selections.{Fragments, selections_of, response_key, Includes};
-ghost use Rattle.graphql_documents.specs.Merging.{FieldSelection, SameShape, OverlapThroughout, Merges};
+ghost use Rattle.graphql_documents.specs.Merging.{FieldSelection, FieldInside, set_of, type_of, SameKey, SameShape, SameNameAndArguments, ParentsMayOverlap, OverlapThroughout, Merges};
 ghost use Rattle.graphql_documents.specs.declared.documents.executables.Field.{Field};
 ghost use Rattle.graphql_documents.specs.declared.documents.executables.Fragment.{Fragment};
 ghost use Rattle.graphql_documents.specs.declared.documents.executables.FragmentSpread.{FragmentSpread};
+ghost use Rattle.graphql_documents.specs.declared.documents.executables.InlineFragment.{InlineFragment};
 ghost use Rattle.graphql_documents.specs.declared.documents.executables.Selection.TheVariants as kind;
 ghost use Rattle.graphql_documents.specs.declared.documents.executables.SelectionSet.{SelectionSet};
 ghost use Rattle.graphql_documents.specs.declared.documents.nodes.Node.{Node};
@@ -97,4 +98,31 @@ pub fn output_type_has_its_own_shape()
     ensures { (schema : Schema) (ty : «Type») →
         ((d : ExtendedType) → type_definition schema (inner_named_type ty) ≡ Some d → IsTrue (is_output_type d)) →
         SameShape schema ty ty }
+{}
+
+/// A set of leaf fields merges where its fields agree: two with one key have one shape, and are one field
+/// with the same arguments if their parents may overlap.
+///
+/// Specification: 5.3.2 Field Selection Merging.
+pub fn leaf_fields_that_agree_merge()
+    ensures { (schema : Schema) (fragments : Fragments) (set : SelectionSet) →
+        ((x : FieldSelection) → FieldInside fragments set x → selections_of (set_of x) ≡ []) →
+        ((x y : FieldSelection) → FieldInside fragments set x → FieldInside fragments set y → SameKey x y →
+        SameShape schema (type_of x) (type_of y)) →
+        ((x y : FieldSelection) → FieldInside fragments set x → FieldInside fragments set y → SameKey x y →
+        ParentsMayOverlap schema x y → SameNameAndArguments x.field.value.value y.field.value.value) →
+        Merges schema fragments set }
+{}
+
+/// Where a set merges, so do the sets of two of its fields with one key, put together, if the parents of
+/// the fields may overlap.
+///
+/// Specification: 5.3.2 Field Selection Merging, FieldsInSetCanMerge of the merged set.
+pub fn sets_of_fields_with_one_key_merge_together()
+    ensures { (schema : Schema) (fragments : Fragments) (set : SelectionSet) (x y : FieldSelection) →
+        FieldInside fragments set x → FieldInside fragments set y → SameKey x y → ParentsMayOverlap schema x y →
+        (together : SelectionSet) (i j : Node InlineFragment) →
+        selections_of together ≡ kind.InlineFragment i ∷ (kind.InlineFragment j ∷ []) →
+        i.value.value.selection_set ≡ set_of x → j.value.value.selection_set ≡ set_of y →
+        Merges schema fragments set → Merges schema fragments together }
 {}

@@ -2,7 +2,7 @@
 
 ghost use Rattle.std.specs.Prelude.{◌≡◌, ◌≢◌, [], Contains};
 ghost use Rattle.graphql_documents.specs.Names.{NameText, SameName};
-ghost use Rattle.graphql_documents.specs.Schemas.{IsInputObject};
+ghost use Rattle.graphql_documents.specs.Schemas.{IsInputObject, type_definition};
 ghost use Rattle.graphql_documents.specs.SchemaReferences.{InputObjectHasNoWayBack};
 ghost use Rattle.graphql_documents.specs.SchemaRules.{SchemaHolds};
 ghost use Rattle.graphql_documents.specs.declared.documents.components.Component.{Component};
@@ -55,4 +55,11 @@ pub fn nullable_fields_and_lists_are_no_way_back()
         ((field : NameText × Component InputValueDefinition) (name : NameText) → Contains a.value.value.fields.entries field →
         field.1.node.value.value.ty.value.value ≢ NonNullNamed name) →
         InputObjectHasNoWayBack schema a }
+{}
+
+/// Names of one text find one type in a schema, wherever they stand.
+///
+/// Specification: 2.1.9 Names; 3.3 Schema.
+pub fn names_of_one_text_find_one_type()
+    ensures { (schema : Schema) (a b : NameText) → SameName a b → type_definition schema a ≡ type_definition schema b }
 {}

@@ -4,7 +4,12 @@ ghost use Rattle.std.specs.Prelude.{◌≡◌, ◌≢◌, List, Vec, Some, None,
 ghost use Rattle.std.specs.declared.alloc.Global.{Global};
 ghost use Rattle.graphql_documents.specs.Values.{SameValue};
 ghost use Rattle.graphql_documents.specs.Merging.{SameArguments};
-ghost use Rattle.graphql_documents.specs.TypeReferences.{is_non_null};
+ghost use Rattle.graphql_documents.specs.TypeReferences.{inner_named_type, is_non_null};
+ghost use Rattle.graphql_documents.specs.Schemas.{type_definition};
+ghost use Rattle.graphql_documents.specs.InputCoercion.{Accepts};
+ghost use Rattle.graphql_documents.specs.declared.documents.schemas.ExtendedType.{ExtendedType};
+ghost use Rattle.graphql_documents.specs.declared.documents.schemas.Schema.{Schema};
+ghost use Rattle.graphql_documents.specs.declared.documents.type_references.Type.{«Type»};
 ghost use Rattle.graphql_documents.specs.VariableUsage.{IsUsageAllowed};
 ghost use Rattle.graphql_documents.specs.declared.documents.definitions.InputValueDefinition.{InputValueDefinition};
 ghost use Rattle.graphql_documents.specs.declared.documents.definitions.VariableDefinition.{VariableDefinition};
@@ -72,4 +77,13 @@ pub fn sameness_of_arguments_goes_both_ways()
 /// Specification: 5.3.2 Field Selection Merging.
 pub fn sameness_of_arguments_goes_on()
     ensures { (a b c : List (Node Argument)) → SameArguments a b → SameArguments b c → SameArguments a c }
+{}
+
+/// Null is not accepted for a non-null type that is defined.
+///
+/// Specification: 5.6.1 Values of Correct Type; 3.12 Non-Null.
+pub fn null_is_not_accepted_for_a_non_null_type()
+    ensures { (schema : Schema) (variables : List (Node VariableDefinition)) (ty : «Type») (d : ExtendedType) →
+        type_definition schema (inner_named_type ty) ≡ Some d → IsTrue (is_non_null ty) →
+        ¬ Accepts schema variables ty literal.Null }
 {}

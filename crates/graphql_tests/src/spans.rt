@@ -1,0 +1,27 @@
+use graphql_documents::documents::{FileId, SourceSpan};
+
+fn span(file: u32, start: usize, end: usize) -> Option<SourceSpan> {
+    Some(SourceSpan {
+        file_id: FileId(file),
+        start,
+        end,
+    })
+}
+
+#[test]
+fn spans_are_recomposed(rt: HostRuntime) {
+    let rows = [
+        (span(1, 0, 5), span(1, 9, 14), span(1, 0, 14)),
+        (span(1, 9, 14), span(1, 0, 5), span(1, 9, 14)),
+        (span(1, 5, 9), span(1, 0, 5), span(1, 5, 5)),
+        (span(1, 0, 5), span(2, 3, 4), span(2, 3, 4)),
+        (span(1, 0, 5), None, span(1, 0, 5)),
+        (None, span(1, 0, 5), span(1, 0, 5)),
+        (None, None, None),
+    ];
+    for (left, right, both) in rows {
+        if SourceSpan::recompose(left, right) != both {
+            panic!(rt; "{left:?} and {right:?}");
+        }
+    }
+}
