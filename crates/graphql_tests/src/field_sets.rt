@@ -11,6 +11,9 @@ use std::test::Fail;
 
 const REPEATED: &str = "the argument `n` is provided multiple times\n";
 
+const NULL_FOUND: &str = "expected value of type Int!, found null\n\
+    the required argument `Query.f(n:)` is not provided\n";
+
 const MISSING: &str = "the required argument `Query.f(n:)` is not provided\n";
 
 /// `type Query { f(n: Int!): Int }`
@@ -22,7 +25,7 @@ fn field_with_a_required_argument(alloc: Global) -> Result<Valid<Schema>, RowErr
 }
 
 /// The messages that a field set on `Query` brings, each on a line.
-fn messages(
+pub(crate) fn messages(
     alloc: Global,
     schema: &Valid<Schema>,
     selections: &[SelectionNotation<'_>],
@@ -92,6 +95,6 @@ fn null_is_no_required_argument(rt: HostRuntime) -> Result<(), Fail> {
     let null = [argument("n", Literal::Null)];
     let selections = [field("f", &null, &[])];
     let found = messages(rt.alloc(), &schema, &selections)?;
-    assert_eq!(rt; found.as_str(), MISSING);
+    assert_eq!(rt; found.as_str(), NULL_FOUND);
     Ok(())
 }
