@@ -12,3 +12,4 @@ pub mod SchemaLaws
 pub mod SelectionLaws
 pub mod TypeMapLaws
 pub mod ValueLaws
+pub mod VariableLaws

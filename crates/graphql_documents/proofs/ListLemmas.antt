@@ -1,8 +1,8 @@
 -- What stands in a list, in what a map makes of it, and in what a filter keeps.
-use Rattle.std.proofs.Common.{◌≡◌, Bool, true, false, cond, List, [], ◌∷◌, map, refl, ap, All, Contains, arith}
-use Rattle.std.specs.Prelude.{Option, Some, None, filter, filter_map}
+use Rattle.std.proofs.Common.{◌≡◌, Bool, true, false, cond, List, [], ◌∷◌, map, refl, ap, All, Contains, arith, ◌++◌}
+use Rattle.std.specs.Prelude.{Option, Some, None, filter, filter_map, flat_map}
 use Rattle.std.specs.List.{cons_option}
-use Rattle.std.proofs.lemmas.List.Elements.{All-nil, All-cons, All-head, All-tail, All-contains, All-contains_itself, All-map, All-weaker, Contains-append_right}
+use Rattle.std.proofs.lemmas.List.Elements.{All-nil, All-cons, All-head, All-tail, All-contains, All-contains_itself, All-map, All-weaker, Contains-append_right, Contains-append_left}
 
 pub stands_first : {X : Type 0} (x : X) (xs : List X) → Contains (x ∷ xs) x
 stands_first x xs = (0, omega arith, refl)
@@ -90,3 +90,14 @@ all_mapped_by {X} {Y} h (x ∷ xs) =
 -- what the map makes of an element stands in what it makes
 pub kept_by_map : {X Y : Type 0} (h : X → Option Y) (xs : List X) (x : X) (y : Y) → Contains xs x → h x ≡ Some y → Contains (filter_map h xs) y
 kept_by_map {X} {Y} h xs x y in' e = All-contains (λ x. (y : Y) → h x ≡ Some y → Contains (filter_map h xs) y) xs x (all_mapped_by h xs) in' y e
+
+all_flat : {X Y : Type 0} (f : X → List Y) (xs : List X) → All (λ x. (y : Y) → Contains (f x) y → Contains (flat_map f xs) y) xs
+all_flat {X} {Y} f [] = All-nil (λ (x : X). (y : Y) → Contains (f x) y → Contains (flat_map f []) y)
+all_flat {X} {Y} f (x ∷ xs) =
+    let P = λ (z : X). (y : Y) → Contains (f z) y → Contains (f x ++ flat_map f xs) y in
+    All-cons P x xs (λ y in'. Contains-append_left (f x) (flat_map f xs) y in')
+    (All-weaker (λ z. (y : Y) → Contains (f z) y → Contains (flat_map f xs) y) P (λ z made y in'. Contains-append_right (f x) (flat_map f xs) y (made y in')) xs (all_flat f xs))
+
+-- what is made of an element stands in what is made of all
+pub stands_flat : {X Y : Type 0} (f : X → List Y) (xs : List X) (x : X) (y : Y) → Contains xs x → Contains (f x) y → Contains (flat_map f xs) y
+stands_flat {X} {Y} f xs x y in' made = All-contains (λ (x : X). (y : Y) → Contains (f x) y → Contains (flat_map f xs) y) xs x (all_flat f xs) in' y made

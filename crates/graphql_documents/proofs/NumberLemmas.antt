@@ -1,5 +1,5 @@
 -- The number that an integer's text stands for, and the parts of a float's text.
-use Rattle.std.proofs.Common.{◌≡◌, ◌↔◌, ℕ, zero, suc, ◌+◌, ◌<◌, ◌≤◌, ◌≢◌, List, [], ◌∷◌, ◌++◌, length, take, drop, get_or, Bool, true, false, not, cond, ◌&&◌, ◌||◌, ◌==◌, Option, IsSome, Result, Ok, Err, ℤ, pos, neg_ℤ, negsuc, ◌≤ℤ◌, refl, sym, ◌∙◌, ap, subst, arith, rules, IsTrue, unwrap_or, Some, None, nat_lt, true≢false}
+use Rattle.std.proofs.Common.{◌≡◌, ◌↔◌, ℕ, ◌<◌, ◌≤◌, List, [], ◌∷◌, ◌++◌, length, take, drop, Bool, true, false, not, cond, ◌&&◌, ◌||◌, ◌==◌, IsSome, Result, Ok, Err, ℤ, pos, neg_ℤ, refl, sym, ◌∙◌, ap, arith, rules, IsTrue, unwrap_or, Some, None, nat_lt, true≢false}
 use Rattle.std.specs.Result.{result_ok, OkIff}
 use Rattle.std.specs.List.{list_all, position, position_or_len}
 use Rattle.std.specs.Char.{is_ascii_digit}

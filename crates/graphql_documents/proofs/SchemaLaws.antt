@@ -1,19 +1,22 @@
 -- What breaks a schema: an empty enum, and input objects that must hold one another.
-use Rattle.std.proofs.Common.{◌≡◌, List, [], ◌∷◌, Some, refl, ap, subst, Contains, ℕ}
+use Rattle.std.proofs.Common.{◌≡◌, List, [], ◌∷◌, Some, refl, ap, subst, Contains, ℕ, ◌++◌, map}
 use Rattle.std.specs.Prelude.{◌≢◌, IsSome, is_some}
 use Rattle.std.specs.Option.{option_and_then}
-use Rattle.std.proofs.lemmas.List.Elements.{All-contains}
+use Rattle.std.proofs.lemmas.List.Elements.{All-contains, Contains-append_left}
 use Rattle.std.specs.Str.{bytes_eq}
 use Rattle.indexmap.specs.IndexMap.{get_by}
 use Rattle.graphql_documents.specs.Names.{NameText, SameName, IsFreeName}
 use Rattle.graphql_documents.specs.Schemas.{type_definition, IsInputObject}
 use Rattle.graphql_documents.specs.Paths.{Path, path_of_one, path_of_more}
-use Rattle.graphql_documents.specs.SchemaReferences.{required_name, as_input_object, input_object_of, RequiresBy, InputObjectHasNoWayBack}
-use Rattle.graphql_documents.specs.SchemaRules.{TypeHolds, SchemaHolds}
+use Rattle.graphql_documents.specs.SchemaReferences.{required_name, as_input_object, input_object_of, RequiresBy, InputObjectHasNoWayBack, SchemaReference, by_directive, by_type, DirectiveHasNoWayBack}
+use Rattle.graphql_documents.specs.SchemaRules.{TypeHolds, SchemaHolds, DirectiveDefinitionHolds}
 use Rattle.graphql_documents.specs.declared.documents.nodes.Node.{Node}
 use Rattle.graphql_documents.specs.declared.documents.components.Component.{Component}
 use Rattle.graphql_documents.specs.declared.documents.type_references.Type.{«Type»}
 use Rattle.graphql_documents.specs.declared.documents.type_references.Type.TheVariants.{NonNullNamed}
+use Rattle.graphql_documents.specs.TypeReferences.{inner_named_type}
+use Rattle.graphql_documents.specs.declared.documents.directives.Directive.{Directive}
+use Rattle.graphql_documents.specs.declared.documents.definitions.DirectiveDefinition.{DirectiveDefinition}
 use Rattle.graphql_documents.specs.declared.documents.definitions.InputValueDefinition.{InputValueDefinition}
 use Rattle.graphql_documents.specs.declared.documents.schemas.EnumType.{EnumType}
 use Rattle.graphql_documents.specs.declared.documents.schemas.InputObjectType.{InputObjectType}
@@ -21,7 +24,7 @@ use Rattle.graphql_documents.specs.declared.documents.schemas.Schema.{Schema}
 use Rattle.graphql_documents.specs.declared.documents.schemas.ExtendedType.{ExtendedType}
 use Rattle.graphql_documents.specs.declared.documents.schemas.ExtendedType.TheVariants.{Enum, InputObject}
 use Rattle.graphql_documents.proofs.NameLemmas.{same_text}
-use Rattle.graphql_documents.proofs.ListLemmas.{stands_mapped, made_of}
+use Rattle.graphql_documents.proofs.ListLemmas.{stands_mapped, made_of, stands_flat}
 
 -- where a schema holds, so does each of its types
 type_holds : (schema : Schema) (key : NameText) (d : ExtendedType) → Contains schema.types.entries (key, d) → SchemaHolds schema → TypeHolds schema d
@@ -96,3 +99,28 @@ no_required_field schema a none path leads =
 
 pub one_type_found : (schema : Schema) (a b : NameText) → SameName a b → type_definition schema a ≡ type_definition schema b
 one_type_found schema a b same = ap (λ (text : List ℕ). get_by (λ (key : NameText). bytes_eq text key.text) schema.types) (same_text a b same)
+
+pub directive_on_its_own_argument : (schema : Schema) (d : Node DirectiveDefinition) (argument : Node InputValueDefinition) (applied : Node Directive) →
+    Contains d.value.value.arguments.items argument → Contains argument.value.value.directives.items applied →
+    SameName applied.value.value.name d.value.value.name → ¬ DirectiveHasNoWayBack schema d
+directive_on_its_own_argument schema d argument applied in_d in_argument back none =
+    let references : Node InputValueDefinition → List SchemaReference =
+    λ a. map by_directive a.value.value.directives.items ++ by_type (inner_named_type a.value.value.ty.value.value) ∷ [] in
+    let refers : Contains (references argument) (by_directive applied) =
+    Contains-append_left (map by_directive argument.value.value.directives.items) (by_type (inner_named_type argument.value.value.ty.value.value) ∷ []) (by_directive applied)
+    (stands_mapped by_directive argument.value.value.directives.items applied in_argument) in
+    none (by_directive applied ∷ []) (record {
+      before = [];
+      last = by_directive applied;
+      ends = refl;
+      is_path = path_of_one (stands_flat references d.value.value.arguments.items argument (by_directive applied) in_d refers);
+      is_back = back;
+    })
+
+pub directive_on_its_own_argument_breaks : (schema : Schema) (key : NameText) (d : Node DirectiveDefinition) (argument : Node InputValueDefinition) (applied : Node Directive) →
+    Contains schema.directive_definitions.entries (key, d) →
+    Contains d.value.value.arguments.items argument → Contains argument.value.value.directives.items applied →
+    SameName applied.value.value.name d.value.value.name → ¬ SchemaHolds schema
+directive_on_its_own_argument_breaks schema key d argument applied stands in_d in_argument back holds =
+    directive_on_its_own_argument schema d argument applied in_d in_argument back
+    (All-contains (λ entry. DirectiveDefinitionHolds schema entry.1) schema.directive_definitions.entries (key, d) holds.directives stands).no_way_back

@@ -3,9 +3,11 @@
 ghost use Rattle.std.specs.Prelude.{◌≡◌, ◌≢◌, [], Contains};
 ghost use Rattle.graphql_documents.specs.Names.{NameText, SameName};
 ghost use Rattle.graphql_documents.specs.Schemas.{IsInputObject, type_definition};
-ghost use Rattle.graphql_documents.specs.SchemaReferences.{InputObjectHasNoWayBack};
+ghost use Rattle.graphql_documents.specs.SchemaReferences.{InputObjectHasNoWayBack, DirectiveHasNoWayBack};
 ghost use Rattle.graphql_documents.specs.SchemaRules.{SchemaHolds};
 ghost use Rattle.graphql_documents.specs.declared.documents.components.Component.{Component};
+ghost use Rattle.graphql_documents.specs.declared.documents.definitions.DirectiveDefinition.{DirectiveDefinition};
+ghost use Rattle.graphql_documents.specs.declared.documents.directives.Directive.{Directive};
 ghost use Rattle.graphql_documents.specs.declared.documents.definitions.InputValueDefinition.{InputValueDefinition};
 ghost use Rattle.graphql_documents.specs.declared.documents.nodes.Node.{Node};
 ghost use Rattle.graphql_documents.specs.declared.documents.schemas.EnumType.{EnumType};
@@ -62,4 +64,25 @@ pub fn nullable_fields_and_lists_are_no_way_back()
 /// Specification: 2.1.9 Names; 3.3 Schema.
 pub fn names_of_one_text_find_one_type()
     ensures { (schema : Schema) (a b : NameText) → SameName a b → type_definition schema a ≡ type_definition schema b }
+{}
+
+/// A directive that is applied to an argument of its own has a way back.
+///
+/// Specification: 3.13 Directives, Type Validation.
+pub fn directive_on_its_own_argument_has_a_way_back()
+    ensures { (schema : Schema) (d : Node DirectiveDefinition) (argument : Node InputValueDefinition) (applied : Node Directive) →
+        Contains d.value.value.arguments.items argument → Contains argument.value.value.directives.items applied →
+        SameName applied.value.value.name d.value.value.name →
+        ¬ DirectiveHasNoWayBack schema d }
+{}
+
+/// A schema with such a directive does not hold.
+///
+/// Specification: 3.13 Directives, Type Validation.
+pub fn schema_with_a_directive_on_its_own_argument_does_not_hold()
+    ensures { (schema : Schema) (key : NameText) (d : Node DirectiveDefinition) (argument : Node InputValueDefinition) (applied : Node Directive) →
+        Contains schema.directive_definitions.entries (key, d) →
+        Contains d.value.value.arguments.items argument → Contains argument.value.value.directives.items applied →
+        SameName applied.value.value.name d.value.value.name →
+        ¬ SchemaHolds schema }
 {}

@@ -2,7 +2,8 @@
 
 ghost use Rattle.std.specs.Prelude.{◌≡◌, ◌≢◌, List, Vec, Some, None, IsTrue, IsFalse, length};
 ghost use Rattle.std.specs.declared.alloc.Global.{Global};
-ghost use Rattle.graphql_documents.specs.Values.{SameValue};
+ghost use Rattle.graphql_documents.specs.Values.{SameValue, VariablesIn};
+ghost use Rattle.graphql_documents.specs.Names.{NameText};
 ghost use Rattle.graphql_documents.specs.Merging.{SameArguments};
 ghost use Rattle.graphql_documents.specs.TypeReferences.{inner_named_type, is_non_null};
 ghost use Rattle.graphql_documents.specs.Schemas.{type_definition};
@@ -86,4 +87,18 @@ pub fn null_is_not_accepted_for_a_non_null_type()
     ensures { (schema : Schema) (variables : List (Node VariableDefinition)) (ty : «Type») (d : ExtendedType) →
         type_definition schema (inner_named_type ty) ≡ Some d → IsTrue (is_non_null ty) →
         ¬ Accepts schema variables ty literal.Null }
+{}
+
+/// Each value has a list of the variables in it.
+///
+/// Specification: 2.9 Input Values; 2.10 Variables.
+pub fn each_value_has_its_variables()
+    ensures { (value : Value) → (names : List NameText) × VariablesIn value names }
+{}
+
+/// There is one such list only.
+///
+/// Specification: 2.9 Input Values; 2.10 Variables.
+pub fn no_value_has_other_variables()
+    ensures { (value : Value) (a b : List NameText) → VariablesIn value a → VariablesIn value b → a ≡ b }
 {}

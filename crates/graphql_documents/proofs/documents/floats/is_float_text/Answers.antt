@@ -1,4 +1,4 @@
-use Rattle.std.proofs.Common.{◌≡◌, ◌∙◌, ap, sym, true, false, length, take, drop, unwrap_or, true≢false}
+use Rattle.std.proofs.Common.{◌≡◌, ◌∙◌, ap, sym, true, false, length, unwrap_or, true≢false}
 use Rattle.std.specs.List.{position_or_len}
 use Rattle.graphql_documents.specs.Numbers.{begins_exponent, ends_integer, is_integer}
 use Rattle.graphql_documents.proofs.NumberLemmas.{float_after, no_float, position_or_end}
