@@ -13,14 +13,14 @@ use graphql_documents::diagnostics::{DiagnosticList, ValidationError};
 use graphql_documents::documents::{FieldSet, Schema, Valid};
 
 /// Validates a field set against a schema: the argument names of each field are distinct, its
-/// arguments are defined, the required ones are given, and a field of a composite type selects
-/// something.
+/// arguments are defined and their values accepted, the required ones are given, and a field of a
+/// composite type selects something.
 ///
-/// Reports come in the order of the set: for one field its repeated arguments, the undefined ones,
-/// the missing ones, and a missing selection or else what is below. Directives and fragments are not
+/// Reports come in the order of the set: for one field its repeated arguments, the undefined ones and
+/// wrong values, the missing ones, and a missing selection or else what is below. Directives and fragments are not
 /// looked at. The only error is want of memory.
 ///
-/// Specification: 5.3 Fields; 5.4 Arguments.
+/// Specification: 5.3 Fields; 5.4 Arguments; 5.6 Values.
 pub fn validate_field_set(
     diagnostics: &mut DiagnosticList,
     schema: &Valid<Schema>,
