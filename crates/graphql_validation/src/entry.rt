@@ -17,8 +17,8 @@ use graphql_documents::documents::{FieldSet, Schema, Valid};
 /// composite type selects something.
 ///
 /// Reports come in the order of the set: for one field its repeated arguments, the undefined ones and
-/// wrong values, the missing ones, and a missing selection or else what is below. Directives and fragments are not
-/// looked at. The only error is want of memory.
+/// wrong values, the missing ones, and a missing selection or else what is below. Directives and
+/// fragments are not looked at. The only error is want of memory.
 ///
 /// Specification: 5.3 Fields; 5.4 Arguments; 5.6 Values.
 pub fn validate_field_set(
