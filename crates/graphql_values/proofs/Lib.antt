@@ -1,0 +1,4 @@
+pub mod AcceptsLemmas
+pub mod LeafLemmas
+pub mod ObjectLemmas
+pub mod WalkLemmas

@@ -1,0 +1,212 @@
+-- Each exit of the walk over a value.
+use Rattle.std.proofs.Common.{◌≡◌, ◌||◌, [], ◌∷◌, ◌++◌, Some, None, true, IsTrue, IsFalse, refl, sym, ap, ◌∙◌, subst, All, Contains, rules}
+use Rattle.std.specs.Option.{option_map}
+use Rattle.std.proofs.lemmas.List.{append-nil, take_all}
+use Rattle.std.proofs.lemmas.List.Elements.{All-nil}
+use Rattle.std.proofs.lemmas.Option.{none-some}
+use Rattle.graphql_documents.specs.InputCoercion.{accepts_undefined, is_custom_scalar}
+use Rattle.graphql_documents.specs.Diagnostics.{IsDiagnostic, entries}
+use Rattle.graphql_documents.specs.Names.{NameText, same_name}
+use Rattle.graphql_documents.specs.Reports.{KeepsReports, Reports}
+use Rattle.graphql_documents.specs.Values.{entry_named}
+use Rattle.graphql_documents.specs.declared.documents.components.Component.{Component}
+use Rattle.graphql_documents.specs.declared.documents.definitions.InputValueDefinition.{InputValueDefinition}
+use Rattle.graphql_documents.specs.declared.documents.nodes.Node.{Node}
+use Rattle.graphql_documents.specs.declared.documents.values.Value.{Value}
+use Rattle.graphql_documents.specs.Schemas.{IsInputObject, is_input_type, type_definition}
+use Rattle.graphql_documents.specs.TypeReferences.{inner_named_type, is_list}
+use Rattle.graphql_documents.specs.ValueReports.{CannotStandFor, ValueReport}
+use Rattle.graphql_documents.specs.declared.documents.values.Value.TheVariants as literal
+use Rattle.graphql_documents.proofs.ReportLemmas.{holds, checks-err, kept_then, kept_by, kept_wider, wider, walked_more, walked_all, both}
+use Rattle.graphql_values.proofs.WalkLemmas.{same_list, same_object, names_item, names_entry, entry_checked, find_first, find_later, done_more, done_next, stands_next, no_list_cannot, no_input_cannot, custom_object_accepted, no_object_cannot, list_checked, object_checked}
+use Rattle.graphql_values.specs.ValueSteps.{AcceptsEntry, AcceptsField, AcceptsItem, EntryReport, ItemReport}
+use Rattle.graphql_values.proofs.value.+value.Goals as goal
+
+pub check_value-returns-in_default : goal.check_value-returns-in_default
+check_value-returns-in_default t c =
+    let missing : type_definition c.args.schema.now (inner_named_type c.args.ty.now) ≡ None = search rules in
+    holds _ _ _ (accepts_undefined missing)
+
+pub check_value-returns-then-not-takes_lists : goal.check_value-returns-then-not-takes_lists
+check_value-returns-then-not-takes_lists t c =
+    let d = c.in-Some.definition.now in
+    let is : type_definition c.args.schema.now (inner_named_type c.args.ty.now) ≡ Some d = search rules in
+    c.unsupported_type.ensures c.args.schema.now c.args.variables.now c.args.ty.now is
+    (no_list_cannot c.args.schema.now c.args.variables.now c.args.ty.now d c.args.value.now.value.value is c.in-List.field-0 (sym c.deref.ensures ∙ c.in-List.is)
+    (sym c.takes_lists.ensures ∙ search rules))
+
+pub check_value-returns-then-not-is_input_type : goal.check_value-returns-then-not-is_input_type
+check_value-returns-then-not-is_input_type t c =
+    let d = c.in-Some.definition.now in
+    let is : type_definition c.args.schema.now (inner_named_type c.args.ty.now) ≡ Some d = search rules in
+    let takes : IsTrue (is_list c.args.ty.now || is_custom_scalar d) = search rules in
+    let none : IsFalse (is_input_type d) = search rules in
+    c.unsupported_type-then-not-is_input_type.ensures c.args.schema.now c.args.variables.now c.args.ty.now is
+    (subst (CannotStandFor c.args.variables.now c.args.ty.now d c.args.value.now.value.value) (sym c.item_type-item_type.ensures)
+    (no_input_cannot c.args.schema.now c.args.variables.now c.args.ty.now d c.args.value.now.value.value is c.in-List.field-0 (sym c.deref.ensures ∙ c.in-List.is) takes none))
+
+pub check_value-returns-then-is_custom_scalar : goal.check_value-returns-then-is_custom_scalar
+check_value-returns-then-is_custom_scalar t c =
+    let d = c.in-Some.definition.now in
+    let is : type_definition c.args.schema.now (inner_named_type c.args.ty.now) ≡ Some d = search rules in
+    let custom : IsTrue (is_custom_scalar d) = search rules in
+    holds _ _ _ (custom_object_accepted c.args.schema.now c.args.variables.now c.args.ty.now d c.args.value.now.value.value is c.in-Object.entries (sym c.deref.ensures ∙ c.in-Object.is) custom)
+
+pub check_value-returns-in_default-definition : goal.check_value-returns-in_default-definition
+check_value-returns-in_default-definition t c =
+    let d = c.in-Some.definition.now in
+    let is : type_definition c.args.schema.now (inner_named_type c.args.ty.now) ≡ Some d = search rules in
+    let none : IsFalse (is_custom_scalar d) = search rules in
+    c.unsupported_type-in_default-definition.ensures c.args.schema.now c.args.variables.now c.args.ty.now is
+    (no_object_cannot c.args.schema.now c.args.variables.now c.args.ty.now d c.args.value.now.value.value is c.in-Object.entries (sym c.deref.ensures ∙ c.in-Object.is) none
+    c.in_default-definition.not-InputObject)
+
+pub check_value-check_known_entries-requires : goal.check_value-check_known_entries-requires
+check_value-check_known_entries-requires t c =
+    record { entries = c.in-Object.entries; is_object = sym c.deref.ensures ∙ c.in-Object.is; given_is = c.deref-in-Object.ensures.value }
+
+pub check_value-check_fields-requires : goal.check_value-check_fields-requires
+check_value-check_fields-requires t c =
+    (search rules, record { entries = c.in-Object.entries; is_object = sym c.deref.ensures ∙ c.in-Object.is; given_is = c.deref-in-Object-2.ensures.value })
+
+pub check_value-returns-else-not-is_input_type : goal.check_value-returns-else-not-is_input_type
+check_value-returns-else-not-is_input_type t c =
+    let d = c.in-Some.definition.now in
+    let is : type_definition c.args.schema.now (inner_named_type c.args.ty.now) ≡ Some d = search rules in
+    let takes : IsTrue (is_list c.args.ty.now || is_custom_scalar d) = search rules in
+    let input : IsTrue (is_input_type d) = search rules in
+    let is_list_value : c.args.value.now.value.value ≡ literal.List c.in-List.field-0 = sym c.deref.ensures ∙ c.in-List.is in
+    list_checked c.args.schema.now c.args.variables.now c.args.ty.now _ d c.args.value.now c.in-List.field-0 c.item_type-item_type.result.now _ _ is (takes, input)
+    is_list_value c.item_type-item_type.ensures (c.check_items.ensures c.in-List.field-0 is_list_value)
+
+pub check_value-returns-in_ok-check_known_entries-in-Object : goal.check_value-returns-in_ok-check_known_entries-in-Object
+check_value-returns-in_ok-check_known_entries-in-Object t c =
+    let o = c.in-InputObject.input_object in
+    let is : IsInputObject c.args.schema.now (inner_named_type c.args.ty.now) o = search rules in
+    object_checked c.args.schema.now c.args.variables.now c.args.ty.now o c.args.value.now c.in-Object.entries is (sym c.deref.ensures ∙ c.in-Object.is)
+    _ c.deref-in-Object.result.now c.deref-in-Object-2.result.now _ _ _ c.deref-in-Object.ensures.value c.deref-in-Object-2.ensures.value
+    (c.in_ok-check_known_entries-in-Object.ensures c.args.schema.now c.args.variables.now c.args.ty.now is)
+    (c.check_fields.ensures c.args.ty.now is)
+
+pub check_items-returns-in_err-check_value : goal.check_items-returns-in_err-check_value
+check_items-returns-in_err-check_value t c = λ items is.
+    let xs = c.deref-item-items.result.now in
+    let x = c.item-item.result in
+    let same : xs ≡ items.items = c.deref-item-items.ensures.value ∙ ap (λ l. l.items) (same_list c.in-List.items items (sym c.in-List.is ∙ c.deref.ensures ∙ is)) in
+    let among : Contains xs x = (c.loop-item.item-index, c.loop-item-test.true, sym c.item-item.is) in
+    checks-err _ _ _ _ _ c.from_residual.ensures.0
+    (subst (λ l. KeepsReports (IsDiagnostic (ItemReport c.args.schema.now c.args.variables.now c.args.item_type.now l)) (entries c.args.diagnostics.now) (entries c.check_value.new.diagnostics)) same
+    (kept_then _ _ _ _ (kept_by _ _ _ _ c.loop-item.invariant)
+    (kept_wider _ _ _ _ (names_item c.args.schema.now c.args.variables.now c.args.item_type.now xs x among) c.in_err-check_value.ensures)))
+
+pub check_items-loop-item-preserved : goal.check_items-loop-item-preserved
+check_items-loop-item-preserved t c =
+    let xs = c.deref-item-items.result.now in
+    let x = c.item-item.result in
+    let among : Contains xs x = (c.loop-item.item-index, c.loop-item-test.true, sym c.item-item.is) in
+    walked_more (AcceptsItem c.args.schema.now c.args.variables.now c.args.item_type.now)
+    (IsDiagnostic (ItemReport c.args.schema.now c.args.variables.now c.args.item_type.now xs)) xs c.loop-item.item-index x _ _ _
+    c.loop-item-test.true c.item-item.is c.loop-item.invariant
+    (wider _ _ _ _ _ (names_item c.args.schema.now c.args.variables.now c.args.item_type.now xs x among) c.in_ok-check_value.ensures)
+
+pub check_items-returns-after-loop-item : goal.check_items-returns-after-loop-item
+check_items-returns-after-loop-item t c = λ items is.
+    let P = AcceptsItem c.args.schema.now c.args.variables.now c.args.item_type.now in
+    let xs = c.deref-item-items.result.now in
+    let same : xs ≡ items.items = c.deref-item-items.ensures.value ∙ ap (λ l. l.items) (same_list c.in-List.items items (sym c.in-List.is ∙ c.deref.ensures ∙ is)) in
+    subst (λ l. Reports (All P l) (IsDiagnostic (ItemReport c.args.schema.now c.args.variables.now c.args.item_type.now l)) (entries c.args.diagnostics.now) (entries c.loop-item.diagnostics)) same
+    (walked_all P (IsDiagnostic (ItemReport c.args.schema.now c.args.variables.now c.args.item_type.now xs)) xs c.loop-item.item-index xs _ _ refl
+    c.loop-item-test.false c.loop-item.invariant)
+
+pub check_entry-returns-then-eq : goal.check_entry-returns-then-eq
+check_entry-returns-then-eq t c = λ all is.
+    let xs = c.deref-key-items.result.now in
+    let x = c.loop-key-item.result in
+    let same : xs ≡ all.items = c.deref-key-items.ensures.value ∙ ap (λ l. l.items) (same_object c.in-Object.entries all (sym c.in-Object.is ∙ c.deref-2.ensures ∙ is)) in
+    let named : same_name x.0 c.args.name.now ≡ true = sym c.eq.ensures ∙ c.if-eq.true in
+    let found : entry_named c.args.name.now all.items ≡ Some x.1 =
+    ap (entry_named c.args.name.now) (sym same) ∙
+    ap (option_map (λ (e : NameText × Node Value). e.1)) (find_first (λ e. same_name e.0 c.args.name.now) xs c.loop-key.key-index x c.loop-key-test.true c.loop-key-item.is c.loop-key.invariant.missed named) in
+    let ty_is : c.deref-then-eq.result.now ≡ c.args.field.now.node.value.value.ty.value.value = c.deref-then-eq.ensures ∙ ap (λ f. f.ty.value.value) c.deref.ensures in
+    entry_checked _ c.args.schema.now c.args.variables.now all.items (c.args.name.now, c.args.field.now) x.1 c.deref-then-eq.result.now _ _ _
+    found ty_is c.loop-key.invariant.unchanged c.check_value.ensures
+
+pub check_entry-loop-key-preserved : goal.check_entry-loop-key-preserved
+check_entry-loop-key-preserved t c = record {
+  unchanged = c.loop-key.invariant.unchanged;
+  missed = find_later (λ (e : NameText × Node Value). same_name e.0 c.args.name.now) c.deref-key-items.result.now c.loop-key.key-index c.loop-key-item.result
+      c.loop-key-test.true c.loop-key-item.is c.loop-key.invariant.missed (sym c.eq.ensures ∙ c.if-eq.false);
+}
+
+pub check_entry-returns-after-loop-key : goal.check_entry-returns-after-loop-key
+check_entry-returns-after-loop-key t c = λ all is.
+    let xs = c.deref-key-items.result.now in
+    let same : xs ≡ all.items = c.deref-key-items.ensures.value ∙ ap (λ l. l.items) (same_object c.in-Object.entries all (sym c.in-Object.is ∙ c.deref-2.ensures ∙ is)) in
+    let missed : entry_named c.args.name.now all.items ≡ None =
+    ap (entry_named c.args.name.now) (sym same ∙ sym (take_all c.loop-key.key-index xs c.loop-key-test.false)) ∙
+    ap (option_map (λ (e : NameText × Node Value). e.1)) c.loop-key.invariant.missed in
+    subst (λ l. Reports (AcceptsEntry c.args.schema.now c.args.variables.now all.items (c.args.name.now, c.args.field.now))
+    (IsDiagnostic (EntryReport c.args.schema.now c.args.variables.now all.items (c.args.name.now, c.args.field.now))) (entries c.args.diagnostics.now) l)
+    (sym c.loop-key.invariant.unchanged)
+    (holds _ _ _ (λ value found. absurd (none-some value (sym missed ∙ found))))
+
+pub check_fields-loop-name-init : goal.check_fields-loop-name-init
+check_fields-loop-name-init t c = record {
+  can_next = tt;
+  is_finite = tt;
+  done = [];
+  all = sym (c.into_iter-name-iterator.ensures.into_iter_gives.0 ∙ ap (λ d. d.fields.entries) c.deref.ensures);
+  checked = λ ty is. holds _ _ _ (All-nil _);
+}
+
+pub check_fields-check_required_field-requires-clause-stands : goal.check_fields-check_required_field-requires-clause-stands
+check_fields-check_required_field-requires-clause-stands t c =
+    stands_next _ c.loop-name.invariant.done c.loop-name.name-iterator c.next.new.self _ c.loop-name.invariant.all c.in-Some.ensures.steps
+
+pub check_fields-returns-in_err-check_required_field : goal.check_fields-returns-in_err-check_required_field
+check_fields-returns-in_err-check_required_field t c = λ ty is.
+    checks-err _ _ _ _ _ c.from_residual.ensures.0
+    (kept_then _ _ _ _ (kept_by _ _ _ _ (c.loop-name.invariant.checked ty is))
+    (c.in_err-check_required_field.ensures c.args.schema.now c.args.variables.now ty is))
+
+pub check_fields-loop-name-preserved : goal.check_fields-loop-name-preserved
+check_fields-loop-name-preserved t c =
+    let x : NameText × Component InputValueDefinition = (c.in-Some.name.now, c.in-Some.field.now) in
+    let next : c.loop-name.name-iterator ≡ x ∷ c.next.new.self = c.in-Some.ensures.steps in
+    let among : Contains c.args.input_object.now.value.value.fields.entries x =
+    stands_next _ c.loop-name.invariant.done c.loop-name.name-iterator c.next.new.self x c.loop-name.invariant.all next in
+    record {
+      can_next = tt;
+      is_finite = tt;
+      done = c.loop-name.invariant.done ++ x ∷ [];
+      all = done_next _ c.loop-name.invariant.done c.loop-name.name-iterator c.next.new.self x c.loop-name.invariant.all next;
+      checked = λ ty is.
+          let Q = IsDiagnostic (ValueReport c.args.schema.now c.args.variables.now ty c.args.value.now) in
+          let entry_holds : Reports (AcceptsEntry c.args.schema.now c.args.variables.now c.args.entries.now x) Q
+          (entries c.check_required_field.new.diagnostics) (entries c.check_entry.new.diagnostics) =
+          subst (λ l. Reports (AcceptsEntry c.args.schema.now c.args.variables.now l x) Q (entries c.check_required_field.new.diagnostics) (entries c.check_entry.new.diagnostics))
+          (sym c.requires.given_is)
+          (wider _ _ _ _ _ (names_entry c.args.schema.now c.args.variables.now ty c.args.input_object.now c.args.value.now c.requires.entries is c.requires.is_object x among)
+          (c.in_ok-check_entry.ensures c.requires.entries c.requires.is_object)) in
+          done_more (AcceptsField c.args.schema.now c.args.variables.now c.args.entries.now) Q c.loop-name.invariant.done x _ _ _ (c.loop-name.invariant.checked ty is)
+          (both _ _ _ _ _ _ (c.in_ok-check_required_field.ensures c.args.schema.now c.args.variables.now ty is) entry_holds);
+    }
+
+pub check_fields-returns-in_err-check_entry : goal.check_fields-returns-in_err-check_entry
+check_fields-returns-in_err-check_entry t c = λ ty is.
+    let x : NameText × Component InputValueDefinition = (c.in-Some.name.now, c.in-Some.field.now) in
+    let next : c.loop-name.name-iterator ≡ x ∷ c.next.new.self = c.in-Some.ensures.steps in
+    let among : Contains c.args.input_object.now.value.value.fields.entries x =
+    stands_next _ c.loop-name.invariant.done c.loop-name.name-iterator c.next.new.self x c.loop-name.invariant.all next in
+    checks-err _ _ _ _ _ c.from_residual-in_err-check_entry.ensures.0
+    (kept_then _ _ _ _ (kept_by _ _ _ _ (both _ _ _ _ _ _ (c.loop-name.invariant.checked ty is)
+    (c.in_ok-check_required_field.ensures c.args.schema.now c.args.variables.now ty is)))
+    (kept_wider _ _ _ _ (names_entry c.args.schema.now c.args.variables.now ty c.args.input_object.now c.args.value.now c.requires.entries is c.requires.is_object x among)
+    (c.in_err-check_entry.ensures c.requires.entries c.requires.is_object)))
+
+pub check_fields-returns : goal.check_fields-returns
+check_fields-returns t c = λ ty is.
+    let done : c.args.input_object.now.value.value.fields.entries ≡ c.loop-name.invariant.done =
+    c.loop-name.invariant.all ∙ ap (λ l. c.loop-name.invariant.done ++ l) c.in-None.ensures.steps.0 ∙ append-nil c.loop-name.invariant.done in
+    subst (λ l. Reports (All (AcceptsField c.args.schema.now c.args.variables.now c.args.entries.now) l) (IsDiagnostic (ValueReport c.args.schema.now c.args.variables.now ty c.args.value.now))
+    (entries c.args.diagnostics.now) (entries c.loop-name.diagnostics)) (sym done) (c.loop-name.invariant.checked ty is)
