@@ -4,20 +4,20 @@ mod leaves;
 mod objects;
 mod reports;
 
-ghost use Rattle.std.specs.Prelude.{◌≡◌, All, Vec};
+ghost use Rattle.std.specs.Prelude.{◌≡◌, Some, All, Vec};
 ghost use Rattle.std.specs.declared.alloc.Global.{Global};
 ghost use Rattle.graphql_documents.specs.Diagnostics.{IsDiagnostic};
 ghost use Rattle.graphql_documents.specs.InputCoercion.{Accepts};
 ghost use Rattle.graphql_documents.specs.Names.{NameText};
 ghost use Rattle.graphql_documents.specs.Reports.{Checks};
-ghost use Rattle.graphql_documents.specs.Schemas.{IsInputObject};
+ghost use Rattle.graphql_documents.specs.Schemas.{IsInputObject, type_definition};
 ghost use Rattle.graphql_documents.specs.TypeReferences.{inner_named_type};
 ghost use Rattle.graphql_documents.specs.ValueReports.{ValueReport};
 ghost use Rattle.graphql_documents.specs.declared.documents.nodes.Node.{Node};
 ghost use Rattle.graphql_documents.specs.declared.documents.type_references.Type.{«Type»};
 ghost use Rattle.graphql_documents.specs.declared.documents.values.Value.TheVariants as literal;
 ghost use Rattle.graphql_documents.specs.declared.documents.values.Value.{Value};
-ghost use Rattle.graphql_values.specs.ValueSteps.{AcceptsEntry, AcceptsField, AcceptsItem, EntryReport, HasEntries, ItemReport};
+ghost use Rattle.graphql_values.specs.ValueSteps.{AcceptsEntry, AcceptsField, AcceptsItem, ChecksValue, EntryReport, HasEntries, ItemReport};
 
 use graphql_documents::diagnostics::{DiagnosticList, ValidationError};
 use graphql_documents::documents::{
@@ -107,26 +107,69 @@ fn check_value(
             check_plain(diagnostics, definition, ty, place, value)
         }
         Value::List(_) => {
-            if !takes_lists(definition, ty) {
-                return unsupported_type(diagnostics, definition, ty, place, value);
-            }
-            let item_type = ty.item_type();
-            if !definition.is_input_type() {
-                return unsupported_type(diagnostics, definition, item_type, place, value);
-            }
-            check_items(diagnostics, schema, value, item_type, place, variables)
+            check_list(diagnostics, schema, value, definition, ty, place, variables)
         }
-        Value::Object(entries) => {
-            if is_custom_scalar(definition) {
-                return Ok(());
-            }
-            let ExtendedType::InputObject(input_object) = definition else {
-                return unsupported_type(diagnostics, definition, ty, place, value);
-            };
-            check_known_entries(diagnostics, input_object, value, entries)?;
-            check_fields(diagnostics, schema, value, entries, input_object, variables)
+        Value::Object(_) => {
+            check_object(diagnostics, schema, value, definition, ty, place, variables)
         }
     }
+}
+
+/// Checks a list value against a type with this definition.
+///
+/// Specification: 3.11 List, Input Coercion.
+#[cycle(value)]
+fn check_list(
+    diagnostics: &mut DiagnosticList,
+    schema: &Schema,
+    value: &Node<Value>,
+    definition: &ExtendedType,
+    ty: &Type,
+    place: Option<SourceSpan>,
+    variables: &[Node<VariableDefinition>],
+) -> Result<(), ValidationError>
+    ensures { (items : Vec (Node Value) Global) → value.now.value.value ≡ literal.List items →
+        type_definition schema.now (inner_named_type ty.now) ≡ Some definition.now →
+        ChecksValue result schema.now variables.now ty.now value.now diagnostics.old diagnostics.new }
+{
+    if !takes_lists(definition, ty) {
+        return unsupported_type(diagnostics, definition, ty, place, value);
+    }
+    let item_type = ty.item_type();
+    if !definition.is_input_type() {
+        return unsupported_type(diagnostics, definition, item_type, place, value);
+    }
+    check_items(diagnostics, schema, value, item_type, place, variables)
+}
+
+/// Checks an object value against a type with this definition.
+///
+/// Specification: 3.10 Input Objects, Input Coercion.
+#[cycle(value)]
+fn check_object(
+    diagnostics: &mut DiagnosticList,
+    schema: &Schema,
+    value: &Node<Value>,
+    definition: &ExtendedType,
+    ty: &Type,
+    place: Option<SourceSpan>,
+    variables: &[Node<VariableDefinition>],
+) -> Result<(), ValidationError>
+    ensures { (all : Vec (NameText × Node Value) Global) → value.now.value.value ≡ literal.Object all →
+        type_definition schema.now (inner_named_type ty.now) ≡ Some definition.now →
+        ChecksValue result schema.now variables.now ty.now value.now diagnostics.old diagnostics.new }
+{
+    if is_custom_scalar(definition) {
+        return Ok(());
+    }
+    let ExtendedType::InputObject(input_object) = definition else {
+        return unsupported_type(diagnostics, definition, ty, place, value);
+    };
+    let Value::Object(entries) = &*value.value else {
+        return Ok(());
+    };
+    check_known_entries(diagnostics, input_object, value, entries)?;
+    check_fields(diagnostics, schema, value, entries, input_object, variables)
 }
 
 /// Checks each item of a list value against the type of the items.

@@ -27,65 +27,53 @@ check_value-returns-in_default t c =
     let missing : type_definition c.args.schema.now (inner_named_type c.args.ty.now) ≡ None = search rules in
     holds _ _ _ (accepts_undefined missing)
 
-pub check_value-returns-then-not-takes_lists : goal.check_value-returns-then-not-takes_lists
-check_value-returns-then-not-takes_lists t c =
-    let d = c.in-Some.definition.now in
-    let is : type_definition c.args.schema.now (inner_named_type c.args.ty.now) ≡ Some d = search rules in
+pub check_list-returns-then-not-takes_lists : goal.check_list-returns-then-not-takes_lists
+check_list-returns-then-not-takes_lists t c = λ items is_list_value is.
+    let none : IsFalse (is_list c.args.ty.now || is_custom_scalar c.args.definition.now) = search rules in
     c.unsupported_type.ensures c.args.schema.now c.args.variables.now c.args.ty.now is
-    (no_list_cannot c.args.schema.now c.args.variables.now c.args.ty.now d c.args.value.now.value.value is c.in-List.field-0 (sym c.deref.ensures ∙ c.in-List.is)
-    (sym c.takes_lists.ensures ∙ search rules))
+    (no_list_cannot c.args.schema.now c.args.variables.now c.args.ty.now c.args.definition.now c.args.value.now.value.value is items is_list_value none)
 
-pub check_value-returns-then-not-is_input_type : goal.check_value-returns-then-not-is_input_type
-check_value-returns-then-not-is_input_type t c =
-    let d = c.in-Some.definition.now in
-    let is : type_definition c.args.schema.now (inner_named_type c.args.ty.now) ≡ Some d = search rules in
-    let takes : IsTrue (is_list c.args.ty.now || is_custom_scalar d) = search rules in
-    let none : IsFalse (is_input_type d) = search rules in
+pub check_list-returns-then-not-is_input_type : goal.check_list-returns-then-not-is_input_type
+check_list-returns-then-not-is_input_type t c = λ items is_list_value is.
+    let takes : IsTrue (is_list c.args.ty.now || is_custom_scalar c.args.definition.now) = search rules in
+    let none : IsFalse (is_input_type c.args.definition.now) = search rules in
     c.unsupported_type-then-not-is_input_type.ensures c.args.schema.now c.args.variables.now c.args.ty.now is
-    (subst (CannotStandFor c.args.variables.now c.args.ty.now d c.args.value.now.value.value) (sym c.item_type-item_type.ensures)
-    (no_input_cannot c.args.schema.now c.args.variables.now c.args.ty.now d c.args.value.now.value.value is c.in-List.field-0 (sym c.deref.ensures ∙ c.in-List.is) takes none))
+    (subst (CannotStandFor c.args.variables.now c.args.ty.now c.args.definition.now c.args.value.now.value.value) (sym c.item_type-item_type.ensures)
+    (no_input_cannot c.args.schema.now c.args.variables.now c.args.ty.now c.args.definition.now c.args.value.now.value.value is items is_list_value takes none))
 
-pub check_value-returns-then-is_custom_scalar : goal.check_value-returns-then-is_custom_scalar
-check_value-returns-then-is_custom_scalar t c =
-    let d = c.in-Some.definition.now in
-    let is : type_definition c.args.schema.now (inner_named_type c.args.ty.now) ≡ Some d = search rules in
-    let custom : IsTrue (is_custom_scalar d) = search rules in
-    holds _ _ _ (custom_object_accepted c.args.schema.now c.args.variables.now c.args.ty.now d c.args.value.now.value.value is c.in-Object.entries (sym c.deref.ensures ∙ c.in-Object.is) custom)
+pub check_list-returns : goal.check_list-returns
+check_list-returns t c = λ items is_list_value is.
+    let takes : IsTrue (is_list c.args.ty.now || is_custom_scalar c.args.definition.now) = search rules in
+    let input : IsTrue (is_input_type c.args.definition.now) = search rules in
+    list_checked c.args.schema.now c.args.variables.now c.args.ty.now _ c.args.definition.now c.args.value.now items c.item_type-item_type.result.now _ _ is (takes, input)
+    is_list_value c.item_type-item_type.ensures (c.check_items.ensures items is_list_value)
 
-pub check_value-returns-in_default-definition : goal.check_value-returns-in_default-definition
-check_value-returns-in_default-definition t c =
-    let d = c.in-Some.definition.now in
-    let is : type_definition c.args.schema.now (inner_named_type c.args.ty.now) ≡ Some d = search rules in
-    let none : IsFalse (is_custom_scalar d) = search rules in
-    c.unsupported_type-in_default-definition.ensures c.args.schema.now c.args.variables.now c.args.ty.now is
-    (no_object_cannot c.args.schema.now c.args.variables.now c.args.ty.now d c.args.value.now.value.value is c.in-Object.entries (sym c.deref.ensures ∙ c.in-Object.is) none
-    c.in_default-definition.not-InputObject)
+pub check_object-returns-then-is_custom_scalar : goal.check_object-returns-then-is_custom_scalar
+check_object-returns-then-is_custom_scalar t c = λ all is_object is.
+    let custom : IsTrue (is_custom_scalar c.args.definition.now) = search rules in
+    holds _ _ _ (custom_object_accepted c.args.schema.now c.args.variables.now c.args.ty.now c.args.definition.now c.args.value.now.value.value is all is_object custom)
 
-pub check_value-check_known_entries-requires : goal.check_value-check_known_entries-requires
-check_value-check_known_entries-requires t c =
-    record { entries = c.in-Object.entries; is_object = sym c.deref.ensures ∙ c.in-Object.is; given_is = c.deref-in-Object.ensures.value }
+pub check_object-returns-in_default : goal.check_object-returns-in_default
+check_object-returns-in_default t c = λ all is_object is.
+    let none : IsFalse (is_custom_scalar c.args.definition.now) = search rules in
+    c.unsupported_type.ensures c.args.schema.now c.args.variables.now c.args.ty.now is
+    (no_object_cannot c.args.schema.now c.args.variables.now c.args.ty.now c.args.definition.now c.args.value.now.value.value is all is_object none c.in_default.not-InputObject)
 
-pub check_value-check_fields-requires : goal.check_value-check_fields-requires
-check_value-check_fields-requires t c =
-    (search rules, record { entries = c.in-Object.entries; is_object = sym c.deref.ensures ∙ c.in-Object.is; given_is = c.deref-in-Object-2.ensures.value })
+pub check_object-check_known_entries-requires : goal.check_object-check_known_entries-requires
+check_object-check_known_entries-requires t c =
+    record { entries = c.in-Object.entries; is_object = sym c.deref.ensures ∙ c.in-Object.is; given_is = c.deref-2.ensures.value }
 
-pub check_value-returns-else-not-is_input_type : goal.check_value-returns-else-not-is_input_type
-check_value-returns-else-not-is_input_type t c =
-    let d = c.in-Some.definition.now in
-    let is : type_definition c.args.schema.now (inner_named_type c.args.ty.now) ≡ Some d = search rules in
-    let takes : IsTrue (is_list c.args.ty.now || is_custom_scalar d) = search rules in
-    let input : IsTrue (is_input_type d) = search rules in
-    let is_list_value : c.args.value.now.value.value ≡ literal.List c.in-List.field-0 = sym c.deref.ensures ∙ c.in-List.is in
-    list_checked c.args.schema.now c.args.variables.now c.args.ty.now _ d c.args.value.now c.in-List.field-0 c.item_type-item_type.result.now _ _ is (takes, input)
-    is_list_value c.item_type-item_type.ensures (c.check_items.ensures c.in-List.field-0 is_list_value)
+pub check_object-check_fields-requires : goal.check_object-check_fields-requires
+check_object-check_fields-requires t c =
+    (search rules, record { entries = c.in-Object.entries; is_object = sym c.deref.ensures ∙ c.in-Object.is; given_is = c.deref-3.ensures.value })
 
-pub check_value-returns-in_ok-check_known_entries-in-Object : goal.check_value-returns-in_ok-check_known_entries-in-Object
-check_value-returns-in_ok-check_known_entries-in-Object t c =
+pub check_object-returns : goal.check_object-returns
+check_object-returns t c = λ all is_object is'.
     let o = c.in-InputObject.input_object in
-    let is : IsInputObject c.args.schema.now (inner_named_type c.args.ty.now) o = search rules in
+    let is : IsInputObject c.args.schema.now (inner_named_type c.args.ty.now) o = is' ∙ ap Some c.in-InputObject.is in
     object_checked c.args.schema.now c.args.variables.now c.args.ty.now o c.args.value.now c.in-Object.entries is (sym c.deref.ensures ∙ c.in-Object.is)
-    _ c.deref-in-Object.result.now c.deref-in-Object-2.result.now _ _ _ c.deref-in-Object.ensures.value c.deref-in-Object-2.ensures.value
-    (c.in_ok-check_known_entries-in-Object.ensures c.args.schema.now c.args.variables.now c.args.ty.now is)
+    _ c.deref-2.result.now c.deref-3.result.now _ _ _ c.deref-2.ensures.value c.deref-3.ensures.value
+    (c.in_ok-check_known_entries.ensures c.args.schema.now c.args.variables.now c.args.ty.now is)
     (c.check_fields.ensures c.args.ty.now is)
 
 pub check_items-returns-in_err-check_value : goal.check_items-returns-in_err-check_value
