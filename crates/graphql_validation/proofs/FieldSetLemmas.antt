@@ -1,12 +1,12 @@
 -- In a set of plain fields the places that are reached are those reached by fields alone.
-use Rattle.std.proofs.Common.{◌≡◌, ◌↔◌, arith, List, [], Option, Some, None, Result, Ok, Err, refl, sym, ap, ◌∙◌, subst, Contains}
+use Rattle.std.proofs.Common.{◌≡◌, ◌↔◌, arith, List, [], Option, Some, Result, Ok, Err, refl, sym, ap, ◌∙◌, subst, Contains}
 use Rattle.std.specs.Result.{result_ok}
 use Rattle.std.proofs.lemmas.Option.{same_Some, none-some}
 use Rattle.std.proofs.lemmas.List.Elements.{All-nil}
 use Rattle.graphql_documents.specs.Names.{NameText}
 use Rattle.graphql_documents.specs.TypeReferences.{inner_named_type}
 use Rattle.graphql_documents.specs.Schemas.{type_field}
-use Rattle.graphql_documents.specs.Selections.{selections_of, definition_at, no_fragments, Written, standing, in_field, TypeBelow, below_unknown, below_known, Placed, standing_at, placed_in_field, placed_in_inline_fragment, placed_in_spread}
+use Rattle.graphql_documents.specs.Selections.{selections_of, definition_at, no_fragments, standing, in_field, TypeBelow, below_unknown, below_known, Placed, standing_at, placed_in_field, placed_in_inline_fragment, placed_in_spread}
 use Rattle.graphql_documents.specs.Directives.{ApplicationsHold}
 use Rattle.graphql_documents.specs.Fields.{FieldHolds}
 use Rattle.graphql_documents.specs.FieldSets.{IsPlainField, IsPlain, FieldSetHolds}

@@ -1,5 +1,5 @@
 -- The walk over fields, in the words of the definitions.
-use Rattle.std.proofs.Common.{◌≡◌, ◌↔◌, List, [], Option, Some, None, Ok, Err, refl, sym, ap, ◌∙◌, subst, All, Contains}
+use Rattle.std.proofs.Common.{◌≡◌, ◌↔◌, List, [], Option, Some, Ok, Err, refl, sym, ap, ◌∙◌, subst, All, Contains}
 use Rattle.std.specs.Result.{result_ok}
 use Rattle.std.proofs.lemmas.Option.{same_Some, none-some}
 use Rattle.std.specs.Prelude.{Result, Option}
@@ -8,8 +8,8 @@ use Rattle.graphql_documents.specs.Names.{NameText}
 use Rattle.graphql_documents.specs.TypeReferences.{inner_named_type}
 use Rattle.graphql_documents.specs.Schemas.{type_field}
 use Rattle.graphql_documents.specs.Selections.{selections_of, definition_at, no_fragments, TypeBelow, standing_at, placed_in_field, below_known}
-use Rattle.graphql_documents.specs.Arguments.{HasDistinctNames, ArgumentNamesHold, ArgumentValuesHold, IsDefined, IsGivenIfRequired}
-use Rattle.graphql_documents.specs.Fields.{FieldFormHolds, AgreesWithDefinition, HasNeededSelection}
+use Rattle.graphql_documents.specs.Arguments.{HasDistinctNames, ArgumentValueHolds, ArgumentValuesHold, definition_named, IsDefined, IsGivenIfRequired}
+use Rattle.graphql_documents.specs.Fields.{AgreesWithDefinition, HasNeededSelection}
 use Rattle.graphql_documents.specs.ArgumentReports.{ReportsRepetition, RepeatsArgument}
 use Rattle.graphql_documents.specs.FieldReports.{FieldBreaks, ReportsField}
 use Rattle.graphql_documents.specs.SelectionReports.{SelectionReport, of_field_directives, of_field_form, of_field_values, of_inline_fragment_directives, of_inline_fragment, of_spread_directives, of_spread, of_fragment_directives, of_fragment}
@@ -37,10 +37,8 @@ use Rattle.graphql_documents.specs.declared.documents.definitions.VariableDefini
 use Rattle.graphql_documents.specs.declared.documents.spans.SourceSpan.{SourceSpan}
 use Rattle.graphql_documents.specs.declared.diagnostics.data.DiagnosticData.{DiagnosticData}
 use Rattle.graphql_documents.specs.declared.diagnostics.details.Details.{Details}
-use Rattle.graphql_documents.specs.declared.diagnostics.details.Details.TheVariants.{Diagnostic}
-use Rattle.graphql_documents.specs.declared.diagnostics.data.DiagnosticData.TheVariants.{UniqueArgument}
 use Rattle.graphql_documents.specs.declared.diagnostics.lists.DiagnosticEntry.{DiagnosticEntry}
-use Rattle.graphql_validation.specs.FieldWalk.{GivenArgumentHolds, BareFieldBreaks, ReportsGivenArgument, BareFieldHolds, ReportsDefinedField, ReachedByFields, stands, below, ReachedFieldsHold, FieldHoldsBelow, NamesBrokenSelection}
+use Rattle.graphql_validation.specs.FieldWalk.{GivenArgumentHolds, BareFieldBreaks, ReportsGivenArgument, ReportsDefinedField, stands, below, ReachedFieldsHold, FieldHoldsBelow, NamesBrokenSelection}
 
 -- a selection holds, with what is below it, if it is a field that does
 abbrev pub SelectionHolds : Schema → NameText → Selection → Type 0
@@ -196,12 +194,21 @@ holds_undefined schema parent f e is = (
 no_variable : (value : Value) (v : Node VariableDefinition) → ¬ IsVariable [] value v
 no_variable value v is = none-some v is.2
 
+-- the value of an argument holds, by the first definition with its name
+abbrev ValueHolds : Schema → List (Node InputValueDefinition) → Node Argument → Type 0
+ValueHolds schema definitions a =
+    (d : Node InputValueDefinition) → definition_named a.value.value.name definitions ≡ Some d →
+    ArgumentValueHolds schema [] d.value.value a.value.value.value.value.value
+
 -- the arguments are defined and their values accepted, all of them
 values_hold : (schema : Schema) (definitions : List (Node InputValueDefinition)) (given : List (Node Argument)) →
     All (GivenArgumentHolds schema definitions) given → ArgumentValuesHold schema [] definitions given
 values_hold schema definitions given all =
-    All-weaker (GivenArgumentHolds schema definitions) _
-    (λ a h d found. record { usage = λ v is. absurd (no_variable _ v is); accepted = h.accepted d found }) given all
+    All-weaker (GivenArgumentHolds schema definitions) (ValueHolds schema definitions)
+    (λ a h d found. record {
+      usage = λ v is. absurd (no_variable a.value.value.value.value.value v is);
+      accepted = h.accepted d found;
+    }) given all
 
 given_hold : (schema : Schema) (definitions : List (Node InputValueDefinition)) (given : List (Node Argument)) →
     All (IsDefined definitions) given → ArgumentValuesHold schema [] definitions given → All (GivenArgumentHolds schema definitions) given
@@ -209,7 +216,7 @@ given_hold schema definitions given defined values =
     All-weaker (Contains given) (GivenArgumentHolds schema definitions)
     (λ a in'. record {
       defined = All-contains (IsDefined definitions) given a defined in';
-      accepted = λ d found. (All-contains _ given a values in' d found).accepted;
+      accepted = λ d found. (All-contains (ValueHolds schema definitions) given a values in' d found).accepted;
     }) given (All-contains_itself given)
 
 -- what a field with a definition must do
@@ -232,7 +239,8 @@ holds_defined schema parent f d is = (there, back) where
         distinct = p.0.0.0.0;
         agrees = λ d' found.
             let same : d ≡ d' = same_Some d d' (sym (ap result_ok is) ∙ found) in
-            let defined = All-weaker _ (IsDefined d.node.value.value.arguments.items) (λ a h. h.defined) f.value.value.arguments.items p.0.0.0.1 in
+            let defined = All-weaker (GivenArgumentHolds schema d.node.value.value.arguments.items) (IsDefined d.node.value.value.arguments.items)
+            (λ a h. h.defined) f.value.value.arguments.items p.0.0.0.1 in
             subst (λ x. AgreesWithDefinition (Some schema) f.value.value x.node.value.value) same
             (record { arguments = record { defined = defined; required = p.0.0.1 }; selection = p.0.1 });
       };
@@ -251,5 +259,5 @@ holds_defined schema parent f d is = (there, back) where
   back h =
       let agrees = h.itself.form.agrees d (ap result_ok is) in
       let given = given_hold schema d.node.value.value.arguments.items f.value.value.arguments.items agrees.arguments.defined
-          (h.itself.values schema d refl (ap result_ok is)) in
+      (h.itself.values schema d refl (ap result_ok is)) in
       ((((h.itself.form.distinct, given), agrees.arguments.required), agrees.selection), h.below_it d is)

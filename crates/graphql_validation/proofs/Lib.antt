@@ -1,2 +1,3 @@
+pub mod ArgumentValueLemmas
 pub mod FieldSetLemmas
 pub mod FieldWalkLemmas

@@ -1,5 +1,5 @@
 -- The steps of the walk over a value: its items, the fields of its input object, and their entries.
-use Rattle.std.proofs.Common.{◌≡◌, ◌↔◌, ℕ, ◌+◌, ◌<◌, List, [], ◌∷◌, ◌++◌, Bool, true, false, ◌||◌, Option, Some, None, Result, Ok, Err, Vec, IsTrue, IsFalse, find, length, get_or, take, drop, refl, sym, ap, ◌∙◌, subst, All, Contains}
+use Rattle.std.proofs.Common.{◌≡◌, ◌↔◌, ℕ, ◌+◌, ◌<◌, List, [], ◌∷◌, ◌++◌, Bool, true, false, ◌||◌, Some, None, Result, Ok, Err, Vec, IsTrue, IsFalse, find, length, get_or, take, drop, refl, sym, ap, ◌∙◌, subst, All, Contains}
 use Rattle.std.specs.declared.alloc.Global.{Global}
 use Rattle.std.specs.Option.{option_or}
 use Rattle.std.proofs.lemmas.List.{append_assoc}
@@ -15,10 +15,8 @@ use Rattle.graphql_documents.specs.Schemas.{IsInputObject, is_input_type, type_d
 use Rattle.graphql_documents.specs.TypeReferences.{inner_named_type, is_list, item_type}
 use Rattle.graphql_documents.specs.ValueReports.{CannotStandFor, list_for_no_list, list_of_no_input, object_for_no_object, TakesLists, ValueReport, within_item, within_entry}
 use Rattle.graphql_documents.specs.Values.{entry_named}
+use Rattle.graphql_documents.proofs.DiagnosticLemmas.{diagnostic_wider}
 use Rattle.graphql_documents.proofs.ReportLemmas.{All-append_left, All-append_right, ChecksList, in_words, wider, kept_wider, kept_by, kept_then, both, more_is}
-use Rattle.graphql_documents.specs.declared.diagnostics.data.DiagnosticData.{DiagnosticData}
-use Rattle.graphql_documents.specs.declared.diagnostics.details.Details.{Details}
-use Rattle.graphql_documents.specs.declared.diagnostics.details.Details.TheVariants.{Diagnostic, Build, RecursionLimit}
 use Rattle.graphql_documents.specs.declared.diagnostics.lists.DiagnosticEntry.{DiagnosticEntry}
 use Rattle.graphql_documents.specs.declared.documents.components.Component.{Component}
 use Rattle.graphql_documents.specs.declared.documents.definitions.InputValueDefinition.{InputValueDefinition}
@@ -28,7 +26,6 @@ use Rattle.graphql_documents.specs.declared.documents.schemas.ExtendedType.{Exte
 use Rattle.graphql_documents.specs.declared.documents.schemas.ExtendedType.TheVariants as types
 use Rattle.graphql_documents.specs.declared.documents.schemas.InputObjectType.{InputObjectType}
 use Rattle.graphql_documents.specs.declared.documents.schemas.Schema.{Schema}
-use Rattle.graphql_documents.specs.declared.documents.spans.SourceSpan.{SourceSpan}
 use Rattle.graphql_documents.specs.declared.documents.type_references.Type.{«Type»}
 use Rattle.graphql_documents.specs.declared.documents.values.Value.{Value, out-Value}
 use Rattle.graphql_documents.specs.declared.documents.values.Value.TheOpen as Open
@@ -44,19 +41,6 @@ same_list a b e = let opened : Open.List a ≡ Open.List b = sym (outs-List a) �
 
 pub same_object : (a b : Vec (NameText × Node Value) Global) → literal.Object a ≡ literal.Object b → a ≡ b
 same_object a b e = let opened : Open.Object a ≡ Open.Object b = sym (outs-Object a) ∙ ap out-Value e ∙ outs-Object b in cc
-
--- the details are a broken rule, and this holds of it and its place
-abbrev IsAbout : (DiagnosticData → Option SourceSpan → Type 0) → Option SourceSpan → Details → Type 0
-IsAbout P at details = elim details [ Diagnostic broken ↦ P broken at | _ ↦ ⊥ ]
-
--- what holds of a broken rule, seen from further off
-pub diagnostic_wider : (P Q : DiagnosticData → Option SourceSpan → Type 0) → ((r : DiagnosticData) (at : Option SourceSpan) → P r at → Q r at) →
-    (e : DiagnosticEntry) → IsDiagnostic P e → IsDiagnostic Q e
-diagnostic_wider P Q w e h = about e.details h where
-  about : (details : Details) → IsAbout P e.location details → IsAbout Q e.location details
-  about (Diagnostic broken) p = w broken e.location p
-  about (Build error) p = p
-  about (RecursionLimit error) p = p
 
 module _ {T E Entry : Type 0} where
   -- the same check in other words

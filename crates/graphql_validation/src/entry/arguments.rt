@@ -131,7 +131,8 @@ fn validate_given_argument(
         (GivenArgumentHolds schema.now definition.now.node.value.value.arguments.items argument.now)
         (ReportsGivenArgument schema.now parent.now field.now definition.now) diagnostics.old diagnostics.new }
 {
-    let Some(input) = definition_named(&definition.node.value.arguments, &argument.value.name) else {
+    let Some(input) = definition_named(&definition.node.value.arguments, &argument.value.name)
+    else {
         return report_undefined_argument(diagnostics, parent, field, definition, argument);
     };
     value_of_correct_type(

@@ -1,5 +1,5 @@
 -- Each argument is looked up among those before it, by what `seen` has of them.
-use Rattle.std.proofs.Common.{◌≡◌, ℕ, ◌+◌, ◌<◌, List, length, get_or, take, cond, Option, Some, None, Bor, refl, sym, ap, ◌∙◌, subst, rules, arith}
+use Rattle.std.proofs.Common.{◌≡◌, take, cond, Option, Some, None, Bor, sym, ap, ◌∙◌, subst, rules, arith}
 use Rattle.std.proofs.lemmas.List.{take_all}
 use Rattle.std.proofs.lemmas.Option.{none-some}
 use Rattle.graphql_documents.specs.Reports.{Reports}

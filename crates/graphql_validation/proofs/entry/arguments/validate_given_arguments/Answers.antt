@@ -1,6 +1,4 @@
-use Rattle.std.proofs.Common.{List, All, subst, ap, ◌∙◌, rules}
-use Rattle.graphql_documents.specs.Diagnostics.{entries}
-use Rattle.graphql_documents.specs.Reports.{Reports}
+use Rattle.std.proofs.Common.{ap, ◌∙◌}
 use Rattle.graphql_documents.proofs.ReportLemmas.{checks-err, kept_then, kept_by, walked_more, walked_all}
 use Rattle.graphql_validation.specs.FieldWalk.{GivenArgumentHolds, ReportsGivenArgument}
 use Rattle.graphql_validation.proofs.entry.arguments.validate_given_arguments.Goals as goal

@@ -1,5 +1,4 @@
-use Rattle.std.proofs.Common.{◌≡◌, true, refl, ap, ◌∙◌, rules}
-use Rattle.graphql_documents.specs.Nodes.{SameNode}
+use Rattle.std.proofs.Common.{◌≡◌, true, refl, rules}
 use Rattle.graphql_documents.specs.Schemas.{is_required}
 use Rattle.graphql_documents.specs.Arguments.{IsGiven}
 use Rattle.graphql_documents.proofs.ReportLemmas.{checks-push, checks-err, kept}

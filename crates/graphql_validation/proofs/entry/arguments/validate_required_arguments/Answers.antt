@@ -1,7 +1,5 @@
-use Rattle.std.proofs.Common.{List, All, subst, ap, ◌∙◌, rules}
-use Rattle.graphql_documents.specs.Arguments.{IsDefined, IsGivenIfRequired}
-use Rattle.graphql_documents.specs.Diagnostics.{entries}
-use Rattle.graphql_documents.specs.Reports.{Reports}
+use Rattle.std.proofs.Common.{ap, ◌∙◌, rules}
+use Rattle.graphql_documents.specs.Arguments.{IsGivenIfRequired}
 use Rattle.graphql_documents.proofs.ReportLemmas.{checks-err, kept_then, kept_by, walked_more, walked_all}
 use Rattle.graphql_validation.specs.FieldWalk.{ReportsDefinedField}
 use Rattle.graphql_validation.proofs.entry.arguments.validate_required_arguments.Goals as goal

@@ -1,5 +1,5 @@
 use Rattle.std.proofs.Common.{All, take}
-use Rattle.graphql_documents.specs.Arguments.{IsDefined, IsGivenIfRequired}
+use Rattle.graphql_documents.specs.Arguments.{IsGivenIfRequired}
 use Rattle.graphql_documents.specs.Diagnostics.{entries}
 use Rattle.graphql_documents.specs.Reports.{Reports}
 use Rattle.graphql_validation.specs.FieldWalk.{ReportsDefinedField}

@@ -1,14 +1,10 @@
 -- Each exit of the walk: what was reported so far, in the words of the set around it.
-use Rattle.std.proofs.Common.{◌≡◌, List, Some, Ok, Contains, refl, sym, ap, ◌∙◌, subst, rules}
+use Rattle.std.proofs.Common.{◌≡◌, Ok, Contains, ap, ◌∙◌, rules}
 use Rattle.graphql_documents.specs.TypeReferences.{inner_named_type}
 use Rattle.graphql_documents.specs.Schemas.{type_field}
 use Rattle.graphql_documents.specs.Selections.{selections_of}
 use Rattle.graphql_validation.specs.FieldWalk.{NamesBrokenSelection}
-use Rattle.graphql_documents.specs.Diagnostics.{entries}
-use Rattle.graphql_documents.specs.Reports.{Reports, KeepsReports}
-use Rattle.graphql_documents.specs.declared.documents.executables.SelectionSet.{SelectionSet}
 use Rattle.graphql_documents.proofs.ReportLemmas.{checks-err, kept_then, kept_by, kept_wider, wider, both, holds, in_words, walked_more, walked_all}
-use Rattle.graphql_validation.specs.FieldWalk.{ReachedFieldsHold, FieldHoldsBelow}
 use Rattle.graphql_validation.proofs.FieldWalkLemmas.{SelectionHolds, field_selection, reached_hold, all_hold, none_reached, names_repetition, distinct_in_set, names_defined, names_given, names_checked, arguments_in_set, checked_in_set, below_in_set, names_below, holds_undefined, holds_defined}
 use Rattle.graphql_documents.specs.declared.documents.executables.Selection.TheVariants as kind
 use Rattle.graphql_validation.proofs.entry.fields.+selection.Goals as goal

@@ -1,4 +1,4 @@
-use Rattle.std.proofs.Common.{Some, All, take}
+use Rattle.std.proofs.Common.{All, take}
 use Rattle.graphql_validation.specs.FieldWalk.{NamesBrokenSelection}
 use Rattle.graphql_documents.specs.Diagnostics.{entries}
 use Rattle.graphql_documents.specs.Reports.{Reports}
