@@ -22,7 +22,7 @@ use Rattle.graphql_documents.specs.declared.documents.executables.Selection.TheV
 use Rattle.graphql_documents.specs.declared.documents.executables.Field.{Field}
 use Rattle.graphql_documents.specs.declared.documents.executables.Fragment.{Fragment}
 use Rattle.graphql_documents.specs.declared.documents.executables.FragmentSpread.{FragmentSpread}
-use Rattle.graphql_documents.proofs.NameLemmas.{same_name_itself, same_name_back, not_both}
+use Rattle.graphql_documents.proofs.NameLemmas.{same_name_itself, same_name_back, not_both, same_name_then}
 use Rattle.graphql_documents.proofs.SelectionLaws.{includes_then, not_inline, same_inline, spread_not_inline}
 use Rattle.graphql_documents.proofs.ListLemmas.{none_stands}
 
@@ -182,6 +182,33 @@ same_shape_itself schema (Named a) output = named_itself schema a output
 same_shape_itself schema (NonNullNamed a) output = named_itself schema a output
 same_shape_itself schema (List' place a) output = same_shape_itself schema a output
 same_shape_itself schema (NonNullList' place a) output = same_shape_itself schema a output
+
+-- what has one form with a composite type is composite
+composite_end : (x y : ExtendedType) → IsTrue (is_composite x) → HaveOneForm x y → IsTrue (is_composite y)
+composite_end (Object a) y hx h = h.1
+composite_end (Interface a) y hx h = h.1
+composite_end (Union a) y hx h = h.1
+composite_end _ y hx h = absurd (let no : ⊥ = cc in no)
+
+one_form_then : (x y z : ExtendedType) → HaveOneForm x y → HaveOneForm y z → HaveOneForm x z
+one_form_then (Scalar a) (Scalar b) (Scalar c) p q = same_name_then a.value.value.name b.value.value.name c.value.value.name p q
+one_form_then (Enum a) (Enum b) (Enum c) p q = same_name_then a.value.value.name b.value.value.name c.value.value.name p q
+one_form_then (Object a) y z p q = composite_form (Object a) z p.0 (composite_end y z p.1 q)
+one_form_then (Interface a) y z p q = composite_form (Interface a) z p.0 (composite_end y z p.1 q)
+one_form_then (Union a) y z p q = composite_form (Union a) z p.0 (composite_end y z p.1 q)
+one_form_then _ _ _ p q = absurd (let no : ⊥ = cc in no)
+
+pub same_shape_then : (schema : Schema) (a b c : «Type») (d : ExtendedType) → type_definition schema (inner_named_type b) ≡ Some d →
+    SameShape schema a b → SameShape schema b c → SameShape schema a c
+same_shape_then schema (Named a) (Named b) (Named c) d is p q = λ x y ex ey. one_form_then x d y (p x d ex is) (q d y is ey)
+same_shape_then schema (NonNullNamed a) (NonNullNamed b) (NonNullNamed c) d is p q = λ x y ex ey. one_form_then x d y (p x d ex is) (q d y is ey)
+same_shape_then schema (List' place a) (List' other b) (List' third c) d is p q = same_shape_then schema a b c d is p q
+same_shape_then schema (NonNullList' place a) (NonNullList' other b) (NonNullList' third c) d is p q = same_shape_then schema a b c d is p q
+same_shape_then schema (Named a) (Named b) _ d is p q = absurd q
+same_shape_then schema (NonNullNamed a) (NonNullNamed b) _ d is p q = absurd q
+same_shape_then schema (List' place a) (List' other b) _ d is p q = absurd q
+same_shape_then schema (NonNullList' place a) (NonNullList' other b) _ d is p q = absurd q
+same_shape_then schema _ _ _ d is p q = absurd p
 
 -- nothing stands inside a set that has nothing
 nothing_inside : (fragments : Fragments) {set inner : SelectionSet} (s : Selection) → Includes fragments set inner →

@@ -91,6 +91,16 @@ pub fn sameness_of_shapes_goes_both_ways()
     ensures { (schema : Schema) (a b : «Type») → SameShape schema a b → SameShape schema b a }
 {}
 
+/// Where a type has the shape of a second, and this that of a third, the first has the shape of the
+/// third, if what the second names is defined.
+///
+/// Specification: 5.3.2 Field Selection Merging, SameResponseShape.
+pub fn sameness_of_shapes_goes_on()
+    ensures { (schema : Schema) (a b c : «Type») (d : ExtendedType) →
+        type_definition schema (inner_named_type b) ≡ Some d →
+        SameShape schema a b → SameShape schema b c → SameShape schema a c }
+{}
+
 /// A type has its own shape, if what it names is an output type or not defined.
 ///
 /// Specification: 5.3.2 Field Selection Merging, SameResponseShape.
