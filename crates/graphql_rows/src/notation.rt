@@ -6,8 +6,8 @@ pub mod selections;
 
 pub use definitions::{
     DirectiveDefinitionNotation, InputNotation, OutputNotation, TypeKind, TypeNotation,
-    directive_definition, enum_type, input, input_object, input_or, interface,
-    interface_implementing, object, object_implementing, output, output_taking, scalar, union_type,
+    directive_definition, input, input_or, interface, interface_implementing, object,
+    object_implementing, output, output_taking, scalar, union_type,
 };
 pub use literals::{ArgumentNotation, DirectiveNotation, Literal, argument, directive};
 pub use selections::{

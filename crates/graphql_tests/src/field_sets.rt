@@ -25,7 +25,7 @@ fn field_with_a_required_argument(alloc: Global) -> Result<Valid<Schema>, RowErr
 }
 
 /// The messages that a field set on `Query` brings, each on a line.
-pub(crate) fn messages(
+fn messages(
     alloc: Global,
     schema: &Valid<Schema>,
     selections: &[SelectionNotation<'_>],

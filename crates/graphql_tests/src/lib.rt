@@ -19,5 +19,3 @@ mod numbers;
 mod schemas;
 #[cfg(test)]
 mod spans;
-#[cfg(test)]
-mod values;

@@ -5,9 +5,8 @@ use crate::notation::{
     DirectiveDefinitionNotation, InputNotation, OutputNotation, TypeKind, TypeNotation,
 };
 use graphql_documents::documents::{
-    Component, ComponentName, DirectiveDefinition, EnumType, EnumValueDefinition, ExtendedType,
-    FieldDefinition, InputObjectType, InputValueDefinition, InterfaceType, Name, Node, ObjectType,
-    ScalarType, SourceSpan, UnionType,
+    Component, ComponentName, DirectiveDefinition, ExtendedType, FieldDefinition,
+    InputValueDefinition, InterfaceType, Name, Node, ObjectType, ScalarType, SourceSpan, UnionType,
 };
 use indexmap::{IndexMap, IndexSet};
 use std::alloc::Global;
@@ -35,14 +34,6 @@ pub(super) fn type_definition(
         TypeKind::Union { members } => {
             let union = union_type(alloc, name, members)?;
             Ok(ExtendedType::Union(node(alloc, union, location)?))
-        }
-        TypeKind::Enum { values } => {
-            let definition = enum_type(alloc, name, values)?;
-            Ok(ExtendedType::Enum(node(alloc, definition, location)?))
-        }
-        TypeKind::InputObject { fields } => {
-            let input_object = input_object_type(alloc, name, fields)?;
-            Ok(ExtendedType::InputObject(node(alloc, input_object, location)?))
         }
     }
 }
@@ -90,26 +81,6 @@ fn union_type(alloc: Global, name: Name, members: &[&str]) -> Result<UnionType, 
     })
 }
 
-fn enum_type(alloc: Global, name: Name, values: &[&str]) -> Result<EnumType, RowError> {
-    Ok(EnumType {
-        name,
-        directives: Vec::new(alloc),
-        values: enum_values(alloc, values)?,
-    })
-}
-
-fn input_object_type(
-    alloc: Global,
-    name: Name,
-    fields: &[InputNotation<'_>],
-) -> Result<InputObjectType, RowError> {
-    Ok(InputObjectType {
-        name,
-        directives: Vec::new(alloc),
-        fields: input_fields(alloc, fields)?,
-    })
-}
-
 /// The definition of a directive. Its arguments stand where it stands.
 pub(super) fn directive_definition(
     alloc: Global,
@@ -143,39 +114,6 @@ fn fields_by_name(
     for field in notation {
         let key = name(alloc, field.name, None)?;
         let definition = field_definition(alloc, field)?;
-        if fields.insert(key, component(alloc, definition)?)?.is_some() {
-            return Err(RowError::RepeatedName);
-        }
-    }
-    Ok(fields)
-}
-
-fn enum_values(
-    alloc: Global,
-    texts: &[&str],
-) -> Result<IndexMap<Name, Component<EnumValueDefinition>>, RowError> {
-    let mut values = IndexMap::new(alloc);
-    for text in texts {
-        let key = name(alloc, text, None)?;
-        let definition = EnumValueDefinition {
-            value: name(alloc, text, None)?,
-            directives: Vec::new(alloc),
-        };
-        if values.insert(key, component(alloc, definition)?)?.is_some() {
-            return Err(RowError::RepeatedName);
-        }
-    }
-    Ok(values)
-}
-
-fn input_fields(
-    alloc: Global,
-    notation: &[InputNotation<'_>],
-) -> Result<IndexMap<Name, Component<InputValueDefinition>>, RowError> {
-    let mut fields = IndexMap::new(alloc);
-    for field in notation {
-        let key = name(alloc, field.name, None)?;
-        let definition = input_definition(alloc, field, None)?;
         if fields.insert(key, component(alloc, definition)?)?.is_some() {
             return Err(RowError::RepeatedName);
         }

@@ -76,12 +76,6 @@ pub enum TypeKind<'a> {
     Union {
         members: &'a [&'a str],
     },
-    Enum {
-        values: &'a [&'a str],
-    },
-    InputObject {
-        fields: &'a [InputNotation<'a>],
-    },
 }
 
 impl<'a> TypeNotation<'a> {
@@ -139,16 +133,6 @@ pub fn interface_implementing<'a>(
 /// `union name = members`
 pub fn union_type<'a>(name: &'a str, members: &'a [&'a str]) -> TypeNotation<'a> {
     TypeNotation::placeless(name, TypeKind::Union { members })
-}
-
-/// `enum name { values }`
-pub fn enum_type<'a>(name: &'a str, values: &'a [&'a str]) -> TypeNotation<'a> {
-    TypeNotation::placeless(name, TypeKind::Enum { values })
-}
-
-/// `input name { fields }`
-pub fn input_object<'a>(name: &'a str, fields: &'a [InputNotation<'a>]) -> TypeNotation<'a> {
-    TypeNotation::placeless(name, TypeKind::InputObject { fields })
 }
 
 /// A directive definition, and where it stands.
