@@ -25,7 +25,7 @@ fn field_with_a_required_argument(alloc: Global) -> Result<Valid<Schema>, RowErr
 }
 
 /// The messages that a field set on `Query` brings, each on a line.
-fn messages(
+pub(crate) fn messages(
     alloc: Global,
     schema: &Valid<Schema>,
     selections: &[SelectionNotation<'_>],
@@ -36,7 +36,7 @@ fn messages(
     lines(alloc, &diagnostics)
 }
 
-fn lines(alloc: Global, diagnostics: &DiagnosticList) -> Result<String, RowError> {
+pub(crate) fn lines(alloc: Global, diagnostics: &DiagnosticList) -> Result<String, RowError> {
     let mut text = String::new(alloc);
     for entry in diagnostics.iter() {
         let details = &entry.details;

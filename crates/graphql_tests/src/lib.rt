@@ -19,3 +19,5 @@ mod numbers;
 mod schemas;
 #[cfg(test)]
 mod spans;
+#[cfg(test)]
+mod values;
