@@ -10,6 +10,8 @@ mod field_sets;
 #[cfg(test)]
 mod guards;
 #[cfg(test)]
+mod input_objects;
+#[cfg(test)]
 mod messages;
 #[cfg(test)]
 mod notation;
