@@ -6,7 +6,8 @@ use Rattle.std.proofs.lemmas.Option.{same_Some}
 use Rattle.graphql_documents.specs.Names.{NameText}
 use Rattle.graphql_documents.specs.Selections.{fragments_of}
 use Rattle.graphql_documents.specs.FieldReports.{FieldBreaks}
-use Rattle.graphql_documents.specs.Limits.{Walk, Descent, PassesDepth, DocumentLimit, fragment_nests, walk_of_variables, walk_of_root, walk_of_labels, walk_of_conditions, walk_of_fragments, merging_limit}
+use Rattle.graphql_documents.specs.Walks.{Walk, Descent, PassesDepth}
+use Rattle.graphql_documents.specs.Limits.{DocumentLimit, fragment_nests, walk_of_variables, walk_of_root, walk_of_labels, walk_of_conditions, walk_of_fragments, merging_limit}
 use Rattle.graphql_documents.specs.declared.diagnostics.data.DiagnosticData.TheVariants as report
 use Rattle.graphql_documents.specs.declared.diagnostics.details.Details.{Details}
 use Rattle.graphql_documents.specs.declared.diagnostics.details.Details.TheVariants as details

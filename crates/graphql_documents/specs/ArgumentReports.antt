@@ -1,11 +1,14 @@
 -- What a report says of the names of arguments. Specification: 5.4 Arguments.
-use Rattle.std.specs.Prelude.{◌≡◌, true, List, ◌∷◌, ◌++◌, Option, Some, Contains}
+use Rattle.std.specs.Prelude.{◌≡◌, true, List, [], ◌∷◌, ◌++◌, Option, Some, Contains}
+use Rattle.std.specs.List.{AllZip, cons_option}
+use Rattle.std.specs.Option.{option_map}
 use Rattle.graphql_documents.specs.Arguments.{IsDefined, IsGiven, argument_named}
+use Rattle.graphql_documents.specs.Diagnostics.{IsDiagnostic}
 use Rattle.graphql_documents.specs.Names.{NameText}
 use Rattle.graphql_documents.specs.Nodes.{SameNode}
 use Rattle.graphql_documents.specs.Schemas.{is_required}
 use Rattle.graphql_documents.specs.declared.diagnostics.data.DiagnosticData.TheVariants as report
-use Rattle.graphql_documents.specs.declared.diagnostics.details.Details.TheVariants as details
+use Rattle.graphql_documents.specs.declared.diagnostics.data.DiagnosticData.{DiagnosticData}
 use Rattle.graphql_documents.specs.declared.diagnostics.lists.DiagnosticEntry.{DiagnosticEntry}
 use Rattle.graphql_documents.specs.declared.documents.coordinates.SchemaCoordinate.{SchemaCoordinate}
 use Rattle.graphql_documents.specs.declared.documents.definitions.InputValueDefinition.{InputValueDefinition}
@@ -21,21 +24,39 @@ pub record IsRepetition (given : List (Node Argument)) (first again : Node Argum
   pub split : given ≡ before ++ again ∷ after
   pub first_is : argument_named again.value.value.name before ≡ Some first
 
--- an argument repeats a name: reported at the repetition, with the place of the first
-pub record RepeatsArgument (given : List (Node Argument)) (name : NameText) (original redefined at : Option SourceSpan) : Type 0 where
-  pub first : Node Argument
-  pub again : Node Argument
-  pub repetition : IsRepetition given first again
+-- what is said of a repetition: it is reported there, with the place of the first
+pub record SaysRepeated (first again : Node Argument) (name : NameText) (original redefined at : Option SourceSpan) : Type 0 where
   pub name_is : name ≡ again.value.value.name
   pub original_is : original ≡ first.location
   pub redefined_is : redefined ≡ again.location
   pub at_is : at ≡ again.location
 
+-- an argument repeats a name
+pub record RepeatsArgument (given : List (Node Argument)) (name : NameText) (original redefined at : Option SourceSpan) : Type 0 where
+  pub first : Node Argument
+  pub again : Node Argument
+  pub repetition : IsRepetition given first again
+  pub says : SaysRepeated first again name original redefined at
+
 -- the report says that one of these arguments repeats a name
-abbrev pub ReportsRepetition : List (Node Argument) → DiagnosticEntry → Type 0
-ReportsRepetition given entry =
-    (name : NameText) × (original redefined : Option SourceSpan) ×
-    (entry.details ≡ details.Diagnostic (report.UniqueArgument name original redefined)) × RepeatsArgument given name original redefined entry.location
+abbrev pub RepetitionReport : List (Node Argument) → DiagnosticData → Option SourceSpan → Type 0
+RepetitionReport given (report.UniqueArgument name original redefined) at = RepeatsArgument given name original redefined at
+RepetitionReport given r at = ⊥
+
+-- the arguments whose names stand before them, in order, each behind the first of its name
+abbrev pub repetitions_after : List (Node Argument) → List (Node Argument) → List (Node Argument × Node Argument)
+repetitions_after before [] = []
+repetitions_after before (a ∷ given) =
+    cons_option (option_map (λ first. (first, a)) (argument_named a.value.value.name before)) (repetitions_after (before ++ a ∷ []) given)
+
+-- the report is of this repetition
+abbrev pub IsReportOf : Node Argument × Node Argument → DiagnosticData → Option SourceSpan → Type 0
+IsReportOf pair (report.UniqueArgument name original redefined) at = SaysRepeated pair.0 pair.1 name original redefined at
+IsReportOf pair r at = ⊥
+
+-- the reports are of the repetitions among these arguments, one for each, in order
+abbrev pub AreRepetitionReports : List (Node Argument) → List DiagnosticEntry → Type 0
+AreRepetitionReports given reports = AllZip (λ pair. IsDiagnostic (IsReportOf pair)) (repetitions_after [] given) reports
 
 -- an argument is not defined: reported at the argument, with the coordinate and the place of the
 -- definition that lacks it

@@ -23,22 +23,33 @@ use Rattle.graphql_documents.specs.declared.documents.schemas.Schema.{Schema}
 use Rattle.graphql_documents.specs.declared.documents.spans.SourceSpan.{SourceSpan}
 use Rattle.graphql_documents.specs.declared.documents.type_references.Type.{«Type»}
 
--- a variable may not be used for an argument: reported at the argument, with both types and places
-pub record MisusesVariable (variables : List (Node VariableDefinition)) (definitions : List (Node InputValueDefinition)) (given : List (Node Argument)) (variable : NameText) (variable_type : «Type») (argument : NameText) (argument_type : «Type») (variable_location argument_location at : Option SourceSpan) : Type 0 where
-  pub a : Node Argument
-  pub definition : Node InputValueDefinition
+-- an argument is a variable that may not stand at its place: reported at the argument, with both types
+-- and places
+pub record IsMisuse (variables : List (Node VariableDefinition)) (place : Node InputValueDefinition) (a : Node Argument) (variable : NameText) (variable_type : «Type») (argument : NameText) (argument_type : «Type») (variable_location argument_location at : Option SourceSpan) : Type 0 where
   pub v : Node VariableDefinition
-  pub is_given : Contains given a
-  pub defined : definition_named a.value.value.name definitions ≡ Some definition
   pub is_variable : IsVariable variables a.value.value.value.value.value v
-  pub disallowed : ¬ IsUsageAllowed v.value.value definition.value.value
+  pub disallowed : ¬ IsUsageAllowed v.value.value place.value.value
   pub variable_is : variable ≡ v.value.value.name
   pub variable_type_is : IsTrue (same_type variable_type v.value.value.ty.value.value)
   pub argument_is : argument ≡ a.value.value.name
-  pub argument_type_is : IsTrue (same_type argument_type definition.value.value.ty.value.value)
+  pub argument_type_is : IsTrue (same_type argument_type place.value.value.ty.value.value)
   pub variable_location_is : variable_location ≡ v.location
   pub argument_location_is : argument_location ≡ a.location
   pub at_is : at ≡ a.location
+
+-- the report says so of this argument at this place
+abbrev pub UsageReport : List (Node VariableDefinition) → Node InputValueDefinition → Node Argument → DiagnosticData → Option SourceSpan → Type 0
+UsageReport variables place a (report.DisallowedVariableUsage variable variable_type argument argument_type variable_location argument_location) at =
+    IsMisuse variables place a variable variable_type argument argument_type variable_location argument_location at
+UsageReport variables place a r at = ⊥
+
+-- one of these arguments is a variable that may not stand at its place
+pub record MisusesVariable (variables : List (Node VariableDefinition)) (definitions : List (Node InputValueDefinition)) (given : List (Node Argument)) (variable : NameText) (variable_type : «Type») (argument : NameText) (argument_type : «Type») (variable_location argument_location at : Option SourceSpan) : Type 0 where
+  pub a : Node Argument
+  pub definition : Node InputValueDefinition
+  pub is_given : Contains given a
+  pub defined : definition_named a.value.value.name definitions ≡ Some definition
+  pub misuse : IsMisuse variables definition a variable variable_type argument argument_type variable_location argument_location at
 
 -- the value of an argument is wrong
 pub record HasWrongValue (schema : Schema) (variables : List (Node VariableDefinition)) (definitions : List (Node InputValueDefinition)) (given : List (Node Argument)) (r : DiagnosticData) (at : Option SourceSpan) : Type 0 where

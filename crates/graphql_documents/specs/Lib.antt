@@ -51,3 +51,4 @@ pub mod Values
 pub mod VariableReports
 pub mod VariableUsage
 pub mod Variables
+pub mod Walks

@@ -1,15 +1,16 @@
 -- When a report of a limit is true: a chain in the document or schema really passes the bound.
-use Rattle.std.specs.Prelude.{◌≡◌, ◌≢◌, ℕ, suc, ◌<◌, ◌≤◌, Bool, true, false, not, ◌⊎◌, List, [], ◌∷◌, ◌++◌, length, Option, None, Some, IsTrue, codes, Contains, AllPairs}
+use Rattle.std.specs.Prelude.{◌≡◌, ◌≢◌, ℕ, ◌<◌, ◌≤◌, Bool, ◌⊎◌, List, [], ◌∷◌, ◌++◌, length, Option, None, Some, codes, Contains, AllPairs}
 use Rattle.indexmap.specs.IndexMap.{values}
 use Rattle.std.specs.Borrow.{Bor}
-use Rattle.graphql_documents.specs.Defer.{can_be_excluded, operations_of, sets_of}
+use Rattle.graphql_documents.specs.Defer.{operations_of, sets_of}
 use Rattle.graphql_documents.specs.Expansion.{Expansion, MergesBelow, Pass}
 use Rattle.graphql_documents.specs.FragmentSpreads.{HasLongSpreadPath}
 use Rattle.graphql_documents.specs.Merging.{Chain, FieldSelection, SameFields, set_of}
-use Rattle.graphql_documents.specs.Names.{AreDistinct, NameText}
+use Rattle.graphql_documents.specs.Names.{NameText}
 use Rattle.graphql_documents.specs.SchemaReferences.{HasLongDirectivePath, HasLongRequiredPath, HasLongTypePath}
 use Rattle.graphql_documents.specs.Selections.{Fragments, fragments_of, selections_of}
 use Rattle.graphql_documents.specs.Spans.{recompose}
+use Rattle.graphql_documents.specs.Walks.{PassesDepth, full_walk, open_walk, root_walk, written_walk}
 use Rattle.graphql_documents.specs.declared.diagnostics.data.DiagnosticData.TheVariants as report
 use Rattle.graphql_documents.specs.declared.diagnostics.data.DiagnosticData.{DiagnosticData}
 use Rattle.graphql_documents.specs.declared.diagnostics.details.Details.TheVariants as details
@@ -31,52 +32,6 @@ use Rattle.graphql_documents.specs.declared.documents.schemas.ExtendedType.{Exte
 use Rattle.graphql_documents.specs.declared.documents.schemas.InputObjectType.{InputObjectType}
 use Rattle.graphql_documents.specs.declared.documents.schemas.Schema.{Schema}
 use Rattle.graphql_documents.specs.declared.documents.spans.SourceSpan.{SourceSpan}
-
--- which steps a walk over selections takes: into the sets of fields, into the fragments that spreads
--- name, and from which selections
-pub record Walk : Type 0 where
-  pub into_fields : Bool
-  pub into_fragments : Bool
-  pub goes_through : Selection → Bool
-
--- a descent of the walk: so many sets, each of a selection of the set before it or of the fragment that
--- it spreads; and the names of the fragments on the way
-pub data Descent (fragments : Fragments) (walk : Walk) : SelectionSet → ℕ → List NameText → Type 0 where
-  descent_ends : {set : SelectionSet} → Descent fragments walk set 0 []
-  descent_into_field : {set : SelectionSet} {f : Node Field} {n : ℕ} {names : List NameText} →
-      IsTrue walk.into_fields → Contains (selections_of set) (kind.Field f) → IsTrue (walk.goes_through (kind.Field f)) →
-      Descent fragments walk f.value.value.selection_set n names → Descent fragments walk set (suc n) names
-  descent_into_inline_fragment : {set : SelectionSet} {i : Node InlineFragment} {n : ℕ} {names : List NameText} →
-      Contains (selections_of set) (kind.InlineFragment i) → IsTrue (walk.goes_through (kind.InlineFragment i)) →
-      Descent fragments walk i.value.value.selection_set n names → Descent fragments walk set (suc n) names
-  descent_into_fragment : {set : SelectionSet} {p : Node FragmentSpread} {d : Node Fragment} {n : ℕ} {names : List NameText} →
-      IsTrue walk.into_fragments → Contains (selections_of set) (kind.FragmentSpread p) → IsTrue (walk.goes_through (kind.FragmentSpread p)) →
-      fragments p.value.value.fragment_name ≡ Some d →
-      Descent fragments walk d.value.value.selection_set n names → Descent fragments walk set (suc n) (p.value.value.fragment_name ∷ names)
-
--- a descent from the set passes through more than 500 sets, and enters no fragment twice
-pub record PassesDepth (fragments : Fragments) (walk : Walk) (set : SelectionSet) : Type 0 where
-  pub depth : ℕ
-  pub entered : List NameText
-  pub descent : Descent fragments walk set depth entered
-  pub once : AreDistinct entered
-  pub passes : 500 < depth
-
--- into everything: for variables and for fragments
-abbrev pub full_walk : Walk
-full_walk = record { into_fields = true; into_fragments = true; goes_through = λ s. true }
-
--- into fragments alone: for the root of subscriptions and of `@defer`
-abbrev pub root_walk : Walk
-root_walk = record { into_fields = false; into_fragments = true; goes_through = λ s. true }
-
--- into what is written alone: for labels
-abbrev pub written_walk : Walk
-written_walk = record { into_fields = true; into_fragments = false; goes_through = λ s. true }
-
--- into what cannot be left out: for the conditions of `@defer`
-abbrev pub open_walk : Walk
-open_walk = record { into_fields = true; into_fragments = true; goes_through = λ s. not (can_be_excluded s) }
 
 -- a report that a definition nests too deep is true of a fragment: reported at its head
 pub record FragmentNestsTooDeep (fragments : Fragments) (d : Node Fragment) (name : NameText) (describe : List ℕ) (at : Option SourceSpan) : Type 0 where

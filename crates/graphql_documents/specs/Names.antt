@@ -1,6 +1,6 @@
 -- Names and their sameness. Specification: 2.1.9 Names.
-use Rattle.std.specs.Prelude.{◌≡◌, ℕ, Bool, false, ◌||◌, ◌&&◌, ◌==◌, List, [], ◌∷◌, Option, None, Some, length, IsTrue, IsFalse, All, AllPairs, Contains}
-use Rattle.std.specs.List.{list_all}
+use Rattle.std.specs.Prelude.{◌≡◌, ℕ, Bool, false, ◌||◌, ◌&&◌, ◌==◌, List, [], ◌∷◌, ◌++◌, Option, None, Some, length, fold, if◌then◌else◌, IsTrue, IsFalse, All, AllPairs, Contains}
+use Rattle.std.specs.List.{list_all, list_any}
 use Rattle.std.specs.Char.{is_ascii_alphabetic, is_ascii_alphanumeric}
 use Rattle.std.specs.Str.{bytes_eq}
 use Rattle.graphql_documents.specs.declared.documents.spans.SourceSpan.{SourceSpan}
@@ -38,6 +38,14 @@ DifferentNames a b = IsFalse (same_name a b)
 -- no two of the names are the same
 abbrev pub AreDistinct : List NameText → Type 0
 AreDistinct names = AllPairs DifferentNames names
+
+-- with the name behind them, unless one of its text is there
+abbrev pub with_name : List NameText → NameText → List NameText
+with_name known name = if list_any (same_name name) known then known else known ++ name ∷ []
+
+-- the different names of a list, each where it first stands
+abbrev pub different_names : List NameText → List NameText
+different_names names = fold with_name [] names
 
 -- there are this many different names in the list, or more
 abbrev pub HasDifferentNames : ℕ → List NameText → Type 0

@@ -11,7 +11,13 @@ module _ {Entry : Type 0} where
     pub appended : new ≡ old ++ added
     pub each : All IsTrueReport added
 
-  -- the same, and there is no further report exactly where the rule holds
+  -- the new list is the old one with more reports behind it, and this holds of them together
+  pub record Appends (Are : List Entry → Type 0) (old new : List Entry) : Type 0 where
+    pub added : List Entry
+    pub appended : new ≡ old ++ added
+    pub are : Are added
+
+  -- each further report is true, and there is none exactly where the rule holds
   pub record Reports (Holds : Type 0) (IsTrueReport : Entry → Type 0) (old new : List Entry) : Type 0 where
     pub added : List Entry
     pub appended : new ≡ old ++ added

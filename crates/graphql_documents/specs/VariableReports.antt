@@ -1,7 +1,8 @@
 -- What a report says of the variables of an operation. Specification: 5.8 Variables.
-use Rattle.std.specs.Prelude.{◌≡◌, ℕ, List, [], ◌∷◌, ◌++◌, Option, None, Some, IsFalse, Contains}
+use Rattle.std.specs.Prelude.{◌≡◌, ℕ, List, [], ◌∷◌, ◌++◌, Option, None, Some, IsFalse, Contains, map}
 use Rattle.graphql_documents.specs.DirectiveReports.{DirectivesBreak}
-use Rattle.graphql_documents.specs.Names.{NameText, SameName}
+use Rattle.graphql_documents.specs.Diagnostics.{IsDiagnostic}
+use Rattle.graphql_documents.specs.Names.{NameText, SameName, different_names}
 use Rattle.graphql_documents.specs.Nodes.{SameNode}
 use Rattle.graphql_documents.specs.Schemas.{is_input_type, kind_text, type_definition}
 use Rattle.graphql_documents.specs.Selections.{Fragments}
@@ -10,8 +11,10 @@ use Rattle.graphql_documents.specs.TypeReferences.{inner_named_type}
 use Rattle.graphql_documents.specs.ValueReports.{ValueReport}
 use Rattle.graphql_documents.specs.VariableUsage.{variable_named}
 use Rattle.graphql_documents.specs.Variables.{UsesVariable}
+use Rattle.graphql_documents.specs.Walks.{PassesDepth, full_walk}
 use Rattle.graphql_documents.specs.declared.diagnostics.data.DiagnosticData.TheVariants as report
 use Rattle.graphql_documents.specs.declared.diagnostics.data.DiagnosticData.{DiagnosticData}
+use Rattle.graphql_documents.specs.declared.diagnostics.lists.DiagnosticEntry.{DiagnosticEntry}
 use Rattle.graphql_documents.specs.declared.documents.definitions.DirectiveLocation.TheVariants as allowed_at
 use Rattle.graphql_documents.specs.declared.documents.definitions.VariableDefinition.{VariableDefinition}
 use Rattle.graphql_documents.specs.declared.documents.executables.Operation.{Operation}
@@ -90,3 +93,37 @@ pub data VariablesReport (schema : Option Schema) (variables : List (Node Variab
   of_repetition : {name : NameText} {original redefined at : Option SourceSpan} →
       RepeatsVariable variables name original redefined at →
       VariablesReport schema variables (report.UniqueVariable name original redefined) at
+
+-- the report is of the unused variable of this name
+abbrev pub IsUnusedReport : Fragments → Operation → NameText → DiagnosticData → Option SourceSpan → Type 0
+IsUnusedReport fragments o name (report.UnusedVariable reported) at = SameName reported name × IsUnusedVariable fragments o reported at
+IsUnusedReport fragments o name r at = ⊥
+
+-- the reports are of the unused ones among these names, one for each, in order
+pub data AreUnusedReports (fragments : Fragments) (o : Operation) : List NameText → List DiagnosticEntry → Type 0 where
+  no_name : AreUnusedReports fragments o [] []
+  used_name : {name : NameText} {names : List NameText} {reports : List DiagnosticEntry} →
+      UsesVariable fragments o name → AreUnusedReports fragments o names reports → AreUnusedReports fragments o (name ∷ names) reports
+  unused_name : {name : NameText} {names : List NameText} {entry : DiagnosticEntry} {reports : List DiagnosticEntry} →
+      IsDiagnostic (IsUnusedReport fragments o name) entry → AreUnusedReports fragments o names reports →
+      AreUnusedReports fragments o (name ∷ names) (entry ∷ reports)
+
+-- the variables that the operation defines, each name once, in order of first definition
+abbrev pub defined_names : Operation → List NameText
+defined_names o = different_names (map (λ v. v.value.value.name) o.variables.items)
+
+-- the operation passes the bound of the walk that seeks the uses of its variables: reported without a
+-- place
+abbrev pub IsBoundReport : Fragments → Operation → DiagnosticData → Option SourceSpan → Type 0
+IsBoundReport fragments o report.RecursionError at = (at ≡ None) × PassesDepth fragments full_walk o.selection_set
+IsBoundReport fragments o r at = ⊥
+
+-- the report names an unused variable, or is that of the bound
+abbrev pub UsesReport : Fragments → Operation → DiagnosticData → Option SourceSpan → Type 0
+UsesReport fragments o (report.UnusedVariable name) at = IsUnusedVariable fragments o name at
+UsesReport fragments o r at = IsBoundReport fragments o r at
+
+-- the reports are those of each unused variable of the operation, or the one of the bound
+pub data AreUsesReports (fragments : Fragments) (o : Operation) : List DiagnosticEntry → Type 0 where
+  are_unused : {reports : List DiagnosticEntry} → AreUnusedReports fragments o (defined_names o) reports → AreUsesReports fragments o reports
+  is_bound : {entry : DiagnosticEntry} → IsDiagnostic (IsBoundReport fragments o) entry → AreUsesReports fragments o (entry ∷ [])

@@ -1,5 +1,9 @@
-//! Whether input values are accepted for types. Each call reports what is not accepted, and its
-//! contract says what it means that nothing is reported.
+//! Input values, arguments, variables and applied directives against a schema. Each call reports what
+//! breaks a rule, and its contract says what it means that nothing is reported.
 #![tactic(auto)]
 
+pub mod argument;
+mod copies;
+pub mod directive;
 pub mod value;
+pub mod variable;

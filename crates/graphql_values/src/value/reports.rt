@@ -8,6 +8,7 @@ ghost use Rattle.graphql_documents.specs.declared.documents.schemas.Schema.{Sche
 ghost use Rattle.graphql_documents.specs.declared.documents.type_references.Type.{«Type»};
 ghost use Rattle.graphql_values.specs.ValueSteps.{ChecksValue};
 
+use crate::copies::copy_of_type;
 use graphql_documents::diagnostics::{Details, DiagnosticData, DiagnosticList, ValidationError};
 use graphql_documents::documents::{ExtendedType, Node, SourceSpan, Type, Value};
 use std::alloc::Global;
@@ -51,23 +52,6 @@ fn type_node(
         value: Rc::new(alloc, copy)?,
         location: place,
     })
-}
-
-fn copy_of_type(alloc: Global, ty: &Type) -> Result<Type, ValidationError>
-    ensures { IfOk result (λ copy. IsTrue (same_type copy ty.now)) }
-{
-    match ty {
-        Type::Named(name) => Ok(Type::Named(name.clone()?)),
-        Type::NonNullNamed(name) => Ok(Type::NonNullNamed(name.clone()?)),
-        Type::List(item) => {
-            let item = copy_of_type(alloc, item)?;
-            Ok(Type::List(Box::new(alloc, item)?))
-        }
-        Type::NonNullList(item) => {
-            let item = copy_of_type(alloc, item)?;
-            Ok(Type::NonNullList(Box::new(alloc, item)?))
-        }
-    }
 }
 
 /// Where the definition stands.

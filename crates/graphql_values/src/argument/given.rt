@@ -1,0 +1,87 @@
+ghost use Rattle.std.specs.Prelude.{◌≡◌, Some, All, Contains};
+ghost use Rattle.std.specs.Option.{option_copied};
+ghost use Rattle.graphql_documents.specs.Arguments.{IsDefined, definition_named};
+ghost use Rattle.graphql_documents.specs.Diagnostics.{IsDiagnostic};
+ghost use Rattle.graphql_documents.specs.Reports.{Checks};
+ghost use Rattle.graphql_values.specs.GivenArguments.{GivenArgumentHolds, GivenArgumentReport, ReportsGivenArgument};
+
+use super::owners::GivenArguments;
+use crate::value::validate_values;
+use crate::variable::validate_variable_usage;
+use graphql_documents::diagnostics::{Details, DiagnosticData, DiagnosticList, ValidationError};
+use graphql_documents::documents::{
+    Argument, InputValueDefinition, Name, Node, Schema, VariableDefinition,
+};
+
+/// Reports for each argument, in order, that no definition has its name, or that it is a variable
+/// that may not stand there, or else what its value breaks. The only error is want of memory.
+///
+/// Specification: 5.4.1 Argument Names; 5.6.1 Values of Correct Type; 5.8.5 All Variable Usages Are
+/// Allowed.
+pub fn validate_given_arguments(
+    diagnostics: &mut DiagnosticList,
+    schema: &Schema,
+    arguments: &GivenArguments,
+    variables: &[Node<VariableDefinition>],
+) -> Result<(), ValidationError>
+    ensures { Checks result
+        (All (GivenArgumentHolds schema.now variables.now arguments.now.definitions.now) arguments.now.given.now)
+        (IsDiagnostic (GivenArgumentReport schema.now variables.now arguments.now)) diagnostics.old diagnostics.new }
+{
+    for argument in arguments.given {
+        validate_given_argument(diagnostics, schema, arguments, argument, variables)?;
+    }
+    Ok(())
+}
+
+fn validate_given_argument(
+    diagnostics: &mut DiagnosticList,
+    schema: &Schema,
+    arguments: &GivenArguments,
+    argument: &Node<Argument>,
+    variables: &[Node<VariableDefinition>],
+) -> Result<(), ValidationError>
+    requires { Contains arguments.now.given.now argument.now }
+    ensures { Checks result
+        (GivenArgumentHolds schema.now variables.now arguments.now.definitions.now argument.now)
+        (IsDiagnostic (GivenArgumentReport schema.now variables.now arguments.now)) diagnostics.old diagnostics.new }
+{
+    let Some(place) = definition_named(arguments.definitions, &argument.value.name) else {
+        return report_undefined_argument(diagnostics, arguments, argument);
+    };
+    if validate_variable_usage(diagnostics, place, variables, argument)? {
+        validate_values(diagnostics, schema, &place.value.ty, argument, variables)?;
+    }
+    Ok(())
+}
+
+fn report_undefined_argument(
+    diagnostics: &mut DiagnosticList,
+    arguments: &GivenArguments,
+    argument: &Node<Argument>,
+) -> Result<(), ValidationError>
+    requires given { Contains arguments.now.given.now argument.now }
+    requires undefined { ¬ IsDefined arguments.now.definitions.now argument.now }
+    ensures { Checks result ⊥ (ReportsGivenArgument arguments.now) diagnostics.old diagnostics.new }
+{
+    let coordinate = arguments.owner.coordinate()?;
+    let name = argument.value.name.clone()?;
+    diagnostics.push(
+        argument.location,
+        Details::Diagnostic(DiagnosticData::UndefinedArgument {
+            name,
+            coordinate,
+            definition_location: arguments.definition_location,
+        }),
+    )
+}
+
+/// The first definition with this name.
+fn definition_named<'a>(
+    definitions: &'a [Node<InputValueDefinition>],
+    name: &Name,
+) -> Option<&'a Node<InputValueDefinition>>
+    ensures { option_copied result ≡ definition_named name.now definitions.now }
+{
+    definitions.iter().find(|d| d.value.name == *name)
+}

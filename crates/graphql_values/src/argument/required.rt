@@ -1,0 +1,71 @@
+ghost use Rattle.std.specs.Prelude.{◌↔◌, IsTrue, All, Contains};
+ghost use Rattle.std.specs.Option.{option_copied};
+ghost use Rattle.graphql_documents.specs.Arguments.{IsGiven, IsGivenIfRequired, argument_named};
+ghost use Rattle.graphql_documents.specs.Diagnostics.{IsDiagnostic};
+ghost use Rattle.graphql_documents.specs.Reports.{Checks};
+ghost use Rattle.graphql_values.specs.GivenArguments.{MissingArgumentReport};
+
+use super::owners::GivenArguments;
+use graphql_documents::diagnostics::{Details, DiagnosticData, DiagnosticList, ValidationError};
+use graphql_documents::documents::{Argument, InputValueDefinition, Name, Node, Value};
+
+/// Reports each required argument that is not given or is literally null, in order of the
+/// definitions, at the field or directive. The only error is want of memory.
+///
+/// Specification: 5.4.2.1 Required Arguments.
+pub fn validate_required_arguments(
+    diagnostics: &mut DiagnosticList,
+    arguments: &GivenArguments,
+) -> Result<(), ValidationError>
+    ensures { Checks result
+        (All (IsGivenIfRequired arguments.now.given.now) arguments.now.definitions.now)
+        (IsDiagnostic (MissingArgumentReport arguments.now)) diagnostics.old diagnostics.new }
+{
+    for definition in arguments.definitions {
+        validate_required_argument(diagnostics, arguments, definition)?;
+    }
+    Ok(())
+}
+
+fn validate_required_argument(
+    diagnostics: &mut DiagnosticList,
+    arguments: &GivenArguments,
+    definition: &Node<InputValueDefinition>,
+) -> Result<(), ValidationError>
+    requires { Contains arguments.now.definitions.now definition.now }
+    ensures { Checks result (IsGivenIfRequired arguments.now.given.now definition.now)
+        (IsDiagnostic (MissingArgumentReport arguments.now)) diagnostics.old diagnostics.new }
+{
+    if !definition.value.is_required() || is_given(arguments.given, &definition.value.name) {
+        return Ok(());
+    }
+    let coordinate = arguments.owner.argument_coordinate(&definition.value.name)?;
+    let name = definition.value.name.clone()?;
+    let expected_type = definition.value.ty.clone()?;
+    diagnostics.push(
+        arguments.location,
+        Details::Diagnostic(DiagnosticData::RequiredArgument {
+            name,
+            coordinate,
+            expected_type,
+            definition_location: definition.location,
+        }),
+    )
+}
+
+/// Whether the first argument with this name is there and not literally null.
+fn is_given(arguments: &[Node<Argument>], name: &Name) -> bool
+    ensures { IsTrue result ↔ IsGiven arguments.now name.now }
+{
+    match argument_named(arguments, name) {
+        Some(argument) => !matches!(&*argument.value.value.value, Value::Null),
+        None => false,
+    }
+}
+
+/// The first argument with this name.
+fn argument_named<'a>(arguments: &'a [Node<Argument>], name: &Name) -> Option<&'a Node<Argument>>
+    ensures { option_copied result ≡ argument_named name.now arguments.now }
+{
+    arguments.iter().find(|a| a.value.name == *name)
+}

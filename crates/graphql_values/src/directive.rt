@@ -1,0 +1,66 @@
+//! Directives applied at one place, and the definitions of variables, whose parts are directives,
+//! types and values.
+
+mod applications;
+mod variable_definitions;
+
+pub use variable_definitions::validate_variable_definitions;
+
+ghost use Rattle.std.specs.Prelude.{map};
+ghost use Rattle.std.specs.Option.{option_copied};
+ghost use Rattle.graphql_documents.specs.Diagnostics.{IsDiagnostic};
+ghost use Rattle.graphql_documents.specs.DirectiveReports.{DirectivesBreak};
+ghost use Rattle.graphql_documents.specs.Directives.{ApplicationsHold};
+ghost use Rattle.graphql_documents.specs.Reports.{Checks};
+
+use crate::argument::validate_arguments;
+use applications::{check_repetition, definition_of, report_undefined, validate_application};
+use graphql_documents::diagnostics::{DiagnosticList, ValidationError};
+use graphql_documents::documents::{
+    Directive, DirectiveLocation, Name, Node, Schema, SourceSpan, VariableDefinition,
+};
+use std::collections::HashMap;
+
+/// Validates the directives applied at one place. Without a schema each is reported as undefined.
+///
+/// Reports come directive by directive: its repeated arguments; that it repeats one that is not
+/// repeatable, where an unknown directive counts as repeatable; that it may not stand there; what its
+/// arguments break; the required ones that are missing. One that is not defined is reported after its
+/// repeated arguments, and nothing else is said of it. The only error is want of memory.
+///
+/// Specification: 5.7 Directives; 5.4 Arguments.
+pub fn validate_directives(
+    diagnostics: &mut DiagnosticList,
+    schema: Option<&Schema>,
+    directives: &[&Node<Directive>],
+    location: DirectiveLocation,
+    variables: &[Node<VariableDefinition>],
+) -> Result<(), ValidationError>
+    ensures { Checks result
+        (ApplicationsHold (option_copied schema) variables.now location (map (λ d. d.now) directives.now))
+        (IsDiagnostic (DirectivesBreak (option_copied schema) variables.now location (map (λ d. d.now) directives.now)))
+        diagnostics.old diagnostics.new }
+{
+    let mut seen: HashMap<&Name, Option<SourceSpan>> = HashMap::new(diagnostics.allocator());
+    for directive in directives {
+        let name = &directive.value.name;
+        validate_arguments(diagnostics, &directive.value.arguments)?;
+        match seen.get(&name) {
+            Some(original) => {
+                let original = *original;
+                check_repetition(diagnostics, schema, directive, original)?;
+            }
+            None => {
+                let place = SourceSpan::recompose(directive.location, name.location());
+                seen.insert(name, place)?;
+            }
+        }
+        match definition_of(schema, name) {
+            Some((schema, definition)) => {
+                validate_application(diagnostics, schema, definition, directive, location, variables)?
+            }
+            None => report_undefined(diagnostics, directive)?,
+        }
+    }
+    Ok(())
+}
