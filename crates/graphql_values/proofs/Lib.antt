@@ -1,4 +1,6 @@
 pub mod AcceptsLemmas
+pub mod GivenLemmas
 pub mod LeafLemmas
 pub mod ObjectLemmas
+pub mod UsageLemmas
 pub mod WalkLemmas

@@ -1,1 +1,2 @@
+pub mod GivenArguments
 pub mod ValueSteps

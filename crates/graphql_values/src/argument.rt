@@ -4,10 +4,6 @@ mod given;
 mod owners;
 mod required;
 
-pub use given::validate_given_arguments;
-pub use owners::{ArgumentOwner, GivenArguments};
-pub use required::validate_required_arguments;
-
 ghost use Rattle.std.specs.Prelude.{◌≡◌, List, OnOk};
 ghost use Rattle.graphql_documents.specs.ArgumentReports.{AreRepetitionReports, IsRepetition, IsReportOf, RepetitionReport};
 ghost use Rattle.graphql_documents.specs.Arguments.{HasDistinctNames};
@@ -16,8 +12,11 @@ ghost use Rattle.graphql_documents.specs.Reports.{Appends, Checks};
 ghost use Rattle.graphql_documents.specs.declared.documents.directives.Argument.{Argument};
 ghost use Rattle.graphql_documents.specs.declared.documents.nodes.Node.{Node};
 
+pub use given::validate_given_arguments;
 use graphql_documents::diagnostics::{Details, DiagnosticData, DiagnosticList, ValidationError};
 use graphql_documents::documents::{Argument, Name, Node, SourceSpan};
+pub use owners::{ArgumentOwner, GivenArguments};
+pub use required::validate_required_arguments;
 use std::collections::HashMap;
 
 /// Reports each argument that repeats the name of an earlier one, in order, at the repetition and with

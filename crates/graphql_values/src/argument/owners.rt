@@ -35,7 +35,7 @@ impl ArgumentOwner<'_> {
     pub fn coordinate(&self) -> Result<SchemaCoordinate, ValidationError>
         ensures { IfOk result (λ c. c ≡ owner_coordinate self.now) }
     {
-        match self {
+        match *self {
             ArgumentOwner::Field { parent, field } => {
                 Ok(SchemaCoordinate::TypeAttribute(TypeAttributeCoordinate {
                     ty: parent.clone()?,
@@ -54,7 +54,7 @@ impl ArgumentOwner<'_> {
     pub fn argument_coordinate(&self, argument: &Name) -> Result<SchemaCoordinate, ValidationError>
         ensures { IfOk result (λ c. c ≡ argument_coordinate_of self.now argument.now) }
     {
-        match self {
+        match *self {
             ArgumentOwner::Field { parent, field } => {
                 Ok(SchemaCoordinate::FieldArgument(FieldArgumentCoordinate {
                     ty: parent.clone()?,
@@ -62,12 +62,12 @@ impl ArgumentOwner<'_> {
                     argument: argument.clone()?,
                 }))
             }
-            ArgumentOwner::Directive { definition, .. } => Ok(
-                SchemaCoordinate::DirectiveArgument(DirectiveArgumentCoordinate {
+            ArgumentOwner::Directive { definition, .. } => Ok(SchemaCoordinate::DirectiveArgument(
+                DirectiveArgumentCoordinate {
                     directive: definition.clone()?,
                     argument: argument.clone()?,
-                }),
-            ),
+                },
+            )),
         }
     }
 }

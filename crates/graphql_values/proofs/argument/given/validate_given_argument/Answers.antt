@@ -1,0 +1,59 @@
+-- The argument is not defined, or may not stand there, or its value decides.
+use Rattle.std.proofs.Common.{◌≡◌, Some, rules}
+use Rattle.graphql_documents.specs.Arguments.{IsDefined, definition_named}
+use Rattle.graphql_documents.specs.VariableUsage.{UsageHolds}
+use Rattle.graphql_documents.proofs.ReportLemmas.{checks-err, kept_then, kept_by, kept_wider, wider, both, in_words}
+use Rattle.graphql_values.proofs.GivenLemmas.{names_misuse, names_wrong_value, usage_needed, given_decides}
+use Rattle.graphql_values.proofs.WalkLemmas.{checks_words}
+use Rattle.graphql_values.proofs.argument.given.validate_given_argument.Goals as goal
+
+pub returns-in_default : goal.returns-in_default
+returns-in_default c =
+    let undefined : ¬ IsDefined c.args.arguments.now.definitions.now c.args.argument.now = search rules in
+    checks_words c.report_undefined_argument.result _ _ _ _ _ _ (λ x. absurd x, λ h. absurd (undefined h.defined))
+    (λ e said. said c.args.schema.now c.args.variables.now) c.report_undefined_argument.ensures
+
+pub returns-in_err-validate_variable_usage : goal.returns-in_err-validate_variable_usage
+returns-in_err-validate_variable_usage c =
+    let found : definition_named c.args.argument.now.value.value.name c.args.arguments.now.definitions.now ≡ Some c.in-Some.place.now = search rules in
+    checks-err _ _ _ _ _ c.from_residual.ensures.0
+    (kept_wider _ _ _ _ (names_misuse c.args.schema.now c.args.variables.now c.args.arguments.now c.args.argument.now c.in-Some.place.now c.requires found)
+    c.in_err-validate_variable_usage.ensures.checks)
+
+pub returns-in_err-validate_values : goal.returns-in_err-validate_values
+returns-in_err-validate_values c =
+    let schema = c.args.schema.now in
+    let variables = c.args.variables.now in
+    let arguments = c.args.arguments.now in
+    let a = c.args.argument.now in
+    let d = c.in-Some.place.now in
+    let found : definition_named a.value.value.name arguments.definitions.now ≡ Some d = search rules in
+    checks-err _ _ _ _ _ c.from_residual-in_err-validate_values.ensures.0
+    (kept_then _ _ _ _
+    (kept_by _ _ _ _ (wider _ _ _ _ _ (names_misuse schema variables arguments a d c.requires found) c.in_ok-validate_variable_usage.ensures.checks))
+    (kept_wider _ _ _ _ (names_wrong_value schema variables arguments a d c.requires found _ c.deref-then-branch.ensures) c.in_err-validate_values.ensures))
+
+pub returns-in_ok-validate_values : goal.returns-in_ok-validate_values
+returns-in_ok-validate_values c =
+    let schema = c.args.schema.now in
+    let variables = c.args.variables.now in
+    let arguments = c.args.arguments.now in
+    let a = c.args.argument.now in
+    let d = c.in-Some.place.now in
+    let found : definition_named a.value.value.name arguments.definitions.now ≡ Some d = search rules in
+    in_words _ _ _ _ _ (given_decides schema variables arguments a d c.requires found _ c.deref-then-branch.ensures)
+    (both _ _ _ _ _ _
+    (wider _ _ _ _ _ (names_misuse schema variables arguments a d c.requires found) c.in_ok-validate_variable_usage.ensures.checks)
+    (wider _ _ _ _ _ (names_wrong_value schema variables arguments a d c.requires found _ c.deref-then-branch.ensures) c.in_ok-validate_values.ensures))
+
+pub returns-else-branch : goal.returns-else-branch
+returns-else-branch c =
+    let schema = c.args.schema.now in
+    let variables = c.args.variables.now in
+    let arguments = c.args.arguments.now in
+    let a = c.args.argument.now in
+    let d = c.in-Some.place.now in
+    let found : definition_named a.value.value.name arguments.definitions.now ≡ Some d = search rules in
+    let disallowed : ¬ UsageHolds variables d.value.value a.value.value.value.value.value = search rules in
+    in_words _ _ _ _ _ (λ allowed. absurd (disallowed allowed), usage_needed schema variables arguments a d c.requires found)
+    (wider _ _ _ _ _ (names_misuse schema variables arguments a d c.requires found) c.in_ok-validate_variable_usage.ensures.checks)

@@ -1,0 +1,23 @@
+use Rattle.std.proofs.Common.{refl}
+use Rattle.graphql_documents.specs.Arguments.{IsGivenIfRequired}
+use Rattle.graphql_documents.specs.Diagnostics.{IsDiagnostic}
+use Rattle.graphql_documents.proofs.ReportLemmas.{checks-err, kept_then, kept_by, walked_more, walked_all}
+use Rattle.graphql_values.specs.GivenArguments.{MissingArgumentReport}
+use Rattle.graphql_values.proofs.argument.required.validate_required_arguments.Goals as goal
+
+pub returns-in_err-validate_required_argument : goal.returns-in_err-validate_required_argument
+returns-in_err-validate_required_argument c =
+    checks-err _ _ _ _ _ c.from_residual.ensures.0
+    (kept_then _ _ _ _ (kept_by _ _ _ _ c.loop-definition.invariant) (c.in_err-validate_required_argument.ensures))
+
+pub loop-definition-preserved : goal.loop-definition-preserved
+loop-definition-preserved c =
+    walked_more (IsGivenIfRequired c.args.arguments.now.given.now) (IsDiagnostic (MissingArgumentReport c.args.arguments.now))
+    c.args.arguments.now.definitions.now c.loop-definition.definition-index c.definition-item.result _ _ _
+    c.loop-definition-test.true c.definition-item.is c.loop-definition.invariant (c.in_ok-validate_required_argument.ensures)
+
+pub returns : goal.returns
+returns c =
+    walked_all (IsGivenIfRequired c.args.arguments.now.given.now) (IsDiagnostic (MissingArgumentReport c.args.arguments.now))
+    c.args.arguments.now.definitions.now c.loop-definition.definition-index _ _ _ refl
+    c.loop-definition-test.false c.loop-definition.invariant
