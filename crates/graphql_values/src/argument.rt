@@ -4,8 +4,9 @@ mod given;
 mod owners;
 mod required;
 
-ghost use Rattle.std.specs.Prelude.{◌≡◌, List, OnOk};
-ghost use Rattle.graphql_documents.specs.ArgumentReports.{AreRepetitionReports, IsRepetition, IsReportOf, RepetitionReport};
+ghost use Rattle.std.specs.List.{AllZip};
+ghost use Rattle.std.specs.Prelude.{◌≡◌, [], ◌∷◌, MatchResult, OnOk};
+ghost use Rattle.graphql_documents.specs.ArgumentReports.{AreRepetitionReports, IsReportOf, RepetitionReport};
 ghost use Rattle.graphql_documents.specs.Arguments.{HasDistinctNames};
 ghost use Rattle.graphql_documents.specs.Diagnostics.{IsDiagnostic, entries};
 ghost use Rattle.graphql_documents.specs.Reports.{Appends, Checks};
@@ -52,7 +53,9 @@ fn report_repetition(
     original: Option<SourceSpan>,
 ) -> Result<(), ValidationError>
     ensures { (first : Node Argument) → original ≡ first.location →
-        Checks result ⊥ (IsDiagnostic (IsReportOf (first, argument.now))) diagnostics.old diagnostics.new }
+        MatchResult result
+        (λ _. Appends (AllZip (λ pair. IsDiagnostic (IsReportOf pair)) ((first, argument.now) ∷ [])) (entries diagnostics.old) (entries diagnostics.new))
+        (λ _. entries diagnostics.new ≡ entries diagnostics.old) }
 {
     let name = argument.value.name.clone()?;
     diagnostics.push(
