@@ -8,12 +8,12 @@ use Rattle.graphql_documents.specs.Names.{NameText}
 use Rattle.graphql_documents.specs.TypeReferences.{inner_named_type}
 use Rattle.graphql_documents.specs.Schemas.{type_field}
 use Rattle.graphql_documents.specs.Selections.{selections_of, definition_at, no_fragments, TypeBelow, standing_at, placed_in_field, below_known}
-use Rattle.graphql_documents.specs.Arguments.{HasDistinctNames, ArgumentValueHolds, ArgumentValuesHold, definition_named, IsDefined, IsGivenIfRequired}
+use Rattle.graphql_documents.specs.Arguments.{HasDistinctNames, ArgumentNamesHold, ArgumentValueHolds, ArgumentValuesHold, definition_named, IsDefined}
 use Rattle.graphql_documents.specs.Fields.{AgreesWithDefinition, HasNeededSelection}
-use Rattle.graphql_documents.specs.ArgumentReports.{ReportsRepetition, RepeatsArgument}
+use Rattle.graphql_documents.specs.ArgumentReports.{RepeatsArgument, RepetitionReport}
 use Rattle.graphql_documents.specs.FieldReports.{FieldBreaks, ReportsField}
 use Rattle.graphql_documents.specs.SelectionReports.{SelectionReport, of_field_directives, of_field_form, of_field_values, of_inline_fragment_directives, of_inline_fragment, of_spread_directives, of_spread, of_fragment_directives, of_fragment}
-use Rattle.graphql_documents.specs.Diagnostics.{Says}
+use Rattle.graphql_documents.specs.Diagnostics.{IsDiagnostic}
 use Rattle.graphql_documents.proofs.DiagnosticLemmas.{diagnostic_wider}
 use Rattle.graphql_documents.specs.Reports.{Reports}
 use Rattle.graphql_documents.proofs.ReportLemmas.{wider, both}
@@ -30,15 +30,13 @@ use Rattle.graphql_documents.specs.declared.documents.executables.Selection.TheV
 use Rattle.graphql_documents.specs.declared.documents.executables.Field.{Field}
 use Rattle.graphql_documents.specs.declared.documents.executables.Selection.TheVariants as kind
 use mathlib.Core.Logic.{inl, inr}
-use Rattle.graphql_documents.specs.VariableUsage.{IsVariable}
-use Rattle.graphql_documents.specs.declared.documents.values.Value.{Value}
 use Rattle.graphql_documents.specs.declared.documents.definitions.InputValueDefinition.{InputValueDefinition}
-use Rattle.graphql_documents.specs.declared.documents.definitions.VariableDefinition.{VariableDefinition}
 use Rattle.graphql_documents.specs.declared.documents.spans.SourceSpan.{SourceSpan}
 use Rattle.graphql_documents.specs.declared.diagnostics.data.DiagnosticData.{DiagnosticData}
-use Rattle.graphql_documents.specs.declared.diagnostics.details.Details.{Details}
+use Rattle.graphql_documents.specs.declared.diagnostics.data.DiagnosticData.TheVariants as report
 use Rattle.graphql_documents.specs.declared.diagnostics.lists.DiagnosticEntry.{DiagnosticEntry}
-use Rattle.graphql_validation.specs.FieldWalk.{GivenArgumentHolds, BareFieldBreaks, ReportsGivenArgument, ReportsDefinedField, stands, below, ReachedFieldsHold, FieldHoldsBelow, NamesBrokenSelection}
+use Rattle.graphql_values.specs.GivenArguments.{GivenArgumentHolds}
+use Rattle.graphql_validation.specs.FieldWalk.{BareFieldBreaks, FieldArgumentsHold, ReportsDefinedField, stands, below, ReachedFieldsHold, FieldHoldsBelow, NamesBrokenSelection}
 
 -- a selection holds, with what is below it, if it is a field that does
 abbrev pub SelectionHolds : Schema → NameText → Selection → Type 0
@@ -100,15 +98,16 @@ module _ (schema : Schema) (parent : NameText) (set : SelectionSet) (f : Node Fi
 
   -- a report on a repeated argument of it
   pub names_repetition : (given : List (Node Argument)) → given ≡ f.value.value.arguments.items →
-      (e : DiagnosticEntry) → ReportsRepetition given e → NamesBrokenSelection schema parent set e
-  names_repetition given same e r =
-      let broken = subst (λ l. RepeatsArgument l r.0 r.1 r.2 e.location) same r.4 in
-      let Breaks : Details → Type 0 = λ said. Says (FieldBreaks (Some schema) (Some parent) f) said e.location in
-      names_field e (subst Breaks (sym r.3) broken)
+      (e : DiagnosticEntry) → IsDiagnostic (RepetitionReport given) e → NamesBrokenSelection schema parent set e
+  names_repetition given same e said =
+      names_field e (diagnostic_wider (RepetitionReport given) (FieldBreaks (Some schema) (Some parent) f) of_repetition e said) where
+        of_repetition : (r : DiagnosticData) (at : Option SourceSpan) → RepetitionReport given r at → FieldBreaks (Some schema) (Some parent) f r at
+        of_repetition (report.UniqueArgument name original redefined) at repeats = subst (λ l. RepeatsArgument l name original redefined at) same repeats
+        of_repetition r at repeats = absurd repeats
 
   module _ (old new : List DiagnosticEntry) where
     pub distinct_in_set : (given : List (Node Argument)) → given ≡ f.value.value.arguments.items →
-        Reports (HasDistinctNames given) (ReportsRepetition given) old new →
+        Reports (HasDistinctNames given) (IsDiagnostic (RepetitionReport given)) old new →
         Reports (HasDistinctNames f.value.value.arguments.items) (NamesBrokenSelection schema parent set) old new
     distinct_in_set given same r =
         subst (λ l. Reports (HasDistinctNames l) (NamesBrokenSelection schema parent set) old new) same
@@ -116,11 +115,8 @@ module _ (schema : Schema) (parent : NameText) (set : SelectionSet) (f : Node Fi
 
   -- a report on what its definition asks, or on what is below it
   module _ (d : Component FieldDefinition) (is : type_field schema parent f.value.value.name ≡ Ok d) where
-    pub names_defined : (e : DiagnosticEntry) → ReportsDefinedField parent f d e → NamesBrokenSelection schema parent set e
-    names_defined e r = names_field e (r (Some schema) (ap result_ok is))
-
-    pub names_given : (e : DiagnosticEntry) → ReportsGivenArgument schema parent f d e → NamesBrokenSelection schema parent set e
-    names_given e r = diagnostic_wider _ _ (λ said at broken. by_part said at broken) e (r (ap result_ok is)) where
+    pub names_arguments : (e : DiagnosticEntry) → ReportsDefinedField schema parent f d e → NamesBrokenSelection schema parent set e
+    names_arguments e r = diagnostic_wider _ _ (λ said at broken. by_part said at broken) e (r (ap result_ok is)) where
       by_part : (said : DiagnosticData) (at : Option SourceSpan) → BareFieldBreaks schema parent f said at →
           SelectionReport (Some schema) no_fragments [] (Some parent) set said at
       by_part said at (inl broken) = of_field_form f (standing_at in') broken
@@ -137,32 +133,25 @@ module _ (schema : Schema) (parent : NameText) (set : SelectionSet) (f : Node Fi
     names_below e r = diagnostic_wider _ _ (λ said at broken. below_set in' (below_known (ap result_ok is)) broken) e r
 
     -- the checks of its arguments, one after another
-    pub arguments_in_set : (given : List (Node Argument)) (old distinct known new : List DiagnosticEntry) → given ≡ f.value.value.arguments.items →
-        Reports (HasDistinctNames given) (ReportsRepetition given) old distinct →
-        Reports (All (GivenArgumentHolds schema d.node.value.value.arguments.items) f.value.value.arguments.items) (ReportsGivenArgument schema parent f d) distinct known →
-        Reports (All (IsGivenIfRequired f.value.value.arguments.items) d.node.value.value.arguments.items) (ReportsDefinedField parent f d) known new →
-        Reports ((HasDistinctNames f.value.value.arguments.items ×
-        All (GivenArgumentHolds schema d.node.value.value.arguments.items) f.value.value.arguments.items) ×
-        All (IsGivenIfRequired f.value.value.arguments.items) d.node.value.value.arguments.items)
+    pub arguments_in_set : (given : List (Node Argument)) (old distinct new : List DiagnosticEntry) → given ≡ f.value.value.arguments.items →
+        Reports (HasDistinctNames given) (IsDiagnostic (RepetitionReport given)) old distinct →
+        Reports (FieldArgumentsHold schema f.value.value d.node.value.value) (ReportsDefinedField schema parent f d) distinct new →
+        Reports (HasDistinctNames f.value.value.arguments.items × FieldArgumentsHold schema f.value.value d.node.value.value)
         (NamesBrokenSelection schema parent set) old new
-    arguments_in_set given old distinct known new same r s t =
-        both _ _ _ _ _ _ (both _ _ _ _ _ _ (distinct_in_set old distinct given same r) (wider _ _ _ _ _ names_given s))
-        (wider _ _ _ _ _ names_defined t)
+    arguments_in_set given old distinct new same r s =
+        both _ _ _ _ _ _ (distinct_in_set old distinct given same r) (wider _ _ _ _ _ names_arguments s)
 
     -- and then whether it selects what it must
-    pub checked_in_set : (given : List (Node Argument)) (old distinct known required new : List DiagnosticEntry) → given ≡ f.value.value.arguments.items →
-        Reports (HasDistinctNames given) (ReportsRepetition given) old distinct →
-        Reports (All (GivenArgumentHolds schema d.node.value.value.arguments.items) f.value.value.arguments.items) (ReportsGivenArgument schema parent f d) distinct known →
-        Reports (All (IsGivenIfRequired f.value.value.arguments.items) d.node.value.value.arguments.items) (ReportsDefinedField parent f d) known required →
+    pub checked_in_set : (given : List (Node Argument)) (old distinct known new : List DiagnosticEntry) → given ≡ f.value.value.arguments.items →
+        Reports (HasDistinctNames given) (IsDiagnostic (RepetitionReport given)) old distinct →
+        Reports (FieldArgumentsHold schema f.value.value d.node.value.value) (ReportsDefinedField schema parent f d) distinct known →
         Reports (HasNeededSelection (Some schema) f.value.value d.node.value.value)
-        (λ e. definition_at (Some schema) (Some parent) f.value.value.name ≡ Some d → ReportsField (Some schema) (Some parent) f e) required new →
-        Reports (((HasDistinctNames f.value.value.arguments.items ×
-        All (GivenArgumentHolds schema d.node.value.value.arguments.items) f.value.value.arguments.items) ×
-        All (IsGivenIfRequired f.value.value.arguments.items) d.node.value.value.arguments.items) ×
+        (λ e. definition_at (Some schema) (Some parent) f.value.value.name ≡ Some d → ReportsField (Some schema) (Some parent) f e) known new →
+        Reports ((HasDistinctNames f.value.value.arguments.items × FieldArgumentsHold schema f.value.value d.node.value.value) ×
         HasNeededSelection (Some schema) f.value.value d.node.value.value)
         (NamesBrokenSelection schema parent set) old new
-    checked_in_set given old distinct known required new same r s t u =
-        both _ _ _ _ _ _ (arguments_in_set given old distinct known required same r s t) (wider _ _ _ _ _ names_checked u)
+    checked_in_set given old distinct known new same r s t =
+        both _ _ _ _ _ _ (arguments_in_set given old distinct known same r s) (wider _ _ _ _ _ names_checked t)
 
     pub below_in_set : (ty : NameText) (inner : SelectionSet) (old new : List DiagnosticEntry) →
         ty ≡ inner_named_type d.node.value.value.ty → inner ≡ f.value.value.selection_set →
@@ -190,41 +179,40 @@ holds_undefined schema parent f e is = (
   λ h. h.itself.form.distinct,
 )
 
--- no variables are defined
-no_variable : (value : Value) (v : Node VariableDefinition) → ¬ IsVariable [] value v
-no_variable value v is = none-some v is.2
-
 -- the value of an argument holds, by the first definition with its name
 abbrev ValueHolds : Schema → List (Node InputValueDefinition) → Node Argument → Type 0
 ValueHolds schema definitions a =
     (d : Node InputValueDefinition) → definition_named a.value.value.name definitions ≡ Some d →
     ArgumentValueHolds schema [] d.value.value a.value.value.value.value.value
 
--- the arguments are defined and their values accepted, all of them
-values_hold : (schema : Schema) (definitions : List (Node InputValueDefinition)) (given : List (Node Argument)) →
-    All (GivenArgumentHolds schema definitions) given → ArgumentValuesHold schema [] definitions given
-values_hold schema definitions given all =
-    All-weaker (GivenArgumentHolds schema definitions) (ValueHolds schema definitions)
-    (λ a h d found. record {
-      usage = λ v is. absurd (no_variable a.value.value.value.value.value v is);
-      accepted = h.accepted d found;
-    }) given all
+-- the arguments hold exactly where they agree with the definitions by name and by value
+module _ (schema : Schema) (f : Field) (d : FieldDefinition) where
+  names_hold : FieldArgumentsHold schema f d → ArgumentNamesHold d.arguments.items f.arguments.items
+  names_hold h = record {
+    defined = All-weaker (GivenArgumentHolds schema [] d.arguments.items) (IsDefined d.arguments.items) (λ a h. h.defined) f.arguments.items h.given;
+    required = h.required;
+  }
 
-given_hold : (schema : Schema) (definitions : List (Node InputValueDefinition)) (given : List (Node Argument)) →
-    All (IsDefined definitions) given → ArgumentValuesHold schema [] definitions given → All (GivenArgumentHolds schema definitions) given
-given_hold schema definitions given defined values =
-    All-weaker (Contains given) (GivenArgumentHolds schema definitions)
-    (λ a in'. record {
-      defined = All-contains (IsDefined definitions) given a defined in';
-      accepted = λ d found. (All-contains (ValueHolds schema definitions) given a values in' d found).accepted;
-    }) given (All-contains_itself given)
+  values_hold : FieldArgumentsHold schema f d → ArgumentValuesHold schema [] d.arguments.items f.arguments.items
+  values_hold h =
+      All-weaker (GivenArgumentHolds schema [] d.arguments.items) (ValueHolds schema d.arguments.items) (λ a h. h.value_holds) f.arguments.items h.given
+
+  arguments_hold : ArgumentNamesHold d.arguments.items f.arguments.items → ArgumentValuesHold schema [] d.arguments.items f.arguments.items →
+      FieldArgumentsHold schema f d
+  arguments_hold names values = record {
+    given =
+        All-weaker (Contains f.arguments.items) (GivenArgumentHolds schema [] d.arguments.items)
+        (λ a in'. record {
+          defined = All-contains (IsDefined d.arguments.items) f.arguments.items a names.defined in';
+          value_holds = All-contains (ValueHolds schema d.arguments.items) f.arguments.items a values in';
+        }) f.arguments.items (All-contains_itself f.arguments.items);
+    required = names.required;
+  }
 
 -- what a field with a definition must do
 abbrev pub DefinedFieldHolds : Schema → Node Field → Component FieldDefinition → Type 0
 DefinedFieldHolds schema f d =
-    (((HasDistinctNames f.value.value.arguments.items ×
-    All (GivenArgumentHolds schema d.node.value.value.arguments.items) f.value.value.arguments.items) ×
-    All (IsGivenIfRequired f.value.value.arguments.items) d.node.value.value.arguments.items) ×
+    ((HasDistinctNames f.value.value.arguments.items × FieldArgumentsHold schema f.value.value d.node.value.value) ×
     HasNeededSelection (Some schema) f.value.value d.node.value.value) ×
     ReachedFieldsHold schema (inner_named_type d.node.value.value.ty) f.value.value.selection_set
 
@@ -236,19 +224,17 @@ holds_defined schema parent f d is = (there, back) where
   there p = record {
     itself = record {
       form = record {
-        distinct = p.0.0.0.0;
+        distinct = p.0.0.0;
         agrees = λ d' found.
             let same : d ≡ d' = same_Some d d' (sym (ap result_ok is) ∙ found) in
-            let defined = All-weaker (GivenArgumentHolds schema d.node.value.value.arguments.items) (IsDefined d.node.value.value.arguments.items)
-            (λ a h. h.defined) f.value.value.arguments.items p.0.0.0.1 in
             subst (λ x. AgreesWithDefinition (Some schema) f.value.value x.node.value.value) same
-            (record { arguments = record { defined = defined; required = p.0.0.1 }; selection = p.0.1 });
+            (record { arguments = names_hold schema f.value.value d.node.value.value p.0.0.1; selection = p.0.1 });
       };
       values = λ s d' same_schema found.
           let same : d ≡ d' = same_Some d d' (sym (ap result_ok is) ∙ found) in
           subst (λ x. ArgumentValuesHold x [] d'.node.value.value.arguments.items f.value.value.arguments.items) (same_Some schema s same_schema)
           (subst (λ x. ArgumentValuesHold schema [] x.node.value.value.arguments.items f.value.value.arguments.items) same
-          (values_hold schema d.node.value.value.arguments.items f.value.value.arguments.items p.0.0.0.1));
+          (values_hold schema f.value.value d.node.value.value p.0.0.1));
     };
     below_it = λ d' found.
         let same : d ≡ d' = same_Some d d' (sym (ap result_ok is) ∙ ap result_ok found) in
@@ -258,6 +244,5 @@ holds_defined schema parent f d is = (there, back) where
   back : FieldHoldsBelow schema parent f → DefinedFieldHolds schema f d
   back h =
       let agrees = h.itself.form.agrees d (ap result_ok is) in
-      let given = given_hold schema d.node.value.value.arguments.items f.value.value.arguments.items agrees.arguments.defined
-      (h.itself.values schema d refl (ap result_ok is)) in
-      ((((h.itself.form.distinct, given), agrees.arguments.required), agrees.selection), h.below_it d is)
+      let values = h.itself.values schema d refl (ap result_ok is) in
+      (((h.itself.form.distinct, arguments_hold schema f.value.value d.node.value.value agrees.arguments values), agrees.selection), h.below_it d is)

@@ -1,3 +1,3 @@
-pub mod ArgumentValueLemmas
+pub mod FieldArgumentLemmas
 pub mod FieldSetLemmas
 pub mod FieldWalkLemmas

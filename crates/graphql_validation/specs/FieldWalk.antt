@@ -1,19 +1,16 @@
 -- The steps of the walk over fields, for the contracts of its private functions.
-use Rattle.std.specs.Prelude.{◌≡◌, ◌⊎◌, true, List, Option, Some, [], Contains, Ok}
+use Rattle.std.specs.Prelude.{◌≡◌, ◌⊎◌, true, Option, Some, [], All, Contains, Ok}
 use Rattle.graphql_documents.specs.Names.{NameText}
 use Rattle.graphql_documents.specs.TypeReferences.{inner_named_type}
 use Rattle.graphql_documents.specs.Schemas.{type_field, is_composite}
 use Rattle.graphql_documents.specs.Selections.{selections_of, definition_at, no_fragments}
-use Rattle.graphql_documents.specs.Arguments.{definition_named, IsDefined}
-use Rattle.graphql_documents.specs.InputCoercion.{Accepts}
+use Rattle.graphql_documents.specs.Arguments.{IsGivenIfRequired}
 use Rattle.graphql_documents.specs.Fields.{FieldFormHolds, FieldValuesHold, HasDefinition}
-use Rattle.graphql_documents.specs.FieldReports.{FieldBreaks, ReportsField}
+use Rattle.graphql_documents.specs.FieldReports.{FieldBreaks}
 use Rattle.graphql_documents.specs.Diagnostics.{IsDiagnostic}
 use Rattle.graphql_documents.specs.SelectionReports.{FieldValuesBreak, SelectionReport}
 use Rattle.graphql_documents.specs.declared.documents.spans.SourceSpan.{SourceSpan}
 use Rattle.graphql_documents.specs.declared.documents.nodes.Node.{Node}
-use Rattle.graphql_documents.specs.declared.documents.directives.Argument.{Argument}
-use Rattle.graphql_documents.specs.declared.documents.definitions.InputValueDefinition.{InputValueDefinition}
 use Rattle.graphql_documents.specs.declared.diagnostics.data.DiagnosticData.{DiagnosticData}
 use Rattle.graphql_documents.specs.declared.documents.components.Component.{Component}
 use Rattle.graphql_documents.specs.declared.documents.definitions.FieldDefinition.{FieldDefinition}
@@ -23,6 +20,7 @@ use Rattle.graphql_documents.specs.declared.documents.executables.SelectionSet.{
 use Rattle.graphql_documents.specs.declared.documents.executables.Field.{Field}
 use Rattle.graphql_documents.specs.declared.documents.executables.Selection.TheVariants as kind
 use Rattle.graphql_documents.specs.declared.diagnostics.lists.DiagnosticEntry.{DiagnosticEntry}
+use Rattle.graphql_values.specs.GivenArguments.{GivenArgumentHolds}
 
 -- the field's type is this composite one, and the field selects nothing
 pub record IsUnselected (schema : Option Schema) (f : Field) (definition : FieldDefinition) (ty : ExtendedType) : Type 0 where
@@ -30,17 +28,10 @@ pub record IsUnselected (schema : Option Schema) (f : Field) (definition : Field
   pub composite : is_composite ty ≡ true
   pub empty : selections_of f.selection_set ≡ []
 
--- the report names a rule that the field breaks, in a schema where it has this definition
-abbrev pub ReportsDefinedField : NameText → Node Field → Component FieldDefinition → DiagnosticEntry → Type 0
-ReportsDefinedField parent f d entry =
-    (schema : Option Schema) → definition_at schema (Some parent) f.value.value.name ≡ Some d →
-    ReportsField schema (Some parent) f entry
-
--- an argument of a field is defined, and its value is accepted without variables
-pub record GivenArgumentHolds (schema : Schema) (definitions : List (Node InputValueDefinition)) (a : Node Argument) : Type 0 where
-  pub defined : IsDefined definitions a
-  pub accepted : (d : Node InputValueDefinition) → definition_named a.value.value.name definitions ≡ Some d →
-      Accepts schema [] d.value.value.ty.value.value a.value.value.value.value.value
+-- the arguments of the field hold by this definition, without variables
+pub record FieldArgumentsHold (schema : Schema) (f : Field) (definition : FieldDefinition) : Type 0 where
+  pub given : All (GivenArgumentHolds schema [] definition.arguments.items) f.arguments.items
+  pub required : All (IsGivenIfRequired f.arguments.items) definition.arguments.items
 
 -- the report names a rule that the field breaks on this type: by its form, or by the values of its arguments
 abbrev pub BareFieldBreaks : Schema → NameText → Node Field → DiagnosticData → Option SourceSpan → Type 0
@@ -48,8 +39,8 @@ BareFieldBreaks schema parent f r at =
     FieldBreaks (Some schema) (Some parent) f r at ⊎ FieldValuesBreak (Some schema) [] (Some parent) f r at
 
 -- the same of a whole report, in a schema where the field has this definition
-abbrev pub ReportsGivenArgument : Schema → NameText → Node Field → Component FieldDefinition → DiagnosticEntry → Type 0
-ReportsGivenArgument schema parent f d entry =
+abbrev pub ReportsDefinedField : Schema → NameText → Node Field → Component FieldDefinition → DiagnosticEntry → Type 0
+ReportsDefinedField schema parent f d entry =
     definition_at (Some schema) (Some parent) f.value.value.name ≡ Some d →
     IsDiagnostic (BareFieldBreaks schema parent f) entry
 

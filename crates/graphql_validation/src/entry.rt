@@ -1,6 +1,5 @@
 //! The calls that validate a whole document or field set.
 
-mod arguments;
 mod fields;
 
 ghost use Rattle.std.specs.Prelude.{OnOk};

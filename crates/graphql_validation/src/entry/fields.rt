@@ -4,15 +4,15 @@ ghost use Rattle.graphql_documents.specs.Fields.{HasNeededSelection};
 ghost use Rattle.graphql_documents.specs.FieldReports.{ReportsField};
 ghost use Rattle.graphql_documents.specs.Reports.{Checks};
 ghost use Rattle.graphql_documents.specs.declared.documents.executables.SelectionSet.{SelectionSet};
-ghost use Rattle.graphql_validation.specs.FieldWalk.{ReachedFieldsHold, FieldHoldsBelow, IsUnselected, NamesBrokenSelection};
+ghost use Rattle.graphql_validation.specs.FieldWalk.{FieldArgumentsHold, FieldHoldsBelow, IsUnselected, NamesBrokenSelection, ReachedFieldsHold, ReportsDefinedField};
 
-use super::arguments::{
-    field_coordinate, validate_arguments, validate_given_arguments, validate_required_arguments,
-};
 use graphql_documents::diagnostics::{Details, DiagnosticData, DiagnosticList, ValidationError};
 use graphql_documents::documents::{
     Component, ExtendedType, Field, FieldDefinition, NamedType, Node, Schema, Selection,
-    SelectionSet,
+    SelectionSet, TypeAttributeCoordinate,
+};
+use graphql_values::argument::{
+    GivenArguments, validate_arguments, validate_given_arguments, validate_required_arguments,
 };
 
 /// Validates each field of a set that stands on this type, with what is below it, in order.
@@ -51,13 +51,28 @@ fn validate_field(
     let Ok(definition) = schema.type_field(against_type, &field.value.name) else {
         return Ok(());
     };
-    validate_given_arguments(diagnostics, schema, against_type, field, definition)?;
-    validate_required_arguments(diagnostics, against_type, field, definition)?;
+    validate_field_arguments(diagnostics, schema, against_type, field, definition)?;
     if validate_leaf_field_selection(diagnostics, schema, against_type, field, definition)? {
         let field_type = definition.node.value.ty.inner_named_type();
         validate_selection_set(diagnostics, schema, field_type, &field.value.selection_set)?;
     }
     Ok(())
+}
+
+/// Reports what the arguments of a field break, by its definition and without variables.
+fn validate_field_arguments(
+    diagnostics: &mut DiagnosticList,
+    schema: &Schema,
+    parent: &NamedType,
+    field: &Node<Field>,
+    definition: &Component<FieldDefinition>,
+) -> Result<(), ValidationError>
+    ensures { Checks result (FieldArgumentsHold schema.now field.now.value.value definition.now.node.value.value)
+        (ReportsDefinedField schema.now parent.now field.now definition.now) diagnostics.old diagnostics.new }
+{
+    let arguments = GivenArguments::of_field(parent, field, definition);
+    validate_given_arguments(diagnostics, schema, &arguments, &[])?;
+    validate_required_arguments(diagnostics, &arguments)
 }
 
 /// Reports a field of a composite type that selects nothing, and answers whether none was reported.
@@ -109,4 +124,17 @@ fn type_without_selection<'a>(
     } else {
         None
     }
+}
+
+/// The coordinate of a field of this type.
+fn field_coordinate(
+    parent: &NamedType,
+    field: &Field,
+) -> Result<TypeAttributeCoordinate, ValidationError>
+    ensures { IfOk result (λ c. c ≡ record { ty = parent.now; attribute = field.now.name }) }
+{
+    Ok(TypeAttributeCoordinate {
+        ty: parent.clone()?,
+        attribute: field.name.clone()?,
+    })
 }

@@ -10,6 +10,7 @@ use graphql_documents::documents::{
 
 /// What arguments are given to: a field of a type, or a directive, which its definition may write
 /// otherwise than its application.
+#[derive(Drop)]
 pub enum ArgumentOwner<'a> {
     Field {
         parent: &'a NamedType,
@@ -22,6 +23,7 @@ pub enum ArgumentOwner<'a> {
 }
 
 /// The arguments of a field or directive beside the definitions of its arguments.
+#[derive(Drop)]
 pub struct GivenArguments<'a> {
     pub owner: ArgumentOwner<'a>,
     pub location: Option<SourceSpan>,

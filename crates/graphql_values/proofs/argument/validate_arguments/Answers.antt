@@ -11,7 +11,7 @@ use Rattle.graphql_documents.specs.Reports.{Appends, KeepsReports, Reports}
 use Rattle.graphql_documents.specs.declared.documents.spans.SourceSpan.{SourceSpan}
 use Rattle.graphql_documents.proofs.ArgumentLemmas.{place_of, place_found, place_missing, distinct_at, repetition_at, still_found, newly_found}
 use Rattle.graphql_documents.proofs.ReportLemmas.{checks-err, kept_by, holds, both, in_words}
-use Rattle.graphql_values.proofs.RepetitionLemmas.{AreReportsOf, appends_none, appends_repetition, appends_new, reports_repetition}
+use Rattle.graphql_values.proofs.RepetitionLemmas.{appends_none, appends_repetition, appends_new, reports_repetition}
 use Rattle.graphql_values.proofs.argument.validate_arguments.Goals as goal
 use Rattle.graphql_values.proofs.argument.validate_arguments.Goals.{in-Some+in_ok-report_repetition-in-Some, in-None+in_ok-insert-in-None}
 

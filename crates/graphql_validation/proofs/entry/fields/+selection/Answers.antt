@@ -4,8 +4,8 @@ use Rattle.graphql_documents.specs.TypeReferences.{inner_named_type}
 use Rattle.graphql_documents.specs.Schemas.{type_field}
 use Rattle.graphql_documents.specs.Selections.{selections_of}
 use Rattle.graphql_validation.specs.FieldWalk.{NamesBrokenSelection}
-use Rattle.graphql_documents.proofs.ReportLemmas.{checks-err, kept_then, kept_by, kept_wider, wider, both, holds, in_words, walked_more, walked_all}
-use Rattle.graphql_validation.proofs.FieldWalkLemmas.{SelectionHolds, field_selection, reached_hold, all_hold, none_reached, names_repetition, distinct_in_set, names_defined, names_given, names_checked, arguments_in_set, checked_in_set, below_in_set, names_below, holds_undefined, holds_defined}
+use Rattle.graphql_documents.proofs.ReportLemmas.{checks-err, kept_then, kept_by, kept_wider, both, holds, in_words, walked_more, walked_all}
+use Rattle.graphql_validation.proofs.FieldWalkLemmas.{SelectionHolds, field_selection, reached_hold, all_hold, none_reached, names_repetition, distinct_in_set, names_arguments, names_checked, arguments_in_set, checked_in_set, below_in_set, names_below, holds_undefined, holds_defined}
 use Rattle.graphql_documents.specs.declared.documents.executables.Selection.TheVariants as kind
 use Rattle.graphql_validation.proofs.entry.fields.+selection.Goals as goal
 use Rattle.graphql_validation.proofs.entry.fields.+selection.Goals.{validate_selection_set-in-Field+in_ok-validate_field, validate_selection_set-in_default}
@@ -15,38 +15,26 @@ validate_field-returns-in_err-validate_arguments t c = λ set in'.
     let same = c.deref-2.ensures.value ∙ ap (λ f. f.arguments.items) c.deref.ensures in
     checks-err _ _ _ _ _ c.from_residual.ensures.0
     (kept_wider _ _ _ _ (names_repetition c.args.schema.now c.args.against_type.now set c.args.field.now in' _ same)
-    c.in_err-validate_arguments.ensures)
+    c.in_err-validate_arguments.ensures.checks)
 
 pub validate_field-returns-in_default : goal.validate_field-returns-in_default
 validate_field-returns-in_default t c = λ set in'.
     let same = c.deref-2.ensures.value ∙ ap (λ f. f.arguments.items) c.deref.ensures in
     in_words _ _ _ _ _
     (holds_undefined c.args.schema.now c.args.against_type.now c.args.field.now c.in_default.field-0 (search rules))
-    (distinct_in_set c.args.schema.now c.args.against_type.now set c.args.field.now in' _ _ _ same c.in_ok-validate_arguments.ensures)
+    (distinct_in_set c.args.schema.now c.args.against_type.now set c.args.field.now in' _ _ _ same c.in_ok-validate_arguments.ensures.checks)
 
-pub validate_field-returns-in_err-validate_given_arguments : goal.validate_field-returns-in_err-validate_given_arguments
-validate_field-returns-in_err-validate_given_arguments t c = λ set in'.
+pub validate_field-returns-in_err-validate_field_arguments : goal.validate_field-returns-in_err-validate_field_arguments
+validate_field-returns-in_err-validate_field_arguments t c = λ set in'.
     let schema = c.args.schema.now in
     let parent = c.args.against_type.now in
     let f = c.args.field.now in
     let d = c.in-Ok.definition.now in
     let is : type_field schema parent f.value.value.name ≡ Ok d = search rules in
     let same = c.deref-2.ensures.value ∙ ap (λ f. f.arguments.items) c.deref.ensures in
-    checks-err _ _ _ _ _ c.from_residual-in_err-validate_given_arguments.ensures.0
-    (kept_then _ _ _ _ (kept_by _ _ _ _ (distinct_in_set schema parent set f in' _ _ _ same c.in_ok-validate_arguments.ensures))
-    (kept_wider _ _ _ _ (names_given schema parent set f in' d is) c.in_err-validate_given_arguments.ensures))
-
-pub validate_field-returns-in_err-validate_required_arguments : goal.validate_field-returns-in_err-validate_required_arguments
-validate_field-returns-in_err-validate_required_arguments t c = λ set in'.
-    let schema = c.args.schema.now in
-    let parent = c.args.against_type.now in
-    let f = c.args.field.now in
-    let d = c.in-Ok.definition.now in
-    let is : type_field schema parent f.value.value.name ≡ Ok d = search rules in
-    let same = c.deref-2.ensures.value ∙ ap (λ f. f.arguments.items) c.deref.ensures in
-    checks-err _ _ _ _ _ c.from_residual-in_err-validate_required_arguments.ensures.0
-    (kept_then _ _ _ _ (kept_by _ _ _ _ (both _ _ _ _ _ _ (distinct_in_set schema parent set f in' _ _ _ same c.in_ok-validate_arguments.ensures) (wider _ _ _ _ _ (names_given schema parent set f in' d is) c.in_ok-validate_given_arguments.ensures)))
-    (kept_wider _ _ _ _ (names_defined schema parent set f in' d is) c.in_err-validate_required_arguments.ensures))
+    checks-err _ _ _ _ _ c.from_residual-in_err-validate_field_arguments.ensures.0
+    (kept_then _ _ _ _ (kept_by _ _ _ _ (distinct_in_set schema parent set f in' _ _ _ same c.in_ok-validate_arguments.ensures.checks))
+    (kept_wider _ _ _ _ (names_arguments schema parent set f in' d is) c.in_err-validate_field_arguments.ensures))
 
 pub validate_field-returns-in_err-validate_leaf_field_selection : goal.validate_field-returns-in_err-validate_leaf_field_selection
 validate_field-returns-in_err-validate_leaf_field_selection t c = λ set in'.
@@ -57,7 +45,7 @@ validate_field-returns-in_err-validate_leaf_field_selection t c = λ set in'.
     let is : type_field schema parent f.value.value.name ≡ Ok d = search rules in
     let same = c.deref-2.ensures.value ∙ ap (λ f. f.arguments.items) c.deref.ensures in
     checks-err _ _ _ _ _ c.from_residual-in_err-validate_leaf_field_selection.ensures.0
-    (kept_then _ _ _ _ (kept_by _ _ _ _ (arguments_in_set schema parent set f in' d is _ _ _ _ _ same c.in_ok-validate_arguments.ensures c.in_ok-validate_given_arguments.ensures c.in_ok-validate_required_arguments.ensures))
+    (kept_then _ _ _ _ (kept_by _ _ _ _ (arguments_in_set schema parent set f in' d is _ _ _ _ same c.in_ok-validate_arguments.ensures.checks c.in_ok-validate_field_arguments.ensures))
     (kept_wider _ _ _ _ (names_checked schema parent set f in' d is) c.in_err-validate_leaf_field_selection.ensures.checks))
 
 pub validate_field-returns-in_err-validate_selection_set : goal.validate_field-returns-in_err-validate_selection_set
@@ -68,8 +56,8 @@ validate_field-returns-in_err-validate_selection_set t c = λ set in'.
     let d = c.in-Ok.definition.now in
     let is : type_field schema parent f.value.value.name ≡ Ok d = search rules in
     let same = c.deref-2.ensures.value ∙ ap (λ f. f.arguments.items) c.deref.ensures in
-    let checked = checked_in_set schema parent set f in' d is _ _ _ _ _ _ same c.in_ok-validate_arguments.ensures c.in_ok-validate_given_arguments.ensures
-    c.in_ok-validate_required_arguments.ensures c.in_ok-validate_leaf_field_selection.ensures.checks in
+    let checked = checked_in_set schema parent set f in' d is _ _ _ _ _ same c.in_ok-validate_arguments.ensures.checks
+    c.in_ok-validate_field_arguments.ensures c.in_ok-validate_leaf_field_selection.ensures.checks in
     checks-err _ _ _ _ _ c.from_residual-in_err-validate_selection_set.ensures.0
     (kept_then _ _ _ _ (kept_by _ _ _ _ checked)
     (kept_wider _ _ _ _ (names_below schema parent set f in' d is) (search rules)))
@@ -82,8 +70,8 @@ validate_field-returns-in_ok-validate_selection_set t c = λ set in'.
     let d = c.in-Ok.definition.now in
     let is : type_field schema parent f.value.value.name ≡ Ok d = search rules in
     let same = c.deref-2.ensures.value ∙ ap (λ f. f.arguments.items) c.deref.ensures in
-    let checked = checked_in_set schema parent set f in' d is _ _ _ _ _ _ same c.in_ok-validate_arguments.ensures c.in_ok-validate_given_arguments.ensures
-    c.in_ok-validate_required_arguments.ensures c.in_ok-validate_leaf_field_selection.ensures.checks in
+    let checked = checked_in_set schema parent set f in' d is _ _ _ _ _ same c.in_ok-validate_arguments.ensures.checks
+    c.in_ok-validate_field_arguments.ensures c.in_ok-validate_leaf_field_selection.ensures.checks in
     in_words _ _ _ _ _ (holds_defined schema parent f d is)
     (both _ _ _ _ _ _ checked (below_in_set schema parent set f in' d is _ _ _ _ (search rules) (search rules) c.in_ok-validate_selection_set.ensures))
 
@@ -95,8 +83,8 @@ validate_field-returns-else-branch t c = λ set in'.
     let d = c.in-Ok.definition.now in
     let is : type_field schema parent f.value.value.name ≡ Ok d = search rules in
     let same = c.deref-2.ensures.value ∙ ap (λ f. f.arguments.items) c.deref.ensures in
-    let checked = checked_in_set schema parent set f in' d is _ _ _ _ _ _ same c.in_ok-validate_arguments.ensures c.in_ok-validate_given_arguments.ensures
-    c.in_ok-validate_required_arguments.ensures c.in_ok-validate_leaf_field_selection.ensures.checks in
+    let checked = checked_in_set schema parent set f in' d is _ _ _ _ _ same c.in_ok-validate_arguments.ensures.checks
+    c.in_ok-validate_field_arguments.ensures c.in_ok-validate_leaf_field_selection.ensures.checks in
     in_words _ _ _ _ _ (holds_defined schema parent f d is)
     (both _ _ _ _ _ _ checked (holds _ _ _ (none_reached schema (inner_named_type d.node.value.value.ty) f.value.value.selection_set (search rules))))
 
