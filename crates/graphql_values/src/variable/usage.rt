@@ -1,10 +1,12 @@
-ghost use Rattle.std.specs.Prelude.{◌≡◌, ◌↔◌, IsTrue, IfOk};
+ghost use Rattle.std.specs.Prelude.{◌≡◌, ◌↔◌, IsTrue, IfOk, List};
 ghost use Rattle.std.specs.Option.{option_copied};
 ghost use Rattle.graphql_documents.specs.Diagnostics.{IsDiagnostic};
 ghost use Rattle.graphql_documents.specs.DirectiveReports.{UsageReport};
 ghost use Rattle.graphql_documents.specs.Reports.{Checks};
 ghost use Rattle.graphql_documents.specs.TypeReferences.{is_assignable, nullable};
 ghost use Rattle.graphql_documents.specs.VariableUsage.{HasNonNullDefault, IsUsageAllowed, IsVariable, UsageHolds, variable_named};
+ghost use Rattle.graphql_documents.specs.declared.documents.definitions.VariableDefinition.{VariableDefinition};
+ghost use Rattle.graphql_documents.specs.declared.documents.nodes.Node.{Node};
 
 use crate::copies::copy_of_type;
 use graphql_documents::diagnostics::{Details, DiagnosticData, DiagnosticList, ValidationError};
@@ -102,7 +104,7 @@ fn report_usage(
     argument: &Node<Argument>,
 ) -> Result<(), ValidationError>
     requires disallowed { ¬ IsUsageAllowed variable.now.value.value place.now.value.value }
-    ensures { (variables : _) → IsVariable variables argument.now.value.value.value.value.value variable.now →
+    ensures { (variables : List (Node VariableDefinition)) → IsVariable variables argument.now.value.value.value.value.value variable.now →
         Checks result ⊥ (IsDiagnostic (UsageReport variables place.now argument.now)) diagnostics.old diagnostics.new }
 {
     let name = variable.value.name.clone()?;
