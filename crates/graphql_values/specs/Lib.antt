@@ -1,1 +1,3 @@
+pub mod Searches
 pub mod ValueSteps
+pub mod WalkSteps
