@@ -14,7 +14,7 @@ use Rattle.graphql_documents.proofs.NameLemmas.{same_name_back, same_name_itself
 use Rattle.graphql_documents.proofs.ReportLemmas.{more_is}
 use Rattle.graphql_documents.proofs.SelectionLaws.{not_inline, not_spread, same_field, same_inline, spread_not_inline, same_spread}
 use Rattle.graphql_documents.specs.Guards.{stands_on}
-use Rattle.graphql_documents.specs.Names.{DifferentNames, NameText, SameName, same_name}
+use Rattle.graphql_documents.specs.Names.{DifferentNames, NameText, SameName, same_name, with_name}
 use Rattle.graphql_documents.specs.Selections.{Fragments, fragments_of, selections_of}
 use Rattle.graphql_documents.specs.Walks.{descent_ends, descent_into_field, descent_into_fragment, descent_into_inline_fragment}
 use Rattle.graphql_documents.specs.declared.documents.executables.Field.{Field}
@@ -114,12 +114,36 @@ stands_either names entered name h =
 
 -- what was met before a name was entered, or a selection listed
 pub record Entered (name : NameText) (old new : Met) : Type 0 where
+  pub unmet : IsFalse (stands_on (names_of old) name)
   pub names : names_of new ≡ names_of old ++ name ∷ []
   pub listed : listed_of new ≡ listed_of old
 
 pub record Listed (s : Selection) (old new : Met) : Type 0 where
   pub names : names_of new ≡ names_of old
   pub listed : listed_of new ≡ listed_of old ++ s ∷ []
+
+-- a name that was to be entered stood there, or was entered
+pub stood_there : (name : NameText) (old new : Met) (is_new : Bool) → is_new ≡ not (stands_on (names_of old) name) →
+    names_of new ≡ with_name (names_of old) name → is_new ≡ false → IsTrue (stands_on (names_of old) name) × (names_of new ≡ names_of old)
+stood_there name old new is_new e names is =
+    let there = flipped (stands_on (names_of old) name) (sym e ∙ is) in
+    (there, names ∙ ap (λ b. if b then names_of old else names_of old ++ name ∷ []) there) where
+      flipped : (b : Bool) → not b ≡ false → b ≡ true
+      flipped true h = refl
+      flipped false h = sym h
+
+pub was_entered : (name : NameText) (old new : Met) (is_new : Bool) → is_new ≡ not (stands_on (names_of old) name) →
+    names_of new ≡ with_name (names_of old) name → listed_of new ≡ listed_of old → is_new ≡ true → Entered name old new
+was_entered name old new is_new e names listed is =
+    let missing = flipped (stands_on (names_of old) name) (sym e ∙ is) in
+    record {
+      unmet = missing;
+      names = names ∙ ap (λ b. if b then names_of old else names_of old ++ name ∷ []) missing;
+      listed = listed;
+    } where
+      flipped : (b : Bool) → not b ≡ true → b ≡ false
+      flipped true h = sym h
+      flipped false h = refl
 
 pub entered_grows : (name : NameText) (old new : Met) → Entered name old new → (x : Stop) → IsMet old x → IsMet new x
 entered_grows name old new e (at_selection s) h = subst (λ l. Contains l s) (sym e.listed) h
@@ -156,37 +180,20 @@ listed_only s old new e (at_selection t) h =
     ]
 listed_only s old new e (at_name other) h = inl (subst (λ l. IsTrue (stands_on l other)) e.names h)
 
--- a set of references to names that was to take a name in: it stood there, or is there now
+-- a set of references to names holds the names
 module _ {R : Type 0} (name_at : R → NameText) where
-  refs_any : (name : NameText) (refs : List R) → list_any (λ r. same_name name (name_at r)) refs ≡ list_any (same_name name) (map name_at refs)
+  pub refs_any : (name : NameText) (refs : List R) → list_any (λ r. same_name name (name_at r)) refs ≡ list_any (same_name name) (map name_at refs)
   refs_any name [] = refl
   refs_any name (r ∷ rs) = ap (λ b. same_name name (name_at r) || b) (refs_any name rs)
 
-  pub stood_there : (old : List R) (name : NameText) (added : Bool) → added ≡ not (list_any (λ b. same_name name (name_at b)) old) → added ≡ false →
-      IsTrue (stands_on (map name_at old) name)
-  stood_there old name added e is =
-      sym (refs_any name old) ∙ flipped (list_any (λ b. same_name name (name_at b)) old) (sym e ∙ is) where
-        flipped : (b : Bool) → not b ≡ false → b ≡ true
-        flipped true h = refl
-        flipped false h = sym h
-
-  pub stood_not : (old : List R) (name : NameText) (added : Bool) → added ≡ not (list_any (λ b. same_name name (name_at b)) old) → added ≡ true →
-      IsFalse (stands_on (map name_at old) name)
-  stood_not old name added e is =
-      sym (refs_any name old) ∙ flipped (list_any (λ b. same_name name (name_at b)) old) (sym e ∙ is) where
-        flipped : (b : Bool) → not b ≡ true → b ≡ false
-        flipped true h = sym h
-        flipped false h = refl
-
-  pub names_stay : (old new : List R) (r : R) → new ≡ insert_key (λ a b. same_name (name_at a) (name_at b)) old r →
-      IsTrue (stands_on (map name_at old) (name_at r)) → map name_at new ≡ map name_at old
-  names_stay old new r e there =
-      ap (map name_at) (e ∙ ap (λ b. if b then old else old ++ r ∷ []) (refs_any (name_at r) old ∙ there))
-
-  pub name_is_last : (old new : List R) (r : R) → new ≡ insert_key (λ a b. same_name (name_at a) (name_at b)) old r →
-      IsFalse (stands_on (map name_at old) (name_at r)) → map name_at new ≡ map name_at old ++ name_at r ∷ []
-  name_is_last old new r e not_there =
-      ap (map name_at) (e ∙ ap (λ b. if b then old else old ++ r ∷ []) (refs_any (name_at r) old ∙ not_there)) ∙ map-append name_at old (r ∷ [])
+  pub refs_with : (old new : List R) (r : R) → new ≡ insert_key (λ a b. same_name (name_at a) (name_at b)) old r →
+      map name_at new ≡ with_name (map name_at old) (name_at r)
+  refs_with old new r e =
+      ap (map name_at) e ∙ inserted (list_any (λ b. same_name (name_at r) (name_at b)) old) ∙
+      ap (λ b. if b then map name_at old else map name_at old ++ name_at r ∷ []) (refs_any (name_at r) old) where
+        inserted : (b : Bool) → map name_at (if b then old else old ++ r ∷ []) ≡ (if b then map name_at old else map name_at old ++ name_at r ∷ [])
+        inserted true = refl
+        inserted false = map-append name_at old (r ∷ [])
 
 -- what has the same names and selections has met the same
 same_met : (old new : Met) → names_of old ≡ names_of new → listed_of old ≡ listed_of new → (x : Stop) → IsMet old x → IsMet new x
@@ -254,9 +261,9 @@ module _ (walk : SelectionWalk) (met : Met) (limit depth : ℕ) (set : Selection
 
   pub passes_by_spread : (p : Node FragmentSpread) (d : Node Fragment) (after : Met) → Contains (selections_of set) (kind.FragmentSpread p) →
       fragments_of walk.document.now p.value.value.fragment_name ≡ Some d →
-      IsFalse (stands_on (names_of met) p.value.value.fragment_name) → Entered p.value.value.fragment_name met after →
+      Entered p.value.value.fragment_name met after →
       PassesFrom walk after limit (depth + 1) d.value.value.selection_set → PassesFrom walk met limit depth set
-  passes_by_spread p d after stands found unmet e passing =
+  passes_by_spread p d after stands found e passing =
       let name : NameText = p.value.value.fragment_name in
       record {
         steps = suc passing.steps;
@@ -266,7 +273,7 @@ module _ (walk : SelectionWalk) (met : Met) (limit depth : ℕ) (set : Selection
             (All-weaker (λ n. IsFalse (stands_on (names_of after) n)) (DifferentNames name) (λ n fresh.
             not_true (same_name name n) (λ same. both_not (stands_on (names_of after) n) (entered_is_met name met after e (at_name n) same) fresh)) passing.names passing.fresh)
             passing.once;
-        fresh = All-cons (λ n. IsFalse (stands_on (names_of met) n)) name passing.names unmet
+        fresh = All-cons (λ n. IsFalse (stands_on (names_of met) n)) name passing.names e.unmet
             (All-weaker (λ n. IsFalse (stands_on (names_of after) n)) (λ n. IsFalse (stands_on (names_of met) n))
             (fresh_before met after (entered_grows name met after e)) passing.names passing.fresh);
         passes = omega (arith, passing.passes);
@@ -305,7 +312,7 @@ module _ (walk : SelectionWalk) where
     bound = λ h. passes (w.bound h);
   }
 
-  -- below a field that is gone into, below one that is not, and below an inline fragment
+  -- below a field that is gone into, and below an inline fragment
   pub walked_field : (s : Selection) (f : Node Field) (limit depth : ℕ) (old new : Met) (complete : Bool) → s ≡ kind.Field f → IsTrue walk.into_fields →
       HasWalked walk (StandsIn f.value.value.selection_set) (PassesFrom walk old limit (depth + 1) f.value.value.selection_set) old new complete →
       HasWalked walk (StepOf walk (at_selection s)) (PassesBelow walk old limit depth s) old new complete
@@ -316,11 +323,6 @@ module _ (walk : SelectionWalk) where
       (λ x step. (from_field step f (ap at_selection is)).1)
       (λ passes set stands. passes_by_field walk old limit depth set f into (subst (Contains (selections_of set)) is stands) passes)
       w
-
-  pub walked_past_field : (s : Selection) (f : Node Field) (Passes : Type 0) (met : Met) → s ≡ kind.Field f → IsFalse walk.into_fields →
-      HasWalked walk (StepOf walk (at_selection s)) Passes met met true
-  walked_past_field s f Passes met is past =
-      walked_before (StepOf walk (at_selection s)) Passes met (λ x step. absurd (both_not walk.into_fields (from_field step f (ap at_selection is)).0 past))
 
   pub walked_inline_fragment : (s : Selection) (i : Node InlineFragment) (limit depth : ℕ) (old new : Met) (complete : Bool) → s ≡ kind.InlineFragment i →
       HasWalked walk (StandsIn i.value.value.selection_set) (PassesFrom walk old limit (depth + 1) i.value.value.selection_set) old new complete →
@@ -373,10 +375,9 @@ module _ (walk : SelectionWalk) where
     -- a spread of a fragment that is gone into
     pub walked_fragment : (d : Node Fragment) (old mid new : Met) (complete : Bool) → Entered p.value.value.fragment_name old mid →
         fragments_of walk.document.now p.value.value.fragment_name ≡ Some d →
-        IsFalse (stands_on (names_of old) p.value.value.fragment_name) →
         HasWalked walk (StandsIn d.value.value.selection_set) (PassesFrom walk mid limit (depth + 1) d.value.value.selection_set) mid new complete →
         HasWalked walk (StepOf walk (at_selection (kind.FragmentSpread p))) (PassesBelow walk old limit depth (kind.FragmentSpread p)) old new complete
-    walked_fragment d old mid new complete e found unmet w =
+    walked_fragment d old mid new complete e found w =
         let name : NameText = p.value.value.fragment_name in
         let from : (y : Stop) → StandsIn d.value.value.selection_set y → (x : Stop) × IsName name x × StepOf walk x y =
         λ y stands. (at_name name, same_name_itself name, into_fragment found stands) in
@@ -384,7 +385,7 @@ module _ (walk : SelectionWalk) where
         (PassesFrom walk mid limit (depth + 1) d.value.value.selection_set) (PassesBelow walk old limit depth (kind.FragmentSpread p)) old new complete
         (λ x named. to_name p named)
         (λ x step. from_spread step p refl)
-        (λ passes set stands. passes_by_spread walk old limit depth set p d mid stands found unmet e passes)
+        (λ passes set stands. passes_by_spread walk old limit depth set p d mid stands found e passes)
         (record {
           finds = finds_below (StepOf walk) (IsName name) (StandsIn d.value.value.selection_set) (IsMet old) (IsMet mid) (IsMet new)
               (entered_grows name old mid e) (entered_only name old mid e) from w.finds;

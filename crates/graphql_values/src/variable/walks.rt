@@ -1,11 +1,12 @@
 //! Walks over the selections of an operation.
 
-ghost use Rattle.std.specs.Prelude.{◌≡◌, ◌+◌, map, IfOk, OnOk};
-ghost use Rattle.graphql_documents.specs.Guards.{depth_limit, depth_of};
+ghost use Rattle.std.specs.Prelude.{◌≡◌, ◌+◌, map, not, IfOk, OnOk};
+ghost use Rattle.graphql_documents.specs.Guards.{depth_limit, depth_of, stands_on};
+ghost use Rattle.graphql_documents.specs.Names.{with_name};
 ghost use Rattle.graphql_documents.specs.Selections.{Inside, Reached, fragments_of};
 ghost use Rattle.graphql_documents.specs.Walks.{HasListed, PassesDepth, full_walk, root_walk};
 ghost use Rattle.graphql_documents.specs.declared.documents.executables.Selection.TheVariants as kind;
-ghost use Rattle.graphql_values.specs.WalkSteps.{MetFrom, WalksBelow, WalksOver, walk_into};
+ghost use Rattle.graphql_values.specs.WalkSteps.{MetFrom, WalksBelow, WalksOver, listed_of, names_of, walk_into};
 
 use graphql_documents::diagnostics::ValidationError;
 use graphql_documents::documents::{
@@ -79,6 +80,17 @@ struct SelectionWalk<'doc> {
 struct Met<'doc> {
     entered: IndexSet<&'doc Name>,
     selections: Vec<&'doc Selection>,
+}
+
+impl<'doc> Met<'doc> {
+    /// Adds the name of a fragment, and answers whether it is new.
+    fn enter(&mut self, name: &'doc Name) -> Result<bool, ValidationError>
+        ensures is_new { IfOk result (λ new. new ≡ not (stands_on (names_of self.old) name.now)) }
+        ensures names { OnOk result (names_of self.new ≡ with_name (names_of self.old) name.now) }
+        ensures selections { OnOk result (listed_of self.new ≡ listed_of self.old) }
+    {
+        Ok(self.entered.insert(name)?)
+    }
 }
 
 impl<'doc> SelectionWalk<'doc> {
@@ -158,7 +170,7 @@ impl<'doc> SelectionWalk<'doc> {
         ensures limit { OnOk result (depth_limit depth.new ≡ depth_limit depth.old) }
     {
         let name = &spread.value.fragment_name;
-        if !met.entered.insert(name)? {
+        if !met.enter(name)? {
             return Ok(true);
         }
         match self.document.fragments.get(name) {

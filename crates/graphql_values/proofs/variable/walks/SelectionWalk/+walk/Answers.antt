@@ -1,6 +1,7 @@
+-- Each exit of the walk over selections.
 use Rattle.std.proofs.lemmas.Result.{IfOk-weaker}
-use Rattle.graphql_values.proofs.SelectionWalkLemmas.{walked_field, stood_there, stood_not, names_stay, name_is_last, PassesBelow, walked_inline_fragment, walked_to_limit, walked_fragment, walked_entered, walked_undefined, walked_part, searched_next, walked_whole, Entered}
-use Rattle.std.proofs.Common.{rules, ◌≡◌, subst, IsTrue, IsFalse, Some, None, refl, sym, ap, ◌∙◌, ◌+◌, map, ℕ, Bool, false}
+use Rattle.graphql_values.proofs.SelectionWalkLemmas.{walked_field, stood_there, was_entered, PassesBelow, walked_inline_fragment, walked_to_limit, walked_fragment, walked_entered, walked_undefined, walked_part, searched_next, walked_whole, Entered}
+use Rattle.std.proofs.Common.{rules, ◌≡◌, subst, IsTrue, Some, None, refl, sym, ap, ◌∙◌, ◌+◌, map, ℕ, Bool, false}
 use Rattle.graphql_documents.specs.Guards.{depth_limit, depth_of, stands_on}
 use Rattle.std.proofs.lemmas.List.{map-append}
 use Rattle.graphql_values.specs.declared.variable.walks.Met.{Met}
@@ -8,14 +9,12 @@ use Rattle.graphql_documents.specs.Selections.{fragments_of}
 use Rattle.graphql_values.specs.WalkSteps.{HasWalked, StepOf, WalksOver, at_selection, names_of}
 use Rattle.graphql_values.proofs.variable.walks.SelectionWalk.+walk.Goals as goal
 
--- src/variable/walks.rt:129:5
 pub walk_below-returns-in-Field-clause-walks : goal.walk_below-returns-in-Field-clause-walks
 walk_below-returns-in-Field-clause-walks t c =
     IfOk-weaker _ _ _ (λ complete w. walked_field c.args.self.now c.args.selection.now c.in-Field.field _ _ _ _ complete c.in-Field.is c.if-self.true
     (subst (λ f. WalksOver c.args.self.now c.args.depth.now (depth_of c.args.depth.now + 1) f.selection_set c.args.met.now c.walk_deeper.new.met complete) c.deref.ensures w))
     c.walk_deeper.ensures.walks
 
--- src/variable/walks.rt:129:5
 pub walk_below-returns-in-InlineFragment-clause-walks :
     goal.walk_below-returns-in-InlineFragment-clause-walks
 walk_below-returns-in-InlineFragment-clause-walks t c =
@@ -23,44 +22,36 @@ walk_below-returns-in-InlineFragment-clause-walks t c =
     (subst (λ f. WalksOver c.args.self.now c.args.depth.now (depth_of c.args.depth.now + 1) f.selection_set c.args.met.now c.walk_deeper-in-InlineFragment.new.met complete) c.deref-in-InlineFragment.ensures w))
     c.walk_deeper-in-InlineFragment.ensures.walks
 
--- src/variable/walks.rt:175:5
 pub walk_deeper-returns-in-Err-clause-walks : goal.walk_deeper-returns-in-Err-clause-walks
 walk_deeper-returns-in-Err-clause-walks t c =
     walked_to_limit c.args.self.now c.args.set.now (depth_limit c.args.depth.now) (depth_of c.args.depth.now) c.args.met.now c.in-Err.ensures.bound
 
--- src/variable/walks.rt:166:13
 pub walk_fragment-returns-then-not-branch-clause-walks :
     goal.walk_fragment-returns-then-not-branch-clause-walks
 walk_fragment-returns-then-not-branch-clause-walks t c =
-    let there = stood_there (λ r. r.now) c.args.met.now.entered.keys c.deref.result.now.fragment_name _ c.in_ok-insert.ensures.added c.if-not-branch.true in
-    walked_entered c.args.self.now c.args.spread.now _ _ c.args.met.now _
-    (names_stay (λ r. r.now) c.args.met.now.entered.keys c.insert.new.self.keys _ c.in_ok-insert.ensures.keys there) refl
-    (subst (λ p. IsTrue (stands_on (names_of c.args.met.now) p.fragment_name)) c.deref.ensures there)
+    let there = stood_there c.deref.result.now.fragment_name c.args.met.now c.enter.new.self c.in_ok-enter.field-0
+    c.in_ok-enter.ensures.is_new c.in_ok-enter.ensures.names c.if-not-branch.true in
+    walked_entered c.args.self.now c.args.spread.now _ _ c.args.met.now c.enter.new.self there.1 c.in_ok-enter.ensures.selections
+    (subst (λ p. IsTrue (stands_on (names_of c.args.met.now) p.fragment_name)) c.deref.ensures there.0)
 
--- src/variable/walks.rt:153:5
 pub walk_fragment-returns-in-Some-clause-walks : goal.walk_fragment-returns-in-Some-clause-walks
 walk_fragment-returns-in-Some-clause-walks t c =
-    let missing = stood_not (λ r. r.now) c.args.met.now.entered.keys c.deref.result.now.fragment_name _ c.in_ok-insert.ensures.added c.if-not-branch.false in
-    let after : Met = record { entered = c.insert.new.self; selections = c.args.met.now.selections } in
-    IfOk-weaker _ _ _ (λ complete w. walked_fragment c.args.self.now c.args.spread.now _ _ c.in-Some.fragment.now c.args.met.now after c.walk_deeper.new.met complete
-    (subst (λ p. Entered p.fragment_name c.args.met.now after) c.deref.ensures
-    (record { names = name_is_last (λ r. r.now) c.args.met.now.entered.keys c.insert.new.self.keys _ c.in_ok-insert.ensures.keys missing; listed = refl }))
+    let entered = was_entered c.deref.result.now.fragment_name c.args.met.now c.enter.new.self c.in_ok-enter.field-0
+    c.in_ok-enter.ensures.is_new c.in_ok-enter.ensures.names c.in_ok-enter.ensures.selections c.if-not-branch.false in
+    IfOk-weaker _ _ _ (λ complete w. walked_fragment c.args.self.now c.args.spread.now _ _ c.in-Some.fragment.now c.args.met.now c.enter.new.self c.walk_deeper.new.met complete
+    (subst (λ p. Entered p.fragment_name c.args.met.now c.enter.new.self) c.deref.ensures entered)
     (subst (λ p. fragments_of c.args.self.now.document.now p.fragment_name ≡ Some c.in-Some.fragment.now) c.deref.ensures (sym c.in-Some.ensures.value))
-    (subst (λ p. IsFalse (stands_on (names_of c.args.met.now) p.fragment_name)) c.deref.ensures missing)
-    (subst (λ f. WalksOver c.args.self.now c.args.depth.now (depth_of c.args.depth.now + 1) f.selection_set after c.walk_deeper.new.met complete) c.deref-in-Some.ensures w))
+    (subst (λ f. WalksOver c.args.self.now c.args.depth.now (depth_of c.args.depth.now + 1) f.selection_set c.enter.new.self c.walk_deeper.new.met complete) c.deref-in-Some.ensures w))
     c.walk_deeper.ensures.walks
 
--- src/variable/walks.rt:153:5
 pub walk_fragment-returns-in-None-clause-walks : goal.walk_fragment-returns-in-None-clause-walks
 walk_fragment-returns-in-None-clause-walks t c =
-    let missing = stood_not (λ r. r.now) c.args.met.now.entered.keys c.deref.result.now.fragment_name _ c.in_ok-insert.ensures.added c.if-not-branch.false in
-    let after : Met = record { entered = c.insert.new.self; selections = c.args.met.now.selections } in
-    walked_undefined c.args.self.now c.args.spread.now _ _ c.args.met.now after
-    (subst (λ p. Entered p.fragment_name c.args.met.now after) c.deref.ensures
-    (record { names = name_is_last (λ r. r.now) c.args.met.now.entered.keys c.insert.new.self.keys _ c.in_ok-insert.ensures.keys missing; listed = refl }))
+    let entered = was_entered c.deref.result.now.fragment_name c.args.met.now c.enter.new.self c.in_ok-enter.field-0
+    c.in_ok-enter.ensures.is_new c.in_ok-enter.ensures.names c.in_ok-enter.ensures.selections c.if-not-branch.false in
+    walked_undefined c.args.self.now c.args.spread.now _ _ c.args.met.now c.enter.new.self
+    (subst (λ p. Entered p.fragment_name c.args.met.now c.enter.new.self) c.deref.ensures entered)
     (subst (λ p. fragments_of c.args.self.now.document.now p.fragment_name ≡ None) c.deref.ensures (sym c.in-None.ensures.value))
 
--- src/variable/walks.rt:122:17
 pub walk_set-returns-then-not-branch-clause-walks :
     goal.walk_set-returns-then-not-branch-clause-walks
 walk_set-returns-then-not-branch-clause-walks t c =
@@ -75,7 +66,6 @@ walk_set-returns-then-not-branch-clause-walks t c =
     (subst (λ depth. Bounded (depth_limit c.loop-selection.depth) depth false) c.loop-selection.invariant.depth
     (subst (Bounded (depth_limit c.loop-selection.depth) (depth_of c.loop-selection.depth)) c.if-not-branch.true c.in_ok-walk_below.ensures.walks)))
 
--- src/variable/walks.rt:119:9
 pub walk_set-loop-selection-preserved : goal.walk_set-loop-selection-preserved
 walk_set-loop-selection-preserved t c = record {
   depth = search rules;
@@ -88,7 +78,6 @@ walk_set-loop-selection-preserved t c = record {
       (c.in_ok-walk_below.ensures.walks.searched c.if-not-branch.false);
 }
 
--- src/variable/walks.rt:108:5
 pub walk_set-returns-clause-walks : goal.walk_set-returns-clause-walks
 walk_set-returns-clause-walks t c =
     walked_whole c.args.self.now c.args.set.now _ c.deref-selection-items.result.now c.loop-selection.selection-index c.args.met.now c.loop-selection.met

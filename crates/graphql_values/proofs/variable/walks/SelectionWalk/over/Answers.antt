@@ -1,3 +1,4 @@
+-- What the walk from nothing has listed, with its limit.
 use Rattle.std.proofs.Common.{ℕ, ◌∙◌, map, ap, subst}
 use Rattle.graphql_documents.specs.Guards.{depth_limit}
 use Rattle.graphql_documents.specs.Selections.{fragments_of}
