@@ -23,3 +23,5 @@ mod schemas;
 mod spans;
 #[cfg(test)]
 mod values;
+#[cfg(test)]
+mod walks;

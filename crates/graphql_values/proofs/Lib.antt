@@ -3,5 +3,8 @@ pub mod GivenLemmas
 pub mod LeafLemmas
 pub mod ObjectLemmas
 pub mod RepetitionLemmas
+pub mod SearchLemmas
+pub mod SelectionWalkLemmas
 pub mod UsageLemmas
 pub mod WalkLemmas
+pub mod WalkedLemmas

@@ -1,2 +1,4 @@
 pub mod GivenArguments
+pub mod Searches
 pub mod ValueSteps
+pub mod WalkSteps

@@ -1,14 +1,20 @@
 //! Walks over the selections of an operation.
 
-ghost use Rattle.std.specs.Prelude.{IfOk, map};
+ghost use Rattle.std.specs.Prelude.{◌≡◌, ◌+◌, map, not, IfOk, OnOk};
+ghost use Rattle.graphql_documents.specs.Guards.{depth_limit, depth_of, stands_on};
+ghost use Rattle.graphql_documents.specs.Names.{with_name};
 ghost use Rattle.graphql_documents.specs.Selections.{Inside, Reached, fragments_of};
 ghost use Rattle.graphql_documents.specs.Walks.{HasListed, PassesDepth, full_walk, root_walk};
+ghost use Rattle.graphql_documents.specs.declared.documents.executables.Selection.TheVariants as kind;
+ghost use Rattle.graphql_values.specs.WalkSteps.{MetFrom, WalksBelow, WalksOver, listed_of, names_of, walk_into};
 
-use graphql_documents::diagnostics::{RecursionLimitError, ValidationError};
-use graphql_documents::documents::{ExecutableDocument, Name, Selection, SelectionSet};
+use graphql_documents::diagnostics::ValidationError;
+use graphql_documents::documents::{
+    ExecutableDocument, FragmentSpread, Name, Node, Selection, SelectionSet,
+};
 use graphql_documents::guards::DepthCounter;
 use indexmap::IndexSet;
-use std::alloc::{AllocFailed, Global};
+use std::alloc::Global;
 
 /// How deep a walk may go.
 const WALK_LIMIT: usize = 500;
@@ -36,7 +42,11 @@ pub fn walk_selections<'doc>(
         (PassesDepth (fragments_of document.now) root_walk selection_set.now)
         (map (λ s. s.now) walked.selections.items) walked.complete) }
 {
-    Walk::new(alloc, document, false).over(selection_set)
+    let walk = SelectionWalk {
+        document,
+        into_fields: false,
+    };
+    walk.over(alloc, selection_set)
 }
 
 /// The same, also below fields: walks over each selection that is reached from a set.
@@ -51,87 +61,139 @@ pub fn walk_selections_with_deduped_fragments<'doc>(
         (PassesDepth (fragments_of document.now) full_walk selection_set.now)
         (map (λ s. s.now) walked.selections.items) walked.complete) }
 {
-    Walk::new(alloc, document, true).over(selection_set)
+    let walk = SelectionWalk {
+        document,
+        into_fields: true,
+    };
+    walk.over(alloc, selection_set)
 }
 
-/// Why a walk stopped.
+/// What a walk goes over, and whether it goes into the sets of fields.
 #[derive(Drop)]
-enum Stop {
-    Limit,
-    Memory(ValidationError),
-}
-
-impl From<RecursionLimitError> for Stop {
-    fn from(_: RecursionLimitError) -> Stop {
-        Stop::Limit
-    }
-}
-
-impl<T: Drop> From<AllocFailed<T>> for Stop {
-    fn from(failed: AllocFailed<T>) -> Stop {
-        Stop::Memory(ValidationError::from(failed))
-    }
-}
-
-/// A walk on its way.
-struct Walk<'doc> {
+struct SelectionWalk<'doc> {
     document: &'doc ExecutableDocument,
     into_fields: bool,
+}
+
+/// What a walk has met: the names of the fragments that it has gone into, and the selections.
+#[derive(Drop)]
+struct Met<'doc> {
     entered: IndexSet<&'doc Name>,
     selections: Vec<&'doc Selection>,
 }
 
-impl<'doc> Walk<'doc> {
-    fn new(alloc: Global, document: &'doc ExecutableDocument, into_fields: bool) -> Walk<'doc> {
-        Walk {
-            document,
-            into_fields,
+impl<'doc> Met<'doc> {
+    /// Adds the name of a fragment, and answers whether it is new.
+    fn enter(&mut self, name: &'doc Name) -> Result<bool, ValidationError>
+        ensures is_new { IfOk result (λ new. new ≡ not (stands_on (names_of self.old) name.now)) }
+        ensures names { OnOk result (names_of self.new ≡ with_name (names_of self.old) name.now) }
+        ensures selections { OnOk result (listed_of self.new ≡ listed_of self.old) }
+    {
+        Ok(self.entered.insert(name)?)
+    }
+}
+
+impl<'doc> SelectionWalk<'doc> {
+    /// Walks over a set.
+    fn over(&self, alloc: Global, set: &'doc SelectionSet) -> Result<Walked<'doc>, ValidationError>
+        ensures { IfOk result (λ walked. HasListed (MetFrom (fragments_of self.now.document.now) self.now.into_fields set.now)
+            (PassesDepth (fragments_of self.now.document.now) (walk_into self.now.into_fields) set.now)
+            (map (λ s. s.now) walked.selections.items) walked.complete) }
+    {
+        let mut met = Met {
             entered: IndexSet::new(alloc),
             selections: Vec::new(alloc),
-        }
-    }
-
-    fn over(mut self, set: &'doc SelectionSet) -> Result<Walked<'doc>, ValidationError> {
+        };
         let mut depth = DepthCounter::new().with_limit(WALK_LIMIT);
-        match self.walk_set(set, &mut depth) {
-            Ok(()) => Ok(Walked { selections: self.selections, complete: true }),
-            Err(Stop::Limit) => Ok(Walked { selections: self.selections, complete: false }),
-            Err(Stop::Memory(error)) => Err(error),
-        }
+        let complete = self.walk_set(set, &mut met, &mut depth)?;
+        Ok(Walked {
+            selections: met.selections,
+            complete,
+        })
     }
 
-    fn walk_set(&mut self, set: &'doc SelectionSet, depth: &mut DepthCounter) -> Result<(), Stop> {
+    /// Walks over a set, and answers whether it came to its end.
+    #[cycle(walk)]
+    fn walk_set(
+        &self,
+        set: &'doc SelectionSet,
+        met: &mut Met<'doc>,
+        depth: &mut DepthCounter,
+    ) -> Result<bool, ValidationError>
+        ensures walks { IfOk result (λ complete. WalksOver self.now depth.old (depth_of depth.old) set.now met.old met.new complete) }
+        ensures depth { OnOk result (depth_of depth.new ≡ depth_of depth.old) }
+        ensures limit { OnOk result (depth_limit depth.new ≡ depth_limit depth.old) }
+    {
         for selection in &set.selections {
-            self.selections.push(selection)?;
-            self.walk_below(selection, depth)?;
+            met.selections.push(selection)?;
+            if !self.walk_below(selection, met, depth)? {
+                return Ok(false);
+            }
         }
-        Ok(())
+        Ok(true)
     }
 
-    fn walk_below(&mut self, selection: &'doc Selection, depth: &mut DepthCounter) -> Result<(), Stop> {
+    /// The same below a selection.
+    #[cycle(walk)]
+    fn walk_below(
+        &self,
+        selection: &'doc Selection,
+        met: &mut Met<'doc>,
+        depth: &mut DepthCounter,
+    ) -> Result<bool, ValidationError>
+        ensures walks { IfOk result (λ complete. WalksBelow self.now depth.old selection.now met.old met.new complete) }
+        ensures depth { OnOk result (depth_of depth.new ≡ depth_of depth.old) }
+        ensures limit { OnOk result (depth_limit depth.new ≡ depth_limit depth.old) }
+    {
         match selection {
-            Selection::Field(field) => {
-                if self.into_fields {
-                    self.walk_deeper(&field.value.selection_set, depth)?;
-                }
+            Selection::Field(field) if self.into_fields => {
+                self.walk_deeper(&field.value.selection_set, met, depth)
             }
+            Selection::Field(_) => Ok(true),
             Selection::InlineFragment(fragment) => {
-                self.walk_deeper(&fragment.value.selection_set, depth)?;
+                self.walk_deeper(&fragment.value.selection_set, met, depth)
             }
-            Selection::FragmentSpread(spread) => {
-                let name = &spread.value.fragment_name;
-                if self.entered.insert(name)? {
-                    if let Some(fragment) = self.document.fragments.get(name) {
-                        self.walk_deeper(&fragment.value.selection_set, depth)?;
-                    }
-                }
-            }
+            Selection::FragmentSpread(spread) => self.walk_fragment(spread, met, depth),
         }
-        Ok(())
     }
 
-    fn walk_deeper(&mut self, set: &'doc SelectionSet, depth: &mut DepthCounter) -> Result<(), Stop> {
-        let mut guard = depth.increment()?;
-        self.walk_set(set, guard.counter)
+    /// The same over the fragment that a spread names, if it is defined and was not yet gone into.
+    #[cycle(walk)]
+    fn walk_fragment(
+        &self,
+        spread: &'doc Node<FragmentSpread>,
+        met: &mut Met<'doc>,
+        depth: &mut DepthCounter,
+    ) -> Result<bool, ValidationError>
+        ensures walks { IfOk result (λ complete. WalksBelow self.now depth.old (kind.FragmentSpread spread.now) met.old met.new complete) }
+        ensures depth { OnOk result (depth_of depth.new ≡ depth_of depth.old) }
+        ensures limit { OnOk result (depth_limit depth.new ≡ depth_limit depth.old) }
+    {
+        let name = &spread.value.fragment_name;
+        if !met.enter(name)? {
+            return Ok(true);
+        }
+        match self.document.fragments.get(name) {
+            Some(fragment) => self.walk_deeper(&fragment.value.selection_set, met, depth),
+            None => Ok(true),
+        }
+    }
+
+    /// The same over a set that is one step deeper, unless the walk is at its limit.
+    #[cycle(walk)]
+    fn walk_deeper(
+        &self,
+        set: &'doc SelectionSet,
+        met: &mut Met<'doc>,
+        depth: &mut DepthCounter,
+    ) -> Result<bool, ValidationError>
+        ensures walks { IfOk result (λ complete. WalksOver self.now depth.old (depth_of depth.old + 1) set.now met.old met.new complete) }
+        ensures depth { OnOk result (depth_of depth.new ≡ depth_of depth.old) }
+        ensures limit { OnOk result (depth_limit depth.new ≡ depth_limit depth.old) }
+    {
+        match depth.increment() {
+            Ok(mut guard) => self.walk_set(set, met, guard.counter),
+            Err(_) => Ok(false),
+        }
     }
 }

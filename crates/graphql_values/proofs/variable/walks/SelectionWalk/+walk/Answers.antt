@@ -1,0 +1,84 @@
+-- Each exit of the walk over selections.
+use Rattle.std.proofs.lemmas.Result.{IfOk-weaker}
+use Rattle.graphql_values.proofs.SelectionWalkLemmas.{walked_field, stood_there, was_entered, PassesBelow, walked_inline_fragment, walked_to_limit, walked_fragment, walked_entered, walked_undefined, walked_part, searched_next, walked_whole, Entered}
+use Rattle.std.proofs.Common.{rules, ◌≡◌, subst, IsTrue, Some, None, refl, sym, ap, ◌∙◌, ◌+◌, map, ℕ, Bool, false}
+use Rattle.graphql_documents.specs.Guards.{depth_limit, depth_of, stands_on}
+use Rattle.std.proofs.lemmas.List.{map-append}
+use Rattle.graphql_values.specs.declared.variable.walks.Met.{Met}
+use Rattle.graphql_documents.specs.Selections.{fragments_of}
+use Rattle.graphql_values.specs.WalkSteps.{HasWalked, StepOf, WalksOver, at_selection, names_of}
+use Rattle.graphql_values.proofs.variable.walks.SelectionWalk.+walk.Goals as goal
+
+pub walk_below-returns-in-Field-clause-walks : goal.walk_below-returns-in-Field-clause-walks
+walk_below-returns-in-Field-clause-walks t c =
+    IfOk-weaker _ _ _ (λ complete w. walked_field c.args.self.now c.args.selection.now c.in-Field.field _ _ _ _ complete c.in-Field.is c.if-self.true
+    (subst (λ f. WalksOver c.args.self.now c.args.depth.now (depth_of c.args.depth.now + 1) f.selection_set c.args.met.now c.walk_deeper.new.met complete) c.deref.ensures w))
+    c.walk_deeper.ensures.walks
+
+pub walk_below-returns-in-InlineFragment-clause-walks :
+    goal.walk_below-returns-in-InlineFragment-clause-walks
+walk_below-returns-in-InlineFragment-clause-walks t c =
+    IfOk-weaker _ _ _ (λ complete w. walked_inline_fragment c.args.self.now c.args.selection.now c.in-InlineFragment.fragment _ _ _ _ complete c.in-InlineFragment.is
+    (subst (λ f. WalksOver c.args.self.now c.args.depth.now (depth_of c.args.depth.now + 1) f.selection_set c.args.met.now c.walk_deeper-in-InlineFragment.new.met complete) c.deref-in-InlineFragment.ensures w))
+    c.walk_deeper-in-InlineFragment.ensures.walks
+
+pub walk_deeper-returns-in-Err-clause-walks : goal.walk_deeper-returns-in-Err-clause-walks
+walk_deeper-returns-in-Err-clause-walks t c =
+    walked_to_limit c.args.self.now c.args.set.now (depth_limit c.args.depth.now) (depth_of c.args.depth.now) c.args.met.now c.in-Err.ensures.bound
+
+pub walk_fragment-returns-then-not-branch-clause-walks :
+    goal.walk_fragment-returns-then-not-branch-clause-walks
+walk_fragment-returns-then-not-branch-clause-walks t c =
+    let there = stood_there c.deref.result.now.fragment_name c.args.met.now c.enter.new.self c.in_ok-enter.field-0
+    c.in_ok-enter.ensures.is_new c.in_ok-enter.ensures.names c.if-not-branch.true in
+    walked_entered c.args.self.now c.args.spread.now _ _ c.args.met.now c.enter.new.self there.1 c.in_ok-enter.ensures.selections
+    (subst (λ p. IsTrue (stands_on (names_of c.args.met.now) p.fragment_name)) c.deref.ensures there.0)
+
+pub walk_fragment-returns-in-Some-clause-walks : goal.walk_fragment-returns-in-Some-clause-walks
+walk_fragment-returns-in-Some-clause-walks t c =
+    let entered = was_entered c.deref.result.now.fragment_name c.args.met.now c.enter.new.self c.in_ok-enter.field-0
+    c.in_ok-enter.ensures.is_new c.in_ok-enter.ensures.names c.in_ok-enter.ensures.selections c.if-not-branch.false in
+    IfOk-weaker _ _ _ (λ complete w. walked_fragment c.args.self.now c.args.spread.now _ _ c.in-Some.fragment.now c.args.met.now c.enter.new.self c.walk_deeper.new.met complete
+    (subst (λ p. Entered p.fragment_name c.args.met.now c.enter.new.self) c.deref.ensures entered)
+    (subst (λ p. fragments_of c.args.self.now.document.now p.fragment_name ≡ Some c.in-Some.fragment.now) c.deref.ensures (sym c.in-Some.ensures.value))
+    (subst (λ f. WalksOver c.args.self.now c.args.depth.now (depth_of c.args.depth.now + 1) f.selection_set c.enter.new.self c.walk_deeper.new.met complete) c.deref-in-Some.ensures w))
+    c.walk_deeper.ensures.walks
+
+pub walk_fragment-returns-in-None-clause-walks : goal.walk_fragment-returns-in-None-clause-walks
+walk_fragment-returns-in-None-clause-walks t c =
+    let entered = was_entered c.deref.result.now.fragment_name c.args.met.now c.enter.new.self c.in_ok-enter.field-0
+    c.in_ok-enter.ensures.is_new c.in_ok-enter.ensures.names c.in_ok-enter.ensures.selections c.if-not-branch.false in
+    walked_undefined c.args.self.now c.args.spread.now _ _ c.args.met.now c.enter.new.self
+    (subst (λ p. Entered p.fragment_name c.args.met.now c.enter.new.self) c.deref.ensures entered)
+    (subst (λ p. fragments_of c.args.self.now.document.now p.fragment_name ≡ None) c.deref.ensures (sym c.in-None.ensures.value))
+
+pub walk_set-returns-then-not-branch-clause-walks :
+    goal.walk_set-returns-then-not-branch-clause-walks
+walk_set-returns-then-not-branch-clause-walks t c =
+    let pushed : Met = record { entered = c.loop-selection.met.entered; selections = c.push.new.self } in
+    let Bounded = λ (limit depth : ℕ) (complete : Bool). HasWalked c.args.self.now (StepOf c.args.self.now (at_selection c.selection-item.result))
+    (PassesBelow c.args.self.now pushed limit depth c.selection-item.result) pushed c.walk_below.new.met complete in
+    walked_part c.args.self.now c.deref-selection-items.result.now c.loop-selection.selection-index c.selection-item.result
+    c.args.met.now c.loop-selection.met pushed c.walk_below.new.met c.loop-selection-test.true c.selection-item.is
+    (record { names = refl; listed = ap (map (λ s. s.now)) c.in_ok-push.ensures.items ∙ map-append (λ s. s.now) _ _ })
+    c.args.set.now _ _ c.deref-selection-items.ensures.value c.loop-selection.invariant.searched
+    (subst (λ limit. Bounded limit (depth_of c.args.depth.now) false) c.loop-selection.invariant.limit
+    (subst (λ depth. Bounded (depth_limit c.loop-selection.depth) depth false) c.loop-selection.invariant.depth
+    (subst (Bounded (depth_limit c.loop-selection.depth) (depth_of c.loop-selection.depth)) c.if-not-branch.true c.in_ok-walk_below.ensures.walks)))
+
+pub walk_set-loop-selection-preserved : goal.walk_set-loop-selection-preserved
+walk_set-loop-selection-preserved t c = record {
+  depth = search rules;
+  limit = search rules;
+  searched = searched_next c.args.self.now c.deref-selection-items.result.now c.loop-selection.selection-index c.selection-item.result
+      c.args.met.now c.loop-selection.met (record { entered = c.loop-selection.met.entered; selections = c.push.new.self }) c.walk_below.new.met
+      c.loop-selection-test.true c.selection-item.is
+      (record { names = refl; listed = ap (map (λ s. s.now)) c.in_ok-push.ensures.items ∙ map-append (λ s. s.now) _ _ })
+      c.loop-selection.invariant.searched
+      (c.in_ok-walk_below.ensures.walks.searched c.if-not-branch.false);
+}
+
+pub walk_set-returns-clause-walks : goal.walk_set-returns-clause-walks
+walk_set-returns-clause-walks t c =
+    walked_whole c.args.self.now c.args.set.now _ c.deref-selection-items.result.now c.loop-selection.selection-index c.args.met.now c.loop-selection.met
+    c.loop-selection-test.false c.deref-selection-items.ensures.value c.loop-selection.invariant.searched
