@@ -1,1 +1,5 @@
+pub mod DirectiveSteps
+pub mod FirstPlaces
+pub mod GivenArguments
 pub mod ValueSteps
+pub mod VariableSteps

@@ -10,6 +10,7 @@ use graphql_documents::documents::{
 
 /// What arguments are given to: a field of a type, or a directive, which its definition may write
 /// otherwise than its application.
+#[derive(Drop)]
 pub enum ArgumentOwner<'a> {
     Field {
         parent: &'a NamedType,
@@ -22,6 +23,7 @@ pub enum ArgumentOwner<'a> {
 }
 
 /// The arguments of a field or directive beside the definitions of its arguments.
+#[derive(Drop)]
 pub struct GivenArguments<'a> {
     pub owner: ArgumentOwner<'a>,
     pub location: Option<SourceSpan>,
@@ -35,7 +37,7 @@ impl ArgumentOwner<'_> {
     pub fn coordinate(&self) -> Result<SchemaCoordinate, ValidationError>
         ensures { IfOk result (λ c. c ≡ owner_coordinate self.now) }
     {
-        match self {
+        match *self {
             ArgumentOwner::Field { parent, field } => {
                 Ok(SchemaCoordinate::TypeAttribute(TypeAttributeCoordinate {
                     ty: parent.clone()?,
@@ -54,7 +56,7 @@ impl ArgumentOwner<'_> {
     pub fn argument_coordinate(&self, argument: &Name) -> Result<SchemaCoordinate, ValidationError>
         ensures { IfOk result (λ c. c ≡ argument_coordinate_of self.now argument.now) }
     {
-        match self {
+        match *self {
             ArgumentOwner::Field { parent, field } => {
                 Ok(SchemaCoordinate::FieldArgument(FieldArgumentCoordinate {
                     ty: parent.clone()?,
@@ -62,12 +64,12 @@ impl ArgumentOwner<'_> {
                     argument: argument.clone()?,
                 }))
             }
-            ArgumentOwner::Directive { definition, .. } => Ok(
-                SchemaCoordinate::DirectiveArgument(DirectiveArgumentCoordinate {
+            ArgumentOwner::Directive { definition, .. } => Ok(SchemaCoordinate::DirectiveArgument(
+                DirectiveArgumentCoordinate {
                     directive: definition.clone()?,
                     argument: argument.clone()?,
-                }),
-            ),
+                },
+            )),
         }
     }
 }

@@ -1,4 +1,4 @@
-ghost use Rattle.std.specs.Prelude.{◌↔◌, IsTrue, All, Contains};
+ghost use Rattle.std.specs.Prelude.{◌≡◌, ◌↔◌, IsTrue, All, Contains};
 ghost use Rattle.std.specs.Option.{option_copied};
 ghost use Rattle.graphql_documents.specs.Arguments.{IsGiven, IsGivenIfRequired, argument_named};
 ghost use Rattle.graphql_documents.specs.Diagnostics.{IsDiagnostic};
