@@ -1,5 +1,5 @@
 -- Definitions of variables, one by one, and what is reported of them.
-use Rattle.std.proofs.Common.{◌≡◌, ◌↔◌, List, [], ◌∷◌, ◌++◌, Option, Some, None, refl, sym, ◌∙◌, ap, subst, All, Contains}
+use Rattle.std.proofs.Common.{◌≡◌, ◌↔◌, List, [], ◌∷◌, ◌++◌, Option, Some, None, IsFalse, IsTrue, refl, sym, ◌∙◌, ap, subst, All, Contains}
 use Rattle.std.proofs.lemmas.List.Elements.{All-append, All-cons, All-head, All-nil}
 use Rattle.std.proofs.lemmas.Option.{same_Some, none-some}
 use Rattle.graphql_documents.specs.Diagnostics.{IsDiagnostic}
@@ -7,6 +7,8 @@ use Rattle.graphql_documents.specs.DirectiveReports.{DirectivesBreak}
 use Rattle.graphql_documents.specs.Directives.{ApplicationsHold}
 use Rattle.graphql_documents.specs.Names.{AreDistinct}
 use Rattle.graphql_documents.specs.Reports.{Reports}
+use Rattle.graphql_documents.specs.Schemas.{is_input_type, type_definition}
+use Rattle.graphql_documents.specs.TypeReferences.{inner_named_type}
 use Rattle.graphql_documents.specs.ValueReports.{ValueReport}
 use Rattle.graphql_documents.specs.VariableReports.{VariableBreaks, VariablesReport, of_variable, of_variable_directives}
 use Rattle.graphql_documents.specs.Variables.{DefaultHolds, HasInputType, VariableDefinitionHolds, VariableDefinitionsHold}
@@ -18,6 +20,7 @@ use Rattle.graphql_documents.specs.declared.diagnostics.lists.DiagnosticEntry.{D
 use Rattle.graphql_documents.specs.declared.documents.definitions.DirectiveLocation.TheVariants as allowed_at
 use Rattle.graphql_documents.specs.declared.documents.definitions.VariableDefinition.{VariableDefinition}
 use Rattle.graphql_documents.specs.declared.documents.nodes.Node.{Node}
+use Rattle.graphql_documents.specs.declared.documents.schemas.ExtendedType.{ExtendedType}
 use Rattle.graphql_documents.specs.declared.documents.schemas.Schema.{Schema}
 use Rattle.graphql_documents.specs.declared.documents.spans.SourceSpan.{SourceSpan}
 use Rattle.graphql_documents.specs.declared.documents.values.Value.{Value}
@@ -41,6 +44,17 @@ type_without_schema schema v none = record {
   type_holds = λ s is. absurd (none-some s (sym none ∙ is));
   default_holds = λ s is. absurd (none-some s (sym none ∙ is));
 }
+
+-- a type that is no input type, or not defined
+pub no_input_type : (schema : Schema) (v : Node VariableDefinition) (d : ExtendedType) →
+    type_definition schema (inner_named_type v.value.value.ty.value.value) ≡ Some d → IsFalse (is_input_type d) → HasInputType schema v.value.value → ⊥
+no_input_type schema v d defined no_input h =
+    let input : IsTrue (is_input_type d) = subst (λ x. IsTrue (is_input_type x)) (same_Some h.0 d (sym h.1 ∙ defined)) h.2 in
+    let clash : ⊥ = cc in clash
+
+pub no_type : (schema : Schema) (v : Node VariableDefinition) →
+    type_definition schema (inner_named_type v.value.value.ty.value.value) ≡ None → HasInputType schema v.value.value → ⊥
+no_type schema v undefined h = none-some h.0 (sym undefined ∙ h.1)
 
 module _ (schema : Option Schema) where
   -- variables hold exactly where those before the last hold, and the last does
