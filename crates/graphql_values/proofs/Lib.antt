@@ -1,10 +1,14 @@
 pub mod AcceptsLemmas
+pub mod DirectiveLemmas
+pub mod FirstPlaceLemmas
 pub mod GivenLemmas
 pub mod LeafLemmas
 pub mod ObjectLemmas
+pub mod ReferenceLemmas
 pub mod RepetitionLemmas
 pub mod SearchLemmas
 pub mod SelectionWalkLemmas
 pub mod UsageLemmas
+pub mod VariableLemmas
 pub mod WalkLemmas
 pub mod WalkedLemmas

@@ -2,9 +2,8 @@
 //! types and values.
 
 mod applications;
+mod first_places;
 mod variable_definitions;
-
-pub use variable_definitions::validate_variable_definitions;
 
 ghost use Rattle.std.specs.Prelude.{map};
 ghost use Rattle.std.specs.Option.{option_copied};
@@ -14,12 +13,14 @@ ghost use Rattle.graphql_documents.specs.Directives.{ApplicationsHold};
 ghost use Rattle.graphql_documents.specs.Reports.{Checks};
 
 use crate::argument::validate_arguments;
-use applications::{check_repetition, definition_of, report_undefined, validate_application};
+use applications::{check_repetition, validate_application};
+use first_places::first_place;
 use graphql_documents::diagnostics::{DiagnosticList, ValidationError};
 use graphql_documents::documents::{
     Directive, DirectiveLocation, Name, Node, Schema, SourceSpan, VariableDefinition,
 };
 use std::collections::HashMap;
+pub use variable_definitions::validate_variable_definitions;
 
 /// Validates the directives applied at one place. Without a schema each is reported as undefined.
 ///
@@ -37,30 +38,18 @@ pub fn validate_directives(
     variables: &[Node<VariableDefinition>],
 ) -> Result<(), ValidationError>
     ensures { Checks result
-        (ApplicationsHold (option_copied schema) variables.now location (map (λ d. d.now) directives.now))
-        (IsDiagnostic (DirectivesBreak (option_copied schema) variables.now location (map (λ d. d.now) directives.now)))
+        (ApplicationsHold (option_copied schema.entry) variables.now location (map (λ d. d.now) directives.now))
+        (IsDiagnostic (DirectivesBreak (option_copied schema.entry) variables.now location (map (λ d. d.now) directives.now)))
         diagnostics.old diagnostics.new }
 {
     let mut seen: HashMap<&Name, Option<SourceSpan>> = HashMap::new(diagnostics.allocator());
     for directive in directives {
         let name = &directive.value.name;
+        let head = SourceSpan::recompose(directive.location, name.location());
         validate_arguments(diagnostics, &directive.value.arguments)?;
-        match seen.get(&name) {
-            Some(original) => {
-                let original = *original;
-                check_repetition(diagnostics, schema, directive, original)?;
-            }
-            None => {
-                let place = SourceSpan::recompose(directive.location, name.location());
-                seen.insert(name, place)?;
-            }
-        }
-        match definition_of(schema, name) {
-            Some((schema, definition)) => {
-                validate_application(diagnostics, schema, definition, directive, location, variables)?
-            }
-            None => report_undefined(diagnostics, directive)?,
-        }
+        let first = first_place(&mut seen, name, head)?;
+        check_repetition(diagnostics, schema, directive, first)?;
+        validate_application(diagnostics, schema, directive, location, variables)?;
     }
     Ok(())
 }

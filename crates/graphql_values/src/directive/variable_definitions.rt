@@ -1,16 +1,27 @@
-ghost use Rattle.std.specs.Prelude.{◌≡◌, map};
 ghost use Rattle.std.specs.Option.{option_copied};
+ghost use Rattle.std.specs.Prelude.{◌≡◌, [], IfOk, IsFalse, List, None, Some, map};
 ghost use Rattle.graphql_documents.specs.Diagnostics.{IsDiagnostic};
+ghost use Rattle.graphql_documents.specs.Directives.{ApplicationsHold};
 ghost use Rattle.graphql_documents.specs.Reports.{Checks};
+ghost use Rattle.graphql_documents.specs.Schemas.{is_input_type, type_definition};
+ghost use Rattle.graphql_documents.specs.TypeReferences.{inner_named_type};
 ghost use Rattle.graphql_documents.specs.VariableReports.{VariablesReport};
-ghost use Rattle.graphql_documents.specs.Variables.{VariableDefinitionsHold};
+ghost use Rattle.graphql_documents.specs.VariableUsage.{variable_named};
+ghost use Rattle.graphql_documents.specs.Variables.{DefaultHolds, HasInputType, VariableDefinitionsHold};
+ghost use Rattle.graphql_documents.specs.declared.documents.definitions.DirectiveLocation.TheVariants as at;
+ghost use Rattle.graphql_documents.specs.declared.documents.definitions.VariableDefinition.{VariableDefinition};
+ghost use Rattle.graphql_documents.specs.declared.documents.nodes.Node.{Node};
+ghost use Rattle.graphql_documents.specs.declared.documents.schemas.Schema.{Schema};
+ghost use Rattle.graphql_values.specs.VariableSteps.{ChecksName, ChecksVariable, IsNewName, TypeHolds, variable_place_in};
 
+use super::first_places::first_place;
 use super::validate_directives;
 use crate::value::value_of_correct_type;
 use graphql_documents::diagnostics::{Details, DiagnosticData, DiagnosticList, ValidationError};
 use graphql_documents::documents::{
-    DirectiveLocation, ExtendedType, Name, Node, Schema, SourceSpan, VariableDefinition,
+    Directive, DirectiveLocation, ExtendedType, Name, Node, Schema, SourceSpan, VariableDefinition,
 };
+use std::alloc::Global;
 use std::collections::HashMap;
 
 /// Validates the definitions of the variables of an operation: their directives, their types and
@@ -27,39 +38,30 @@ pub fn validate_variable_definitions(
     schema: Option<&Schema>,
     variables: &[Node<VariableDefinition>],
 ) -> Result<(), ValidationError>
-    ensures { Checks result (VariableDefinitionsHold (option_copied schema) variables.now)
-        (IsDiagnostic (VariablesReport (option_copied schema) variables.now)) diagnostics.old diagnostics.new }
+    ensures { Checks result (VariableDefinitionsHold (option_copied schema.entry) variables.now)
+        (IsDiagnostic (VariablesReport (option_copied schema.entry) variables.now)) diagnostics.old diagnostics.new }
 {
     let mut seen: HashMap<&Name, Option<SourceSpan>> = HashMap::new(diagnostics.allocator());
     for variable in variables {
-        let name = &variable.value.name;
         validate_variable_directives(diagnostics, schema, variable)?;
-        if let Some(schema) = schema {
-            validate_variable_type(diagnostics, schema, variable)?;
-        }
-        match seen.get(&name) {
-            Some(original) => {
-                let original = *original;
-                report_repetition(diagnostics, variable, original)?;
-            }
-            None => {
-                seen.insert(name, variable.location)?;
-            }
-        }
+        validate_variable_type(diagnostics, schema, variable)?;
+        let first = first_place(&mut seen, &variable.value.name, variable.location)?;
+        check_name(diagnostics, variable, first)?;
     }
     Ok(())
 }
 
+/// Validates the directives of a variable, where no variables are known.
 fn validate_variable_directives(
     diagnostics: &mut DiagnosticList,
     schema: Option<&Schema>,
     variable: &Node<VariableDefinition>,
 ) -> Result<(), ValidationError>
+    ensures { ChecksVariable result
+        (ApplicationsHold (option_copied schema.entry) [] at.VariableDefinition variable.now.value.value.directives.items)
+        (option_copied schema.entry) variable.now diagnostics.old diagnostics.new }
 {
-    let mut directives = Vec::new(diagnostics.allocator());
-    for directive in &variable.value.directives {
-        directives.push(directive)?;
-    }
+    let directives = each_directive(diagnostics.allocator(), &variable.value.directives)?;
     validate_directives(
         diagnostics,
         schema,
@@ -69,21 +71,65 @@ fn validate_variable_directives(
     )
 }
 
-/// Reports a variable whose type is not defined or no input type, or what its default breaks.
+/// The directives, each as a reference.
+fn each_directive<'a>(
+    alloc: Global,
+    directives: &'a [Node<Directive>],
+) -> Result<Vec<&'a Node<Directive>>, ValidationError>
+    ensures { IfOk result (λ each. map (λ d. d.now) each.items ≡ directives.now) }
+{
+    let mut each = Vec::new(alloc);
+    for directive in directives {
+        each.push(directive)?;
+    }
+    Ok(each)
+}
+
+/// Validates the type of a variable and its default, where there is a schema.
 fn validate_variable_type(
+    diagnostics: &mut DiagnosticList,
+    schema: Option<&Schema>,
+    variable: &Node<VariableDefinition>,
+) -> Result<(), ValidationError>
+    ensures { ChecksVariable result (TypeHolds (option_copied schema.entry) variable.now.value.value)
+        (option_copied schema.entry) variable.now diagnostics.old diagnostics.new }
+{
+    match schema {
+        Some(schema) => validate_type_against(diagnostics, schema, variable),
+        None => Ok(()),
+    }
+}
+
+/// Reports a variable whose type is not defined or no input type, or what its default breaks.
+fn validate_type_against(
     diagnostics: &mut DiagnosticList,
     schema: &Schema,
     variable: &Node<VariableDefinition>,
 ) -> Result<(), ValidationError>
+    ensures { ChecksVariable result (HasInputType schema.now variable.now.value.value × DefaultHolds schema.now variable.now.value.value)
+        (Some schema.now) variable.now diagnostics.old diagnostics.new }
 {
-    let ty = &variable.value.ty;
-    match schema.types.get(ty.value.inner_named_type()) {
-        Some(definition) if definition.is_input_type() => match &variable.value.default_value {
-            Some(value) => value_of_correct_type(diagnostics, schema, ty, value, &[]),
-            None => Ok(()),
-        },
+    match schema.types.get(variable.value.ty.value.inner_named_type()) {
+        Some(definition) if definition.is_input_type() => {
+            validate_default(diagnostics, schema, variable)
+        }
         Some(definition) => report_no_input_type(diagnostics, definition, variable),
         None => report_undefined_type(diagnostics, variable),
+    }
+}
+
+/// Validates the default of a variable, if it has one, where no variables are known.
+fn validate_default(
+    diagnostics: &mut DiagnosticList,
+    schema: &Schema,
+    variable: &Node<VariableDefinition>,
+) -> Result<(), ValidationError>
+    ensures { ChecksVariable result (DefaultHolds schema.now variable.now.value.value)
+        (Some schema.now) variable.now diagnostics.old diagnostics.new }
+{
+    match &variable.value.default_value {
+        Some(value) => value_of_correct_type(diagnostics, schema, &variable.value.ty, value, &[]),
+        None => Ok(()),
     }
 }
 
@@ -92,6 +138,9 @@ fn report_no_input_type(
     definition: &ExtendedType,
     variable: &Node<VariableDefinition>,
 ) -> Result<(), ValidationError>
+    requires { IsFalse (is_input_type definition.now) }
+    ensures { (schema : Schema) → type_definition schema (inner_named_type variable.now.value.value.ty.value.value) ≡ Some definition.now →
+        ChecksVariable result ⊥ (Some schema) variable.now diagnostics.old diagnostics.new }
 {
     let name = variable.value.name.clone()?;
     let ty = variable.value.ty.clone()?;
@@ -109,6 +158,8 @@ fn report_undefined_type(
     diagnostics: &mut DiagnosticList,
     variable: &Node<VariableDefinition>,
 ) -> Result<(), ValidationError>
+    ensures { (schema : Schema) → type_definition schema (inner_named_type variable.now.value.value.ty.value.value) ≡ None →
+        ChecksVariable result ⊥ (Some schema) variable.now diagnostics.old diagnostics.new }
 {
     let name = variable.value.ty.value.inner_named_type().clone()?;
     diagnostics.push(
@@ -117,11 +168,32 @@ fn report_undefined_type(
     )
 }
 
+/// Reports a variable that has the name of one before it. The first of them, if there is one, stands
+/// at `first`.
+///
+/// Specification: 5.8.1 Variable Uniqueness.
+fn check_name(
+    diagnostics: &mut DiagnosticList,
+    variable: &Node<VariableDefinition>,
+    first: Option<Option<SourceSpan>>,
+) -> Result<(), ValidationError>
+    ensures { (schema : _) (before : List (Node VariableDefinition)) → first ≡ variable_place_in before variable.now.value.value.name →
+        ChecksName result (IsNewName before variable.now) schema before variable.now diagnostics.old diagnostics.new }
+{
+    match first {
+        Some(original) => report_repetition(diagnostics, variable, original),
+        None => Ok(()),
+    }
+}
+
 fn report_repetition(
     diagnostics: &mut DiagnosticList,
     variable: &Node<VariableDefinition>,
     original: Option<SourceSpan>,
 ) -> Result<(), ValidationError>
+    ensures { (schema : _) (before : List (Node VariableDefinition)) (first : Node VariableDefinition) →
+        variable_named variable.now.value.value.name before ≡ Some first → original ≡ first.location →
+        ChecksName result ⊥ schema before variable.now diagnostics.old diagnostics.new }
 {
     let name = variable.value.name.clone()?;
     diagnostics.push(

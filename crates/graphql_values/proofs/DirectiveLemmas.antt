@@ -1,0 +1,256 @@
+-- Applications of directives, one by one, and what is reported of them.
+use Rattle.std.proofs.Common.{◌≡◌, ◌↔◌, ℕ, ◌+◌, ◌<◌, List, [], ◌∷◌, ◌++◌, length, get_or, true, false, Option, Some, None, Result, refl, sym, ◌∙◌, ap, subst, find, All, Contains}
+use Rattle.std.proofs.lemmas.List.Elements.{All-append, All-cons, All-contains, All-head, All-nil, All-weaker, Contains-append_left, Contains-push}
+use Rattle.std.proofs.lemmas.Option.{same_Some, none-some}
+use Rattle.graphql_documents.specs.ArgumentReports.{RepetitionReport}
+use Rattle.graphql_documents.specs.Arguments.{ArgumentNamesHold, ArgumentValueHolds, ArgumentValuesHold, ArgumentsHold, HasDistinctNames, IsDefined, IsGivenIfRequired, definition_named}
+use Rattle.graphql_documents.specs.Diagnostics.{IsDiagnostic}
+use Rattle.graphql_documents.specs.DirectiveReports.{ApplicationBreaks, DirectivesBreak, IsApplied}
+use Rattle.graphql_documents.specs.Directives.{ApplicationHolds, ApplicationsHold, IsRepeatable, RepetitionsHold, directive_definition, directive_in}
+use Rattle.graphql_documents.specs.Names.{SameName, same_name}
+use Rattle.graphql_documents.specs.Reports.{Reports}
+use Rattle.graphql_documents.proofs.ArgumentLemmas.{find_none}
+use Rattle.graphql_documents.proofs.DiagnosticLemmas.{diagnostic_wider}
+use Rattle.graphql_documents.proofs.ListLemmas.{each_standing}
+use Rattle.graphql_documents.proofs.ReportLemmas.{All-append_left, All-append_right, ChecksList, both, in_words, wider}
+use Rattle.graphql_documents.specs.declared.diagnostics.data.DiagnosticData.TheVariants as report
+use Rattle.graphql_documents.specs.declared.diagnostics.data.DiagnosticData.{DiagnosticData}
+use Rattle.graphql_documents.specs.declared.diagnostics.lists.DiagnosticEntry.{DiagnosticEntry}
+use Rattle.graphql_documents.specs.declared.documents.coordinates.SchemaCoordinate.TheVariants as coordinate
+use Rattle.graphql_documents.specs.declared.documents.coordinates.SchemaCoordinate.{SchemaCoordinate}
+use Rattle.graphql_documents.specs.declared.documents.definitions.DirectiveDefinition.{DirectiveDefinition}
+use Rattle.graphql_documents.specs.declared.documents.definitions.DirectiveLocation.{DirectiveLocation}
+use Rattle.graphql_documents.specs.declared.documents.definitions.InputValueDefinition.{InputValueDefinition}
+use Rattle.graphql_documents.specs.declared.documents.definitions.VariableDefinition.{VariableDefinition}
+use Rattle.graphql_documents.specs.declared.documents.directives.Argument.{Argument}
+use Rattle.graphql_documents.specs.declared.documents.directives.Directive.{Directive}
+use Rattle.graphql_documents.specs.declared.documents.nodes.Node.{Node}
+use Rattle.graphql_documents.specs.declared.documents.schemas.Schema.{Schema}
+use Rattle.graphql_documents.specs.declared.documents.spans.SourceSpan.{SourceSpan}
+use Rattle.graphql_values.specs.DirectiveSteps.{IsAppliedWell, RepetitionHolds, directive_named}
+use Rattle.graphql_values.specs.GivenArguments.{GivenArgumentHolds, GivenArgumentReport, MissingArgumentReport, argument_coordinate_of, owner_coordinate}
+use Rattle.graphql_values.specs.declared.argument.owners.GivenArguments.{GivenArguments}
+use Rattle.graphql_values.proofs.FirstPlaceLemmas.{found_at, pairs_more}
+use Rattle.graphql_values.proofs.WalkLemmas.{checks_after, checks_words}
+
+module _ (schema : Option Schema) where
+  may_follow : Node Directive → Node Directive → Type 0
+  may_follow earlier later = SameName earlier.value.value.name later.value.value.name → IsRepeatable schema later.value.value.name
+
+  -- repetitions hold exactly where they held before the last directive, and it may stand behind the first of its name
+  repetitions_more : (xs : List (Node Directive)) (x : Node Directive) →
+      (RepetitionsHold schema xs × RepetitionHolds schema xs x) ↔ RepetitionsHold schema (xs ++ x ∷ [])
+  repetitions_more xs x =
+      let p = λ (d : Node Directive). same_name d.value.value.name x.value.value.name in
+      let pairs = pairs_more (λ (earlier later : Node Directive). SameName earlier.value.value.name later.value.value.name → IsRepeatable schema later.value.value.name) xs x in (
+        λ both. pairs.0 (both.0, λ k d h same. repeatable (find p xs) refl k d h same both.1),
+        λ all. (
+          (pairs.1 all).0,
+          λ first found.
+              let at = found_at p xs first found in
+              (pairs.1 all).1 at.0 first at.1 (subst (λ y. SameName y.value.value.name x.value.value.name) (sym (at.2 first)) at.3),
+        ),
+      ) where
+        repeatable : (o : Option (Node Directive)) → find (λ d. same_name d.value.value.name x.value.value.name) xs ≡ o →
+            (k : ℕ) (d : Node Directive) → k < length xs → SameName (get_or xs k d).value.value.name x.value.value.name →
+            RepetitionHolds schema xs x → IsRepeatable schema x.value.value.name
+        repeatable None e k d h same holds =
+            let other = find_none (λ d. same_name d.value.value.name x.value.value.name) xs k d e h in
+            absurd (let clash : ⊥ = cc in clash)
+        repeatable (Some first) e k d h same holds = holds first e
+
+  module _ (variables : List (Node VariableDefinition)) (location : DirectiveLocation) where
+    application_parts : (d : Node Directive) →
+        (HasDistinctNames d.value.value.arguments.items × IsAppliedWell schema variables location d.value.value) ↔
+        ApplicationHolds schema variables location d.value.value
+    application_parts d = (
+      λ p. record {
+        against = p.1.against;
+        definition = p.1.definition;
+        has_schema = p.1.has_schema;
+        defined = p.1.defined;
+        allowed = p.1.allowed;
+        arguments = record { distinct = p.0; names = p.1.names; values = p.1.values };
+      },
+      λ h. (
+        h.arguments.distinct,
+        record {
+          against = h.against;
+          definition = h.definition;
+          has_schema = h.has_schema;
+          defined = h.defined;
+          allowed = h.allowed;
+          names = h.arguments.names;
+          values = h.arguments.values;
+        },
+      ),
+    )
+
+    -- a directive that is not defined is not applied as its definition asks
+    pub not_applied_well : (d : Node Directive) → directive_in schema d.value.value.name ≡ None → IsAppliedWell schema variables location d.value.value → ⊥
+    not_applied_well d undefined h =
+        let found : directive_in schema d.value.value.name ≡ Some h.definition = rw h.has_schema h.defined in
+        none-some h.definition (sym undefined ∙ found)
+
+    -- applications hold exactly where those before the last hold, and the last does
+    applications_more : (xs : List (Node Directive)) (x : Node Directive) →
+        (ApplicationsHold schema variables location xs ×
+        (HasDistinctNames x.value.value.arguments.items × (RepetitionHolds schema xs x × IsAppliedWell schema variables location x.value.value))) ↔
+        ApplicationsHold schema variables location (xs ++ x ∷ [])
+    applications_more xs x =
+        let P = λ (d : Node Directive). ApplicationHolds schema variables location d.value.value in (
+          λ p. record {
+            each = All-append P xs (x ∷ []) p.0.each (All-cons P x [] ((application_parts x).0 (p.1.0, p.1.1.1)) (All-nil P));
+            repetitions = (repetitions_more xs x).0 (p.0.repetitions, p.1.1.0);
+          },
+          λ h.
+              let last = (application_parts x).1 (All-head P x [] (All-append_right P xs (x ∷ []) h.each)) in
+              let repetitions = (repetitions_more xs x).1 h.repetitions in
+              (record { each = All-append_left P xs (x ∷ []) h.each; repetitions = repetitions.0 }, (last.0, (repetitions.1, last.1))),
+        )
+
+    module _ (directives : List (Node Directive)) where
+      -- a report on the arguments of one of the directives is one on the directives
+      pub names_repetition : (d : Node Directive) → Contains directives d → (e : DiagnosticEntry) →
+          IsDiagnostic (RepetitionReport d.value.value.arguments.items) e → IsDiagnostic (DirectivesBreak schema variables location directives) e
+      names_repetition d among =
+          diagnostic_wider (RepetitionReport d.value.value.arguments.items) (DirectivesBreak schema variables location directives) wide where
+            wide : (r : DiagnosticData) (at : Option SourceSpan) → RepetitionReport d.value.value.arguments.items r at → DirectivesBreak schema variables location directives r at
+            wide (report.UniqueArgument name original redefined) at said = (d, among, said)
+            wide r at said = absurd said
+
+      -- one directive more was checked
+      pub application_checked : (before : List (Node Directive)) (x : Node Directive) (old a b c new : List DiagnosticEntry) → Contains directives x →
+          Reports (ApplicationsHold schema variables location before) (IsDiagnostic (DirectivesBreak schema variables location directives)) old a →
+          Reports (HasDistinctNames x.value.value.arguments.items) (IsDiagnostic (RepetitionReport x.value.value.arguments.items)) a b →
+          Reports (RepetitionHolds schema before x) (IsDiagnostic (DirectivesBreak schema variables location directives)) b c →
+          Reports (IsAppliedWell schema variables location x.value.value) (IsDiagnostic (DirectivesBreak schema variables location directives)) c new →
+          Reports (ApplicationsHold schema variables location (before ++ x ∷ [])) (IsDiagnostic (DirectivesBreak schema variables location directives)) old new
+      application_checked before x old a b c new among done distinct repetition applied =
+          let Q = IsDiagnostic (DirectivesBreak schema variables location directives) in
+          let D = HasDistinctNames x.value.value.arguments.items in
+          let R = RepetitionHolds schema before x in
+          let A = IsAppliedWell schema variables location x.value.value in
+          let H = ApplicationsHold schema variables location before in
+          in_words Q (H × (D × (R × A))) (ApplicationsHold schema variables location (before ++ x ∷ [])) old new (applications_more before x)
+          (both Q H (D × (R × A)) old a new done
+          (both Q D (R × A) a b new (wider D (IsDiagnostic (RepetitionReport x.value.value.arguments.items)) Q a b (names_repetition x among) distinct)
+          (both Q R A b c new repetition applied)))
+
+-- the place of an application and its arguments were checked against the definition
+module _ (schema : Schema) (variables : List (Node VariableDefinition)) (location : DirectiveLocation) (d : Node Directive)
+    (definition : Node DirectiveDefinition) (defined : directive_definition schema d.value.value.name ≡ Some definition) where
+  -- the value of an argument holds by the first of these definitions that has its name
+  abbrev value_by : List (Node InputValueDefinition) → Node Argument → Type 0
+  value_by definitions a =
+      (p : Node InputValueDefinition) → definition_named a.value.value.name definitions ≡ Some p →
+      ArgumentValueHolds schema variables p.value.value a.value.value.value.value.value
+
+  given_each : (other : Node DirectiveDefinition) → other ≡ definition →
+      ArgumentNamesHold other.value.value.arguments.items d.value.value.arguments.items →
+      ArgumentValuesHold schema variables other.value.value.arguments.items d.value.value.arguments.items →
+      All (GivenArgumentHolds schema variables definition.value.value.arguments.items) d.value.value.arguments.items
+  given_each other same names values =
+      let given = d.value.value.arguments.items in
+      subst (λ (x : Node DirectiveDefinition). All (GivenArgumentHolds schema variables x.value.value.arguments.items) given) same
+      (each_standing (GivenArgumentHolds schema variables other.value.value.arguments.items) given (λ a among. record {
+        defined = All-contains (IsDefined other.value.value.arguments.items) given a names.defined among;
+        value_holds = All-contains (value_by other.value.value.arguments.items) given a values among;
+      }))
+
+  pub applied_well :
+      (Contains definition.value.value.locations.items location ×
+      All (GivenArgumentHolds schema variables definition.value.value.arguments.items) d.value.value.arguments.items ×
+      All (IsGivenIfRequired d.value.value.arguments.items) definition.value.value.arguments.items) ↔
+      IsAppliedWell (Some schema) variables location d.value.value
+  applied_well =
+      let given = d.value.value.arguments.items in
+      let definitions = definition.value.value.arguments.items in (
+        λ p. record {
+          against = schema;
+          definition = definition;
+          has_schema = refl;
+          defined = defined;
+          allowed = p.0;
+          names = record {
+            defined = All-weaker (GivenArgumentHolds schema variables definitions) (IsDefined definitions) (λ a h. h.defined) given p.1;
+            required = p.2;
+          };
+          values = All-weaker (GivenArgumentHolds schema variables definitions) (value_by definitions) (λ a h. h.value_holds) given p.1;
+        },
+        λ h.
+            let same_schema : h.against ≡ schema = sym (same_Some schema h.against h.has_schema) in
+            let found : directive_definition schema d.value.value.name ≡ Some h.definition =
+            subst (λ s. directive_definition s d.value.value.name ≡ Some h.definition) same_schema h.defined in
+            let same : h.definition ≡ definition = same_Some h.definition definition (sym found ∙ defined) in (
+              subst (λ (x : Node DirectiveDefinition). Contains x.value.value.locations.items location) same h.allowed,
+              given_each h.definition same h.names
+                  (subst (λ s. ArgumentValuesHold s variables h.definition.value.value.arguments.items given) same_schema h.values),
+              subst (λ (x : Node DirectiveDefinition). All (IsGivenIfRequired given) x.value.value.arguments.items) same h.names.required,
+            ),
+      )
+
+  module _ (directives : List (Node Directive)) (among : Contains directives d) where
+    is_applied : IsApplied (Some schema) directives schema d definition
+    is_applied = record { applied = among; has_schema = refl; defined = defined }
+
+    breaks : (r : DiagnosticData) (at : Option SourceSpan) → ApplicationBreaks schema variables d definition r at →
+        (against : Schema) × (d : Node Directive) × (definition : Node DirectiveDefinition) ×
+        IsApplied (Some schema) directives against d definition × ApplicationBreaks against variables d definition r at
+    breaks r at said = (schema, d, definition, is_applied, said)
+
+    module _ (arguments : GivenArguments) (given_is : arguments.given.now ≡ d.value.value.arguments.items)
+        (definitions_is : arguments.definitions.now ≡ definition.value.value.arguments.items) where
+      -- a report on the given arguments is one on the directives
+      pub names_given : owner_coordinate arguments.owner ≡ coordinate.Directive (record { directive = d.value.value.name }) →
+          arguments.definition_location ≡ definition.location →
+          (e : DiagnosticEntry) → IsDiagnostic (GivenArgumentReport schema variables arguments) e →
+          IsDiagnostic (DirectivesBreak (Some schema) variables location directives) e
+      names_given coordinate_is place_is =
+          diagnostic_wider (GivenArgumentReport schema variables arguments) (DirectivesBreak (Some schema) variables location directives) wide where
+            wide : (r : DiagnosticData) (at : Option SourceSpan) → GivenArgumentReport schema variables arguments r at →
+                DirectivesBreak (Some schema) variables location directives r at
+            wide (report.UniqueArgument name original redefined) at said = absurd said.broken.broken
+            wide (report.UndefinedDirective name) at said = absurd said.broken.broken
+            wide (report.UniqueDirective name original) at said = absurd said.broken.broken
+            wide (report.UnsupportedLocation name reported valid definition_location) at said = absurd said.broken.broken
+            wide (report.RequiredArgument name owner expected definition_location) at said = absurd said.broken.broken
+            wide (report.UndefinedArgument name owner definition_location) at said =
+                breaks (report.UndefinedArgument name owner definition_location) at (rw (given_is, definitions_is, coordinate_is, place_is) at said)
+            wide (report.DisallowedVariableUsage variable variable_type argument argument_type variable_location argument_location) at said =
+                breaks (report.DisallowedVariableUsage variable variable_type argument argument_type variable_location argument_location) at
+                (rw (given_is, definitions_is) at said)
+            wide r at said = breaks r at (rw (given_is, definitions_is) at said)
+
+      -- a report on the arguments that are not given is one on the directives
+      pub names_missing : argument_coordinate_of arguments.owner ≡
+          (λ argument. coordinate.DirectiveArgument (record { directive = definition.value.value.name; argument = argument })) →
+          arguments.location ≡ d.location →
+          (e : DiagnosticEntry) → IsDiagnostic (MissingArgumentReport arguments) e →
+          IsDiagnostic (DirectivesBreak (Some schema) variables location directives) e
+      names_missing coordinate_is place_is =
+          diagnostic_wider (MissingArgumentReport arguments) (DirectivesBreak (Some schema) variables location directives) wide where
+            wide : (r : DiagnosticData) (at : Option SourceSpan) → MissingArgumentReport arguments r at →
+                DirectivesBreak (Some schema) variables location directives r at
+            wide (report.RequiredArgument name owner expected definition_location) at said =
+                breaks (report.RequiredArgument name owner expected definition_location) at (rw (given_is, definitions_is, coordinate_is, place_is) at said)
+            wide r at said = absurd said
+
+      -- the arguments were checked against the definition
+      pub arguments_checked : {T E : Type 0} (r : Result T E) (old mid new : List DiagnosticEntry) →
+          owner_coordinate arguments.owner ≡ coordinate.Directive (record { directive = d.value.value.name }) →
+          argument_coordinate_of arguments.owner ≡
+          (λ argument. coordinate.DirectiveArgument (record { directive = definition.value.value.name; argument = argument })) →
+          arguments.location ≡ d.location → arguments.definition_location ≡ definition.location →
+          Reports (All (GivenArgumentHolds schema variables arguments.definitions.now) arguments.given.now)
+          (IsDiagnostic (GivenArgumentReport schema variables arguments)) old mid →
+          ChecksList r (All (IsGivenIfRequired arguments.given.now) arguments.definitions.now) (IsDiagnostic (MissingArgumentReport arguments)) mid new →
+          ChecksList r (All (GivenArgumentHolds schema variables definition.value.value.arguments.items) d.value.value.arguments.items ×
+          All (IsGivenIfRequired d.value.value.arguments.items) definition.value.value.arguments.items)
+          (IsDiagnostic (DirectivesBreak (Some schema) variables location directives)) old new
+      arguments_checked r old mid new owner_is coordinate_is place_is definition_place_is given required =
+          let Q = IsDiagnostic (DirectivesBreak (Some schema) variables location directives) in
+          rw (sym given_is, sym definitions_is)
+          (checks_after r _ _ Q old mid new
+          (wider _ (IsDiagnostic (GivenArgumentReport schema variables arguments)) Q old mid (names_given owner_is definition_place_is) given)
+          (checks_words r _ _ (IsDiagnostic (MissingArgumentReport arguments)) Q mid new (λ h. h, λ h. h) (names_missing coordinate_is place_is) required))

@@ -1,0 +1,114 @@
+-- Definitions of variables, one by one, and what is reported of them.
+use Rattle.std.proofs.Common.{◌≡◌, ◌↔◌, List, [], ◌∷◌, ◌++◌, Option, Some, None, IsFalse, IsTrue, refl, sym, ◌∙◌, ap, subst, All, Contains}
+use Rattle.std.proofs.lemmas.List.Elements.{All-append, All-cons, All-head, All-nil}
+use Rattle.std.proofs.lemmas.Option.{same_Some, none-some}
+use Rattle.graphql_documents.specs.Diagnostics.{IsDiagnostic}
+use Rattle.graphql_documents.specs.DirectiveReports.{DirectivesBreak}
+use Rattle.graphql_documents.specs.Directives.{ApplicationsHold}
+use Rattle.graphql_documents.specs.Names.{AreDistinct}
+use Rattle.graphql_documents.specs.Reports.{Reports}
+use Rattle.graphql_documents.specs.Schemas.{is_input_type, type_definition}
+use Rattle.graphql_documents.specs.TypeReferences.{inner_named_type}
+use Rattle.graphql_documents.specs.ValueReports.{ValueReport}
+use Rattle.graphql_documents.specs.VariableReports.{VariableBreaks, VariablesReport, of_variable, of_variable_directives}
+use Rattle.graphql_documents.specs.Variables.{DefaultHolds, HasInputType, VariableDefinitionHolds, VariableDefinitionsHold}
+use Rattle.graphql_documents.proofs.DiagnosticLemmas.{diagnostic_wider}
+use Rattle.graphql_documents.proofs.ReportLemmas.{All-append_left, All-append_right, both, in_words}
+use Rattle.graphql_documents.specs.declared.diagnostics.data.DiagnosticData.TheVariants as report
+use Rattle.graphql_documents.specs.declared.diagnostics.data.DiagnosticData.{DiagnosticData}
+use Rattle.graphql_documents.specs.declared.diagnostics.lists.DiagnosticEntry.{DiagnosticEntry}
+use Rattle.graphql_documents.specs.declared.documents.definitions.DirectiveLocation.TheVariants as allowed_at
+use Rattle.graphql_documents.specs.declared.documents.definitions.VariableDefinition.{VariableDefinition}
+use Rattle.graphql_documents.specs.declared.documents.nodes.Node.{Node}
+use Rattle.graphql_documents.specs.declared.documents.schemas.ExtendedType.{ExtendedType}
+use Rattle.graphql_documents.specs.declared.documents.schemas.Schema.{Schema}
+use Rattle.graphql_documents.specs.declared.documents.spans.SourceSpan.{SourceSpan}
+use Rattle.graphql_documents.specs.declared.documents.values.Value.{Value}
+use Rattle.graphql_values.specs.VariableSteps.{IsNewName, TypeHolds, variable_name, variable_place}
+use Rattle.graphql_values.proofs.FirstPlaceLemmas.{distinct_names_more}
+
+-- the type and the default were checked against the schema
+pub type_parts : (schema : Schema) (v : Node VariableDefinition) →
+    (HasInputType schema v.value.value × DefaultHolds schema v.value.value) ↔ TypeHolds (Some schema) v.value.value
+type_parts schema v = (
+  λ p. record {
+    type_holds = λ s is. subst (λ x. HasInputType x v.value.value) (same_Some schema s is) p.0;
+    default_holds = λ s is. subst (λ x. DefaultHolds x v.value.value) (same_Some schema s is) p.1;
+  },
+  λ h. (h.type_holds schema refl, h.default_holds schema refl),
+)
+
+-- without a schema nothing is asked of them
+pub type_without_schema : (schema : Option Schema) (v : Node VariableDefinition) → schema ≡ None → TypeHolds schema v.value.value
+type_without_schema schema v none = record {
+  type_holds = λ s is. absurd (none-some s (sym none ∙ is));
+  default_holds = λ s is. absurd (none-some s (sym none ∙ is));
+}
+
+-- a type that is no input type, or not defined
+pub no_input_type : (schema : Schema) (v : Node VariableDefinition) (d : ExtendedType) →
+    type_definition schema (inner_named_type v.value.value.ty.value.value) ≡ Some d → IsFalse (is_input_type d) → HasInputType schema v.value.value → ⊥
+no_input_type schema v d defined no_input h =
+    let input : IsTrue (is_input_type d) = subst (λ x. IsTrue (is_input_type x)) (same_Some h.0 d (sym h.1 ∙ defined)) h.2 in
+    let clash : ⊥ = cc in clash
+
+pub no_type : (schema : Schema) (v : Node VariableDefinition) →
+    type_definition schema (inner_named_type v.value.value.ty.value.value) ≡ None → HasInputType schema v.value.value → ⊥
+no_type schema v undefined h = none-some h.0 (sym undefined ∙ h.1)
+
+module _ (schema : Option Schema) where
+  -- variables hold exactly where those before the last hold, and the last does
+  variables_more : (xs : List (Node VariableDefinition)) (x : Node VariableDefinition) →
+      (VariableDefinitionsHold schema xs ×
+      (ApplicationsHold schema [] allowed_at.VariableDefinition x.value.value.directives.items × (TypeHolds schema x.value.value × IsNewName xs x))) ↔
+      VariableDefinitionsHold schema (xs ++ x ∷ [])
+  variables_more xs x =
+      let P = λ (v : Node VariableDefinition). VariableDefinitionHolds schema v.value.value in
+      let names = distinct_names_more variable_name variable_place xs x in (
+        λ p. record {
+          each = All-append P xs (x ∷ []) p.0.each (All-cons P x []
+              (record { directives = p.1.0; type_holds = p.1.1.0.type_holds; default_holds = p.1.1.0.default_holds }) (All-nil P));
+          distinct = names.0 (p.0.distinct, p.1.1.1);
+        },
+        λ h.
+            let last = All-head P x [] (All-append_right P xs (x ∷ []) h.each) in
+            let distinct = names.1 h.distinct in (
+              record { each = All-append_left P xs (x ∷ []) h.each; distinct = distinct.0 },
+              (last.directives, (record { type_holds = last.type_holds; default_holds = last.default_holds }, distinct.1)),
+            ),
+      )
+
+  -- one variable more was checked
+  pub variable_checked : (variables before : List (Node VariableDefinition)) (x : Node VariableDefinition) (old a b c new : List DiagnosticEntry) →
+      Reports (VariableDefinitionsHold schema before) (IsDiagnostic (VariablesReport schema variables)) old a →
+      Reports (ApplicationsHold schema [] allowed_at.VariableDefinition x.value.value.directives.items) (IsDiagnostic (VariablesReport schema variables)) a b →
+      Reports (TypeHolds schema x.value.value) (IsDiagnostic (VariablesReport schema variables)) b c →
+      Reports (IsNewName before x) (IsDiagnostic (VariablesReport schema variables)) c new →
+      Reports (VariableDefinitionsHold schema (before ++ x ∷ [])) (IsDiagnostic (VariablesReport schema variables)) old new
+  variable_checked variables before x old a b c new done directives type_holds is_new =
+      let Q = IsDiagnostic (VariablesReport schema variables) in
+      let H = VariableDefinitionsHold schema before in
+      let D = ApplicationsHold schema [] allowed_at.VariableDefinition x.value.value.directives.items in
+      let T = TypeHolds schema x.value.value in
+      in_words Q (H × (D × (T × IsNewName before x))) (VariableDefinitionsHold schema (before ++ x ∷ [])) old new (variables_more before x)
+      (both Q H (D × (T × IsNewName before x)) old a new done
+      (both Q D (T × IsNewName before x) a b new directives
+      (both Q T (IsNewName before x) b c new type_holds is_new)))
+
+  module _ (variables : List (Node VariableDefinition)) (v : Node VariableDefinition) (among : Contains variables v) where
+    -- a report on the directives of a variable is one on the variables
+    pub names_directives : (e : DiagnosticEntry) →
+        IsDiagnostic (DirectivesBreak schema [] allowed_at.VariableDefinition v.value.value.directives.items) e → IsDiagnostic (VariablesReport schema variables) e
+    names_directives = diagnostic_wider (DirectivesBreak schema [] allowed_at.VariableDefinition v.value.value.directives.items) (VariablesReport schema variables)
+        (λ r at said. of_variable_directives among said)
+
+    -- a report on the default of a variable is one on the variables
+    pub names_default : (against : Schema) (value : Node Value) → schema ≡ Some against → v.value.value.default_value ≡ Some value → (e : DiagnosticEntry) →
+        IsDiagnostic (ValueReport against [] v.value.value.ty.value.value value) e → IsDiagnostic (VariablesReport schema variables) e
+    names_default against value has_schema is_default =
+        diagnostic_wider (ValueReport against [] v.value.value.ty.value.value value) (VariablesReport schema variables)
+        (λ r at said. of_variable among (wide r at said)) where
+          wide : (r : DiagnosticData) (at : Option SourceSpan) → ValueReport against [] v.value.value.ty.value.value value r at → VariableBreaks schema v r at
+          wide (report.VariableInputType name ty describe) at said = absurd said.broken
+          wide (report.UndefinedDefinition name) at said = absurd said.broken
+          wide r at said = record { against = against; value = value; has_schema = has_schema; is_default = is_default; broken = said }
