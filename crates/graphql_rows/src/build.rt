@@ -1,11 +1,15 @@
-//! Schemas and selections as data, from their notation.
+//! Schemas, documents and selections as data, from their notation.
 
 mod base;
 mod definitions;
+mod documents;
 mod field_sets;
 mod literals;
 mod names;
 mod schemas;
+mod selections;
 
+pub use documents::{document, operation, variables};
 pub use field_sets::field_set;
+pub use literals::directives;
 pub use schemas::schema;

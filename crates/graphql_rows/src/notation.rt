@@ -1,6 +1,7 @@
-//! Schemas and selections as values that read like their GraphQL text. They borrow all that they hold.
+//! Schemas, documents and selections as values that read like their GraphQL text. They borrow all that they hold.
 
 pub mod definitions;
+pub mod documents;
 pub mod literals;
 pub mod selections;
 
@@ -8,6 +9,9 @@ pub use definitions::{
     DirectiveDefinitionNotation, InputNotation, OutputNotation, TypeKind, TypeNotation,
     directive_definition, input, input_or, interface, interface_implementing, object,
     object_implementing, output, output_taking, scalar, union_type,
+};
+pub use documents::{
+    FragmentNotation, OperationNotation, VariableNotation, fragment, query, variable, variable_or,
 };
 pub use literals::{ArgumentNotation, DirectiveNotation, Literal, argument, directive};
 pub use selections::{

@@ -4,6 +4,8 @@
 #[cfg(test)]
 mod diagnostics;
 #[cfg(test)]
+mod directives;
+#[cfg(test)]
 mod documents;
 #[cfg(test)]
 mod field_sets;
@@ -22,6 +24,10 @@ mod schemas;
 #[cfg(test)]
 mod spans;
 #[cfg(test)]
+mod usages;
+#[cfg(test)]
 mod values;
+#[cfg(test)]
+mod variables;
 #[cfg(test)]
 mod walks;

@@ -8,7 +8,9 @@ pub mod ReferenceLemmas
 pub mod RepetitionLemmas
 pub mod SearchLemmas
 pub mod SelectionWalkLemmas
+pub mod UnusedLemmas
 pub mod UsageLemmas
+pub mod UseLemmas
 pub mod VariableLemmas
 pub mod WalkLemmas
 pub mod WalkedLemmas

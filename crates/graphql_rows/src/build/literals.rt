@@ -60,7 +60,7 @@ pub(super) fn arguments(
 }
 
 /// The applications of directives, in their order.
-pub(super) fn directives(
+pub fn directives(
     alloc: Global,
     notation: &[DirectiveNotation<'_>],
 ) -> Result<Vec<Node<Directive>>, RowError> {

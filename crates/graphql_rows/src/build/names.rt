@@ -14,6 +14,14 @@ pub(super) fn name(
     Name::new(text, location).ok_or(RowError::NotAName)
 }
 
+/// The name with this text, if there is one.
+pub(super) fn optional_name(alloc: Global, text: Option<&str>) -> Result<Option<Name>, RowError> {
+    match text {
+        Some(text) => Ok(Some(name(alloc, text, None)?)),
+        None => Ok(None),
+    }
+}
+
 /// A node of this value, at this place.
 pub(super) fn node<T: Drop>(
     alloc: Global,
