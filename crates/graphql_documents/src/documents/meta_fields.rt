@@ -1,4 +1,4 @@
-ghost use Rattle.std.specs.Prelude.{◌≡◌, IsTrue, IfOk};
+ghost use Rattle.std.specs.Prelude.{◌≡◌, None, IsTrue, IfOk};
 ghost use Rattle.std.proofs.Props.{props};
 ghost use Rattle.graphql_documents.specs.Names.{is_name};
 ghost use Rattle.graphql_documents.specs.MetaFields.{IsTypename, IsSchemaField, IsTypeField};
@@ -27,7 +27,11 @@ pub struct MetaFields {
 
 impl MetaFields {
     /// The three meta-fields, without locations.
-    pub fn new(alloc: Global) -> Result<MetaFields, ValidationError> {
+    pub fn new(alloc: Global) -> Result<MetaFields, ValidationError>
+        ensures typename { IfOk result (λ fields. fields.typename.node.location ≡ None) }
+        ensures schema { IfOk result (λ fields. fields.schema.node.location ≡ None) }
+        ensures type_by_name { IfOk result (λ fields. fields.type_by_name.node.location ≡ None) }
+    {
         let name_argument = InputValueDefinition {
             name: known_name(alloc, "name")?,
             ty: Node::new(alloc, Type::NonNullNamed(known_name(alloc, "String")?))?,
@@ -79,6 +83,7 @@ fn field(
     ensures name { IfOk result (λ field. field.node.value.value.name ≡ name) }
     ensures arguments { IfOk result (λ field. field.node.value.value.arguments ≡ arguments) }
     ensures ty { IfOk result (λ field. field.node.value.value.ty ≡ ty) }
+    ensures location { IfOk result (λ field. field.node.location ≡ None) }
 {
     let definition = FieldDefinition {
         name,

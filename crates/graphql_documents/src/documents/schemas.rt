@@ -161,7 +161,7 @@ impl ExtendedType {
     }
 
     /// Where the definition stands.
-    fn location(&self) -> Option<SourceSpan>
+    pub fn location(&self) -> Option<SourceSpan>
         ensures { result ≡ location_of self.now }
     {
         match self {

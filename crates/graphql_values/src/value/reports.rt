@@ -1,5 +1,5 @@
 ghost use Rattle.std.specs.Prelude.{◌≡◌, Some, List, IfOk, IsTrue};
-ghost use Rattle.graphql_documents.specs.Schemas.{location_of, type_definition};
+ghost use Rattle.graphql_documents.specs.Schemas.{type_definition};
 ghost use Rattle.graphql_documents.specs.TypeReferences.{inner_named_type, same_type};
 ghost use Rattle.graphql_documents.specs.ValueReports.{CannotStandFor};
 ghost use Rattle.graphql_documents.specs.declared.documents.definitions.VariableDefinition.{VariableDefinition};
@@ -34,7 +34,7 @@ pub(super) fn unsupported_type(
         Details::Diagnostic(DiagnosticData::UnsupportedValueType {
             value: reported,
             ty,
-            definition_location: definition_location(definition),
+            definition_location: definition.location(),
         }),
     )
 }
@@ -52,18 +52,4 @@ fn type_node(
         value: Rc::new(alloc, copy)?,
         location: place,
     })
-}
-
-/// Where the definition stands.
-fn definition_location(definition: &ExtendedType) -> Option<SourceSpan>
-    ensures { result ≡ location_of definition.now }
-{
-    match definition {
-        ExtendedType::Scalar(definition) => definition.location,
-        ExtendedType::Object(definition) => definition.location,
-        ExtendedType::Interface(definition) => definition.location,
-        ExtendedType::Union(definition) => definition.location,
-        ExtendedType::Enum(definition) => definition.location,
-        ExtendedType::InputObject(definition) => definition.location,
-    }
 }

@@ -19,7 +19,7 @@ returns c = λ schema variables whole is cannot.
         cannot = cannot;
         value_is = record { same_value = search rules; same_location = search rules };
         type_is = c.in_ok-ty.ensures;
-        definition_location_is = c.definition_location.ensures;
+        definition_location_is = c.location.ensures;
         at_is = refl;
       };
     })
