@@ -1,9 +1,9 @@
 -- Applications of directives, one by one, and what is reported of them.
-use Rattle.std.proofs.Common.{◌≡◌, ◌↔◌, ℕ, ◌+◌, ◌<◌, List, [], ◌∷◌, ◌++◌, length, get_or, true, false, Option, Some, None, Result, refl, sym, ◌∙◌, ap, subst, find, All, Contains}
-use Rattle.std.proofs.lemmas.List.Elements.{All-append, All-cons, All-contains, All-head, All-nil, All-weaker, Contains-append_left, Contains-push}
+use Rattle.std.proofs.Common.{◌≡◌, ◌↔◌, ℕ, ◌<◌, List, [], ◌∷◌, ◌++◌, length, get_or, Option, Some, None, Result, refl, sym, ◌∙◌, subst, find, All, Contains}
+use Rattle.std.proofs.lemmas.List.Elements.{All-append, All-cons, All-contains, All-head, All-nil, All-weaker}
 use Rattle.std.proofs.lemmas.Option.{same_Some, none-some}
 use Rattle.graphql_documents.specs.ArgumentReports.{RepetitionReport}
-use Rattle.graphql_documents.specs.Arguments.{ArgumentNamesHold, ArgumentValueHolds, ArgumentValuesHold, ArgumentsHold, HasDistinctNames, IsDefined, IsGivenIfRequired, definition_named}
+use Rattle.graphql_documents.specs.Arguments.{ArgumentNamesHold, ArgumentValueHolds, ArgumentValuesHold, HasDistinctNames, IsDefined, IsGivenIfRequired, definition_named}
 use Rattle.graphql_documents.specs.Diagnostics.{IsDiagnostic}
 use Rattle.graphql_documents.specs.DirectiveReports.{ApplicationBreaks, DirectivesBreak, IsApplied}
 use Rattle.graphql_documents.specs.Directives.{ApplicationHolds, ApplicationsHold, IsRepeatable, RepetitionsHold, directive_definition, directive_in}
@@ -17,7 +17,6 @@ use Rattle.graphql_documents.specs.declared.diagnostics.data.DiagnosticData.TheV
 use Rattle.graphql_documents.specs.declared.diagnostics.data.DiagnosticData.{DiagnosticData}
 use Rattle.graphql_documents.specs.declared.diagnostics.lists.DiagnosticEntry.{DiagnosticEntry}
 use Rattle.graphql_documents.specs.declared.documents.coordinates.SchemaCoordinate.TheVariants as coordinate
-use Rattle.graphql_documents.specs.declared.documents.coordinates.SchemaCoordinate.{SchemaCoordinate}
 use Rattle.graphql_documents.specs.declared.documents.definitions.DirectiveDefinition.{DirectiveDefinition}
 use Rattle.graphql_documents.specs.declared.documents.definitions.DirectiveLocation.{DirectiveLocation}
 use Rattle.graphql_documents.specs.declared.documents.definitions.InputValueDefinition.{InputValueDefinition}
@@ -27,7 +26,7 @@ use Rattle.graphql_documents.specs.declared.documents.directives.Directive.{Dire
 use Rattle.graphql_documents.specs.declared.documents.nodes.Node.{Node}
 use Rattle.graphql_documents.specs.declared.documents.schemas.Schema.{Schema}
 use Rattle.graphql_documents.specs.declared.documents.spans.SourceSpan.{SourceSpan}
-use Rattle.graphql_values.specs.DirectiveSteps.{IsAppliedWell, RepetitionHolds, directive_named}
+use Rattle.graphql_values.specs.DirectiveSteps.{IsAppliedWell, RepetitionHolds}
 use Rattle.graphql_values.specs.GivenArguments.{GivenArgumentHolds, GivenArgumentReport, MissingArgumentReport, argument_coordinate_of, owner_coordinate}
 use Rattle.graphql_values.specs.declared.argument.owners.GivenArguments.{GivenArguments}
 use Rattle.graphql_values.proofs.FirstPlaceLemmas.{found_at, pairs_more}

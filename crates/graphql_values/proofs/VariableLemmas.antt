@@ -1,11 +1,10 @@
 -- Definitions of variables, one by one, and what is reported of them.
-use Rattle.std.proofs.Common.{◌≡◌, ◌↔◌, List, [], ◌∷◌, ◌++◌, Option, Some, None, IsFalse, IsTrue, refl, sym, ◌∙◌, ap, subst, All, Contains}
+use Rattle.std.proofs.Common.{◌≡◌, ◌↔◌, List, [], ◌∷◌, ◌++◌, Option, Some, None, IsFalse, IsTrue, refl, sym, ◌∙◌, subst, Contains}
 use Rattle.std.proofs.lemmas.List.Elements.{All-append, All-cons, All-head, All-nil}
 use Rattle.std.proofs.lemmas.Option.{same_Some, none-some}
 use Rattle.graphql_documents.specs.Diagnostics.{IsDiagnostic}
 use Rattle.graphql_documents.specs.DirectiveReports.{DirectivesBreak}
 use Rattle.graphql_documents.specs.Directives.{ApplicationsHold}
-use Rattle.graphql_documents.specs.Names.{AreDistinct}
 use Rattle.graphql_documents.specs.Reports.{Reports}
 use Rattle.graphql_documents.specs.Schemas.{is_input_type, type_definition}
 use Rattle.graphql_documents.specs.TypeReferences.{inner_named_type}

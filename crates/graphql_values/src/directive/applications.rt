@@ -28,12 +28,13 @@ pub(super) fn check_repetition(
     ensures { (before : List (Node Directive)) → first ≡ head_in before directive.now.value.value.name →
         ChecksRepetition result (option_copied schema.entry) before directive.now diagnostics.old diagnostics.new }
 {
-    match first {
-        Some(original) if !is_repeatable(schema, &directive.value.name) => {
-            report_repetition(diagnostics, directive, original)
-        }
-        _ => Ok(()),
+    let Some(original) = first else {
+        return Ok(());
+    };
+    if is_repeatable(schema, &directive.value.name) {
+        return Ok(());
     }
+    report_repetition(diagnostics, directive, original)
 }
 
 /// Whether the directive of this name may be applied again at one place.

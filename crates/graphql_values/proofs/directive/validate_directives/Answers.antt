@@ -1,4 +1,4 @@
-use Rattle.std.proofs.Common.{◌≡◌, ◌+◌, List, [], ◌∷◌, ◌++◌, Contains, All, map, take, drop, refl, sym, ap, ◌∙◌, subst, rules, arith}
+use Rattle.std.proofs.Common.{◌≡◌, ◌+◌, take, drop, sym, ap, ◌∙◌, subst, rules, arith}
 use Rattle.std.specs.HashMap.{get_by}
 use Rattle.std.specs.Option.{option_copied}
 use Rattle.std.proofs.lemmas.List.{take_all}
@@ -7,7 +7,7 @@ use Rattle.graphql_documents.specs.ArgumentReports.{RepetitionReport}
 use Rattle.graphql_documents.specs.Diagnostics.{IsDiagnostic, entries}
 use Rattle.graphql_documents.specs.DirectiveReports.{DirectivesBreak}
 use Rattle.graphql_documents.specs.Directives.{ApplicationsHold}
-use Rattle.graphql_documents.specs.Names.{NameText, same_name}
+use Rattle.graphql_documents.specs.Names.{same_name}
 use Rattle.graphql_documents.specs.Reports.{KeepsReports, Reports}
 use Rattle.graphql_documents.specs.Spans.{recompose}
 use Rattle.graphql_documents.proofs.ReportLemmas.{checks-err, holds, kept_by, kept_then, kept_wider}

@@ -1,4 +1,4 @@
-use Rattle.std.proofs.Common.{◌≡◌, ◌∙◌, Contains, ap, refl, rules}
+use Rattle.std.proofs.Common.{◌∙◌, Contains, ap, refl, rules}
 use Rattle.std.specs.List.{each_same}
 use Rattle.graphql_documents.proofs.ReportLemmas.{checks-push, holds}
 use Rattle.graphql_values.proofs.directive.applications.check_location.Goals as goal

@@ -1,4 +1,4 @@
-use Rattle.std.proofs.Common.{refl, rules}
+use Rattle.std.proofs.Common.{rules}
 use Rattle.graphql_documents.proofs.ReportLemmas.{checks-push}
 use Rattle.graphql_values.proofs.directive.applications.report_undefined.Goals as goal
 

@@ -1,5 +1,4 @@
-use Rattle.std.proofs.Common.{◌≡◌, Some, None, ap, rules, sym, ◌∙◌}
-use Rattle.std.proofs.lemmas.Option.{none-some}
+use Rattle.std.proofs.Common.{◌≡◌, Some, None, rules}
 use Rattle.graphql_documents.specs.Directives.{directive_definition, directive_in}
 use Rattle.std.specs.Option.{option_copied}
 use Rattle.graphql_values.proofs.DirectiveLemmas.{applied_well, not_applied_well}

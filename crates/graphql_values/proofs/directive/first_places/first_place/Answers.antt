@@ -1,4 +1,4 @@
-use Rattle.std.proofs.Common.{◌≡◌, None, Bor, List, ℕ, cond, Option, Some, sym, ap, ◌∙◌, rules}
+use Rattle.std.proofs.Common.{◌≡◌, None, Bor, List, ℕ, sym, ap, ◌∙◌, rules}
 use Rattle.std.specs.HashMap.{get_by}
 use Rattle.std.specs.Str.{bytes_eq}
 use Rattle.graphql_documents.specs.Names.{NameText, SameName, same_name}

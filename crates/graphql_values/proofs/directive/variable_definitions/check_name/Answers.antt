@@ -1,4 +1,4 @@
-use Rattle.std.proofs.Common.{◌≡◌, Some, None, rules, sym, ◌∙◌}
+use Rattle.std.proofs.Common.{sym, ◌∙◌}
 use Rattle.std.proofs.lemmas.Option.{none-some}
 use Rattle.graphql_documents.proofs.ReportLemmas.{holds}
 use Rattle.graphql_values.specs.VariableSteps.{variable_name, variable_place}
