@@ -1,7 +1,7 @@
 -- How what several checks report composes. Each check of a rule cites these.
 use Rattle.std.proofs.Common.{◌≡◌, ◌↔◌, ℕ, ◌+◌, ◌<◌, ◌≤◌, List, [], ◌∷◌, ◌++◌, length, get_or, take, refl, sym, ◌∙◌, ap, subst, All, Contains}
 use Rattle.std.proofs.lemmas.List.{append-nil, append_assoc, take_more, take_all}
-use Rattle.std.proofs.lemmas.List.Elements.{All-nil, All-append, All-cons, All-head, All-more, All-weaker, All-contains, All-contains_itself, Contains-append_left, Contains-append_right}
+use Rattle.std.proofs.lemmas.List.Elements.{All-nil, All-append, All-cons, All-head, All-more, All-weaker, All-contains, All-contains_itself, Contains-append_left, Contains-append_right, Contains-push}
 use Rattle.std.specs.Prelude.{Result, Ok, Err, IsErr, OnOk, OnErr, MatchResult}
 use Rattle.std.proofs.lemmas.Result.{MatchResult-from_err}
 use Rattle.graphql_documents.specs.Reports.{Reports, KeepsReports}
@@ -124,3 +124,35 @@ pub kept_by_check : {T E Entry : Type 0} (r : Result T E) (P : Type 0) (Q : Entr
     ChecksList r P Q old new → KeepsReports Q old new
 kept_by_check (Ok x) P Q old new h = kept_by Q P old new h
 kept_by_check (Err x) P Q old new h = h
+
+module _ {T E Entry : Type 0} where
+  -- the same check in other words
+  pub checks_words : (r : Result T E) (P R : Type 0) (Q Q' : Entry → Type 0) (old new : List Entry) → P ↔ R → ((e : Entry) → Q e → Q' e) →
+      ChecksList r P Q old new → ChecksList r R Q' old new
+  checks_words (Ok x) P R Q Q' old new w q c = wider R Q Q' old new q (in_words Q P R old new w c)
+  checks_words (Err x) P R Q Q' old new w q c = kept_wider Q Q' old new q c
+
+  -- one check after another that answered
+  pub checks_after : (r : Result T E) (P R : Type 0) (Q : Entry → Type 0) (old mid new : List Entry) →
+      Reports P Q old mid → ChecksList r R Q mid new → ChecksList r (P × R) Q old new
+  checks_after (Ok x) P R Q old mid new a b = both Q P R old mid new a b
+  checks_after (Err x) P R Q old mid new a b = kept_then Q old mid new (kept_by Q P old mid a) b
+
+-- one element more of which something is checked
+pub done_more : {Entry X : Type 0} (P : X → Type 0) (Q : Entry → Type 0) (done : List X) (x : X) (old mid new : List Entry) →
+    Reports (All P done) Q old mid → Reports (P x) Q mid new → Reports (All P (done ++ x ∷ [])) Q old new
+done_more P Q done x old mid new a b =
+    in_words Q (All P done × P x) (All P (done ++ x ∷ [])) old new (
+      λ p. All-append P done (x ∷ []) p.0 (All-cons P x [] p.1 (All-nil P)),
+      λ all. (All-append_left P done (x ∷ []) all, All-head P x [] (All-append_right P done (x ∷ []) all)),
+    )
+    (both Q (All P done) (P x) old mid new a b)
+
+-- the next of what is left, and what was done then
+pub stands_next : {X : Type 0} (all done left rest : List X) (x : X) → all ≡ done ++ left → left ≡ x ∷ rest → Contains all x
+stands_next all done left rest x e next =
+    subst (λ l. Contains l x) (sym (e ∙ ap (λ l. done ++ l) next ∙ sym (append_assoc done (x ∷ []) rest)))
+    (Contains-append_left (done ++ x ∷ []) rest x (Contains-push done x))
+
+pub done_next : {X : Type 0} (all done left rest : List X) (x : X) → all ≡ done ++ left → left ≡ x ∷ rest → all ≡ (done ++ x ∷ []) ++ rest
+done_next all done left rest x e next = e ∙ ap (λ l. done ++ l) next ∙ sym (append_assoc done (x ∷ []) rest)

@@ -44,7 +44,13 @@ fn reports(
         given.push(application)?;
     }
     let mut diagnostics = DiagnosticList::new(alloc);
-    validate_directives(&mut diagnostics, schema, &given, DirectiveLocation::Field, &[])?;
+    validate_directives(
+        &mut diagnostics,
+        schema,
+        &given,
+        DirectiveLocation::Field,
+        &[],
+    )?;
     lines(alloc, &diagnostics)
 }
 

@@ -28,13 +28,21 @@ fn place(alloc: Global, written: InputNotation<'_>) -> Result<Node<InputValueDef
     argument_of_f(alloc, &schema)
 }
 
-fn argument_of_f(alloc: Global, schema: &Valid<Schema>) -> Result<Node<InputValueDefinition>, Fail> {
+fn argument_of_f(
+    alloc: Global,
+    schema: &Valid<Schema>,
+) -> Result<Node<InputValueDefinition>, Fail> {
     let query = Name::new(String::from_str(alloc, "Query")?, None).ok_or("no name")?;
     let f = Name::new(String::from_str(alloc, "f")?, None).ok_or("no name")?;
     let Ok(definition) = schema.0.type_field(&query, &f) else {
         return Err(Fail::from("no field"));
     };
-    let argument = definition.node.value.arguments.first().ok_or("no argument")?;
+    let argument = definition
+        .node
+        .value
+        .arguments
+        .first()
+        .ok_or("no argument")?;
     Ok(argument.clone()?)
 }
 
@@ -124,7 +132,13 @@ fn item(alloc: Global, written: VariableNotation<'_>) -> Result<String, Fail> {
     let application = applied.first().ok_or("no directive")?;
     let argument = application.value.arguments.first().ok_or("no argument")?;
     let mut diagnostics = DiagnosticList::new(alloc);
-    validate_values(&mut diagnostics, &schema.0, &place.value.ty, argument, &built)?;
+    validate_values(
+        &mut diagnostics,
+        &schema.0,
+        &place.value.ty,
+        argument,
+        &built,
+    )?;
     Ok(lines(alloc, &diagnostics)?)
 }
 

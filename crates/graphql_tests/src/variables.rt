@@ -1,7 +1,7 @@
 use super::directives::query_of_itself;
 use super::field_sets::lines;
 use graphql_documents::diagnostics::DiagnosticList;
-use graphql_documents::documents::{FileId, Schema, SourceSpan, Valid, Value};
+use graphql_documents::documents::{DirectiveLocation, FileId, Schema, SourceSpan, Valid, Value};
 use graphql_rows::RowError;
 use graphql_rows::build::{directives, document, operation, schema, variables};
 use graphql_rows::notation::{
@@ -9,11 +9,8 @@ use graphql_rows::notation::{
     directive, directive_definition, field, fragment, input, leaf, object, output, output_taking,
     query, spread, variable, variable_or,
 };
-use graphql_documents::documents::DirectiveLocation;
 use graphql_values::directive::validate_variable_definitions;
-use graphql_values::variable::{
-    validate_unused_variables, variables_in_value,
-};
+use graphql_values::variable::{validate_unused_variables, variables_in_value};
 use std::alloc::Global;
 use std::test::Fail;
 
@@ -123,7 +120,11 @@ fn schema_with_a_directive_for_fragments(alloc: Global) -> Result<Valid<Schema>,
     let locations = [DirectiveLocation::FragmentDefinition];
     let fields = [output("a", "Int")];
     let types = [object("Query", &fields)];
-    schema(alloc, &types, &[directive_definition("onF", &inputs, &locations)])
+    schema(
+        alloc,
+        &types,
+        &[directive_definition("onF", &inputs, &locations)],
+    )
 }
 
 #[test]
@@ -134,7 +135,12 @@ fn a_directive_of_a_fragment_uses_a_variable(rt: HostRuntime) -> Result<(), Fail
     let selections = [leaf("a")];
     let fragments = [fragment("F", "Query", &selections).applying(&applied)];
     let defined = [variable("v", "Boolean")];
-    let diagnostics = unused(rt.alloc(), &schema, &query(&defined, &[spread("F")]), &fragments)?;
+    let diagnostics = unused(
+        rt.alloc(),
+        &schema,
+        &query(&defined, &[spread("F")]),
+        &fragments,
+    )?;
     assert_eq!(rt; diagnostics.len(), 0);
     Ok(())
 }

@@ -31,7 +31,11 @@ fn cyclic_document(alloc: Global, schema: &Valid<Schema>) -> Result<ExecutableDo
 fn walks_list_each_selection(rt: HostRuntime) -> Result<(), Fail> {
     let schema = query_of_itself(rt.alloc())?;
     let document = cyclic_document(rt.alloc(), &schema)?;
-    let operation = document.operations.anonymous.as_ref().ok_or("no operation")?;
+    let operation = document
+        .operations
+        .anonymous
+        .as_ref()
+        .ok_or("no operation")?;
     let set = &operation.value.selection_set;
     let inside = walk_selections(rt.alloc(), &document, set)?;
     assert_eq!(rt; inside.selections.len(), 4);
@@ -81,7 +85,11 @@ fn written(alloc: Global, walked: &Walked<'_>) -> Result<String, Fail> {
 fn walks_go_depth_first_and_into_each_fragment_once(rt: HostRuntime) -> Result<(), Fail> {
     let schema = query_of_itself(rt.alloc())?;
     let document = document_of_all_kinds(rt.alloc(), &schema)?;
-    let operation = document.operations.anonymous.as_ref().ok_or("no operation")?;
+    let operation = document
+        .operations
+        .anonymous
+        .as_ref()
+        .ok_or("no operation")?;
     let set = &operation.value.selection_set;
     let inside = walk_selections(rt.alloc(), &document, set)?;
     let text = written(rt.alloc(), &inside)?;
@@ -129,7 +137,10 @@ fn inline_fragments(alloc: Global, depth: u32) -> Result<SelectionSet, Fail> {
 
 /// The definition of the field `q` of `Query`.
 fn definition_of_q(alloc: Global, schema: &Valid<Schema>) -> Result<Node<FieldDefinition>, Fail> {
-    let Ok(definition) = schema.0.type_field(&name(alloc, "Query")?, &name(alloc, "q")?) else {
+    let Ok(definition) = schema
+        .0
+        .type_field(&name(alloc, "Query")?, &name(alloc, "q")?)
+    else {
         return Err(Fail::from("no field"));
     };
     Ok(definition.node.clone()?)

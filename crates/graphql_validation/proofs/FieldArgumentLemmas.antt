@@ -10,7 +10,7 @@ use Rattle.graphql_documents.specs.Names.{NameText}
 use Rattle.graphql_documents.specs.Reports.{Reports}
 use Rattle.graphql_documents.specs.Selections.{definition_at}
 use Rattle.graphql_documents.proofs.DiagnosticLemmas.{diagnostic_wider}
-use Rattle.graphql_documents.proofs.ReportLemmas.{ChecksList, wider}
+use Rattle.graphql_documents.proofs.ReportLemmas.{checks_after, checks_words, ChecksList, wider}
 use Rattle.graphql_documents.specs.declared.diagnostics.data.DiagnosticData.TheVariants as report
 use Rattle.graphql_documents.specs.declared.diagnostics.data.DiagnosticData.{DiagnosticData}
 use Rattle.graphql_documents.specs.declared.diagnostics.lists.DiagnosticEntry.{DiagnosticEntry}
@@ -23,7 +23,6 @@ use Rattle.graphql_documents.specs.declared.documents.schemas.Schema.{Schema}
 use Rattle.graphql_documents.specs.declared.documents.spans.SourceSpan.{SourceSpan}
 use Rattle.graphql_values.specs.GivenArguments.{GivenArgumentHolds, GivenArgumentReport, MissingArgumentReport, argument_coordinate_of, owner_coordinate}
 use Rattle.graphql_values.specs.declared.argument.owners.GivenArguments.{GivenArguments}
-use Rattle.graphql_values.proofs.WalkLemmas.{checks_words, checks_after}
 use Rattle.graphql_validation.specs.FieldWalk.{BareFieldBreaks, FieldArgumentsHold, ReportsDefinedField}
 
 -- these are the arguments of a field that stands on this type, with this definition

@@ -12,7 +12,7 @@ use Rattle.graphql_documents.specs.Reports.{Reports}
 use Rattle.graphql_documents.proofs.ArgumentLemmas.{find_none}
 use Rattle.graphql_documents.proofs.DiagnosticLemmas.{diagnostic_wider}
 use Rattle.graphql_documents.proofs.ListLemmas.{each_standing}
-use Rattle.graphql_documents.proofs.ReportLemmas.{All-append_left, All-append_right, ChecksList, both, in_words, wider}
+use Rattle.graphql_documents.proofs.ReportLemmas.{All-append_left, All-append_right, both, checks_after, checks_words, ChecksList, in_words, wider}
 use Rattle.graphql_documents.specs.declared.diagnostics.data.DiagnosticData.TheVariants as report
 use Rattle.graphql_documents.specs.declared.diagnostics.data.DiagnosticData.{DiagnosticData}
 use Rattle.graphql_documents.specs.declared.diagnostics.lists.DiagnosticEntry.{DiagnosticEntry}
@@ -30,7 +30,6 @@ use Rattle.graphql_values.specs.DirectiveSteps.{IsAppliedWell, RepetitionHolds}
 use Rattle.graphql_values.specs.GivenArguments.{GivenArgumentHolds, GivenArgumentReport, MissingArgumentReport, argument_coordinate_of, owner_coordinate}
 use Rattle.graphql_values.specs.declared.argument.owners.GivenArguments.{GivenArguments}
 use Rattle.graphql_values.proofs.FirstPlaceLemmas.{found_at, pairs_more}
-use Rattle.graphql_values.proofs.WalkLemmas.{checks_after, checks_words}
 
 module _ (schema : Option Schema) where
   may_follow : Node Directive → Node Directive → Type 0

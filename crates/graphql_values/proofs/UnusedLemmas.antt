@@ -1,12 +1,12 @@
 -- Which variables an operation uses, and what is reported of the others.
-use Rattle.std.proofs.Common.{◌≡◌, ◌↔◌, ℕ, ◌+◌, ◌<◌, ◌≤◌, arith, Bool, true, false, List, [], ◌∷◌, ◌++◌, length, get_or, take, map, refl, sym, ap, ◌∙◌, subst, All, Contains, Option, None, Some}
-use Rattle.std.specs.Prelude.{◌⊎◌, IsTrue, fold, find, Result, Ok, Err, OnOk, OnErr, IfOk, MatchResult}
+use Rattle.std.proofs.Common.{◌≡◌, ◌↔◌, ℕ, ◌+◌, ◌<◌, arith, Bool, true, false, List, [], ◌∷◌, ◌++◌, length, get_or, take, map, refl, sym, ap, ◌∙◌, subst, All, Contains, Option, None, Some}
+use Rattle.std.specs.Prelude.{◌⊎◌, Result, Ok, Err, OnOk, OnErr, IfOk, MatchResult}
 use Rattle.std.proofs.lemmas.Option.{none-some, same_Some}
 use Rattle.std.specs.Borrow.{Bor}
 use Rattle.std.specs.List.{Any, AllByRecursion, IsDistinct, list_any}
 use Rattle.std.specs.Map.{keys_of}
-use Rattle.std.proofs.lemmas.List.{append-nil, append_assoc, map-append, take_all}
-use Rattle.std.proofs.lemmas.List.Elements.{All-nil, All-cons, All-head, All-tail, All-weaker, All-append, All-contains, Contains-append_left, Contains-append_right, Contains-append_cases}
+use Rattle.std.proofs.lemmas.List.{append_assoc, map-append}
+use Rattle.std.proofs.lemmas.List.Elements.{All-nil, All-cons, All-head, All-tail, All-contains, Contains-append_left, Contains-append_right, Contains-append_cases}
 use Rattle.std.proofs.lemmas.Grind.{fold-append}
 use Rattle.std.proofs.lemmas.List.Folds.{Any-from_list_any, find-append, list_any-from_Any}
 use Rattle.indexmap.specs.IndexMap.{insert_entry}
@@ -62,13 +62,17 @@ module _ (fragments : Fragments) (s : Selection) where
   used_at_field f is n = (forth, back) where
     opens : out-Selection s ≡ Open.Field f
     opens = ap out-Selection is ∙ kind.outs-Field f
+
     directives_are : directives_of s ≡ f.value.value.directives.items
     directives_are = rw (opens, directives_of) refl
+
     arguments_are : arguments_of s ≡ f.value.value.arguments.items
     arguments_are = rw (opens, arguments_of) refl
+
     forth : StandsInDirectives n f.value.value.directives.items ⊎ StandsInArguments n f.value.value.arguments.items → UsedAt fragments s n
     forth (inl d) = in_own_directives (subst (StandsInDirectives n) (sym directives_are) d)
     forth (inr a) = in_own_arguments (subst (StandsInArguments n) (sym arguments_are) a)
+
     back : UsedAt fragments s n → StandsInDirectives n f.value.value.directives.items ⊎ StandsInArguments n f.value.value.arguments.items
     back (in_own_directives d) = inl (subst (StandsInDirectives n) directives_are d)
     back (in_own_arguments a) = inr (subst (StandsInArguments n) arguments_are a)
@@ -79,10 +83,13 @@ module _ (fragments : Fragments) (s : Selection) where
   used_at_inline i is n = (λ d. in_own_directives (subst (StandsInDirectives n) (sym directives_are) d), back) where
     opens : out-Selection s ≡ Open.InlineFragment i
     opens = ap out-Selection is ∙ kind.outs-InlineFragment i
+
     directives_are : directives_of s ≡ i.value.value.directives.items
     directives_are = rw (opens, directives_of) refl
+
     arguments_are : arguments_of s ≡ []
     arguments_are = rw (opens, arguments_of) refl
+
     back : UsedAt fragments s n → StandsInDirectives n i.value.value.directives.items
     back (in_own_directives d) = subst (StandsInDirectives n) directives_are d
     back (in_own_arguments a) = absurd (no_arguments n (subst (StandsInArguments n) arguments_are a))
@@ -93,13 +100,17 @@ module _ (fragments : Fragments) (s : Selection) where
   used_at_defined p d is found n = (forth, back) where
     opens : out-Selection s ≡ Open.FragmentSpread p
     opens = ap out-Selection is ∙ kind.outs-FragmentSpread p
+
     directives_are : directives_of s ≡ p.value.value.directives.items
     directives_are = rw (opens, directives_of) refl
+
     arguments_are : arguments_of s ≡ []
     arguments_are = rw (opens, arguments_of) refl
+
     forth : StandsInDirectives n p.value.value.directives.items ⊎ StandsInDirectives n d.value.value.directives.items → UsedAt fragments s n
     forth (inl own) = in_own_directives (subst (StandsInDirectives n) (sym directives_are) own)
     forth (inr there) = in_definition is found there
+
     back : UsedAt fragments s n → StandsInDirectives n p.value.value.directives.items ⊎ StandsInDirectives n d.value.value.directives.items
     back (in_own_directives own) = inl (subst (StandsInDirectives n) directives_are own)
     back (in_own_arguments a) = absurd (no_arguments n (subst (StandsInArguments n) arguments_are a))
@@ -113,10 +124,13 @@ module _ (fragments : Fragments) (s : Selection) where
   used_at_undefined p is missing n = (λ own. in_own_directives (subst (StandsInDirectives n) (sym directives_are) own), back) where
     opens : out-Selection s ≡ Open.FragmentSpread p
     opens = ap out-Selection is ∙ kind.outs-FragmentSpread p
+
     directives_are : directives_of s ≡ p.value.value.directives.items
     directives_are = rw (opens, directives_of) refl
+
     arguments_are : arguments_of s ≡ []
     arguments_are = rw (opens, arguments_of) refl
+
     back : UsedAt fragments s n → StandsInDirectives n p.value.value.directives.items
     back (in_own_directives own) = subst (StandsInDirectives n) directives_are own
     back (in_own_arguments a) = absurd (no_arguments n (subst (StandsInArguments n) arguments_are a))
@@ -133,15 +147,18 @@ uses_by_selections fragments o selections reach n = (forth, back) where
   at_reached r (in_own_directives d) = in_directives r d
   at_reached r (in_own_arguments a) = in_arguments r a
   at_reached r (in_definition is found d) = in_fragment_definition (subst (Reached fragments o.selection_set) is r) found d
+
   forth : StandsInDirectives n o.directives.items ⊎ Any (λ (b : Bor Selection). UsedAt fragments b.now n) selections → UsesVariable fragments o n
   forth (inl d) = in_operation d
   forth (inr any) =
       let h = any_has (λ (b : Bor Selection). UsedAt fragments b.now n) selections any in
       at_reached ((reach h.0.now).0 (stands_mapped (λ (b : Bor Selection). b.now) selections h.0 h.1)) h.2
+
   listed : (s : Selection) → Reached fragments o.selection_set s → UsedAt fragments s n → Any (λ (b : Bor Selection). UsedAt fragments b.now n) selections
   listed s r u =
       let h = made_of (λ (b : Bor Selection). b.now) selections s ((reach s).1 r) in
       has_any (λ (b : Bor Selection). UsedAt fragments b.now n) selections h.0 h.1 (subst (λ x. UsedAt fragments x n) (sym h.2) u)
+
   back : UsesVariable fragments o n → StandsInDirectives n o.directives.items ⊎ Any (λ (b : Bor Selection). UsedAt fragments b.now n) selections
   back (in_operation d) = inl d
   back (in_directives {s = s} r d) = inr (listed s r (in_own_directives d))
@@ -158,34 +175,38 @@ module _ (fragments : Fragments) (o : Operation) (selections : List (Bor Selecti
   used_first none names e also =
       also_in_words (λ n. StandsInDirectives n o.directives.items) (UsedBy []) [] names (λ n. (λ d. inl d, back n))
       (subst (λ l. NamesAlso (λ n. StandsInDirectives n o.directives.items) l names) e also) where
-    back : (n : NameText) → UsedBy [] n → StandsInDirectives n o.directives.items
-    back n (inl d) = d
-    back n (inr any) = absurd (none_in_none (λ (b : Bor Selection). UsedAt fragments b.now n) any)
+        back : (n : NameText) → UsedBy [] n → StandsInDirectives n o.directives.items
+        back n (inl d) = d
+        back n (inr any) = absurd (none_in_none (λ (b : Bor Selection). UsedAt fragments b.now n) any)
 
   pub used_more : (i : ℕ) (x : Bor Selection) (mid new : List (Bor NameText)) → i < length selections → x ≡ get_or selections i x →
       NamesAlso (UsedBy (take i selections)) [] mid → NamesAlso (UsedAt fragments x.now) mid new → NamesAlso (UsedBy (take (i + 1) selections)) [] new
   used_more i x mid new within item a b =
       also_in_words (λ n. UsedBy (take i selections) n ⊎ UsedAt fragments x.now n) (UsedBy (take (i + 1) selections)) [] new (λ n. (forth n, back n))
       (also_then (UsedBy (take i selections)) (UsedAt fragments x.now) [] mid new a b) where
-    more : (n : NameText) → Any (λ (b : Bor Selection). UsedAt fragments b.now n) (take (i + 1) selections) ↔
-        (Any (λ (b : Bor Selection). UsedAt fragments b.now n) (take i selections) ⊎ UsedAt fragments x.now n)
-    more n = any_more (λ (b : Bor Selection). UsedAt fragments b.now n) selections i x within item
-    forth : (n : NameText) → UsedBy (take i selections) n ⊎ UsedAt fragments x.now n → UsedBy (take (i + 1) selections) n
-    forth n (inl (inl d)) = inl d
-    forth n (inl (inr any)) = inr ((more n).1 (inl any))
-    forth n (inr u) = inr ((more n).1 (inr u))
-    apart_last : (n : NameText) → Any (λ (b : Bor Selection). UsedAt fragments b.now n) (take i selections) ⊎ UsedAt fragments x.now n → UsedBy (take i selections) n ⊎ UsedAt fragments x.now n
-    apart_last n (inl any) = inl (inr any)
-    apart_last n (inr u) = inr u
-    back : (n : NameText) → UsedBy (take (i + 1) selections) n → UsedBy (take i selections) n ⊎ UsedAt fragments x.now n
-    back n (inl d) = inl (inl d)
-    back n (inr any) = apart_last n ((more n).0 any)
+        more : (n : NameText) → Any (λ (b : Bor Selection). UsedAt fragments b.now n) (take (i + 1) selections) ↔
+            (Any (λ (b : Bor Selection). UsedAt fragments b.now n) (take i selections) ⊎ UsedAt fragments x.now n)
+        more n = any_more (λ (b : Bor Selection). UsedAt fragments b.now n) selections i x within item
+
+        forth : (n : NameText) → UsedBy (take i selections) n ⊎ UsedAt fragments x.now n → UsedBy (take (i + 1) selections) n
+        forth n (inl (inl d)) = inl d
+        forth n (inl (inr any)) = inr ((more n).1 (inl any))
+        forth n (inr u) = inr ((more n).1 (inr u))
+
+        apart_last : (n : NameText) → Any (λ (b : Bor Selection). UsedAt fragments b.now n) (take i selections) ⊎ UsedAt fragments x.now n → UsedBy (take i selections) n ⊎ UsedAt fragments x.now n
+        apart_last n (inl any) = inl (inr any)
+        apart_last n (inr u) = inr u
+
+        back : (n : NameText) → UsedBy (take (i + 1) selections) n → UsedBy (take i selections) n ⊎ UsedAt fragments x.now n
+        back n (inl d) = inl (inl d)
+        back n (inr any) = apart_last n ((more n).0 any)
 
   pub used_all : ((s : Selection) → Contains (map (λ (b : Bor Selection). b.now) selections) s ↔ Reached fragments o.selection_set s) →
       (names : List (Bor NameText)) → NamesAlso (UsedBy selections) [] names → (n : NameText) → IsNamedIn (names_of names) n ↔ UsesVariable fragments o n
   used_all reach names also n = (λ there. forth ((also n).0 there), λ used. (also n).1 (inr (uses.1 used))) where
     uses : UsedBy selections n ↔ UsesVariable fragments o n
     uses = uses_by_selections fragments o selections reach n
+
     forth : IsNamedIn [] n ⊎ UsedBy selections n → UsesVariable fragments o n
     forth (inl (u, (k, within, is), same)) = absurd (let no : ⊥ = omega (arith, within) in no)
     forth (inr used) = uses.0 used
@@ -223,6 +244,7 @@ named_push names x n = (λ h. by_place h.0 h.2 (Contains-append_cases names (x �
   by_place : (u : NameText) → SameName u n → Contains names u ⊎ Contains (x ∷ []) u → IsNamedIn names n ⊎ SameName x n
   by_place u same (inl before) = inl (u, before, same)
   by_place u same (inr last) = inr (subst (λ y. SameName y n) (only_one x u last) same)
+
   back : IsNamedIn names n ⊎ SameName x n → IsNamedIn (names ++ x ∷ []) n
   back (inl (u, before, same)) = (u, Contains-append_left names (x ∷ []) u before, same)
   back (inr same) = (x, Contains-append_right names (x ∷ []) x (stands_first x []), same)
@@ -264,15 +286,17 @@ named_more names i x keys within item h n =
       λ there. more.1 (forth ((named_key keys x n).0 there)),
       λ there. (named_key keys x n).1 (back (more.0 there)),
     ) where
-  more : IsNamedIn (names_of (take i names ++ x ∷ [])) n ↔ (IsNamedIn (names_of (take i names)) n ⊎ SameName x.now n)
-  more = subst (λ l. IsNamedIn l n ↔ (IsNamedIn (names_of (take i names)) n ⊎ SameName x.now n)) (sym (map-append (λ (b : Bor NameText). b.now) (take i names) (x ∷ [])))
-      (named_push (names_of (take i names)) x.now n)
-  forth : IsNamedIn (names_of keys) n ⊎ SameName x.now n → IsNamedIn (names_of (take i names)) n ⊎ SameName x.now n
-  forth (inl there) = inl ((h n).0 there)
-  forth (inr same) = inr same
-  back : IsNamedIn (names_of (take i names)) n ⊎ SameName x.now n → IsNamedIn (names_of keys) n ⊎ SameName x.now n
-  back (inl there) = inl ((h n).1 there)
-  back (inr same) = inr same
+      more : IsNamedIn (names_of (take i names ++ x ∷ [])) n ↔ (IsNamedIn (names_of (take i names)) n ⊎ SameName x.now n)
+      more = subst (λ l. IsNamedIn l n ↔ (IsNamedIn (names_of (take i names)) n ⊎ SameName x.now n)) (sym (map-append (λ (b : Bor NameText). b.now) (take i names) (x ∷ [])))
+          (named_push (names_of (take i names)) x.now n)
+
+      forth : IsNamedIn (names_of keys) n ⊎ SameName x.now n → IsNamedIn (names_of (take i names)) n ⊎ SameName x.now n
+      forth (inl there) = inl ((h n).0 there)
+      forth (inr same) = inr same
+
+      back : IsNamedIn (names_of (take i names)) n ⊎ SameName x.now n → IsNamedIn (names_of keys) n ⊎ SameName x.now n
+      back (inl there) = inl ((h n).1 there)
+      back (inr same) = inr same
 
 -- the names of entries
 abbrev pub entry_names : {X : Type 0} → List (Bor NameText × X) → List NameText
@@ -414,18 +438,19 @@ each_says_unused fragments o (unused_name {name = name} {entry = e} {reports = r
 pub unused_report : (fragments : Fragments) (o : Operation) (name reported : NameText) (place : Option SourceSpan) →
     IsLastPlace o.variables.items name place → ¬ UsesVariable fragments o name → reported ≡ name →
     IsUnusedReport fragments o name (report.UnusedVariable reported) place
-unused_report fragments o name reported place last unused is =
-    (subst (λ n. SameName n name) (sym is) (same_name_itself name),
-    record {
-      before = last.before;
-      v = last.v;
-      after = last.after;
-      split = last.split;
-      is_last = last.is_last;
-      unused = λ used. unused (uses_same fragments o last.v.value.value.name name (same_name_back name last.v.value.value.name last.same) used);
-      name_is = subst (λ n. SameName n last.v.value.value.name) (sym is) last.same;
-      at_is = last.place_is;
-    })
+unused_report fragments o name reported place last unused is = (
+  subst (λ n. SameName n name) (sym is) (same_name_itself name),
+  record {
+    before = last.before;
+    v = last.v;
+    after = last.after;
+    split = last.split;
+    is_last = last.is_last;
+    unused = λ used. unused (uses_same fragments o last.v.value.value.name name (same_name_back name last.v.value.value.name last.same) used);
+    name_is = subst (λ n. SameName n last.v.value.value.name) (sym is) last.same;
+    at_is = last.place_is;
+  },
+)
 
 -- one entry more, or none
 pub appends_on_ok : {T E Entry : Type 0} (r : Result T E) (Are : List Entry → Type 0) (old new : List Entry) {e : Entry} →

@@ -1,5 +1,5 @@
 -- Lists of the variables that stand in values, arguments and directives.
-use Rattle.std.proofs.Common.{◌≡◌, ◌↔◌, ℕ, ◌+◌, ◌<◌, ◌≤◌, arith, List, [], ◌∷◌, ◌++◌, length, get_or, take, map, refl, sym, ap, ◌∙◌, subst, All, Contains, Vec}
+use Rattle.std.proofs.Common.{◌≡◌, ◌↔◌, ℕ, ◌+◌, ◌<◌, ◌≤◌, arith, List, [], ◌∷◌, ◌++◌, length, get_or, take, refl, sym, ap, ◌∙◌, subst, Contains, Vec}
 use Rattle.std.specs.Prelude.{◌⊎◌}
 use Rattle.std.specs.Borrow.{Bor}
 use Rattle.std.specs.List.{Any}
@@ -66,8 +66,10 @@ pub has_no_variables : (v : Value) → ((name : NameText) → v ≡ literal.Vari
 has_no_variables v no_variable no_list no_object = by_open (out-Value v) refl where
   is : (x : Open.Value-F Value) → out-Value v ≡ x → v ≡ roll-Value x
   is x e = sym (roll-out-Value v) ∙ ap roll-Value e
+
   without : (w : Value) → v ≡ w → VariablesIn w [] → VariablesIn v []
   without w e none = subst (λ u. VariablesIn u []) (sym e) none
+
   by_open : (x : Open.Value-F Value) → out-Value v ≡ x → VariablesIn v []
   by_open Open.Null e = without _ (is _ e ∙ literal.rolls-Null) in_null
   by_open (Open.Enum a) e = without _ (is _ e ∙ literal.rolls-Enum a) in_enum
@@ -118,6 +120,7 @@ also_in_words Used Named old new w h n = (
   to_named : IsNamedIn (names_of old) n ⊎ Used n → IsNamedIn (names_of old) n ⊎ Named n
   to_named (inl before) = inl before
   to_named (inr used) = inr ((w n).0 used)
+
   to_used : IsNamedIn (names_of old) n ⊎ Named n → IsNamedIn (names_of old) n ⊎ Used n
   to_used (inl before) = inl before
   to_used (inr named) = inr ((w n).1 named)
@@ -133,9 +136,11 @@ also_then P Q old mid new a b n = (λ there. forth ((b n).0 there), λ some. (b 
   before : IsNamedIn (names_of old) n ⊎ P n → IsNamedIn (names_of old) n ⊎ (P n ⊎ Q n)
   before (inl there) = inl there
   before (inr p) = inr (inl p)
+
   forth : IsNamedIn (names_of mid) n ⊎ Q n → IsNamedIn (names_of old) n ⊎ (P n ⊎ Q n)
   forth (inl there) = before ((a n).0 there)
   forth (inr q) = inr (inr q)
+
   back : IsNamedIn (names_of old) n ⊎ (P n ⊎ Q n) → IsNamedIn (names_of mid) n ⊎ Q n
   back (inl there) = inl ((a n).1 (inl there))
   back (inr (inl p)) = inl ((a n).1 (inr p))
@@ -146,13 +151,17 @@ pub also_in_value : (v : Value) (old new : List (Bor NameText)) → AddsNames (V
 also_in_value v old new a n = (forth, back) where
   added : List NameText
   added = names_of a.added
+
   is : names_of new ≡ names_of old ++ added
   is = ap names_of a.appended ∙ map-append (λ (n : Bor NameText). n.now) old a.added
+
   by_place : (u : NameText) → SameName u n → Contains (names_of old) u ⊎ Contains added u → IsNamedIn (names_of old) n ⊎ StandsIn n v
   by_place u same (inl there) = inl (u, there, same)
   by_place u same (inr there) = inr (added, u, a.are, there, same)
+
   forth : IsNamedIn (names_of new) n → IsNamedIn (names_of old) n ⊎ StandsIn n v
   forth (u, there, same) = by_place u same (Contains-append_cases (names_of old) added u (subst (λ l. Contains l u) is there))
+
   back : IsNamedIn (names_of old) n ⊎ StandsIn n v → IsNamedIn (names_of new) n
   back (inl (u, there, same)) = (u, subst (λ l. Contains l u) (sym is) (Contains-append_left (names_of old) added u there), same)
   back (inr (names, u, stand, there, same)) =

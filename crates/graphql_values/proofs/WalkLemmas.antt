@@ -1,9 +1,7 @@
 -- The steps of the walk over a value: its items, the fields of its input object, and their entries.
-use Rattle.std.proofs.Common.{◌≡◌, ◌↔◌, ℕ, ◌+◌, ◌<◌, List, [], ◌∷◌, ◌++◌, Bool, true, false, ◌||◌, Some, None, Result, Ok, Err, Vec, IsTrue, IsFalse, find, length, get_or, take, drop, refl, sym, ap, ◌∙◌, subst, All, Contains}
+use Rattle.std.proofs.Common.{◌≡◌, ℕ, ◌+◌, ◌<◌, List, [], ◌∷◌, Bool, true, false, ◌||◌, Some, None, Result, Vec, IsTrue, IsFalse, find, length, get_or, take, drop, refl, sym, ap, ◌∙◌, subst, All, Contains}
 use Rattle.std.specs.declared.alloc.Global.{Global}
 use Rattle.std.specs.Option.{option_or}
-use Rattle.std.proofs.lemmas.List.{append_assoc}
-use Rattle.std.proofs.lemmas.List.Elements.{All-append, All-cons, All-head, All-nil, Contains-push, Contains-append_left}
 use Rattle.std.proofs.lemmas.List.Folds.{find-append}
 use Rattle.std.proofs.lemmas.Option.{same_Some}
 use Rattle.graphql_documents.specs.Diagnostics.{IsDiagnostic}
@@ -16,7 +14,7 @@ use Rattle.graphql_documents.specs.TypeReferences.{inner_named_type, is_list, it
 use Rattle.graphql_documents.specs.ValueReports.{CannotStandFor, list_for_no_list, list_of_no_input, object_for_no_object, TakesLists, ValueReport, within_item, within_entry}
 use Rattle.graphql_documents.specs.Values.{entry_named}
 use Rattle.graphql_documents.proofs.DiagnosticLemmas.{diagnostic_wider}
-use Rattle.graphql_documents.proofs.ReportLemmas.{All-append_left, All-append_right, ChecksList, in_words, wider, kept_wider, kept_by, kept_then, both, more_is}
+use Rattle.graphql_documents.proofs.ReportLemmas.{ChecksList, checks_after, checks_words, more_is}
 use Rattle.graphql_documents.specs.declared.diagnostics.lists.DiagnosticEntry.{DiagnosticEntry}
 use Rattle.graphql_documents.specs.declared.documents.components.Component.{Component}
 use Rattle.graphql_documents.specs.declared.documents.definitions.InputValueDefinition.{InputValueDefinition}
@@ -41,19 +39,6 @@ same_list a b e = let opened : Open.List a ≡ Open.List b = sym (outs-List a) �
 
 pub same_object : (a b : Vec (NameText × Node Value) Global) → literal.Object a ≡ literal.Object b → a ≡ b
 same_object a b e = let opened : Open.Object a ≡ Open.Object b = sym (outs-Object a) ∙ ap out-Value e ∙ outs-Object b in cc
-
-module _ {T E Entry : Type 0} where
-  -- the same check in other words
-  pub checks_words : (r : Result T E) (P R : Type 0) (Q Q' : Entry → Type 0) (old new : List Entry) → P ↔ R → ((e : Entry) → Q e → Q' e) →
-      ChecksList r P Q old new → ChecksList r R Q' old new
-  checks_words (Ok x) P R Q Q' old new w q c = wider R Q Q' old new q (in_words Q P R old new w c)
-  checks_words (Err x) P R Q Q' old new w q c = kept_wider Q Q' old new q c
-
-  -- one check after another that answered
-  pub checks_after : (r : Result T E) (P R : Type 0) (Q : Entry → Type 0) (old mid new : List Entry) →
-      Reports P Q old mid → ChecksList r R Q mid new → ChecksList r (P × R) Q old new
-  checks_after (Ok x) P R Q old mid new a b = both Q P R old mid new a b
-  checks_after (Err x) P R Q old mid new a b = kept_then Q old mid new (kept_by Q P old mid a) b
 
 -- a custom scalar is an input type
 custom_is_input : (d : ExtendedType) → IsTrue (is_custom_scalar d) → IsTrue (is_input_type d)
@@ -91,25 +76,6 @@ pub find_later : {X : Type 0} (p : X → Bool) (xs : List X) (i : ℕ) (x : X) �
 find_later p xs i x within item missed fails =
     ap (find p) (more_is xs i x within item) ∙ find-append p (take i xs) (x ∷ []) ∙
     ap (λ o. option_or o (find p (x ∷ []))) missed ∙ rw fails refl
-
--- one element more of which something is checked
-pub done_more : {Entry X : Type 0} (P : X → Type 0) (Q : Entry → Type 0) (done : List X) (x : X) (old mid new : List Entry) →
-    Reports (All P done) Q old mid → Reports (P x) Q mid new → Reports (All P (done ++ x ∷ [])) Q old new
-done_more P Q done x old mid new a b =
-    in_words Q (All P done × P x) (All P (done ++ x ∷ [])) old new (
-      λ p. All-append P done (x ∷ []) p.0 (All-cons P x [] p.1 (All-nil P)),
-      λ all. (All-append_left P done (x ∷ []) all, All-head P x [] (All-append_right P done (x ∷ []) all)),
-    )
-    (both Q (All P done) (P x) old mid new a b)
-
--- the next of what is left, and what was done then
-pub stands_next : {X : Type 0} (all done left rest : List X) (x : X) → all ≡ done ++ left → left ≡ x ∷ rest → Contains all x
-stands_next all done left rest x e next =
-    subst (λ l. Contains l x) (sym (e ∙ ap (λ l. done ++ l) next ∙ sym (append_assoc done (x ∷ []) rest)))
-    (Contains-append_left (done ++ x ∷ []) rest x (Contains-push done x))
-
-pub done_next : {X : Type 0} (all done left rest : List X) (x : X) → all ≡ done ++ left → left ≡ x ∷ rest → all ≡ (done ++ x ∷ []) ++ rest
-done_next all done left rest x e next = e ∙ ap (λ l. done ++ l) next ∙ sym (append_assoc done (x ∷ []) rest)
 
 module _ (schema : Schema) (variables : List (Node VariableDefinition)) (ty : «Type») where
   -- a report on an item of a list

@@ -24,6 +24,7 @@ use graphql_documents::documents::{
     Argument, Component, ExtendedType, InputObjectType, InputValueDefinition, Name, Node, Schema,
     SourceSpan, Type, Value, VariableDefinition,
 };
+pub(crate) use leaves::variable_named;
 use leaves::{
     check_enum_value, check_int, check_null, check_plain, check_variable, is_custom_scalar,
     takes_lists,

@@ -8,4 +8,4 @@ mod walks;
 pub use unused::validate_unused_variables;
 pub use usage::{is_variable_usage_allowed, validate_variable_usage};
 pub use uses::variables_in_value;
-pub use walks::{walk_selections, walk_selections_with_deduped_fragments, Walked};
+pub use walks::{Walked, walk_selections, walk_selections_with_deduped_fragments};

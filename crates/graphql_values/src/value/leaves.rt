@@ -218,7 +218,7 @@ fn can_stand(definition: &ExtendedType, ty: &Type, variable: &VariableDefinition
 }
 
 /// The first variable with this name.
-fn variable_named<'a>(
+pub(crate) fn variable_named<'a>(
     variables: &'a [Node<VariableDefinition>],
     name: &Name,
 ) -> Option<&'a Node<VariableDefinition>>

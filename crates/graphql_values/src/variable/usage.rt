@@ -1,17 +1,17 @@
 ghost use Rattle.std.specs.Prelude.{◌≡◌, ◌↔◌, IsTrue, IfOk, List};
-ghost use Rattle.std.specs.Option.{option_copied};
 ghost use Rattle.graphql_documents.specs.Diagnostics.{IsDiagnostic};
 ghost use Rattle.graphql_documents.specs.DirectiveReports.{UsageReport};
 ghost use Rattle.graphql_documents.specs.Reports.{Checks};
 ghost use Rattle.graphql_documents.specs.TypeReferences.{is_assignable, nullable};
-ghost use Rattle.graphql_documents.specs.VariableUsage.{HasNonNullDefault, IsUsageAllowed, IsVariable, UsageHolds, variable_named};
+ghost use Rattle.graphql_documents.specs.VariableUsage.{HasNonNullDefault, IsUsageAllowed, IsVariable, UsageHolds};
 ghost use Rattle.graphql_documents.specs.declared.documents.definitions.VariableDefinition.{VariableDefinition};
 ghost use Rattle.graphql_documents.specs.declared.documents.nodes.Node.{Node};
 
 use crate::copies::copy_of_type;
+use crate::value::variable_named;
 use graphql_documents::diagnostics::{Details, DiagnosticData, DiagnosticList, ValidationError};
 use graphql_documents::documents::{
-    Argument, InputValueDefinition, Name, Node, Type, Value, VariableDefinition,
+    Argument, InputValueDefinition, Node, Type, Value, VariableDefinition,
 };
 
 /// Reports an argument that is a defined variable which may not stand at its place, and answers
@@ -85,16 +85,6 @@ fn is_assignable_to_nullable(ty: &Type, place: &Type) -> bool
         ) => item.is_assignable_to(other),
         _ => false,
     }
-}
-
-/// The first variable with this name.
-fn variable_named<'a>(
-    variables: &'a [Node<VariableDefinition>],
-    name: &Name,
-) -> Option<&'a Node<VariableDefinition>>
-    ensures { option_copied result ≡ variable_named name.now variables.now }
-{
-    variables.iter().find(|v| v.value.name == *name)
 }
 
 fn report_usage(

@@ -16,8 +16,8 @@ use Rattle.graphql_documents.specs.declared.documents.values.Value.{Value}
 use Rattle.graphql_documents.specs.Schemas.{IsInputObject, is_input_type, type_definition}
 use Rattle.graphql_documents.specs.TypeReferences.{inner_named_type, is_list}
 use Rattle.graphql_documents.specs.ValueReports.{CannotStandFor, ValueReport}
-use Rattle.graphql_documents.proofs.ReportLemmas.{holds, checks-err, kept_then, kept_by, kept_wider, wider, walked_more, walked_all, both}
-use Rattle.graphql_values.proofs.WalkLemmas.{same_list, same_object, names_item, names_entry, entry_checked, find_first, find_later, done_more, done_next, stands_next, no_list_cannot, no_input_cannot, custom_object_accepted, no_object_cannot, list_checked, object_checked}
+use Rattle.graphql_documents.proofs.ReportLemmas.{both, checks-err, done_more, done_next, holds, kept_by, kept_then, kept_wider, stands_next, walked_all, walked_more, wider}
+use Rattle.graphql_values.proofs.WalkLemmas.{same_list, same_object, names_item, names_entry, entry_checked, find_first, find_later, no_list_cannot, no_input_cannot, custom_object_accepted, no_object_cannot, list_checked, object_checked}
 use Rattle.graphql_values.specs.ValueSteps.{AcceptsEntry, AcceptsField, AcceptsItem, EntryReport, ItemReport}
 use Rattle.graphql_values.proofs.value.+value.Goals as goal
 

@@ -2,9 +2,8 @@
 use Rattle.std.proofs.Common.{◌≡◌, Some, rules}
 use Rattle.graphql_documents.specs.Arguments.{IsDefined, definition_named}
 use Rattle.graphql_documents.specs.VariableUsage.{UsageHolds}
-use Rattle.graphql_documents.proofs.ReportLemmas.{checks-err, kept_then, kept_by, kept_wider, wider, both, in_words}
+use Rattle.graphql_documents.proofs.ReportLemmas.{both, checks-err, checks_words, in_words, kept_by, kept_then, kept_wider, wider}
 use Rattle.graphql_values.proofs.GivenLemmas.{names_misuse, names_wrong_value, usage_needed, given_decides}
-use Rattle.graphql_values.proofs.WalkLemmas.{checks_words}
 use Rattle.graphql_values.proofs.argument.given.validate_given_argument.Goals as goal
 
 pub returns-in_default : goal.returns-in_default

@@ -1,8 +1,8 @@
 use Rattle.std.proofs.Common.{◌≡◌, Some, None, rules}
 use Rattle.graphql_documents.specs.Directives.{directive_definition, directive_in}
 use Rattle.std.specs.Option.{option_copied}
+use Rattle.graphql_documents.proofs.ReportLemmas.{checks_words}
 use Rattle.graphql_values.proofs.DirectiveLemmas.{applied_well, not_applied_well}
-use Rattle.graphql_values.proofs.WalkLemmas.{checks_words}
 use Rattle.graphql_values.proofs.directive.applications.validate_application.Goals as goal
 
 pub returns-in-Some : goal.returns-in-Some

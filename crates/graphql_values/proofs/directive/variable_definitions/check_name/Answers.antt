@@ -1,9 +1,8 @@
 use Rattle.std.proofs.Common.{sym, ◌∙◌}
 use Rattle.std.proofs.lemmas.Option.{none-some}
-use Rattle.graphql_documents.proofs.ReportLemmas.{holds}
+use Rattle.graphql_documents.proofs.ReportLemmas.{checks_words, holds}
 use Rattle.graphql_values.specs.VariableSteps.{variable_name, variable_place}
 use Rattle.graphql_values.proofs.FirstPlaceLemmas.{first_found, none_found_before}
-use Rattle.graphql_values.proofs.WalkLemmas.{checks_words}
 use Rattle.graphql_values.proofs.directive.variable_definitions.check_name.Goals as goal
 
 pub returns-in-Some : goal.returns-in-Some

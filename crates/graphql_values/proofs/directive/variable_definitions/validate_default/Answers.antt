@@ -5,9 +5,8 @@ use Rattle.graphql_documents.specs.InputCoercion.{Accepts}
 use Rattle.graphql_documents.specs.ValueReports.{ValueReport}
 use Rattle.graphql_documents.specs.VariableReports.{VariablesReport}
 use Rattle.graphql_documents.specs.Variables.{DefaultHolds}
-use Rattle.graphql_documents.proofs.ReportLemmas.{holds}
+use Rattle.graphql_documents.proofs.ReportLemmas.{checks_words, holds}
 use Rattle.graphql_values.proofs.VariableLemmas.{names_default}
-use Rattle.graphql_values.proofs.WalkLemmas.{checks_words}
 use Rattle.graphql_values.proofs.directive.variable_definitions.validate_default.Goals as goal
 
 pub returns-in-Some : goal.returns-in-Some

@@ -1,8 +1,7 @@
 use Rattle.std.proofs.Common.{◌≡◌, Some, ap}
 use Rattle.std.specs.Option.{option_copied}
-use Rattle.graphql_documents.proofs.ReportLemmas.{holds}
+use Rattle.graphql_documents.proofs.ReportLemmas.{checks_words, holds}
 use Rattle.graphql_values.proofs.VariableLemmas.{type_parts, type_without_schema}
-use Rattle.graphql_values.proofs.WalkLemmas.{checks_words}
 use Rattle.graphql_values.proofs.directive.variable_definitions.validate_variable_type.Goals as goal
 
 pub returns-in-Some : goal.returns-in-Some

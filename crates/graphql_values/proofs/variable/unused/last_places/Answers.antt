@@ -1,4 +1,4 @@
-use Rattle.std.proofs.Common.{[], ◌≡◌, ◌∙◌, ◌+◌, All, map, take, sym, ap, subst, rules, refl}
+use Rattle.std.proofs.Common.{[], ◌≡◌, ◌∙◌, ◌+◌, All, map, take, sym, ap, subst}
 use Rattle.std.proofs.lemmas.List.{take_all}
 use Rattle.std.proofs.lemmas.List.Elements.{All-nil}
 use Rattle.graphql_documents.specs.Names.{NameText, different_names}

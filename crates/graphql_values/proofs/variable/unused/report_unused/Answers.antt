@@ -1,4 +1,4 @@
-use Rattle.std.proofs.Common.{◌≡◌, ◌∙◌, ◌++◌, [], ◌∷◌, List, sym, ap, subst, refl, All, Contains}
+use Rattle.std.proofs.Common.{◌≡◌, ◌∙◌, ◌++◌, [], ◌∷◌, sym, ap, subst, Contains}
 use Rattle.std.specs.Borrow.{Bor}
 use Rattle.std.specs.Prelude.{Option}
 use Rattle.std.proofs.lemmas.List.{append-nil, map-append}
@@ -9,9 +9,9 @@ use Rattle.graphql_documents.specs.Names.{NameText}
 use Rattle.graphql_documents.specs.Reports.{Appends, KeepsReports}
 use Rattle.graphql_documents.specs.VariableReports.{AreUnusedReports, UsesReport, no_name}
 use Rattle.graphql_documents.specs.declared.documents.spans.SourceSpan.{SourceSpan}
+use Rattle.graphql_documents.proofs.ReportLemmas.{done_next, stands_next}
 use Rattle.graphql_values.proofs.UnusedLemmas.{appends_kept, appends_then, entry_names}
 use Rattle.graphql_values.specs.Uses.{IsLastPlace}
-use Rattle.graphql_values.proofs.WalkLemmas.{done_next, stands_next}
 use Rattle.graphql_values.proofs.variable.unused.report_unused.Goals as goal
 
 pub loop-name-init : goal.loop-name-init

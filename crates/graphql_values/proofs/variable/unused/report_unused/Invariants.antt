@@ -1,4 +1,4 @@
-use Rattle.std.proofs.Common.{◌≡◌, ◌++◌, List, All, map}
+use Rattle.std.proofs.Common.{◌≡◌, ◌++◌, List, All}
 use Rattle.std.specs.Borrow.{Bor}
 use Rattle.std.specs.Prelude.{Option}
 use Rattle.graphql_documents.specs.Diagnostics.{entries}

@@ -1,4 +1,4 @@
-use Rattle.std.proofs.Common.{[], ◌≡◌, ◌↔◌, ◌+◌, take, sym, ap, subst}
+use Rattle.std.proofs.Common.{[], ◌≡◌, ◌↔◌, ◌+◌, take, sym, subst}
 use Rattle.std.proofs.lemmas.List.{take_all}
 use Rattle.graphql_documents.specs.Names.{NameText}
 use Rattle.graphql_values.specs.Uses.{IsNamedIn, names_of}

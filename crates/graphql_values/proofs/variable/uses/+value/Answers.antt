@@ -1,10 +1,6 @@
-use Rattle.std.proofs.Common.{◌≡◌, ◌∙◌, [], ◌∷◌, List, Vec, sym, ap, subst, rules, refl}
-use Rattle.std.specs.declared.alloc.Global.{Global}
+use Rattle.std.proofs.Common.{[], ◌∷◌, sym, subst}
 use Rattle.std.proofs.lemmas.List.{take_all}
-use Rattle.graphql_documents.specs.Names.{NameText}
 use Rattle.graphql_documents.specs.Values.{VariablesIn, VariablesInEntries, VariablesInItems, in_list, in_object, in_variable, no_entries, no_items}
-use Rattle.graphql_documents.specs.declared.documents.nodes.Node.{Node}
-use Rattle.graphql_documents.specs.declared.documents.values.Value.{Value}
 use Rattle.graphql_values.specs.Uses.{AddsNames}
 use Rattle.graphql_values.proofs.UseLemmas.{adds_entry, adds_in_words, adds_item, adds_none, adds_one, has_no_variables}
 use Rattle.graphql_values.proofs.variable.uses.+value.Goals as goal
