@@ -9,6 +9,7 @@ mod names;
 mod schemas;
 mod selections;
 
+pub use definitions::inputs;
 pub use documents::{document, operation, variables};
 pub use field_sets::field_set;
 pub use literals::directives;

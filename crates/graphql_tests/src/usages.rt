@@ -1,13 +1,9 @@
 use super::field_sets::lines;
 use graphql_documents::diagnostics::DiagnosticList;
-use graphql_documents::documents::{
-    InputValueDefinition, Name, Node, Schema, Valid, VariableDefinition,
-};
-use graphql_rows::RowError;
-use graphql_rows::build::{directives, schema, variables};
+use graphql_rows::build::{directives, inputs, schema, variables};
 use graphql_rows::notation::{
-    InputNotation, Literal, VariableNotation, argument, directive, input, input_or, object,
-    output_taking, variable, variable_or,
+    InputNotation, Literal, VariableNotation, argument, directive, input, input_or, variable,
+    variable_or,
 };
 use graphql_values::value::validate_values;
 use graphql_values::variable::{is_variable_usage_allowed, validate_variable_usage};
@@ -19,41 +15,15 @@ const MISUSED: &str =
 
 const WRONG_ITEM: &str = "expected value of type Int, found a variable\n";
 
-/// The definition of the argument of a field `f` that takes this one.
-fn place(alloc: Global, written: InputNotation<'_>) -> Result<Node<InputValueDefinition>, Fail> {
-    let inputs = [written];
-    let fields = [output_taking("f", &inputs, "Int")];
-    let types = [object("Query", &fields)];
-    let schema = schema(alloc, &types, &[])?;
-    argument_of_f(alloc, &schema)
-}
-
-fn argument_of_f(
-    alloc: Global,
-    schema: &Valid<Schema>,
-) -> Result<Node<InputValueDefinition>, Fail> {
-    let query = Name::new(String::from_str(alloc, "Query")?, None).ok_or("no name")?;
-    let f = Name::new(String::from_str(alloc, "f")?, None).ok_or("no name")?;
-    let Ok(definition) = schema.0.type_field(&query, &f) else {
-        return Err(Fail::from("no field"));
-    };
-    let argument = definition
-        .node
-        .value
-        .arguments
-        .first()
-        .ok_or("no argument")?;
-    Ok(argument.clone()?)
-}
-
 fn is_allowed(
     alloc: Global,
     written: VariableNotation<'_>,
-    input: InputNotation<'_>,
+    taken: &[InputNotation<'_>],
 ) -> Result<bool, Fail> {
     let built = variables(alloc, &[written])?;
     let variable = built.first().ok_or("no variable")?;
-    let place = place(alloc, input)?;
+    let places = inputs(alloc, taken, None)?;
+    let place = places.first().ok_or("no place")?;
     Ok(is_variable_usage_allowed(&variable.value, &place.value))
 }
 
@@ -63,25 +33,25 @@ const ONE: &[Literal<'static>] = &[Literal::Int("1")];
 #[test]
 fn a_default_allows_a_usage(rt: HostRuntime) -> Result<(), Fail> {
     let of_variable = variable_or("v", "Int", Literal::Int("1"));
-    assert!(rt; is_allowed(rt.alloc(), of_variable, input("n", "Int!"))?);
+    assert!(rt; is_allowed(rt.alloc(), of_variable, &[input("n", "Int!")])?);
     let of_place = input_or("n", "Int!", Literal::Int("3"));
-    assert!(rt; is_allowed(rt.alloc(), variable("v", "Int"), of_place)?);
+    assert!(rt; is_allowed(rt.alloc(), variable("v", "Int"), &[of_place])?);
     Ok(())
 }
 
 #[test]
 fn a_null_default_allows_none(rt: HostRuntime) -> Result<(), Fail> {
     let null = variable_or("v", "Int", Literal::Null);
-    assert!(rt; !is_allowed(rt.alloc(), null, input("n", "Int!"))?);
+    assert!(rt; !is_allowed(rt.alloc(), null, &[input("n", "Int!")])?);
     Ok(())
 }
 
 #[test]
 fn types_of_usages_go_item_by_item(rt: HostRuntime) -> Result<(), Fail> {
-    assert!(rt; is_allowed(rt.alloc(), variable("v", "[Int!]"), input("n", "[Int]"))?);
-    assert!(rt; !is_allowed(rt.alloc(), variable("v", "Int"), input("n", "[Int]"))?);
+    assert!(rt; is_allowed(rt.alloc(), variable("v", "[Int!]"), &[input("n", "[Int]")])?);
+    assert!(rt; !is_allowed(rt.alloc(), variable("v", "Int"), &[input("n", "[Int]")])?);
     let list = input_or("n", "[Int!]!", Literal::List(ONE));
-    assert!(rt; !is_allowed(rt.alloc(), variable("v", "[Int]"), list)?);
+    assert!(rt; !is_allowed(rt.alloc(), variable("v", "[Int]"), &[list])?);
     Ok(())
 }
 
@@ -89,23 +59,24 @@ fn types_of_usages_go_item_by_item(rt: HostRuntime) -> Result<(), Fail> {
 fn usage(
     alloc: Global,
     written: VariableNotation<'_>,
-    input: InputNotation<'_>,
+    taken: &[InputNotation<'_>],
 ) -> Result<(bool, String), Fail> {
     let built = variables(alloc, &[written])?;
-    let place = place(alloc, input)?;
+    let places = inputs(alloc, taken, None)?;
+    let place = places.first().ok_or("no place")?;
     let given = [argument("n", Literal::Variable("v"))];
     let applied = directives(alloc, &[directive("d", &given)])?;
     let application = applied.first().ok_or("no directive")?;
     let argument = application.value.arguments.first().ok_or("no argument")?;
     let mut diagnostics = DiagnosticList::new(alloc);
-    let allowed = validate_variable_usage(&mut diagnostics, &place, &built, argument)?;
+    let allowed = validate_variable_usage(&mut diagnostics, place, &built, argument)?;
     Ok((allowed, lines(alloc, &diagnostics)?))
 }
 
 #[test]
 fn a_misused_variable_is_reported(rt: HostRuntime) -> Result<(), Fail> {
     let null = variable_or("v", "Int", Literal::Null);
-    let (allowed, found) = usage(rt.alloc(), null, input("n", "Int!"))?;
+    let (allowed, found) = usage(rt.alloc(), null, &[input("n", "Int!")])?;
     assert!(rt; !allowed);
     assert_eq!(rt; found.as_str(), MISUSED);
     Ok(())
@@ -113,7 +84,7 @@ fn a_misused_variable_is_reported(rt: HostRuntime) -> Result<(), Fail> {
 
 #[test]
 fn a_variable_that_is_not_defined_is_not_misused(rt: HostRuntime) -> Result<(), Fail> {
-    let (allowed, found) = usage(rt.alloc(), variable("w", "Int"), input("n", "Int!"))?;
+    let (allowed, found) = usage(rt.alloc(), variable("w", "Int"), &[input("n", "Int!")])?;
     assert!(rt; allowed);
     assert_eq!(rt; found.as_str(), "");
     Ok(())
@@ -126,7 +97,8 @@ const IN_A_LIST: &[Literal<'static>] = &[Literal::Variable("v")];
 fn item(alloc: Global, written: VariableNotation<'_>) -> Result<String, Fail> {
     let built = variables(alloc, &[written])?;
     let schema = schema(alloc, &[], &[])?;
-    let place = place(alloc, input("l", "[Int]"))?;
+    let places = inputs(alloc, &[input("l", "[Int]")], None)?;
+    let place = places.first().ok_or("no place")?;
     let given = [argument("l", Literal::List(IN_A_LIST))];
     let applied = directives(alloc, &[directive("d", &given)])?;
     let application = applied.first().ok_or("no directive")?;

@@ -1,13 +1,13 @@
 use super::directives::query_of_itself;
 use super::field_sets::lines;
 use graphql_documents::diagnostics::DiagnosticList;
-use graphql_documents::documents::{DirectiveLocation, FileId, Schema, SourceSpan, Valid, Value};
+use graphql_documents::documents::{DirectiveLocation, FileId, Schema, SourceSpan, Valid};
 use graphql_rows::RowError;
 use graphql_rows::build::{directives, document, operation, schema, variables};
 use graphql_rows::notation::{
-    FragmentNotation, InputNotation, Literal, OperationNotation, VariableNotation, argument,
-    directive, directive_definition, field, fragment, input, leaf, object, output, output_taking,
-    query, spread, variable, variable_or,
+    DirectiveNotation, FragmentNotation, Literal, OperationNotation, SelectionNotation,
+    VariableNotation, argument, directive, directive_definition, fragment, input, leaf, object,
+    output, query, spread, variable, variable_or,
 };
 use graphql_values::directive::validate_variable_definitions;
 use graphql_values::variable::{validate_unused_variables, variables_in_value};
@@ -127,25 +127,33 @@ fn schema_with_a_directive_for_fragments(alloc: Global) -> Result<Valid<Schema>,
     )
 }
 
+/// What the uses of variables bring in an operation, beside `fragment F on Query` with these directives
+/// and selections.
+fn unused_beside<'a>(
+    alloc: Global,
+    schema: &Valid<Schema>,
+    written: &OperationNotation<'_>,
+    applied: &'a [DirectiveNotation<'a>],
+    selections: &'a [SelectionNotation<'a>],
+) -> Result<DiagnosticList, RowError> {
+    let fragments = [fragment("F", "Query", selections).applying(applied)];
+    unused(alloc, schema, written, &fragments)
+}
+
 #[test]
 fn a_directive_of_a_fragment_uses_a_variable(rt: HostRuntime) -> Result<(), Fail> {
     let schema = schema_with_a_directive_for_fragments(rt.alloc())?;
     let given = [argument("x", Literal::Variable("v"))];
     let applied = [directive("onF", &given)];
-    let selections = [leaf("a")];
-    let fragments = [fragment("F", "Query", &selections).applying(&applied)];
     let defined = [variable("v", "Boolean")];
-    let diagnostics = unused(
-        rt.alloc(),
-        &schema,
-        &query(&defined, &[spread("F")]),
-        &fragments,
-    )?;
+    let spreads = [spread("F")];
+    let written = query(&defined, &spreads);
+    let diagnostics = unused_beside(rt.alloc(), &schema, &written, &applied, &[leaf("a")])?;
     assert_eq!(rt; diagnostics.len(), 0);
     Ok(())
 }
 
-/// `[$a, {k: $b}, $a]`
+/// `[$a, [$b], $a]`
 const NESTED: &[Literal<'static>] = &[
     Literal::Variable("a"),
     Literal::List(&[Literal::Variable("b")]),

@@ -7,12 +7,26 @@ use graphql_documents::documents::{
 };
 use graphql_rows::RowError;
 use graphql_rows::build::document;
-use graphql_rows::notation::{aliased, field, fragment, inline, leaf, query, spread};
+use graphql_rows::notation::{
+    SelectionNotation, aliased, field, fragment, inline, leaf, query, spread,
+};
 use graphql_values::variable::{
     Walked, validate_unused_variables, walk_selections, walk_selections_with_deduped_fragments,
 };
 use std::alloc::Global;
 use std::test::Fail;
+
+/// A query of the one selections, beside a fragment `F` of the others.
+fn with_fragment<'a>(
+    alloc: Global,
+    schema: &Valid<Schema>,
+    selections: &'a [SelectionNotation<'a>],
+    in_fragment: &'a [SelectionNotation<'a>],
+) -> Result<ExecutableDocument, RowError> {
+    let operations = [query(&[], selections)];
+    let fragments = [fragment("F", "Query", in_fragment)];
+    document(alloc, &schema.0, &operations, &fragments)
+}
 
 /// `query { ...F } fragment F on Query { q { ...F } x: a x: b }`
 fn cyclic_document(alloc: Global, schema: &Valid<Schema>) -> Result<ExecutableDocument, RowError> {
@@ -22,9 +36,7 @@ fn cyclic_document(alloc: Global, schema: &Valid<Schema>) -> Result<ExecutableDo
         aliased("x", "a", &[], &[]),
         aliased("x", "b", &[], &[]),
     ];
-    let fragments = [fragment("F", "Query", &selections)];
-    let outer = [spread("F")];
-    document(alloc, &schema.0, &[query(&[], &outer)], &fragments)
+    with_fragment(alloc, schema, &[spread("F")], &selections)
 }
 
 #[test]
@@ -53,7 +65,6 @@ fn document_of_all_kinds(
 ) -> Result<ExecutableDocument, RowError> {
     let (a, b) = ([leaf("a")], [leaf("b")]);
     let below = [field("q", &[], &b), spread("F")];
-    let fragments = [fragment("F", "Query", &below)];
     let selections = [
         field("q", &[], &a),
         spread("F"),
@@ -62,7 +73,7 @@ fn document_of_all_kinds(
         spread("Missing"),
         leaf("a"),
     ];
-    document(alloc, &schema.0, &[query(&[], &selections)], &fragments)
+    with_fragment(alloc, schema, &selections, &below)
 }
 
 /// The selections that were listed, each behind a blank.

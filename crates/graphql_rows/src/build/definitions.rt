@@ -133,7 +133,8 @@ fn field_definition(
     })
 }
 
-fn inputs(
+/// The definitions of arguments, or of the fields of an input object, in their order and at this place.
+pub fn inputs(
     alloc: Global,
     notation: &[InputNotation<'_>],
     location: Option<SourceSpan>,
