@@ -12,5 +12,5 @@ mod selections;
 pub use definitions::inputs;
 pub use documents::{document, operation, variables};
 pub use field_sets::field_set;
-pub use literals::directives;
+pub use literals::{arguments, directives};
 pub use schemas::schema;

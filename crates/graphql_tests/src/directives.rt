@@ -2,7 +2,7 @@ use super::field_sets::lines;
 use graphql_documents::diagnostics::DiagnosticList;
 use graphql_documents::documents::{DirectiveLocation, Schema, Valid};
 use graphql_rows::RowError;
-use graphql_rows::build::{directives, schema};
+use graphql_rows::build::{arguments, directives, schema};
 use graphql_rows::notation::{DirectiveNotation, Literal, argument, directive, object, output};
 use graphql_values::argument::validate_arguments;
 use graphql_values::directive::validate_directives;
@@ -119,10 +119,9 @@ fn each_repeated_argument_is_reported(rt: HostRuntime) -> Result<(), Fail> {
         argument("if", Literal::Null),
         argument("if", Literal::Null),
     ];
-    let built = directives(rt.alloc(), &[directive("skip", &given)])?;
-    let application = built.first().ok_or("no directive")?;
+    let built = arguments(rt.alloc(), &given)?;
     let mut diagnostics = DiagnosticList::new(rt.alloc());
-    validate_arguments(&mut diagnostics, &application.value.arguments)?;
+    validate_arguments(&mut diagnostics, &built)?;
     let found = lines(rt.alloc(), &diagnostics)?;
     assert_eq!(rt; found.as_str(), GIVEN_AGAIN);
     Ok(())

@@ -1,9 +1,10 @@
 use super::field_sets::lines;
 use graphql_documents::diagnostics::DiagnosticList;
-use graphql_rows::build::{directives, inputs, schema, variables};
+use graphql_documents::documents::{Argument, InputValueDefinition, Node, VariableDefinition};
+use graphql_rows::RowError;
+use graphql_rows::build::{arguments, inputs, schema, variables};
 use graphql_rows::notation::{
-    InputNotation, Literal, VariableNotation, argument, directive, input, input_or, variable,
-    variable_or,
+    InputNotation, Literal, VariableNotation, argument, input, input_or, variable, variable_or,
 };
 use graphql_values::value::validate_values;
 use graphql_values::variable::{is_variable_usage_allowed, validate_variable_usage};
@@ -15,6 +16,12 @@ const MISUSED: &str =
 
 const WRONG_ITEM: &str = "expected value of type Int, found a variable\n";
 
+/// The definition of the first of these arguments.
+fn place(alloc: Global, taken: &[InputNotation<'_>]) -> Result<Node<InputValueDefinition>, Fail> {
+    let places = inputs(alloc, taken, None)?;
+    Ok(places.first().ok_or("no place")?.clone()?)
+}
+
 fn is_allowed(
     alloc: Global,
     written: VariableNotation<'_>,
@@ -22,8 +29,7 @@ fn is_allowed(
 ) -> Result<bool, Fail> {
     let built = variables(alloc, &[written])?;
     let variable = built.first().ok_or("no variable")?;
-    let places = inputs(alloc, taken, None)?;
-    let place = places.first().ok_or("no place")?;
+    let place = place(alloc, taken)?;
     Ok(is_variable_usage_allowed(&variable.value, &place.value))
 }
 
@@ -55,6 +61,24 @@ fn types_of_usages_go_item_by_item(rt: HostRuntime) -> Result<(), Fail> {
     Ok(())
 }
 
+/// The argument `n` with this value.
+fn given(alloc: Global, value: Literal<'_>) -> Result<Node<Argument>, Fail> {
+    let arguments = arguments(alloc, &[argument("n", value)])?;
+    Ok(arguments.first().ok_or("no argument")?.clone()?)
+}
+
+/// What an argument brings at a place, among these variables.
+fn reports(
+    alloc: Global,
+    place: &Node<InputValueDefinition>,
+    variables: &[Node<VariableDefinition>],
+    argument: &Node<Argument>,
+) -> Result<(bool, String), Fail> {
+    let mut diagnostics = DiagnosticList::new(alloc);
+    let allowed = validate_variable_usage(&mut diagnostics, place, variables, argument)?;
+    Ok((allowed, lines(alloc, &diagnostics)?))
+}
+
 /// What `n: $v` brings at a place where `v` is this variable.
 fn usage(
     alloc: Global,
@@ -62,15 +86,9 @@ fn usage(
     taken: &[InputNotation<'_>],
 ) -> Result<(bool, String), Fail> {
     let built = variables(alloc, &[written])?;
-    let places = inputs(alloc, taken, None)?;
-    let place = places.first().ok_or("no place")?;
-    let given = [argument("n", Literal::Variable("v"))];
-    let applied = directives(alloc, &[directive("d", &given)])?;
-    let application = applied.first().ok_or("no directive")?;
-    let argument = application.value.arguments.first().ok_or("no argument")?;
-    let mut diagnostics = DiagnosticList::new(alloc);
-    let allowed = validate_variable_usage(&mut diagnostics, place, &built, argument)?;
-    Ok((allowed, lines(alloc, &diagnostics)?))
+    let place = place(alloc, taken)?;
+    let argument = given(alloc, Literal::Variable("v"))?;
+    reports(alloc, &place, &built, &argument)
 }
 
 #[test]
@@ -93,25 +111,26 @@ fn a_variable_that_is_not_defined_is_not_misused(rt: HostRuntime) -> Result<(), 
 /// `[$v]`
 const IN_A_LIST: &[Literal<'static>] = &[Literal::Variable("v")];
 
-/// What `l: [$v]` brings at a place of type `[Int]`.
+/// What the value of an argument brings at a place, among these variables.
+fn value_reports(
+    alloc: Global,
+    place: &Node<InputValueDefinition>,
+    variables: &[Node<VariableDefinition>],
+    argument: &Node<Argument>,
+) -> Result<String, RowError> {
+    let schema = schema(alloc, &[], &[])?;
+    let ty = &place.value.ty;
+    let mut diagnostics = DiagnosticList::new(alloc);
+    validate_values(&mut diagnostics, &schema.0, ty, argument, variables)?;
+    lines(alloc, &diagnostics)
+}
+
+/// What `[$v]` brings at a place of type `[Int]`.
 fn item(alloc: Global, written: VariableNotation<'_>) -> Result<String, Fail> {
     let built = variables(alloc, &[written])?;
-    let schema = schema(alloc, &[], &[])?;
-    let places = inputs(alloc, &[input("l", "[Int]")], None)?;
-    let place = places.first().ok_or("no place")?;
-    let given = [argument("l", Literal::List(IN_A_LIST))];
-    let applied = directives(alloc, &[directive("d", &given)])?;
-    let application = applied.first().ok_or("no directive")?;
-    let argument = application.value.arguments.first().ok_or("no argument")?;
-    let mut diagnostics = DiagnosticList::new(alloc);
-    validate_values(
-        &mut diagnostics,
-        &schema.0,
-        &place.value.ty,
-        argument,
-        &built,
-    )?;
-    Ok(lines(alloc, &diagnostics)?)
+    let place = place(alloc, &[input("n", "[Int]")])?;
+    let argument = given(alloc, Literal::List(IN_A_LIST))?;
+    Ok(value_reports(alloc, &place, &built, &argument)?)
 }
 
 #[test]

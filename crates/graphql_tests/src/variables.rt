@@ -1,9 +1,9 @@
 use super::directives::query_of_itself;
 use super::field_sets::lines;
 use graphql_documents::diagnostics::DiagnosticList;
-use graphql_documents::documents::{DirectiveLocation, FileId, Schema, SourceSpan, Valid};
+use graphql_documents::documents::{DirectiveLocation, FileId, Schema, SourceSpan, Valid, Value};
 use graphql_rows::RowError;
-use graphql_rows::build::{directives, document, operation, schema, variables};
+use graphql_rows::build::{arguments, document, operation, schema, variables};
 use graphql_rows::notation::{
     DirectiveNotation, FragmentNotation, Literal, OperationNotation, SelectionNotation,
     VariableNotation, argument, directive, directive_definition, fragment, input, leaf, object,
@@ -160,17 +160,20 @@ const NESTED: &[Literal<'static>] = &[
     Literal::Variable("a"),
 ];
 
-#[test]
-fn variables_in_a_value_come_in_order(rt: HostRuntime) -> Result<(), Fail> {
-    let given = [argument("x", Literal::List(NESTED))];
-    let built = directives(rt.alloc(), &[directive("d", &given)])?;
-    let application = built.first().ok_or("no directive")?;
-    let argument = application.value.arguments.first().ok_or("no argument")?;
-    let names = variables_in_value(rt.alloc(), &argument.value.value.value)?;
-    let mut text = String::new(rt.alloc());
-    for name in &names {
+/// The names of the variables in a value, one behind another.
+fn names_in(alloc: Global, value: &Value) -> Result<String, Fail> {
+    let mut text = String::new(alloc);
+    for name in &variables_in_value(alloc, value)? {
         text.push_str(name.as_str())?;
     }
-    assert_eq!(rt; text.as_str(), "aba");
+    Ok(text)
+}
+
+#[test]
+fn variables_in_a_value_come_in_order(rt: HostRuntime) -> Result<(), Fail> {
+    let built = arguments(rt.alloc(), &[argument("x", Literal::List(NESTED))])?;
+    let given = built.first().ok_or("no argument")?;
+    let found = names_in(rt.alloc(), &given.value.value.value)?;
+    assert_eq!(rt; found.as_str(), "aba");
     Ok(())
 }

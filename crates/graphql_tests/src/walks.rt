@@ -3,7 +3,7 @@ use super::field_sets::lines;
 use graphql_documents::diagnostics::DiagnosticList;
 use graphql_documents::documents::{
     ExecutableDocument, Field, FieldDefinition, InlineFragment, Name, Node, Operation,
-    OperationType, Schema, Selection, SelectionSet, Valid,
+    OperationMap, OperationType, Schema, Selection, SelectionSet, Type, Valid,
 };
 use graphql_rows::RowError;
 use graphql_rows::build::document;
@@ -13,6 +13,7 @@ use graphql_rows::notation::{
 use graphql_values::variable::{
     Walked, validate_unused_variables, walk_selections, walk_selections_with_deduped_fragments,
 };
+use indexmap::IndexMap;
 use std::alloc::Global;
 use std::test::Fail;
 
@@ -40,21 +41,12 @@ fn cyclic_document(alloc: Global, schema: &Valid<Schema>) -> Result<ExecutableDo
 }
 
 #[test]
-fn walks_list_each_selection(rt: HostRuntime) -> Result<(), Fail> {
+fn walks_of_a_cyclic_document_end(rt: HostRuntime) -> Result<(), Fail> {
     let schema = query_of_itself(rt.alloc())?;
     let document = cyclic_document(rt.alloc(), &schema)?;
-    let operation = document
-        .operations
-        .anonymous
-        .as_ref()
-        .ok_or("no operation")?;
-    let set = &operation.value.selection_set;
-    let inside = walk_selections(rt.alloc(), &document, set)?;
-    assert_eq!(rt; inside.selections.len(), 4);
-    assert!(rt; inside.complete);
-    let reached = walk_selections_with_deduped_fragments(rt.alloc(), &document, set)?;
-    assert_eq!(rt; reached.selections.len(), 5);
-    assert!(rt; reached.complete);
+    let (inside, reached) = listed_in(rt.alloc(), &document)?;
+    assert_eq!(rt; inside.as_str(), " ...F q a b");
+    assert_eq!(rt; reached.as_str(), " ...F q ...F a b");
     Ok(())
 }
 
@@ -76,7 +68,7 @@ fn document_of_all_kinds(
     with_fragment(alloc, schema, &selections, &below)
 }
 
-/// The selections that were listed, each behind a blank.
+/// The selections that were listed, each behind a blank, and a mark where the walk did not end.
 fn written(alloc: Global, walked: &Walked<'_>) -> Result<String, Fail> {
     let mut text = String::new(alloc);
     for selection in &walked.selections {
@@ -89,25 +81,44 @@ fn written(alloc: Global, walked: &Walked<'_>) -> Result<String, Fail> {
         };
         text.push_str(entry.as_str())?;
     }
+    if !walked.complete {
+        text.push_str(" and more")?;
+    }
     Ok(text)
+}
+
+/// What the walk inside the set lists, and what the one below fields lists too.
+fn listed(
+    alloc: Global,
+    document: &ExecutableDocument,
+    set: &SelectionSet,
+) -> Result<(String, String), Fail> {
+    let inside = walk_selections(alloc, document, set)?;
+    let first = written(alloc, &inside)?;
+    let reached = walk_selections_with_deduped_fragments(alloc, document, set)?;
+    Ok((first, written(alloc, &reached)?))
+}
+
+/// The same for the operation of the document.
+fn listed_in(alloc: Global, document: &ExecutableDocument) -> Result<(String, String), Fail> {
+    let operation = document
+        .operations
+        .anonymous
+        .as_ref()
+        .ok_or("no operation")?;
+    listed(alloc, document, &operation.value.selection_set)
 }
 
 #[test]
 fn walks_go_depth_first_and_into_each_fragment_once(rt: HostRuntime) -> Result<(), Fail> {
     let schema = query_of_itself(rt.alloc())?;
     let document = document_of_all_kinds(rt.alloc(), &schema)?;
-    let operation = document
-        .operations
-        .anonymous
-        .as_ref()
-        .ok_or("no operation")?;
-    let set = &operation.value.selection_set;
-    let inside = walk_selections(rt.alloc(), &document, set)?;
-    let text = written(rt.alloc(), &inside)?;
-    assert_eq!(rt; text.as_str(), " q ...F q ...F ... b ...F ...Missing a");
-    let reached = walk_selections_with_deduped_fragments(rt.alloc(), &document, set)?;
-    let text = written(rt.alloc(), &reached)?;
-    assert_eq!(rt; text.as_str(), " q a ...F q b ...F ... b ...F ...Missing a");
+    let (inside, reached) = listed_in(rt.alloc(), &document)?;
+    assert_eq!(rt; inside.as_str(), " q ...F q ...F ... b ...F ...Missing a");
+    assert_eq!(rt;
+        reached.as_str(),
+        " q a ...F q b ...F ... b ...F ...Missing a"
+    );
     Ok(())
 }
 
@@ -147,72 +158,97 @@ fn inline_fragments(alloc: Global, depth: u32) -> Result<SelectionSet, Fail> {
 }
 
 /// The definition of the field `q` of `Query`.
-fn definition_of_q(alloc: Global, schema: &Valid<Schema>) -> Result<Node<FieldDefinition>, Fail> {
-    let Ok(definition) = schema
-        .0
-        .type_field(&name(alloc, "Query")?, &name(alloc, "q")?)
-    else {
-        return Err(Fail::from("no field"));
+fn definition_of_q(alloc: Global) -> Result<Node<FieldDefinition>, Fail> {
+    let definition = FieldDefinition {
+        name: name(alloc, "q")?,
+        arguments: Vec::new(alloc),
+        ty: Type::Named(name(alloc, "Query")?),
+        directives: Vec::new(alloc),
     };
-    Ok(definition.node.clone()?)
+    Ok(Node::new(alloc, definition)?)
+}
+
+/// The set of a field `q` with this set.
+fn set_of_q(
+    alloc: Global,
+    definition: &Node<FieldDefinition>,
+    selection_set: SelectionSet,
+) -> Result<SelectionSet, Fail> {
+    let field = Field {
+        definition: definition.clone()?,
+        alias: None,
+        name: name(alloc, "q")?,
+        arguments: Vec::new(alloc),
+        directives: Vec::new(alloc),
+        selection_set,
+    };
+    set_of(alloc, Selection::Field(Node::new(alloc, field)?))
 }
 
 /// A set from which so many sets of fields lead down.
-fn fields(alloc: Global, schema: &Valid<Schema>, depth: u32) -> Result<SelectionSet, Fail> {
-    let definition = definition_of_q(alloc, schema)?;
+fn fields(alloc: Global, depth: u32) -> Result<SelectionSet, Fail> {
+    let definition = definition_of_q(alloc)?;
     let mut set = empty_set(alloc)?;
     for _ in 0..depth {
-        let field = Field {
-            definition: definition.clone()?,
-            alias: None,
-            name: name(alloc, "q")?,
-            arguments: Vec::new(alloc),
-            directives: Vec::new(alloc),
-            selection_set: set,
-        };
-        set = set_of(alloc, Selection::Field(Node::new(alloc, field)?))?;
+        set = set_of_q(alloc, &definition, set)?;
     }
     Ok(set)
 }
 
+fn empty_document(alloc: Global) -> ExecutableDocument {
+    ExecutableDocument {
+        operations: OperationMap {
+            anonymous: None,
+            named: IndexMap::new(alloc),
+        },
+        fragments: IndexMap::new(alloc),
+    }
+}
+
+fn ends_inside(alloc: Global, depth: u32) -> Result<bool, Fail> {
+    let set = inline_fragments(alloc, depth)?;
+    let document = empty_document(alloc);
+    Ok(walk_selections(alloc, &document, &set)?.complete)
+}
+
+fn ends_below_fields(alloc: Global, depth: u32) -> Result<bool, Fail> {
+    let set = fields(alloc, depth)?;
+    let document = empty_document(alloc);
+    Ok(walk_selections_with_deduped_fragments(alloc, &document, &set)?.complete)
+}
+
 #[test]
 fn a_walk_goes_into_500_sets(rt: HostRuntime) -> Result<(), Fail> {
-    let schema = query_of_itself(rt.alloc())?;
-    let document = cyclic_document(rt.alloc(), &schema)?;
-    let most = inline_fragments(rt.alloc(), 500)?;
-    assert!(rt; walk_selections(rt.alloc(), &document, &most)?.complete);
-    let more = inline_fragments(rt.alloc(), 501)?;
-    assert!(rt; !walk_selections(rt.alloc(), &document, &more)?.complete);
+    assert!(rt; ends_inside(rt.alloc(), 500)?);
+    assert!(rt; !ends_inside(rt.alloc(), 501)?);
     Ok(())
 }
 
 #[test]
 fn a_walk_below_fields_goes_into_500_sets(rt: HostRuntime) -> Result<(), Fail> {
-    let schema = query_of_itself(rt.alloc())?;
-    let document = cyclic_document(rt.alloc(), &schema)?;
-    let most = fields(rt.alloc(), &schema, 500)?;
-    let walked = walk_selections_with_deduped_fragments(rt.alloc(), &document, &most)?;
-    assert!(rt; walked.complete);
-    let more = fields(rt.alloc(), &schema, 501)?;
-    let walked = walk_selections_with_deduped_fragments(rt.alloc(), &document, &more)?;
-    assert!(rt; !walked.complete);
+    assert!(rt; ends_below_fields(rt.alloc(), 500)?);
+    assert!(rt; !ends_below_fields(rt.alloc(), 501)?);
     Ok(())
+}
+
+/// What the uses of variables bring in an operation with this set.
+fn uses(alloc: Global, selection_set: SelectionSet) -> Result<String, Fail> {
+    let operation = Operation {
+        operation_type: OperationType::Query,
+        name: None,
+        variables: Vec::new(alloc),
+        directives: Vec::new(alloc),
+        selection_set,
+    };
+    let document = empty_document(alloc);
+    let mut diagnostics = DiagnosticList::new(alloc);
+    validate_unused_variables(&mut diagnostics, &document, &operation)?;
+    Ok(lines(alloc, &diagnostics)?)
 }
 
 #[test]
 fn the_bound_is_reported_alone(rt: HostRuntime) -> Result<(), Fail> {
-    let schema = query_of_itself(rt.alloc())?;
-    let document = cyclic_document(rt.alloc(), &schema)?;
-    let operation = Operation {
-        operation_type: OperationType::Query,
-        name: None,
-        variables: Vec::new(rt.alloc()),
-        directives: Vec::new(rt.alloc()),
-        selection_set: fields(rt.alloc(), &schema, 501)?,
-    };
-    let mut diagnostics = DiagnosticList::new(rt.alloc());
-    validate_unused_variables(&mut diagnostics, &document, &operation)?;
-    let found = lines(rt.alloc(), &diagnostics)?;
+    let found = uses(rt.alloc(), fields(rt.alloc(), 501)?)?;
     assert_eq!(rt; found.as_str(), "too much recursion\n");
     Ok(())
 }

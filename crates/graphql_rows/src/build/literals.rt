@@ -44,7 +44,7 @@ fn object_field(
 }
 
 /// The arguments, in their order.
-pub(super) fn arguments(
+pub fn arguments(
     alloc: Global,
     notation: &[ArgumentNotation<'_>],
 ) -> Result<Vec<Node<Argument>>, RowError> {
