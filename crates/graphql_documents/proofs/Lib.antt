@@ -1,15 +1,8 @@
 pub mod ArgumentLemmas
 pub mod DiagnosticLemmas
-pub mod ExpansionLaws
-pub mod FragmentLaws
 pub mod ListLemmas
-pub mod MergingLaws
 pub mod NameLemmas
 pub mod NumberLemmas
-pub mod ReportLaws
 pub mod ReportLemmas
-pub mod SchemaLaws
-pub mod SelectionLaws
-pub mod TypeMapLaws
-pub mod ValueLaws
-pub mod VariableLaws
+pub mod SelectionLemmas
+pub mod VariableUseLemmas

@@ -4,7 +4,7 @@ use Rattle.std.proofs.lemmas.List.{append-nil, append_assoc, take_more, take_all
 use Rattle.std.proofs.lemmas.List.Elements.{All-nil, All-append, All-cons, All-head, All-more, All-weaker, All-contains, All-contains_itself, Contains-append_left, Contains-append_right, Contains-push}
 use Rattle.std.specs.Prelude.{Result, Ok, Err, IsErr, OnOk, OnErr, MatchResult}
 use Rattle.std.proofs.lemmas.Result.{MatchResult-from_err}
-use Rattle.graphql_documents.specs.Reports.{Reports, KeepsReports}
+use Rattle.graphql_documents.specs.Reports.{Appends, Reports, KeepsReports}
 
 -- an element more of a list
 pub more_is : {X : Type 0} (xs : List X) (i : ℕ) (x : X) → i < length xs → x ≡ get_or xs i x → take (i + 1) xs ≡ take i xs ++ x ∷ []
@@ -156,3 +156,14 @@ stands_next all done left rest x e next =
 
 pub done_next : {X : Type 0} (all done left rest : List X) (x : X) → all ≡ done ++ left → left ≡ x ∷ rest → all ≡ (done ++ x ∷ []) ++ rest
 done_next all done left rest x e next = e ∙ ap (λ l. done ++ l) next ∙ sym (append_assoc done (x ∷ []) rest)
+
+-- a call that answers, in other words
+pub on_ok : {T E : Type 0} (r : Result T E) (A B : Type 0) → (A → B) → OnOk r A → OnOk r B
+on_ok (Ok x) A B w a = w a
+on_ok (Err x) A B w a = a
+
+-- one entry more, or none
+pub appends_on_ok : {T E Entry : Type 0} (r : Result T E) (Are : List Entry → Type 0) (old new : List Entry) {e : Entry} →
+    OnOk r (new ≡ old ++ e ∷ []) → OnErr r (new ≡ old) → Are (e ∷ []) → MatchResult r (λ _. Appends Are old new) (λ _. new ≡ old)
+appends_on_ok (Ok x) Are old new {e} ok err are = record { added = e ∷ []; appended = ok; are = are }
+appends_on_ok (Err x) Are old new {e} ok err are = err

@@ -4,7 +4,7 @@ use Rattle.std.specs.Prelude.{◌≡◌, Bool, Some, Ok, All, Contains, IsTrue, 
 use Rattle.graphql_documents.specs.Names.{NameText, SameName}
 use Rattle.graphql_documents.specs.TypeReferences.{inner_named_type}
 use Rattle.graphql_documents.specs.Schemas.{type_definition, type_field, is_output_type, own_name, fields_of, input_fields_of, root_operation}
-use Rattle.graphql_documents.specs.Selections.{selections_of}
+use Rattle.graphql_documents.specs.Selections.{SetWritten, selections_of}
 use Rattle.graphql_documents.specs.Defer.{operations_of}
 use Rattle.graphql_documents.specs.declared.documents.nodes.Node.{Node}
 use Rattle.graphql_documents.specs.declared.documents.components.Component.{Component}
@@ -36,14 +36,6 @@ pub record TypeStandsUnderItsName (key : NameText) (definition : ExtendedType) :
 pub record StandsUnderOwnNames (schema : Schema) : Type 0 where
   pub types : All (λ entry. TypeStandsUnderItsName entry.0 entry.1) schema.types.entries
   pub directives : All (λ entry. SameName entry.0 entry.1.value.value.name) schema.directive_definitions.entries
-
--- the set is written in the other, at any depth, spreads not followed
-pub data SetWritten : SelectionSet → SelectionSet → Type 0 where
-  set_itself : {set : SelectionSet} → SetWritten set set
-  set_in_field : {set inner : SelectionSet} {f : Node Field} →
-      Contains (selections_of set) (kind.Field f) → SetWritten f.value.value.selection_set inner → SetWritten set inner
-  set_in_inline_fragment : {set inner : SelectionSet} {i : Node InlineFragment} →
-      Contains (selections_of set) (kind.InlineFragment i) → SetWritten i.value.value.selection_set inner → SetWritten set inner
 
 -- the type with this name is a defined output type. Specification: 3.4.2 Input and Output Types
 abbrev pub NamesOutputType : Schema → NameText → Type 0

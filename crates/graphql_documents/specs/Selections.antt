@@ -30,13 +30,17 @@ response_key f = unwrap_or f.alias f.name
 abbrev pub selections_of : SelectionSet → List Selection
 selections_of set = set.selections.items
 
+-- the set, and the sets that are written in it, at any depth, spreads not followed
+pub data SetWritten : SelectionSet → SelectionSet → Type 0 where
+  set_itself : {set : SelectionSet} → SetWritten set set
+  set_in_field : {set inner : SelectionSet} {f : Node Field} →
+      Contains (selections_of set) (kind.Field f) → SetWritten f.value.value.selection_set inner → SetWritten set inner
+  set_in_inline_fragment : {set inner : SelectionSet} {i : Node InlineFragment} →
+      Contains (selections_of set) (kind.InlineFragment i) → SetWritten i.value.value.selection_set inner → SetWritten set inner
+
 -- the selection stands in the set or at any depth below it, spreads not followed
-pub data Written : SelectionSet → Selection → Type 0 where
-  standing : {set : SelectionSet} {s : Selection} → Contains (selections_of set) s → Written set s
-  in_field : {set : SelectionSet} {s : Selection} {f : Node Field} →
-      Contains (selections_of set) (kind.Field f) → Written f.value.value.selection_set s → Written set s
-  in_inline_fragment : {set : SelectionSet} {s : Selection} {i : Node InlineFragment} →
-      Contains (selections_of set) (kind.InlineFragment i) → Written i.value.value.selection_set s → Written set s
+abbrev pub Written : SelectionSet → Selection → Type 0
+Written set s = (inner : SelectionSet) × SetWritten set inner × Contains (selections_of inner) s
 
 -- the directives of a selection
 abbrev pub directives_of : Selection → List (Node Directive)

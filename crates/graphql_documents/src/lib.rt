@@ -5,4 +5,3 @@
 pub mod diagnostics;
 pub mod documents;
 pub mod guards;
-pub mod laws;

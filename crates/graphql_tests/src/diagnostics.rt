@@ -1,9 +1,10 @@
+use super::fixtures::name;
 use graphql_documents::diagnostics::{
     Details, DiagnosticData, DiagnosticEntry, DiagnosticList, ValidationError,
 };
-use graphql_documents::documents::{FileId, Name, SourceSpan};
+use graphql_documents::documents::{FileId, SourceSpan};
 use std::alloc::Global;
-use std::test::Fail;
+use std::process::Abort;
 
 const FIRST: SourceSpan = SourceSpan {
     file_id: FileId(1),
@@ -17,45 +18,52 @@ const SECOND: SourceSpan = SourceSpan {
     end: 6,
 };
 
-fn name(alloc: Global, text: &str) -> Result<Name, Fail> {
-    Ok(Name::new(String::from_str(alloc, text)?, None).ok_or("no name")?)
-}
-
-fn repetition(alloc: Global) -> Result<DiagnosticData, Fail> {
-    Ok(DiagnosticData::UniqueArgument {
-        name: name(alloc, "n")?,
+fn repetition(rt: &impl Abort, alloc: Global, location: Option<SourceSpan>) -> DiagnosticEntry {
+    let data = DiagnosticData::UniqueArgument {
+        name: name(rt, alloc, "n"),
         original_definition: Some(FIRST),
         redefined_definition: Some(SECOND),
-    })
+    };
+    DiagnosticEntry {
+        location,
+        details: Details::Diagnostic(data),
+    }
 }
 
 #[test]
-fn errors_have_their_text(rt: HostRuntime) -> Result<(), Fail> {
-    let error = ValidationError::OutOfMemory;
-    let printed = format!(in rt.alloc(); "{error}")?;
-    assert_eq!(rt; printed.as_str(), "out of memory");
-    Ok(())
+fn errors_have_their_text(rt: HostRuntime) {
+    let printed = ValidationError::OutOfMemory.to_string(rt.alloc());
+    assert_eq!(rt;
+        printed.expect(&rt, "memory for a text").as_str(),
+        "out of memory"
+    );
+}
+
+/// Pushes a report at the place.
+fn push(rt: &impl Abort, list: &mut DiagnosticList, location: Option<SourceSpan>) {
+    let entry = repetition(rt, list.allocator(), location);
+    list.push(entry.location, entry.details)
+        .expect(rt, "memory for an entry");
+}
+
+/// The entry is the report at the place.
+fn is_at(rt: &impl Abort, alloc: Global, entry: &DiagnosticEntry, location: Option<SourceSpan>) {
+    let expected = repetition(rt, alloc, location);
+    if *entry != expected {
+        panic!(rt; "{entry:?} is not {expected:?}");
+    }
 }
 
 #[test]
-fn lists_keep_the_order_of_push(rt: HostRuntime) -> Result<(), Fail> {
+fn lists_keep_the_order_of_push(rt: HostRuntime) {
+    let places = [Some(SECOND), None, Some(FIRST)];
     let mut list = DiagnosticList::new(rt.alloc());
     assert!(rt; list.is_empty());
-    assert_eq!(rt; list.len(), 0);
-    let places = [Some(SECOND), None, Some(FIRST)];
-    let mut expected = Vec::new(rt.alloc());
     for location in places {
-        list.push(location, Details::Diagnostic(repetition(list.allocator())?))?;
-        let details = Details::Diagnostic(repetition(rt.alloc())?);
-        expected.push(DiagnosticEntry { location, details })?;
+        push(&rt, &mut list, location);
     }
-    assert!(rt; !list.is_empty());
     assert_eq!(rt; list.len(), 3);
-    assert_eq!(rt; expected.len(), 3);
-    for (entry, wanted) in list.iter().zip(&expected) {
-        if *entry != *wanted {
-            panic!(rt; "{entry:?} is not {wanted:?}");
-        }
+    for (entry, location) in list.iter().zip(&places) {
+        is_at(&rt, rt.alloc(), entry, *location);
     }
-    Ok(())
 }

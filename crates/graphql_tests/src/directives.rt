@@ -1,13 +1,12 @@
-use super::field_sets::lines;
+use super::fixtures::{lines, query_of_itself};
 use graphql_documents::diagnostics::DiagnosticList;
-use graphql_documents::documents::{DirectiveLocation, Schema, Valid};
-use graphql_rows::RowError;
-use graphql_rows::build::{arguments, directives, schema};
-use graphql_rows::notation::{DirectiveNotation, Literal, argument, directive, object, output};
+use graphql_documents::documents::{DirectiveLocation, Schema};
+use graphql_rows::build::{arguments, directives};
+use graphql_rows::notation::{DirectiveNotation, Literal, argument, directive};
 use graphql_values::argument::validate_arguments;
 use graphql_values::directive::validate_directives;
 use std::alloc::Global;
-use std::test::Fail;
+use std::process::Abort;
 
 const REPEATED: &str = "non-repeatable directive skip can only be used once per location\n";
 
@@ -25,23 +24,17 @@ const UNDEFINED: &str = "cannot find directive `@skip` in this document\n";
 const GIVEN_AGAIN: &str = "the argument `if` is provided multiple times\n\
     the argument `if` is provided multiple times\n";
 
-/// `type Query { q: Query a: Int b: Int }`
-pub(crate) fn query_of_itself(alloc: Global) -> Result<Valid<Schema>, RowError> {
-    let fields = [output("q", "Query"), output("a", "Int"), output("b", "Int")];
-    let types = [object("Query", &fields)];
-    schema(alloc, &types, &[])
-}
-
 /// What these directives bring on a field, against the schema if there is one.
 fn reports(
+    rt: &impl Abort,
     alloc: Global,
     schema: Option<&Schema>,
     applied: &[DirectiveNotation<'_>],
-) -> Result<String, RowError> {
-    let built = directives(alloc, applied)?;
+) -> String {
+    let built = directives(alloc, applied).expect(rt, "directives");
     let mut given = Vec::new(alloc);
     for application in &built {
-        given.push(application)?;
+        given.push(application).expect(rt, "memory for a reference");
     }
     let mut diagnostics = DiagnosticList::new(alloc);
     validate_directives(
@@ -50,79 +43,70 @@ fn reports(
         &given,
         DirectiveLocation::Field,
         &[],
-    )?;
-    lines(alloc, &diagnostics)
+    )
+    .expect(rt, "memory for reports");
+    lines(rt, alloc, &diagnostics)
 }
 
 /// What these directives bring on a field of a schema that has the built-in directives.
-fn reports_on_a_field(
-    alloc: Global,
-    applied: &[DirectiveNotation<'_>],
-) -> Result<String, RowError> {
-    let schema = query_of_itself(alloc)?;
-    reports(alloc, Some(&schema.0), applied)
+fn reports_on_a_field(rt: &impl Abort, alloc: Global, applied: &[DirectiveNotation<'_>]) -> String {
+    let schema = query_of_itself(rt, alloc);
+    reports(rt, alloc, Some(&schema.0), applied)
 }
 
 #[test]
-fn repeated_directives_are_reported(rt: HostRuntime) -> Result<(), Fail> {
+fn repeated_directives_are_reported(rt: HostRuntime) {
     let condition = [argument("if", Literal::Boolean(true))];
     let applied = [directive("skip", &condition), directive("skip", &condition)];
-    let found = reports_on_a_field(rt.alloc(), &applied)?;
+    let found = reports_on_a_field(&rt, rt.alloc(), &applied);
     assert_eq!(rt; found.as_str(), REPEATED);
-    Ok(())
 }
 
 #[test]
-fn misplaced_directives_are_reported(rt: HostRuntime) -> Result<(), Fail> {
-    let found = reports_on_a_field(rt.alloc(), &[directive("deprecated", &[])])?;
+fn misplaced_directives_are_reported(rt: HostRuntime) {
+    let found = reports_on_a_field(&rt, rt.alloc(), &[directive("deprecated", &[])]);
     assert_eq!(rt; found.as_str(), MISPLACED);
-    Ok(())
 }
 
 #[test]
-fn missing_arguments_of_directives_are_reported(rt: HostRuntime) -> Result<(), Fail> {
-    let found = reports_on_a_field(rt.alloc(), &[directive("skip", &[])])?;
+fn missing_arguments_of_directives_are_reported(rt: HostRuntime) {
+    let found = reports_on_a_field(&rt, rt.alloc(), &[directive("skip", &[])]);
     assert_eq!(rt; found.as_str(), MISSING);
-    Ok(())
 }
 
 #[test]
-fn unknown_arguments_of_directives_are_reported(rt: HostRuntime) -> Result<(), Fail> {
+fn unknown_arguments_of_directives_are_reported(rt: HostRuntime) {
     let given = [
         argument("if", Literal::Boolean(true)),
         argument("x", Literal::Int("1")),
     ];
-    let found = reports_on_a_field(rt.alloc(), &[directive("skip", &given)])?;
+    let found = reports_on_a_field(&rt, rt.alloc(), &[directive("skip", &given)]);
     assert_eq!(rt; found.as_str(), UNKNOWN);
-    Ok(())
 }
 
 #[test]
-fn undefined_directives_are_reported_each_time(rt: HostRuntime) -> Result<(), Fail> {
+fn undefined_directives_are_reported_each_time(rt: HostRuntime) {
     let applied = [directive("x", &[]), directive("x", &[])];
-    let found = reports_on_a_field(rt.alloc(), &applied)?;
+    let found = reports_on_a_field(&rt, rt.alloc(), &applied);
     assert_eq!(rt; found.as_str(), UNDEFINED_TWICE);
-    Ok(())
 }
 
 #[test]
-fn no_directive_is_defined_without_a_schema(rt: HostRuntime) -> Result<(), Fail> {
-    let found = reports(rt.alloc(), None, &[directive("skip", &[])])?;
+fn no_directive_is_defined_without_a_schema(rt: HostRuntime) {
+    let found = reports(&rt, rt.alloc(), None, &[directive("skip", &[])]);
     assert_eq!(rt; found.as_str(), UNDEFINED);
-    Ok(())
 }
 
 #[test]
-fn each_repeated_argument_is_reported(rt: HostRuntime) -> Result<(), Fail> {
+fn each_repeated_argument_is_reported(rt: HostRuntime) {
     let given = [
         argument("if", Literal::Null),
         argument("if", Literal::Null),
         argument("if", Literal::Null),
     ];
-    let built = arguments(rt.alloc(), &given)?;
+    let built = arguments(rt.alloc(), &given).expect(&rt, "arguments");
     let mut diagnostics = DiagnosticList::new(rt.alloc());
-    validate_arguments(&mut diagnostics, &built)?;
-    let found = lines(rt.alloc(), &diagnostics)?;
+    validate_arguments(&mut diagnostics, &built).expect(&rt, "memory for reports");
+    let found = lines(&rt, rt.alloc(), &diagnostics);
     assert_eq!(rt; found.as_str(), GIVEN_AGAIN);
-    Ok(())
 }

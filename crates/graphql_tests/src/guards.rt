@@ -1,17 +1,12 @@
 ghost use Rattle.std.specs.Prelude.{◌≡◌, ◌≤◌, false};
 ghost use Rattle.graphql_documents.specs.Guards.{path_of, stands_on};
 
+use super::fixtures::name;
 use graphql_documents::diagnostics::RecursionLimitError;
 use graphql_documents::documents::{Name, Type};
 use graphql_documents::guards::{
     CycleError, DEFAULT_RECURSION_LIMIT, DepthCounter, LimitCounter, RecursionGuard, RecursionStack,
 };
-use std::alloc::Global;
-use std::test::Fail;
-
-fn name(alloc: Global, text: &str) -> Result<Name, Fail> {
-    Ok(Name::new(String::from_str(alloc, text)?, None).ok_or("no name")?)
-}
 
 /// Whether the guard's path takes the name. The path is the same afterwards.
 fn takes(guard: &mut RecursionGuard<'_>, name: &Name) -> bool
@@ -21,79 +16,49 @@ fn takes(guard: &mut RecursionGuard<'_>, name: &Name) -> bool
     guard.stack.push::<Type>(name).is_ok()
 }
 
-#[test]
-fn a_path_holds_as_many_names_as_its_limit(rt: HostRuntime) -> Result<(), Fail> {
-    let (a, b, c) = (
-        name(rt.alloc(), "a")?,
-        name(rt.alloc(), "b")?,
-        name(rt.alloc(), "c")?,
-    );
-    let mut stack = RecursionStack::with_root(rt.alloc(), a.clone()?)?.with_limit(2);
-    {
-        let mut root = stack.guard();
-        assert!(rt; !root.contains(&b));
-        let mut child = root.push::<Type>(&b)?;
-        assert!(rt; !child.stack.contains(&c));
-        match child.stack.push::<Type>(&c) {
-            Err(CycleError::Limit) => {}
-            _ => panic!(rt; "a third name"),
-        }
-        assert!(rt; child.contains(&a));
-        assert!(rt; child.contains(&b));
-        assert!(rt; !child.contains(&c));
-        assert_eq!(rt; child.first(), Some(&a));
-    }
-    assert!(rt; stack.contains(&a));
-    assert!(rt; !stack.contains(&b));
-    Ok(())
+/// Whether the path refused a name at its limit.
+fn is_at_limit(pushed: Result<RecursionGuard<'_>, CycleError<Type>>) -> bool {
+    matches!(pushed, Err(CycleError::Limit))
 }
 
 #[test]
-fn a_path_of_no_names_takes_none(rt: HostRuntime) -> Result<(), Fail> {
-    let a = name(rt.alloc(), "a")?;
+fn a_path_holds_as_many_names_as_its_limit(rt: HostRuntime) {
+    let (b, c) = (name(&rt, rt.alloc(), "b"), name(&rt, rt.alloc(), "c"));
+    let stack = RecursionStack::with_root(rt.alloc(), name(&rt, rt.alloc(), "a"));
+    let mut stack = stack.expect(&rt, "memory for a path").with_limit(2);
+    let mut root = stack.guard();
+    assert!(rt; !root.contains(&b));
+    let mut child = root.push::<Type>(&b).expect(&rt, "a second name");
+    assert!(rt; !child.stack.contains(&c));
+    assert!(rt; is_at_limit(child.stack.push::<Type>(&c)));
+    assert!(rt; child.contains(&b));
+    assert!(rt; !child.contains(&c));
+    assert_eq!(rt; child.first(), Some(&name(&rt, rt.alloc(), "a")));
+}
+
+#[test]
+fn a_path_of_no_names_takes_none(rt: HostRuntime) {
+    let a = name(&rt, rt.alloc(), "a");
     let mut stack = RecursionStack::new(rt.alloc()).with_limit(0);
-    assert_eq!(rt; stack.first(), None);
     assert!(rt; !stack.contains(&a));
-    match stack.push::<Type>(&a) {
-        Err(CycleError::Limit) => {}
-        _ => panic!(rt; "a name"),
-    }
-    Ok(())
+    assert!(rt; is_at_limit(stack.push::<Type>(&a)));
 }
 
 #[test]
-fn names_are_entered_and_left(rt: HostRuntime) -> Result<(), Fail> {
-    let (a, b) = (name(rt.alloc(), "a")?, name(rt.alloc(), "b")?);
+fn names_are_entered_and_left(rt: HostRuntime) {
+    let a = name(&rt, rt.alloc(), "a");
     let mut stack = RecursionStack::new(rt.alloc());
     assert!(rt; !stack.contains(&a));
-    stack.enter::<Type>(&a)?;
-    assert!(rt; stack.contains(&a));
-    assert!(rt; !stack.contains(&b));
-    stack.enter::<Type>(&b)?;
-    assert!(rt; stack.contains(&b));
-    stack.leave();
-    assert!(rt; !stack.contains(&b));
+    stack.enter::<Type>(&a).expect(&rt, "memory for a name");
     assert!(rt; stack.contains(&a));
     stack.leave();
     assert!(rt; !stack.contains(&a));
     assert!(rt; takes(&mut stack.guard(), &a));
-    Ok(())
 }
 
 #[test]
-fn a_walk_goes_as_deep_as_its_limit(rt: HostRuntime) -> Result<(), Fail> {
-    let mut counter = DepthCounter::new().with_limit(2);
-    {
-        let mut root = counter.guard();
-        let mut first = root.increment()?;
-        let mut second = first.increment()?;
-        match second.increment() {
-            Err(RecursionLimitError) => {}
-            Ok(_) => panic!(rt; "a third step"),
-        }
-    }
-    let _again = counter.increment()?;
-    Ok(())
+fn a_walk_goes_as_deep_as_its_limit(rt: HostRuntime) {
+    assert_eq!(rt; steps(&mut DepthCounter::new().with_limit(2), 3), 2);
 }
 
 #[test]

@@ -1,16 +1,15 @@
-use super::field_sets::messages;
+use super::fixtures::{field_set_reports, name, node};
 use graphql_documents::documents::{
-    Component, ComponentOrigin, ExtendedType, InputObjectType, InputValueDefinition, Name, Node,
-    Schema, Type, Valid,
+    Component, ComponentOrigin, ExtendedType, InputObjectType, InputValueDefinition, Schema, Type,
+    Valid,
 };
-use graphql_rows::RowError;
 use graphql_rows::build::schema;
 use graphql_rows::notation::{
     ArgumentNotation, Literal, argument, field, input, object, output_taking,
 };
 use indexmap::IndexMap;
 use std::alloc::Global;
-use std::test::Fail;
+use std::process::Abort;
 
 const NO_FIELD: &str = "field `t` does not exist on `I`\n\
     the required field `I.r` is not provided\n";
@@ -44,87 +43,76 @@ const TWICE: &[ArgumentNotation<'static>] = &[
     },
 ];
 
-fn name(alloc: Global, text: &str) -> Result<Name, Fail> {
-    Ok(Name::new(String::from_str(alloc, text)?, None).ok_or("no name")?)
-}
-
 /// `text: ty`
 fn input_field(
+    rt: &impl Abort,
     alloc: Global,
     text: &str,
     ty: Type,
-) -> Result<Component<InputValueDefinition>, Fail> {
+) -> Component<InputValueDefinition> {
     let definition = InputValueDefinition {
-        name: name(alloc, text)?,
-        ty: Node::new(alloc, ty)?,
+        name: name(rt, alloc, text),
+        ty: node(rt, alloc, ty),
         default_value: None,
         directives: Vec::new(alloc),
     };
-    Ok(Component {
+    Component {
         origin: ComponentOrigin::Definition,
-        node: Node::new(alloc, definition)?,
-    })
+        node: node(rt, alloc, definition),
+    }
 }
 
 /// `input I { r: Int!, s: Int }`
-fn input_object(alloc: Global) -> Result<ExtendedType, Fail> {
-    let required = Type::NonNullNamed(name(alloc, "Int")?);
-    let nullable = Type::Named(name(alloc, "Int")?);
+fn input_object(rt: &impl Abort, alloc: Global) -> ExtendedType {
+    let required = Type::NonNullNamed(name(rt, alloc, "Int"));
+    let nullable = Type::Named(name(rt, alloc, "Int"));
     let mut fields = IndexMap::new(alloc);
-    fields.insert(name(alloc, "r")?, input_field(alloc, "r", required)?)?;
-    fields.insert(name(alloc, "s")?, input_field(alloc, "s", nullable)?)?;
+    fields
+        .insert(name(rt, alloc, "r"), input_field(rt, alloc, "r", required))
+        .expect(rt, "memory for a field");
+    fields
+        .insert(name(rt, alloc, "s"), input_field(rt, alloc, "s", nullable))
+        .expect(rt, "memory for a field");
     let definition = InputObjectType {
-        name: name(alloc, "I")?,
+        name: name(rt, alloc, "I"),
         directives: Vec::new(alloc),
         fields,
     };
-    Ok(ExtendedType::InputObject(Node::new(alloc, definition)?))
+    ExtendedType::InputObject(node(rt, alloc, definition))
 }
 
 /// `type Query { f(i: I): Int }`
-fn field_taking_an_object(alloc: Global) -> Result<Valid<Schema>, RowError> {
+fn field_taking_an_object(rt: &impl Abort, alloc: Global) -> Valid<Schema> {
     let inputs = [input("i", "I")];
     let fields = [output_taking("f", &inputs, "Int")];
     let types = [object("Query", &fields)];
-    schema(alloc, &types, &[])
+    schema(alloc, &types, &[]).expect(rt, "a schema")
 }
 
-/// `type Query { f(i: I): Int }` and `input I { r: Int!, s: Int }`
-fn schema_with_an_input_object(alloc: Global) -> Result<Valid<Schema>, Fail> {
-    let mut schema = field_taking_an_object(alloc)?;
+/// What the argument `i` brings, of the type `input I { r: Int!, s: Int }`.
+fn check(rt: &impl Abort, alloc: Global, entries: &[ArgumentNotation<'_>], expected: &str) {
+    let mut schema = field_taking_an_object(rt, alloc);
     schema
         .0
         .types
-        .insert(name(alloc, "I")?, input_object(alloc)?)?;
-    Ok(schema)
+        .insert(name(rt, alloc, "I"), input_object(rt, alloc))
+        .expect(rt, "memory for a type");
+    let arguments = [argument("i", Literal::Object(entries))];
+    let selections = [field("f", &arguments, &[])];
+    field_set_reports(rt, alloc, &schema, &selections, expected);
 }
 
 #[test]
-fn unknown_entries_are_reported(rt: HostRuntime) -> Result<(), Fail> {
-    let schema = schema_with_an_input_object(rt.alloc())?;
-    let arguments = [argument("i", Literal::Object(UNKNOWN))];
-    let selections = [field("f", &arguments, &[])];
-    let found = messages(rt.alloc(), &schema, &selections)?;
-    assert_eq!(rt; found.as_str(), NO_FIELD);
-    Ok(())
+fn unknown_entries_are_reported(rt: HostRuntime) {
+    check(&rt, rt.alloc(), UNKNOWN, NO_FIELD);
 }
 
 #[test]
-fn null_is_no_required_field(rt: HostRuntime) -> Result<(), Fail> {
-    let schema = schema_with_an_input_object(rt.alloc())?;
-    let arguments = [argument("i", Literal::Object(NULL))];
-    let selections = [field("f", &arguments, &[])];
-    let found = messages(rt.alloc(), &schema, &selections)?;
-    assert_eq!(rt; found.as_str(), NO_VALUE);
-    Ok(())
+fn null_is_no_required_field(rt: HostRuntime) {
+    check(&rt, rt.alloc(), NULL, NO_VALUE);
 }
 
 #[test]
-fn a_second_entry_does_not_make_up_for_null(rt: HostRuntime) -> Result<(), Fail> {
-    let schema = schema_with_an_input_object(rt.alloc())?;
-    let arguments = [argument("i", Literal::Object(TWICE))];
-    let selections = [field("f", &arguments, &[])];
-    let found = messages(rt.alloc(), &schema, &selections)?;
-    assert_eq!(rt; found.as_str(), REPEATED);
-    Ok(())
+fn a_second_entry_does_not_make_up_for_null(rt: HostRuntime) {
+    check(&rt, rt.alloc(), TWICE, REPEATED);
 }

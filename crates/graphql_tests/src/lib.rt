@@ -10,6 +10,8 @@ mod documents;
 #[cfg(test)]
 mod field_sets;
 #[cfg(test)]
+mod fixtures;
+#[cfg(test)]
 mod guards;
 #[cfg(test)]
 mod input_objects;

@@ -1,4 +1,5 @@
 //! The texts of reports, each written out in full.
+use super::fixtures::{name, node, text};
 use graphql_documents::diagnostics::{
     BuildError, Details, DiagnosticData, NameOrAnon, RecursionLimitError,
 };
@@ -10,7 +11,6 @@ use graphql_documents::documents::{
 use std::alloc::Global;
 use std::fmt::Display;
 use std::process::Abort;
-use std::test::Fail;
 
 const FIRST: Option<SourceSpan> = Some(SourceSpan {
     file_id: FileId(1),
@@ -23,18 +23,6 @@ const SECOND: Option<SourceSpan> = Some(SourceSpan {
     start: 4,
     end: 6,
 });
-
-fn text(rt: &impl Abort, alloc: Global, text: &str) -> String {
-    String::from_str(alloc, text).expect(rt, "memory for a text")
-}
-
-fn name(rt: &impl Abort, alloc: Global, written: &str) -> Name {
-    Name::new(text(rt, alloc, written), None).expect(rt, "a name")
-}
-
-fn node<T: Drop>(rt: &impl Abort, alloc: Global, value: T) -> Node<T> {
-    Node::new(alloc, value).expect(rt, "memory for a node")
-}
 
 fn attribute(rt: &impl Abort, alloc: Global, ty: &str, attribute: &str) -> TypeAttributeCoordinate {
     TypeAttributeCoordinate {
@@ -701,25 +689,25 @@ fn details_show_messages_and_names(rt: HostRuntime) {
     prints(&rt, alloc, Details::Build(conflict), "ConflictingFieldType");
 }
 
+/// The value is called this.
+fn is_called(rt: &impl Abort, value: Value, expected: &str) {
+    if value.describe() != expected {
+        panic!(rt; "{expected} was expected, not {}", value.describe());
+    }
+}
+
 #[test]
-fn kinds_of_values(rt: HostRuntime) -> Result<(), Fail> {
+fn kinds_of_values(rt: HostRuntime) {
     let alloc = rt.alloc();
-    let integer = IntValue::new(text(&rt, alloc, "1")).ok_or("an integer")?;
-    assert_eq!(rt; Value::Null.describe(), "null");
-    assert_eq!(rt; Value::Enum(name(&rt, alloc, "E")).describe(), "an enum");
-    assert_eq!(rt;
-        Value::Variable(name(&rt, alloc, "v")).describe(),
-        "a variable"
-    );
-    assert_eq!(rt; Value::String(text(&rt, alloc, "s")).describe(), "a string");
-    assert_eq!(rt; Value::Int(integer).describe(), "an integer");
-    assert_eq!(rt; Value::Boolean(true).describe(), "a boolean");
-    assert_eq!(rt; Value::List(Vec::new(alloc)).describe(), "a list");
-    assert_eq!(rt;
-        Value::Object(Vec::new(alloc)).describe(),
-        "an input object"
-    );
-    Ok(())
+    let integer = IntValue::new(text(&rt, alloc, "1")).expect(&rt, "an integer");
+    is_called(&rt, Value::Null, "null");
+    is_called(&rt, Value::Enum(name(&rt, alloc, "E")), "an enum");
+    is_called(&rt, Value::Variable(name(&rt, alloc, "v")), "a variable");
+    is_called(&rt, Value::String(text(&rt, alloc, "s")), "a string");
+    is_called(&rt, Value::Int(integer), "an integer");
+    is_called(&rt, Value::Boolean(true), "a boolean");
+    is_called(&rt, Value::List(Vec::new(alloc)), "a list");
+    is_called(&rt, Value::Object(Vec::new(alloc)), "an input object");
 }
 
 #[test]

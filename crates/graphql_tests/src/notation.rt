@@ -1,10 +1,9 @@
 use graphql_rows::build_case;
-use std::test::Fail;
 
 #[test]
-fn unknown_ids_have_no_case(rt: HostRuntime) -> Result<(), Fail> {
+fn unknown_ids_have_no_case(rt: HostRuntime) {
     for id in ["", "1", "1d", "1A", " 1a"] {
-        assert!(rt; build_case(rt.alloc(), id)?.is_none(), "{id}");
+        let built = build_case(rt.alloc(), id).expect(&rt, "memory for a case");
+        assert!(rt; built.is_none(), "{id}");
     }
-    Ok(())
 }

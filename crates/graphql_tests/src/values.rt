@@ -1,12 +1,13 @@
-use super::field_sets::{lines, messages};
+use super::fixtures::{field_set_reports, name, node, reports, text};
 use graphql_documents::diagnostics::DiagnosticList;
-use graphql_documents::documents::{Argument, IntValue, Name, Node, Schema, Type, Valid, Value};
-use graphql_rows::RowError;
+use graphql_documents::documents::{Argument, IntValue, Node, Schema, Type, Valid, Value};
 use graphql_rows::build::schema;
-use graphql_rows::notation::{Literal, argument, field, input, object, output_taking, scalar};
+use graphql_rows::notation::{
+    ArgumentNotation, Literal, argument, field, input, object, output_taking, scalar,
+};
 use graphql_values::value::{validate_values, value_of_correct_type};
 use std::alloc::Global;
-use std::test::Fail;
+use std::process::Abort;
 
 const TOO_LARGE: &str = "int cannot represent non 32-bit signed integer value\n";
 
@@ -14,143 +15,129 @@ const A_STRING: &str = "expected value of type Int, found a string\n";
 
 const A_LIST: &str = "expected value of type Int, found a list\n";
 
+const NULL: &str = "expected value of type Date!, found null\n";
+
 /// `type Query { f(n: Int, l: [Int]): Int }`
-fn field_taking_values(alloc: Global) -> Result<Valid<Schema>, RowError> {
+fn field_taking_values(rt: &impl Abort, alloc: Global) -> Valid<Schema> {
     let inputs = [input("n", "Int"), input("l", "[Int]")];
     let fields = [output_taking("f", &inputs, "Int")];
     let types = [object("Query", &fields)];
-    schema(alloc, &types, &[])
+    schema(alloc, &types, &[]).expect(rt, "a schema")
 }
 
-#[test]
-fn large_integers_are_reported(rt: HostRuntime) -> Result<(), Fail> {
-    let schema = field_taking_values(rt.alloc())?;
-    let arguments = [argument("n", Literal::Int("2147483648"))];
+/// What this argument of `f` brings.
+fn check(rt: &impl Abort, alloc: Global, given: ArgumentNotation<'_>, expected: &str) {
+    let schema = field_taking_values(rt, alloc);
+    let arguments = [given];
     let selections = [field("f", &arguments, &[])];
-    let found = messages(rt.alloc(), &schema, &selections)?;
-    assert_eq!(rt; found.as_str(), TOO_LARGE);
-    Ok(())
+    field_set_reports(rt, alloc, &schema, &selections, expected);
 }
 
 #[test]
-fn the_least_integer_is_accepted(rt: HostRuntime) -> Result<(), Fail> {
-    let schema = field_taking_values(rt.alloc())?;
-    let arguments = [argument("n", Literal::Int("-2147483648"))];
-    let selections = [field("f", &arguments, &[])];
-    let found = messages(rt.alloc(), &schema, &selections)?;
-    assert_eq!(rt; found.as_str(), "");
-    Ok(())
+fn integers_have_32_bits(rt: HostRuntime) {
+    let greatest = argument("n", Literal::Int("2147483648"));
+    check(&rt, rt.alloc(), greatest, TOO_LARGE);
+    let least = argument("n", Literal::Int("-2147483648"));
+    check(&rt, rt.alloc(), least, "");
 }
 
 #[test]
-fn texts_are_no_integers(rt: HostRuntime) -> Result<(), Fail> {
-    let schema = field_taking_values(rt.alloc())?;
-    let arguments = [argument("n", Literal::String("1"))];
-    let selections = [field("f", &arguments, &[])];
-    let found = messages(rt.alloc(), &schema, &selections)?;
-    assert_eq!(rt; found.as_str(), A_STRING);
-    Ok(())
-}
-
-/// What a list in a list brings for `[Int]`.
-fn list_in_a_list(alloc: Global) -> Result<String, Fail> {
-    let schema = field_taking_values(alloc)?;
-    let ty = Node::new(
-        alloc,
-        Type::List(Box::new(alloc, Type::Named(name(alloc, "Int")?))?),
-    )?;
-    let mut items = Vec::new(alloc);
-    items.push(ones(alloc, 1)?)?;
-    let value = Node::new(alloc, Value::List(items))?;
-    let mut diagnostics = DiagnosticList::new(alloc);
-    value_of_correct_type(&mut diagnostics, &schema.0, &ty, &value, &[])?;
-    Ok(lines(alloc, &diagnostics)?)
+fn texts_are_no_integers(rt: HostRuntime) {
+    let given = argument("n", Literal::String("1"));
+    check(&rt, rt.alloc(), given, A_STRING);
 }
 
 #[test]
-fn lists_have_as_many_levels_as_their_type(rt: HostRuntime) -> Result<(), Fail> {
-    let found = list_in_a_list(rt.alloc())?;
-    assert_eq!(rt; found.as_str(), A_LIST);
-    Ok(())
-}
-
-#[test]
-fn one_value_stands_for_a_list(rt: HostRuntime) -> Result<(), Fail> {
-    let schema = field_taking_values(rt.alloc())?;
-    let arguments = [argument("l", Literal::Int("1"))];
-    let selections = [field("f", &arguments, &[])];
-    let found = messages(rt.alloc(), &schema, &selections)?;
-    assert_eq!(rt; found.as_str(), "");
-    Ok(())
-}
-
-fn name(alloc: Global, text: &str) -> Result<Name, Fail> {
-    Ok(Name::new(String::from_str(alloc, text)?, None).ok_or("no name")?)
-}
-
-/// `scalar Date`, whose values may be anything.
-fn custom_scalar(alloc: Global) -> Result<Valid<Schema>, RowError> {
-    let types = [scalar("Date")];
-    schema(alloc, &types, &[])
+fn one_value_stands_for_a_list(rt: HostRuntime) {
+    let given = argument("l", Literal::Int("1"));
+    check(&rt, rt.alloc(), given, "");
 }
 
 /// A list of this many ones.
-fn ones(alloc: Global, count: u32) -> Result<Node<Value>, Fail> {
+fn ones(rt: &impl Abort, alloc: Global, count: u32) -> Node<Value> {
     let mut items = Vec::new(alloc);
     for _ in 0..count {
-        let one = IntValue::new(String::from_str(alloc, "1")?).ok_or("no integer")?;
-        items.push(Node::new(alloc, Value::Int(one))?)?;
+        let one = IntValue::new(text(rt, alloc, "1")).expect(rt, "an integer");
+        items
+            .push(node(rt, alloc, Value::Int(one)))
+            .expect(rt, "memory for an item");
     }
-    Ok(Node::new(alloc, Value::List(items))?)
+    node(rt, alloc, Value::List(items))
+}
+
+/// The value in a list of its own.
+fn list_of(rt: &impl Abort, alloc: Global, value: Node<Value>) -> Node<Value> {
+    let mut items = Vec::new(alloc);
+    items.push(value).expect(rt, "memory for an item");
+    node(rt, alloc, Value::List(items))
+}
+
+#[test]
+fn lists_have_as_many_levels_as_their_type(rt: HostRuntime) {
+    let alloc = rt.alloc();
+    let schema = field_taking_values(&rt, alloc);
+    let named = Type::Named(name(&rt, alloc, "Int"));
+    let ty = node(
+        &rt,
+        alloc,
+        Type::List(Box::new(alloc, named).expect(&rt, "memory")),
+    );
+    let value = list_of(&rt, alloc, ones(&rt, alloc, 1));
+    let mut diagnostics = DiagnosticList::new(alloc);
+    value_of_correct_type(&mut diagnostics, &schema.0, &ty, &value, &[]).expect(
+        &rt,
+        "memory for reports",
+    );
+    reports(&rt, alloc, &diagnostics, A_LIST);
+}
+
+/// `scalar Date`, whose values may be anything.
+fn custom_scalar(rt: &impl Abort, alloc: Global) -> Valid<Schema> {
+    let types = [scalar("Date")];
+    schema(alloc, &types, &[]).expect(rt, "a schema")
 }
 
 /// An empty list in this many lists.
-fn nested(alloc: Global, depth: u32) -> Result<Node<Value>, Fail> {
-    let mut value = Node::new(alloc, Value::List(Vec::new(alloc)))?;
+fn nested(rt: &impl Abort, alloc: Global, depth: u32) -> Node<Value> {
+    let mut value = node(rt, alloc, Value::List(Vec::new(alloc)));
     for _ in 0..depth {
-        let mut items = Vec::new(alloc);
-        items.push(value)?;
-        value = Node::new(alloc, Value::List(items))?;
+        value = list_of(rt, alloc, value);
     }
-    Ok(value)
+    value
 }
 
-/// How many reports the value brings for `Date`.
-fn reports_for_date(alloc: Global, value: &Node<Value>) -> Result<usize, Fail> {
-    let schema = custom_scalar(alloc)?;
-    let ty = Node::new(alloc, Type::Named(name(alloc, "Date")?))?;
+/// The value is accepted for `Date`.
+fn is_a_date(rt: &impl Abort, alloc: Global, value: &Node<Value>) {
+    let schema = custom_scalar(rt, alloc);
+    let ty = node(rt, alloc, Type::Named(name(rt, alloc, "Date")));
     let mut diagnostics = DiagnosticList::new(alloc);
-    value_of_correct_type(&mut diagnostics, &schema.0, &ty, value, &[])?;
-    Ok(diagnostics.len())
+    value_of_correct_type(&mut diagnostics, &schema.0, &ty, value, &[]).expect(
+        rt,
+        "memory for reports",
+    );
+    reports(rt, alloc, &diagnostics, "");
 }
 
 #[test]
-fn long_lists_are_decided(rt: HostRuntime) -> Result<(), Fail> {
-    let value = ones(rt.alloc(), 10_000)?;
-    assert_eq!(rt; reports_for_date(rt.alloc(), &value)?, 0);
-    Ok(())
+fn long_and_deep_lists_are_decided(rt: HostRuntime) {
+    is_a_date(&rt, rt.alloc(), &ones(&rt, rt.alloc(), 10_000));
+    is_a_date(&rt, rt.alloc(), &nested(&rt, rt.alloc(), 500));
 }
 
 #[test]
-fn deep_lists_are_decided(rt: HostRuntime) -> Result<(), Fail> {
-    let value = nested(rt.alloc(), 500)?;
-    assert_eq!(rt; reports_for_date(rt.alloc(), &value)?, 0);
-    Ok(())
-}
-
-#[test]
-fn the_value_of_an_argument_is_checked(rt: HostRuntime) -> Result<(), Fail> {
+fn the_value_of_an_argument_is_checked(rt: HostRuntime) {
     let alloc = rt.alloc();
-    let schema = custom_scalar(alloc)?;
-    let ty = Node::new(alloc, Type::NonNullNamed(name(alloc, "Date")?))?;
-    let value = Node::new(alloc, Value::Null)?;
+    let schema = custom_scalar(&rt, alloc);
+    let ty = node(&rt, alloc, Type::NonNullNamed(name(&rt, alloc, "Date")));
     let argument = Argument {
-        name: name(alloc, "at")?,
-        value,
+        name: name(&rt, alloc, "at"),
+        value: node(&rt, alloc, Value::Null),
     };
-    let argument = Node::new(alloc, argument)?;
+    let argument = node(&rt, alloc, argument);
     let mut diagnostics = DiagnosticList::new(alloc);
-    validate_values(&mut diagnostics, &schema.0, &ty, &argument, &[])?;
-    assert_eq!(rt; diagnostics.len(), 1);
-    Ok(())
+    validate_values(&mut diagnostics, &schema.0, &ty, &argument, &[]).expect(
+        &rt,
+        "memory for reports",
+    );
+    reports(&rt, alloc, &diagnostics, NULL);
 }

@@ -1,11 +1,9 @@
-use super::directives::query_of_itself;
-use super::field_sets::lines;
+use super::fixtures::{name, node, query_of_itself, reports};
 use graphql_documents::diagnostics::DiagnosticList;
 use graphql_documents::documents::{
-    ExecutableDocument, Field, FieldDefinition, InlineFragment, Name, Node, Operation,
-    OperationMap, OperationType, Schema, Selection, SelectionSet, Type, Valid,
+    ExecutableDocument, Field, FieldDefinition, InlineFragment, Node, Operation, OperationMap,
+    OperationType, Selection, SelectionSet, Type,
 };
-use graphql_rows::RowError;
 use graphql_rows::build::document;
 use graphql_rows::notation::{
     SelectionNotation, aliased, field, fragment, inline, leaf, query, spread,
@@ -15,46 +13,47 @@ use graphql_values::variable::{
 };
 use indexmap::IndexMap;
 use std::alloc::Global;
-use std::test::Fail;
+use std::process::Abort;
 
-/// A query of the one selections, beside a fragment `F` of the others.
+/// A query of the one selections on `type Query { q: Query a: Int b: Int }`, beside a fragment `F` of
+/// the others.
 fn with_fragment<'a>(
+    rt: &impl Abort,
     alloc: Global,
-    schema: &Valid<Schema>,
     selections: &'a [SelectionNotation<'a>],
     in_fragment: &'a [SelectionNotation<'a>],
-) -> Result<ExecutableDocument, RowError> {
+) -> ExecutableDocument {
+    let schema = query_of_itself(rt, alloc);
     let operations = [query(&[], selections)];
     let fragments = [fragment("F", "Query", in_fragment)];
-    document(alloc, &schema.0, &operations, &fragments)
+    document(alloc, &schema.0, &operations, &fragments).expect(rt, "a document")
 }
 
 /// `query { ...F } fragment F on Query { q { ...F } x: a x: b }`
-fn cyclic_document(alloc: Global, schema: &Valid<Schema>) -> Result<ExecutableDocument, RowError> {
+fn cyclic_document(rt: &impl Abort, alloc: Global) -> ExecutableDocument {
     let inner = [spread("F")];
     let selections = [
         field("q", &[], &inner),
         aliased("x", "a", &[], &[]),
         aliased("x", "b", &[], &[]),
     ];
-    with_fragment(alloc, schema, &[spread("F")], &selections)
+    with_fragment(rt, alloc, &[spread("F")], &selections)
 }
 
 #[test]
-fn walks_of_a_cyclic_document_end(rt: HostRuntime) -> Result<(), Fail> {
-    let schema = query_of_itself(rt.alloc())?;
-    let document = cyclic_document(rt.alloc(), &schema)?;
-    let (inside, reached) = listed_in(rt.alloc(), &document)?;
-    assert_eq!(rt; inside.as_str(), " ...F q a b");
-    assert_eq!(rt; reached.as_str(), " ...F q ...F a b");
-    Ok(())
+fn walks_of_a_cyclic_document_end(rt: HostRuntime) {
+    let document = cyclic_document(&rt, rt.alloc());
+    lists(
+        &rt,
+        rt.alloc(),
+        &document,
+        " ...F q a b",
+        " ...F q ...F a b",
+    );
 }
 
 /// `query { q { a } ...F ... { b } ...F ...Missing a } fragment F on Query { q { b } ...F }`
-fn document_of_all_kinds(
-    alloc: Global,
-    schema: &Valid<Schema>,
-) -> Result<ExecutableDocument, RowError> {
+fn document_of_all_kinds(rt: &impl Abort, alloc: Global) -> ExecutableDocument {
     let (a, b) = ([leaf("a")], [leaf("b")]);
     let below = [field("q", &[], &b), spread("F")];
     let selections = [
@@ -65,134 +64,126 @@ fn document_of_all_kinds(
         spread("Missing"),
         leaf("a"),
     ];
-    with_fragment(alloc, schema, &selections, &below)
-}
-
-/// The selections that were listed, each behind a blank, and a mark where the walk did not end.
-fn written(alloc: Global, walked: &Walked<'_>) -> Result<String, Fail> {
-    let mut text = String::new(alloc);
-    for selection in &walked.selections {
-        let entry = match *selection {
-            Selection::Field(field) => format!(in alloc; " {}", field.value.name)?,
-            Selection::FragmentSpread(spread) => {
-                format!(in alloc; " ...{}", spread.value.fragment_name)?
-            }
-            Selection::InlineFragment(_) => String::from_str(alloc, " ...")?,
-        };
-        text.push_str(entry.as_str())?;
-    }
-    if !walked.complete {
-        text.push_str(" and more")?;
-    }
-    Ok(text)
-}
-
-/// What the walk inside the set lists, and what the one below fields lists too.
-fn listed(
-    alloc: Global,
-    document: &ExecutableDocument,
-    set: &SelectionSet,
-) -> Result<(String, String), Fail> {
-    let inside = walk_selections(alloc, document, set)?;
-    let first = written(alloc, &inside)?;
-    let reached = walk_selections_with_deduped_fragments(alloc, document, set)?;
-    Ok((first, written(alloc, &reached)?))
-}
-
-/// The same for the operation of the document.
-fn listed_in(alloc: Global, document: &ExecutableDocument) -> Result<(String, String), Fail> {
-    let operation = document
-        .operations
-        .anonymous
-        .as_ref()
-        .ok_or("no operation")?;
-    listed(alloc, document, &operation.value.selection_set)
+    with_fragment(rt, alloc, &selections, &below)
 }
 
 #[test]
-fn walks_go_depth_first_and_into_each_fragment_once(rt: HostRuntime) -> Result<(), Fail> {
-    let schema = query_of_itself(rt.alloc())?;
-    let document = document_of_all_kinds(rt.alloc(), &schema)?;
-    let (inside, reached) = listed_in(rt.alloc(), &document)?;
-    assert_eq!(rt; inside.as_str(), " q ...F q ...F ... b ...F ...Missing a");
-    assert_eq!(rt;
-        reached.as_str(),
-        " q a ...F q b ...F ... b ...F ...Missing a"
+fn walks_go_depth_first_and_into_each_fragment_once(rt: HostRuntime) {
+    let document = document_of_all_kinds(&rt, rt.alloc());
+    lists(
+        &rt,
+        rt.alloc(),
+        &document,
+        " q ...F q ...F ... b ...F ...Missing a",
+        " q a ...F q b ...F ... b ...F ...Missing a",
     );
-    Ok(())
 }
 
-fn name(alloc: Global, text: &str) -> Result<Name, Fail> {
-    Ok(Name::new(String::from_str(alloc, text)?, None).ok_or("no name")?)
+/// The name of a selection.
+fn shown(rt: &impl Abort, alloc: Global, selection: &Selection) -> String {
+    let shown = match selection {
+        Selection::Field(field) => format!(in alloc; " {}", field.value.name),
+        Selection::FragmentSpread(spread) => {
+            format!(in alloc; " ...{}", spread.value.fragment_name)
+        }
+        Selection::InlineFragment(_) => format!(in alloc; " ..."),
+    };
+    shown.expect(rt, "memory for a name")
 }
 
-/// The set of one selection on `Query`.
-fn set_of(alloc: Global, selection: Selection) -> Result<SelectionSet, Fail> {
-    let mut selections = Vec::new(alloc);
-    selections.push(selection)?;
-    Ok(SelectionSet {
-        ty: name(alloc, "Query")?,
+/// The walk came to its end, and listed these selections.
+fn has_listed(rt: &impl Abort, alloc: Global, walked: &Walked<'_>, expected: &str) {
+    let mut listed = String::new(alloc);
+    for selection in &walked.selections {
+        let shown = shown(rt, alloc, *selection);
+        listed
+            .push_str(shown.as_str())
+            .expect(rt, "memory for a name");
+    }
+    if listed.as_str() != expected || !walked.complete {
+        panic!(rt; "{expected} was expected, not {listed}");
+    }
+}
+
+/// What the walk inside the set of the one operation lists, and what the one below fields lists.
+fn lists(
+    rt: &impl Abort,
+    alloc: Global,
+    document: &ExecutableDocument,
+    inside: &str,
+    reached: &str,
+) {
+    let operation = document.operations.anonymous.as_ref();
+    let set = &operation.expect(rt, "an operation").value.selection_set;
+    let walked = walk_selections(alloc, document, set);
+    has_listed(rt, alloc, &walked.expect(rt, "memory for a walk"), inside);
+    let walked = walk_selections_with_deduped_fragments(alloc, document, set);
+    has_listed(rt, alloc, &walked.expect(rt, "memory for a walk"), reached);
+}
+
+/// The set of these selections on `Query`.
+fn set_of(rt: &impl Abort, alloc: Global, selections: Vec<Selection>) -> SelectionSet {
+    SelectionSet {
+        ty: name(rt, alloc, "Query"),
         selections,
-    })
+    }
 }
 
-fn empty_set(alloc: Global) -> Result<SelectionSet, Fail> {
-    Ok(SelectionSet {
-        ty: name(alloc, "Query")?,
-        selections: Vec::new(alloc),
-    })
+/// The set of one selection.
+fn set_of_one(rt: &impl Abort, alloc: Global, selection: Selection) -> SelectionSet {
+    let mut selections = Vec::new(alloc);
+    selections
+        .push(selection)
+        .expect(rt, "memory for a selection");
+    set_of(rt, alloc, selections)
 }
 
 /// A set from which so many sets of inline fragments lead down.
-fn inline_fragments(alloc: Global, depth: u32) -> Result<SelectionSet, Fail> {
-    let mut set = empty_set(alloc)?;
+fn inline_fragments(rt: &impl Abort, alloc: Global, depth: u32) -> SelectionSet {
+    let mut set = set_of(rt, alloc, Vec::new(alloc));
     for _ in 0..depth {
         let inline = InlineFragment {
             type_condition: None,
             directives: Vec::new(alloc),
             selection_set: set,
         };
-        set = set_of(alloc, Selection::InlineFragment(Node::new(alloc, inline)?))?;
+        let selection = Selection::InlineFragment(node(rt, alloc, inline));
+        set = set_of_one(rt, alloc, selection);
     }
-    Ok(set)
+    set
 }
 
 /// The definition of the field `q` of `Query`.
-fn definition_of_q(alloc: Global) -> Result<Node<FieldDefinition>, Fail> {
+fn definition_of_q(rt: &impl Abort, alloc: Global) -> Node<FieldDefinition> {
     let definition = FieldDefinition {
-        name: name(alloc, "q")?,
+        name: name(rt, alloc, "q"),
         arguments: Vec::new(alloc),
-        ty: Type::Named(name(alloc, "Query")?),
+        ty: Type::Named(name(rt, alloc, "Query")),
         directives: Vec::new(alloc),
     };
-    Ok(Node::new(alloc, definition)?)
+    node(rt, alloc, definition)
 }
 
-/// The set of a field `q` with this set.
-fn set_of_q(
-    alloc: Global,
-    definition: &Node<FieldDefinition>,
-    selection_set: SelectionSet,
-) -> Result<SelectionSet, Fail> {
+/// A field `q` with this set.
+fn field_q(rt: &impl Abort, alloc: Global, selection_set: SelectionSet) -> Selection {
     let field = Field {
-        definition: definition.clone()?,
+        definition: definition_of_q(rt, alloc),
         alias: None,
-        name: name(alloc, "q")?,
+        name: name(rt, alloc, "q"),
         arguments: Vec::new(alloc),
         directives: Vec::new(alloc),
         selection_set,
     };
-    set_of(alloc, Selection::Field(Node::new(alloc, field)?))
+    Selection::Field(node(rt, alloc, field))
 }
 
 /// A set from which so many sets of fields lead down.
-fn fields(alloc: Global, depth: u32) -> Result<SelectionSet, Fail> {
-    let definition = definition_of_q(alloc)?;
-    let mut set = empty_set(alloc)?;
+fn fields(rt: &impl Abort, alloc: Global, depth: u32) -> SelectionSet {
+    let mut set = set_of(rt, alloc, Vec::new(alloc));
     for _ in 0..depth {
-        set = set_of_q(alloc, &definition, set)?;
+        set = set_of_one(rt, alloc, field_q(rt, alloc, set));
     }
-    Ok(set)
+    set
 }
 
 fn empty_document(alloc: Global) -> ExecutableDocument {
@@ -205,50 +196,43 @@ fn empty_document(alloc: Global) -> ExecutableDocument {
     }
 }
 
-fn ends_inside(alloc: Global, depth: u32) -> Result<bool, Fail> {
-    let set = inline_fragments(alloc, depth)?;
+fn ends_inside(rt: &impl Abort, alloc: Global, depth: u32) -> bool {
+    let set = inline_fragments(rt, alloc, depth);
     let document = empty_document(alloc);
-    Ok(walk_selections(alloc, &document, &set)?.complete)
+    let walked = walk_selections(alloc, &document, &set);
+    walked.expect(rt, "memory for a walk").complete
 }
 
-fn ends_below_fields(alloc: Global, depth: u32) -> Result<bool, Fail> {
-    let set = fields(alloc, depth)?;
+fn ends_below_fields(rt: &impl Abort, alloc: Global, depth: u32) -> bool {
+    let set = fields(rt, alloc, depth);
     let document = empty_document(alloc);
-    Ok(walk_selections_with_deduped_fragments(alloc, &document, &set)?.complete)
+    let walked = walk_selections_with_deduped_fragments(alloc, &document, &set);
+    walked.expect(rt, "memory for a walk").complete
 }
 
 #[test]
-fn a_walk_goes_into_500_sets(rt: HostRuntime) -> Result<(), Fail> {
-    assert!(rt; ends_inside(rt.alloc(), 500)?);
-    assert!(rt; !ends_inside(rt.alloc(), 501)?);
-    Ok(())
+fn walks_go_into_500_sets(rt: HostRuntime) {
+    assert!(rt; ends_inside(&rt, rt.alloc(), 500));
+    assert!(rt; !ends_inside(&rt, rt.alloc(), 501));
+    assert!(rt; ends_below_fields(&rt, rt.alloc(), 500));
+    assert!(rt; !ends_below_fields(&rt, rt.alloc(), 501));
 }
 
 #[test]
-fn a_walk_below_fields_goes_into_500_sets(rt: HostRuntime) -> Result<(), Fail> {
-    assert!(rt; ends_below_fields(rt.alloc(), 500)?);
-    assert!(rt; !ends_below_fields(rt.alloc(), 501)?);
-    Ok(())
-}
-
-/// What the uses of variables bring in an operation with this set.
-fn uses(alloc: Global, selection_set: SelectionSet) -> Result<String, Fail> {
+fn the_bound_is_reported_alone(rt: HostRuntime) {
+    let alloc = rt.alloc();
     let operation = Operation {
         operation_type: OperationType::Query,
         name: None,
         variables: Vec::new(alloc),
         directives: Vec::new(alloc),
-        selection_set,
+        selection_set: fields(&rt, alloc, 501),
     };
     let document = empty_document(alloc);
     let mut diagnostics = DiagnosticList::new(alloc);
-    validate_unused_variables(&mut diagnostics, &document, &operation)?;
-    Ok(lines(alloc, &diagnostics)?)
-}
-
-#[test]
-fn the_bound_is_reported_alone(rt: HostRuntime) -> Result<(), Fail> {
-    let found = uses(rt.alloc(), fields(rt.alloc(), 501)?)?;
-    assert_eq!(rt; found.as_str(), "too much recursion\n");
-    Ok(())
+    validate_unused_variables(&mut diagnostics, &document, &operation).expect(
+        &rt,
+        "memory for reports",
+    );
+    reports(&rt, alloc, &diagnostics, "too much recursion\n");
 }

@@ -6,7 +6,7 @@ use Rattle.std.proofs.lemmas.List.Elements.{All-nil}
 use Rattle.graphql_documents.specs.Names.{NameText}
 use Rattle.graphql_documents.specs.TypeReferences.{inner_named_type}
 use Rattle.graphql_documents.specs.Schemas.{type_field}
-use Rattle.graphql_documents.specs.Selections.{selections_of, definition_at, no_fragments, standing, in_field, TypeBelow, below_unknown, below_known, Placed, standing_at, placed_in_field, placed_in_inline_fragment, placed_in_spread}
+use Rattle.graphql_documents.specs.Selections.{selections_of, definition_at, no_fragments, set_itself, set_in_field, TypeBelow, below_unknown, below_known, Placed, standing_at, placed_in_field, placed_in_inline_fragment, placed_in_spread}
 use Rattle.graphql_documents.specs.Directives.{ApplicationsHold}
 use Rattle.graphql_documents.specs.Fields.{FieldHolds}
 use Rattle.graphql_documents.specs.FieldSets.{IsPlainField, IsPlain, FieldSetHolds}
@@ -25,13 +25,8 @@ use Rattle.graphql_documents.specs.declared.documents.executables.FragmentSpread
 use Rattle.graphql_documents.specs.declared.documents.directives.Directive.{Directive}
 use Rattle.graphql_documents.specs.declared.documents.definitions.DirectiveLocation.{DirectiveLocation}
 use Rattle.graphql_documents.specs.declared.documents.definitions.VariableDefinition.{VariableDefinition}
-use Rattle.graphql_validation.proofs.FieldWalkLemmas.{same_field}
+use Rattle.graphql_documents.proofs.SelectionLemmas.{not_inline, not_spread, same_field}
 use Rattle.graphql_validation.specs.FieldWalk.{ReachedByFields, stands, below, ReachedFieldsHold}
-
--- an inline fragment is no field
-pub inline_is_no_field : (i : Node InlineFragment) (f : Node Field) → kind.InlineFragment i ≡ kind.Field f → ⊥
-inline_is_no_field i f e =
-    let opened : Open.InlineFragment i ≡ Open.Field f = sym (outs-InlineFragment i) ∙ ap out-Selection e ∙ outs-Field f in cc
 
 -- a definition that was found is an answer
 pub found_ok : {T E : Type 0} (r : Result T E) (d : T) → result_ok r ≡ Some d → r ≡ Ok d
@@ -56,11 +51,11 @@ placed_reached schema place set s at (standing_at in') parent is plain f e =
 placed_reached schema place set s at (placed_in_field {below = u} {f = g} in' under p) parent is plain f e =
     let k = known_below schema place g.value.value.name u under parent is in
     let r = placed_reached schema u g.value.value.selection_set s at p (inner_named_type k.0.node.value.value.ty) k.2
-    (λ x w. plain x (in_field in' w)) f e in
+    (λ x w. plain x (w.0, set_in_field in' w.1, w.2)) f e in
     (r.0, r.1, below in' k.1 r.2)
 placed_reached schema place set s at (placed_in_inline_fragment {i = i} in' p) parent is plain f e =
-    let field = plain (kind.InlineFragment i) (standing in') in
-    absurd (inline_is_no_field i field.field field.is_field)
+    let field = plain (kind.InlineFragment i) (_, set_itself, in') in
+    absurd (not_inline field.field i field.is_field)
 placed_reached schema place set s at (placed_in_spread {d = d} in' found p) parent is plain f e =
     absurd (none-some d found)
 
@@ -75,18 +70,13 @@ reached_placed schema parent set f t (below {g = g} {d = d} in' is r) =
 -- in a plain set only fields are placed, and these without directives
 placed_plain : (schema : Option Schema) (place : Option NameText) (set : SelectionSet) (s : Selection) (at : Option NameText) →
     Placed schema no_fragments place set s at → IsPlain set → IsPlainField s
-placed_plain schema place set s at (standing_at in') plain = plain s (standing in')
+placed_plain schema place set s at (standing_at in') plain = plain s (_, set_itself, in')
 placed_plain schema place set s at (placed_in_field {below = u} {f = g} in' under p) plain =
-    placed_plain schema u g.value.value.selection_set s at p (λ x w. plain x (in_field in' w))
+    placed_plain schema u g.value.value.selection_set s at p (λ x w. plain x (w.0, set_in_field in' w.1, w.2))
 placed_plain schema place set s at (placed_in_inline_fragment {i = i} in' p) plain =
-    let field = plain (kind.InlineFragment i) (standing in') in
-    absurd (inline_is_no_field i field.field field.is_field)
+    let field = plain (kind.InlineFragment i) (_, set_itself, in') in
+    absurd (not_inline field.field i field.is_field)
 placed_plain schema place set s at (placed_in_spread {d = d} in' found p) plain = absurd (none-some d found)
-
--- a spread is no field
-spread_is_no_field : (p : Node FragmentSpread) (f : Node Field) → kind.FragmentSpread p ≡ kind.Field f → ⊥
-spread_is_no_field p f e =
-    let opened : Open.FragmentSpread p ≡ Open.Field f = sym (outs-FragmentSpread p) ∙ ap out-Selection e ∙ outs-Field f in cc
 
 -- no directives hold wherever they are
 none_applied : (schema : Option Schema) (variables : List (Node VariableDefinition)) (location : DirectiveLocation) (directives : List (Node Directive)) →
@@ -102,7 +92,7 @@ plain_holds schema set plain = (there, back) where
     fields = λ f at placed.
         let r = placed_reached schema (Some set.ty) set (kind.Field f) at placed set.ty refl plain f refl in
         let bare = placed_plain (Some schema) (Some set.ty) set (kind.Field f) at placed plain in
-        let same : bare.field ≡ f = same_field bare.field f (sym bare.is_field) in
+        let same : bare.field ≡ f = same_field f bare.field (sym bare.is_field) in
         let holds = h f r.0 r.2 in
         subst (λ t. FieldHolds (Some schema) [] t f.value.value) (sym r.1) (record {
           directives = none_applied _ _ _ _ (subst (λ g. g.value.value.directives.items ≡ []) same bare.no_directives);
@@ -111,10 +101,10 @@ plain_holds schema set plain = (there, back) where
         });
     inline_fragments = λ i at placed.
         let bare = placed_plain (Some schema) (Some set.ty) set (kind.InlineFragment i) at placed plain in
-        absurd (inline_is_no_field i bare.field bare.is_field);
+        absurd (not_inline bare.field i bare.is_field);
     spreads = λ p at placed.
         let bare = placed_plain (Some schema) (Some set.ty) set (kind.FragmentSpread p) at placed plain in
-        absurd (spread_is_no_field p bare.field bare.is_field);
+        absurd (not_spread bare.field p bare.is_field);
   }
 
   back : FieldSetHolds schema set → ReachedFieldsHold schema set.ty set

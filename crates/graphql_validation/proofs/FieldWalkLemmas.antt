@@ -14,6 +14,7 @@ use Rattle.graphql_documents.specs.ArgumentReports.{RepeatsArgument, RepetitionR
 use Rattle.graphql_documents.specs.FieldReports.{FieldBreaks, ReportsField}
 use Rattle.graphql_documents.specs.SelectionReports.{SelectionReport, of_field_directives, of_field_form, of_field_values, of_inline_fragment_directives, of_inline_fragment, of_spread_directives, of_spread, of_fragment_directives, of_fragment}
 use Rattle.graphql_documents.specs.Diagnostics.{IsDiagnostic}
+use Rattle.graphql_documents.proofs.SelectionLemmas.{same_field}
 use Rattle.graphql_documents.proofs.DiagnosticLemmas.{diagnostic_wider}
 use Rattle.graphql_documents.specs.Reports.{Reports}
 use Rattle.graphql_documents.proofs.ReportLemmas.{wider, both}
@@ -42,15 +43,11 @@ use Rattle.graphql_validation.specs.FieldWalk.{BareFieldBreaks, FieldArgumentsHo
 abbrev pub SelectionHolds : Schema → NameText → Selection → Type 0
 SelectionHolds schema parent s = (f : Node Field) → s ≡ kind.Field f → FieldHoldsBelow schema parent f
 
--- a selection that is a field is one field
-pub same_field : (f g : Node Field) → kind.Field f ≡ kind.Field g → f ≡ g
-same_field f g e = let opened : Open.Field f ≡ Open.Field g = sym (outs-Field f) ∙ ap out-Selection e ∙ outs-Field g in cc
-
--- so it holds as a selection where the field holds
+-- a field holds as a selection where it holds
 pub field_selection : (schema : Schema) (parent : NameText) (s : Selection) (f : Node Field) → s ≡ kind.Field f →
     FieldHoldsBelow schema parent f ↔ SelectionHolds schema parent s
 field_selection schema parent s f is =
-    (λ h g e. subst (FieldHoldsBelow schema parent) (same_field f g (sym is ∙ e)) h, λ h. h f is)
+    (λ h g e. subst (FieldHoldsBelow schema parent) (same_field g f (sym is ∙ e)) h, λ h. h f is)
 
 -- the fields of a set and those below them are the reached ones
 pub reached_hold : (schema : Schema) (parent : NameText) (set : SelectionSet) →

@@ -3,7 +3,9 @@ pub mod DirectiveLemmas
 pub mod FirstPlaceLemmas
 pub mod GivenLemmas
 pub mod LeafLemmas
+pub mod NameSetLemmas
 pub mod ObjectLemmas
+pub mod OperationUseLemmas
 pub mod ReferenceLemmas
 pub mod RepetitionLemmas
 pub mod SearchLemmas

@@ -8,11 +8,10 @@ use Rattle.std.proofs.lemmas.List.{map-append, take_all}
 use Rattle.std.proofs.lemmas.List.Elements.{All-nil, All-cons, All-weaker, Contains-append_left, Contains-append_right, Contains-append_cases}
 use Rattle.std.proofs.lemmas.List.Folds.{list_any-append}
 use Rattle.std.proofs.lemmas.List.Kept.{AllPairs-cons}
-use Rattle.graphql_documents.proofs.FragmentLaws.{one_fragment_found}
+use Rattle.graphql_documents.proofs.SelectionLemmas.{one_fragment_found, not_inline, not_spread, same_field, same_inline, spread_not_inline, same_spread}
 use Rattle.graphql_documents.proofs.ListLemmas.{stands_first, only_one}
 use Rattle.graphql_documents.proofs.NameLemmas.{same_name_back, same_name_itself, same_text}
 use Rattle.graphql_documents.proofs.ReportLemmas.{more_is}
-use Rattle.graphql_documents.proofs.SelectionLaws.{not_inline, not_spread, same_field, same_inline, spread_not_inline, same_spread}
 use Rattle.graphql_documents.specs.Guards.{stands_on}
 use Rattle.graphql_documents.specs.Names.{DifferentNames, NameText, SameName, same_name, with_name}
 use Rattle.graphql_documents.specs.Selections.{Fragments, fragments_of, selections_of}
@@ -28,7 +27,7 @@ use Rattle.graphql_documents.specs.declared.documents.nodes.Node.{Node}
 use Rattle.graphql_values.proofs.ObjectLemmas.{split_at}
 use Rattle.graphql_values.proofs.SearchLemmas.{finds_nothing, searched_before, finds_from_more, searched_words, finds_then, searched_then, finds_below, searched_below}
 use Rattle.graphql_values.specs.Searches.{Finds, Searched}
-use Rattle.graphql_values.specs.WalkSteps.{Stop, at_selection, at_name, IsAmong, StandsIn, IsName, Step, into_field, into_inline_fragment, to_name, into_fragment, names_of, listed_of, IsMet, StepOf, PassesFrom, HasWalked}
+use Rattle.graphql_values.specs.WalkSteps.{Stop, at_selection, at_name, IsAmong, IsInSet, IsName, Step, into_field, into_inline_fragment, to_name, into_fragment, entered_names, listed_of, IsMet, StepOf, PassesFrom, HasWalked}
 use Rattle.graphql_values.specs.declared.variable.walks.Met.{Met}
 use Rattle.graphql_values.specs.declared.variable.walks.SelectionWalk.{SelectionWalk}
 
@@ -41,18 +40,18 @@ selection_no_name s name e = let h : ⊥ = cc in h
 module _ {fragments : Fragments} {into_fields : Bool} where
   -- where a step from a field leads, from an inline fragment, from a spread and from a name
   pub from_field : {a x : Stop} → Step fragments into_fields a x → (f : Node Field) → a ≡ at_selection (kind.Field f) →
-      IsTrue into_fields × StandsIn f.value.value.selection_set x
+      IsTrue into_fields × IsInSet f.value.value.selection_set x
   from_field {x = x} (into_field g into stands) f e =
-      (into, subst (λ (h : Node Field). StandsIn h.value.value.selection_set x) (same_field f g (same_selection (kind.Field g) (kind.Field f) e)) stands)
+      (into, subst (λ (h : Node Field). IsInSet h.value.value.selection_set x) (same_field f g (same_selection (kind.Field g) (kind.Field f) e)) stands)
   from_field (into_inline_fragment i stands) f e = absurd (not_inline f i (same_selection (kind.InlineFragment i) (kind.Field f) e))
   from_field (to_name p named) f e = absurd (not_spread f p (same_selection (kind.FragmentSpread p) (kind.Field f) e))
   from_field (into_fragment {name = name} found stands) f e = absurd (selection_no_name (kind.Field f) name e)
 
   pub from_inline_fragment : {a x : Stop} → Step fragments into_fields a x → (i : Node InlineFragment) → a ≡ at_selection (kind.InlineFragment i) →
-      StandsIn i.value.value.selection_set x
+      IsInSet i.value.value.selection_set x
   from_inline_fragment (into_field f into stands) i e = absurd (not_inline f i (sym (same_selection (kind.Field f) (kind.InlineFragment i) e)))
   from_inline_fragment {x = x} (into_inline_fragment j stands) i e =
-      subst (λ (h : Node InlineFragment). StandsIn h.value.value.selection_set x) (same_inline j i (same_selection (kind.InlineFragment j) (kind.InlineFragment i) e)) stands
+      subst (λ (h : Node InlineFragment). IsInSet h.value.value.selection_set x) (same_inline j i (same_selection (kind.InlineFragment j) (kind.InlineFragment i) e)) stands
   from_inline_fragment (to_name p named) i e = absurd (spread_not_inline i p (same_selection (kind.FragmentSpread p) (kind.InlineFragment i) e))
   from_inline_fragment (into_fragment {name = name} found stands) i e = absurd (selection_no_name (kind.InlineFragment i) name e)
 
@@ -65,7 +64,7 @@ module _ {fragments : Fragments} {into_fields : Bool} where
   from_spread (into_fragment {name = name} found stands) p e = absurd (selection_no_name (kind.FragmentSpread p) name e)
 
   pub from_name : {a x : Stop} → Step fragments into_fields a x → (name : NameText) → a ≡ at_name name →
-      (d : Node Fragment) × (fragments name ≡ Some d) × StandsIn d.value.value.selection_set x
+      (d : Node Fragment) × (fragments name ≡ Some d) × IsInSet d.value.value.selection_set x
   from_name (into_field f into stands) name e = absurd (selection_no_name (kind.Field f) name (sym e))
   from_name (into_inline_fragment i stands) name e = absurd (selection_no_name (kind.InlineFragment i) name (sym e))
   from_name (to_name p named) name e = absurd (selection_no_name (kind.FragmentSpread p) name (sym e))
@@ -114,31 +113,31 @@ stands_either names entered name h =
 
 -- what was met before a name was entered, or a selection listed
 pub record Entered (name : NameText) (old new : Met) : Type 0 where
-  pub unmet : IsFalse (stands_on (names_of old) name)
-  pub names : names_of new ≡ names_of old ++ name ∷ []
+  pub unmet : IsFalse (stands_on (entered_names old) name)
+  pub names : entered_names new ≡ entered_names old ++ name ∷ []
   pub listed : listed_of new ≡ listed_of old
 
 pub record Listed (s : Selection) (old new : Met) : Type 0 where
-  pub names : names_of new ≡ names_of old
+  pub names : entered_names new ≡ entered_names old
   pub listed : listed_of new ≡ listed_of old ++ s ∷ []
 
 -- a name that was to be entered stood there, or was entered
-pub stood_there : (name : NameText) (old new : Met) (is_new : Bool) → is_new ≡ not (stands_on (names_of old) name) →
-    names_of new ≡ with_name (names_of old) name → is_new ≡ false → IsTrue (stands_on (names_of old) name) × (names_of new ≡ names_of old)
+pub stood_there : (name : NameText) (old new : Met) (is_new : Bool) → is_new ≡ not (stands_on (entered_names old) name) →
+    entered_names new ≡ with_name (entered_names old) name → is_new ≡ false → IsTrue (stands_on (entered_names old) name) × (entered_names new ≡ entered_names old)
 stood_there name old new is_new e names is =
-    let there = flipped (stands_on (names_of old) name) (sym e ∙ is) in
-    (there, names ∙ ap (λ b. if b then names_of old else names_of old ++ name ∷ []) there) where
+    let there = flipped (stands_on (entered_names old) name) (sym e ∙ is) in
+    (there, names ∙ ap (λ b. if b then entered_names old else entered_names old ++ name ∷ []) there) where
       flipped : (b : Bool) → not b ≡ false → b ≡ true
       flipped true h = refl
       flipped false h = sym h
 
-pub was_entered : (name : NameText) (old new : Met) (is_new : Bool) → is_new ≡ not (stands_on (names_of old) name) →
-    names_of new ≡ with_name (names_of old) name → listed_of new ≡ listed_of old → is_new ≡ true → Entered name old new
+pub was_entered : (name : NameText) (old new : Met) (is_new : Bool) → is_new ≡ not (stands_on (entered_names old) name) →
+    entered_names new ≡ with_name (entered_names old) name → listed_of new ≡ listed_of old → is_new ≡ true → Entered name old new
 was_entered name old new is_new e names listed is =
-    let missing = flipped (stands_on (names_of old) name) (sym e ∙ is) in
+    let missing = flipped (stands_on (entered_names old) name) (sym e ∙ is) in
     record {
       unmet = missing;
-      names = names ∙ ap (λ b. if b then names_of old else names_of old ++ name ∷ []) missing;
+      names = names ∙ ap (λ b. if b then entered_names old else entered_names old ++ name ∷ []) missing;
       listed = listed;
     } where
       flipped : (b : Bool) → not b ≡ true → b ≡ false
@@ -147,17 +146,17 @@ was_entered name old new is_new e names listed is =
 
 pub entered_grows : (name : NameText) (old new : Met) → Entered name old new → (x : Stop) → IsMet old x → IsMet new x
 entered_grows name old new e (at_selection s) h = subst (λ l. Contains l s) (sym e.listed) h
-entered_grows name old new e (at_name other) h = subst (λ l. IsTrue (stands_on l other)) (sym e.names) (stands_before (names_of old) name other h)
+entered_grows name old new e (at_name other) h = subst (λ l. IsTrue (stands_on l other)) (sym e.names) (stands_before (entered_names old) name other h)
 
 pub entered_is_met : (name : NameText) (old new : Met) → Entered name old new → (x : Stop) → IsName name x → IsMet new x
 entered_is_met name old new e (at_selection s) h = absurd h
 entered_is_met name old new e (at_name other) h =
-    subst (λ l. IsTrue (stands_on l other)) (sym e.names) (stands_last (names_of old) name other (same_name_back name other h))
+    subst (λ l. IsTrue (stands_on l other)) (sym e.names) (stands_last (entered_names old) name other (same_name_back name other h))
 
 pub entered_only : (name : NameText) (old new : Met) → Entered name old new → (x : Stop) → IsMet new x → IsMet old x ⊎ IsName name x
 entered_only name old new e (at_selection s) h = inl (subst (λ l. Contains l s) e.listed h)
 entered_only name old new e (at_name other) h =
-    elim (stands_either (names_of old) name other (subst (λ l. IsTrue (stands_on l other)) e.names h)) [
+    elim (stands_either (entered_names old) name other (subst (λ l. IsTrue (stands_on l other)) e.names h)) [
       | inl before ↦ inl before
       | inr same ↦ inr (same_name_back other name same)
     ]
@@ -196,21 +195,21 @@ module _ {R : Type 0} (name_at : R → NameText) where
         inserted false = map-append name_at old (r ∷ [])
 
 -- what has the same names and selections has met the same
-same_met : (old new : Met) → names_of old ≡ names_of new → listed_of old ≡ listed_of new → (x : Stop) → IsMet old x → IsMet new x
+same_met : (old new : Met) → entered_names old ≡ entered_names new → listed_of old ≡ listed_of new → (x : Stop) → IsMet old x → IsMet new x
 same_met old new names listed (at_selection s) h = subst (λ l. Contains l s) listed h
 same_met old new names listed (at_name name) h = subst (λ l. IsTrue (stands_on l name)) names h
 
 -- a name that was met was met at each place where it stands
-named_is_met : (name : NameText) (met : Met) → IsTrue (stands_on (names_of met) name) → (x : Stop) → IsName name x → IsMet met x
+named_is_met : (name : NameText) (met : Met) → IsTrue (stands_on (entered_names met) name) → (x : Stop) → IsName name x → IsMet met x
 named_is_met name met h (at_selection s) named = absurd named
 named_is_met name met h (at_name other) named =
-    subst IsTrue (ap (λ (text : List ℕ). list_any (λ (key : NameText). bytes_eq text key.text) (names_of met)) (same_text name other named)) h
+    subst IsTrue (ap (λ (text : List ℕ). list_any (λ (key : NameText). bytes_eq text key.text) (entered_names met)) (same_text name other named)) h
 
 -- a name that was not met is not among fewer names
 fresh_before : (old new : Met) → ((x : Stop) → IsMet old x → IsMet new x) → (name : NameText) →
-    IsFalse (stands_on (names_of new) name) → IsFalse (stands_on (names_of old) name)
+    IsFalse (stands_on (entered_names new) name) → IsFalse (stands_on (entered_names old) name)
 fresh_before old new grows name other =
-    not_true (stands_on (names_of old) name) (λ h. both_not (stands_on (names_of new) name) (grows (at_name name) h) other)
+    not_true (stands_on (entered_names old) name) (λ h. both_not (stands_on (entered_names new) name) (grows (at_name name) h) other)
 
 -- so a descent that enters none of more names enters none of fewer
 pub passes_before : (walk : SelectionWalk) (old new : Met) (limit depth : ℕ) (set : SelectionSet) → ((x : Stop) → IsMet old x → IsMet new x) →
@@ -220,7 +219,7 @@ passes_before walk old new limit depth set grows p = record {
   names = p.names;
   descent = p.descent;
   once = p.once;
-  fresh = All-weaker (λ name. IsFalse (stands_on (names_of new) name)) (λ name. IsFalse (stands_on (names_of old) name)) (fresh_before old new grows) p.names p.fresh;
+  fresh = All-weaker (λ name. IsFalse (stands_on (entered_names new) name)) (λ name. IsFalse (stands_on (entered_names old) name)) (fresh_before old new grows) p.names p.fresh;
   passes = p.passes;
 }
 
@@ -231,7 +230,7 @@ passes_here walk met limit depth set deep = record {
   names = [];
   descent = descent_ends;
   once = λ i j d before within. absurd (omega (arith, within));
-  fresh = All-nil (λ name. IsFalse (stands_on (names_of met) name));
+  fresh = All-nil (λ name. IsFalse (stands_on (entered_names met) name));
   passes = omega arith;
 }
 
@@ -270,11 +269,11 @@ module _ (walk : SelectionWalk) (met : Met) (limit depth : ℕ) (set : Selection
         names = name ∷ passing.names;
         descent = descent_into_fragment refl stands refl found passing.descent;
         once = AllPairs-cons DifferentNames name passing.names
-            (All-weaker (λ n. IsFalse (stands_on (names_of after) n)) (DifferentNames name) (λ n fresh.
-            not_true (same_name name n) (λ same. both_not (stands_on (names_of after) n) (entered_is_met name met after e (at_name n) same) fresh)) passing.names passing.fresh)
+            (All-weaker (λ n. IsFalse (stands_on (entered_names after) n)) (DifferentNames name) (λ n fresh.
+            not_true (same_name name n) (λ same. both_not (stands_on (entered_names after) n) (entered_is_met name met after e (at_name n) same) fresh)) passing.names passing.fresh)
             passing.once;
-        fresh = All-cons (λ n. IsFalse (stands_on (names_of met) n)) name passing.names e.unmet
-            (All-weaker (λ n. IsFalse (stands_on (names_of after) n)) (λ n. IsFalse (stands_on (names_of met) n))
+        fresh = All-cons (λ n. IsFalse (stands_on (entered_names met) n)) name passing.names e.unmet
+            (All-weaker (λ n. IsFalse (stands_on (entered_names after) n)) (λ n. IsFalse (stands_on (entered_names met) n))
             (fresh_before met after (entered_grows name met after e)) passing.names passing.fresh);
         passes = omega (arith, passing.passes);
       }
@@ -295,9 +294,9 @@ module _ (walk : SelectionWalk) where
 
   -- the walk is at its limit
   pub walked_to_limit : (set : SelectionSet) (limit depth : ℕ) (met : Met) → limit ≤ depth →
-      HasWalked walk (StandsIn set) (PassesFrom walk met limit (depth + 1) set) met met false
+      HasWalked walk (IsInSet set) (PassesFrom walk met limit (depth + 1) set) met met false
   walked_to_limit set limit depth met deep = record {
-    finds = finds_nothing (StepOf walk) (StandsIn set) (IsMet met);
+    finds = finds_nothing (StepOf walk) (IsInSet set) (IsMet met);
     searched = λ h. absurd (both_not false h refl);
     bound = λ h. passes_here walk met limit depth set deep;
   }
@@ -314,10 +313,10 @@ module _ (walk : SelectionWalk) where
 
   -- below a field that is gone into, and below an inline fragment
   pub walked_field : (s : Selection) (f : Node Field) (limit depth : ℕ) (old new : Met) (complete : Bool) → s ≡ kind.Field f → IsTrue walk.into_fields →
-      HasWalked walk (StandsIn f.value.value.selection_set) (PassesFrom walk old limit (depth + 1) f.value.value.selection_set) old new complete →
+      HasWalked walk (IsInSet f.value.value.selection_set) (PassesFrom walk old limit (depth + 1) f.value.value.selection_set) old new complete →
       HasWalked walk (StepOf walk (at_selection s)) (PassesBelow walk old limit depth s) old new complete
   walked_field s f limit depth old new complete is into w =
-      walked_words (StandsIn f.value.value.selection_set) (StepOf walk (at_selection s))
+      walked_words (IsInSet f.value.value.selection_set) (StepOf walk (at_selection s))
       (PassesFrom walk old limit (depth + 1) f.value.value.selection_set) (PassesBelow walk old limit depth s) old new complete
       (λ x stands. subst (λ t. StepOf walk (at_selection t) x) (sym is) (into_field f into stands))
       (λ x step. (from_field step f (ap at_selection is)).1)
@@ -325,10 +324,10 @@ module _ (walk : SelectionWalk) where
       w
 
   pub walked_inline_fragment : (s : Selection) (i : Node InlineFragment) (limit depth : ℕ) (old new : Met) (complete : Bool) → s ≡ kind.InlineFragment i →
-      HasWalked walk (StandsIn i.value.value.selection_set) (PassesFrom walk old limit (depth + 1) i.value.value.selection_set) old new complete →
+      HasWalked walk (IsInSet i.value.value.selection_set) (PassesFrom walk old limit (depth + 1) i.value.value.selection_set) old new complete →
       HasWalked walk (StepOf walk (at_selection s)) (PassesBelow walk old limit depth s) old new complete
   walked_inline_fragment s i limit depth old new complete is w =
-      walked_words (StandsIn i.value.value.selection_set) (StepOf walk (at_selection s))
+      walked_words (IsInSet i.value.value.selection_set) (StepOf walk (at_selection s))
       (PassesFrom walk old limit (depth + 1) i.value.value.selection_set) (PassesBelow walk old limit depth s) old new complete
       (λ x stands. subst (λ t. StepOf walk (at_selection t) x) (sym is) (into_inline_fragment i stands))
       (λ x step. from_inline_fragment step i (ap at_selection is))
@@ -337,8 +336,8 @@ module _ (walk : SelectionWalk) where
 
   module _ (p : Node FragmentSpread) (limit depth : ℕ) where
     -- a spread whose name was entered before
-    pub walked_entered : (old new : Met) → names_of new ≡ names_of old → listed_of new ≡ listed_of old →
-        IsTrue (stands_on (names_of old) p.value.value.fragment_name) →
+    pub walked_entered : (old new : Met) → entered_names new ≡ entered_names old → listed_of new ≡ listed_of old →
+        IsTrue (stands_on (entered_names old) p.value.value.fragment_name) →
         HasWalked walk (StepOf walk (at_selection (kind.FragmentSpread p))) (PassesBelow walk old limit depth (kind.FragmentSpread p)) old new true
     walked_entered old new names listed entered =
         let name : NameText = p.value.value.fragment_name in
@@ -358,12 +357,12 @@ module _ (walk : SelectionWalk) where
 
     -- a step from a name in the set that it finds
     next_of : (d : Node Fragment) → fragments_of walk.document.now p.value.value.fragment_name ≡ Some d →
-        (x y : Stop) → IsName p.value.value.fragment_name x → StepOf walk x y → StandsIn d.value.value.selection_set y
+        (x y : Stop) → IsName p.value.value.fragment_name x → StepOf walk x y → IsInSet d.value.value.selection_set y
     next_of d found (at_selection s) y named step = absurd named
     next_of d found (at_name name) y named step =
         let there = from_name step name refl in
         let same : there.0 ≡ d = same_Some there.0 d (sym there.1 ∙ sym (one_fragment_found walk.document.now p.value.value.fragment_name name named) ∙ found) in
-        subst (λ (e : Node Fragment). StandsIn e.value.value.selection_set y) same there.2
+        subst (λ (e : Node Fragment). IsInSet e.value.value.selection_set y) same there.2
 
     nothing_next : fragments_of walk.document.now p.value.value.fragment_name ≡ None →
         (x y : Stop) → IsName p.value.value.fragment_name x → StepOf walk x y → ⊥
@@ -375,11 +374,11 @@ module _ (walk : SelectionWalk) where
     -- a spread of a fragment that is gone into
     pub walked_fragment : (d : Node Fragment) (old mid new : Met) (complete : Bool) → Entered p.value.value.fragment_name old mid →
         fragments_of walk.document.now p.value.value.fragment_name ≡ Some d →
-        HasWalked walk (StandsIn d.value.value.selection_set) (PassesFrom walk mid limit (depth + 1) d.value.value.selection_set) mid new complete →
+        HasWalked walk (IsInSet d.value.value.selection_set) (PassesFrom walk mid limit (depth + 1) d.value.value.selection_set) mid new complete →
         HasWalked walk (StepOf walk (at_selection (kind.FragmentSpread p))) (PassesBelow walk old limit depth (kind.FragmentSpread p)) old new complete
     walked_fragment d old mid new complete e found w =
         let name : NameText = p.value.value.fragment_name in
-        let from : (y : Stop) → StandsIn d.value.value.selection_set y → (x : Stop) × IsName name x × StepOf walk x y =
+        let from : (y : Stop) → IsInSet d.value.value.selection_set y → (x : Stop) × IsName name x × StepOf walk x y =
         λ y stands. (at_name name, same_name_itself name, into_fragment found stands) in
         walked_words (IsName name) (StepOf walk (at_selection (kind.FragmentSpread p)))
         (PassesFrom walk mid limit (depth + 1) d.value.value.selection_set) (PassesBelow walk old limit depth (kind.FragmentSpread p)) old new complete
@@ -387,9 +386,9 @@ module _ (walk : SelectionWalk) where
         (λ x step. from_spread step p refl)
         (λ passes set stands. passes_by_spread walk old limit depth set p d mid stands found e passes)
         (record {
-          finds = finds_below (StepOf walk) (IsName name) (StandsIn d.value.value.selection_set) (IsMet old) (IsMet mid) (IsMet new)
+          finds = finds_below (StepOf walk) (IsName name) (IsInSet d.value.value.selection_set) (IsMet old) (IsMet mid) (IsMet new)
               (entered_grows name old mid e) (entered_only name old mid e) from w.finds;
-          searched = λ h. searched_below (StepOf walk) (IsName name) (StandsIn d.value.value.selection_set) (IsMet old) (IsMet mid) (IsMet new)
+          searched = λ h. searched_below (StepOf walk) (IsName name) (IsInSet d.value.value.selection_set) (IsMet old) (IsMet mid) (IsMet new)
               (entered_grows name old mid e) (entered_is_met name old mid e) (entered_only name old mid e) from (next_of d found) (w.searched h);
           bound = w.bound;
         })
@@ -466,11 +465,11 @@ module _ (walk : SelectionWalk) (xs : List Selection) (i : ℕ) (s : Selection) 
   pub walked_part : (set : SelectionSet) (limit depth : ℕ) → xs ≡ selections_of set →
       Searched (StepOf walk) (IsAmong (take i xs)) (IsMet old) (IsMet mid) →
       HasWalked walk (StepOf walk (at_selection s)) (PassesBelow walk pushed limit depth s) pushed new false →
-      HasWalked walk (StandsIn set) (PassesFrom walk old limit depth set) old new false
+      HasWalked walk (IsInSet set) (PassesFrom walk old limit depth set) old new false
   walked_part set limit depth same a w =
       let is : Stop → Type 0 = λ x. x ≡ at_selection s in
       record {
-        finds = finds_from_more (StepOf walk) (λ x. IsAmong (take i xs) x ⊎ is x) (StandsIn set) (IsMet old) (IsMet new)
+        finds = finds_from_more (StepOf walk) (λ x. IsAmong (take i xs) x ⊎ is x) (IsInSet set) (IsMet old) (IsMet new)
             (λ x h. subst (λ l. IsAmong l x) same (among_all x h))
             (finds_then (StepOf walk) (IsAmong (take i xs)) is (IsMet old) (IsMet mid) (IsMet new) a.finds
             (finds_below (StepOf walk) is (StepOf walk (at_selection s)) (IsMet mid) (IsMet pushed) (IsMet new)
@@ -482,8 +481,8 @@ module _ (walk : SelectionWalk) (xs : List Selection) (i : ℕ) (s : Selection) 
 
 -- the walk has come to the end of a set
 pub walked_whole : (walk : SelectionWalk) (set : SelectionSet) (Passes : Type 0) (xs : List Selection) (i : ℕ) (old new : Met) → length xs ≤ i → xs ≡ selections_of set →
-    Searched (StepOf walk) (IsAmong (take i xs)) (IsMet old) (IsMet new) → HasWalked walk (StandsIn set) Passes old new true
+    Searched (StepOf walk) (IsAmong (take i xs)) (IsMet old) (IsMet new) → HasWalked walk (IsInSet set) Passes old new true
 walked_whole walk set Passes xs i old new past same a =
-    let whole : Searched (StepOf walk) (StandsIn set) (IsMet old) (IsMet new) =
+    let whole : Searched (StepOf walk) (IsInSet set) (IsMet old) (IsMet new) =
     subst (λ l. Searched (StepOf walk) (IsAmong l) (IsMet old) (IsMet new)) (take_all i xs past ∙ same) a in
     record { finds = whole.finds; searched = λ h. whole; bound = λ h. absurd (both_not true refl h) }

@@ -15,7 +15,7 @@ use Rattle.graphql_documents.specs.declared.documents.values.Value.TheOpen as Op
 use Rattle.graphql_documents.specs.declared.documents.values.Value.TheVariants as literal
 use Rattle.graphql_documents.proofs.ListLemmas.{only_one, stands_first}
 use Rattle.graphql_documents.proofs.ReportLemmas.{more_is}
-use Rattle.graphql_documents.proofs.VariableLaws.{one_list_only}
+use Rattle.graphql_documents.proofs.VariableUseLemmas.{one_list_only}
 use Rattle.graphql_values.specs.Uses.{AddsNames, IsNamedIn, NamesAlso, names_of}
 
 -- some element, as one that stands in the list

@@ -17,7 +17,7 @@ use Rattle.graphql_documents.specs.declared.documents.nodes.Node.{Node}
 use Rattle.graphql_documents.proofs.NameLemmas.{same_name_itself}
 use Rattle.graphql_values.proofs.SearchLemmas.{all_seen, leads_then, only_found}
 use Rattle.graphql_values.specs.Searches.{Leads, leads_to_itself, leads_by}
-use Rattle.graphql_values.specs.WalkSteps.{Stop, at_selection, at_name, StandsIn, IsName, Step, into_field, into_inline_fragment, to_name, into_fragment, MetFrom, StepOf, walk_into, names_of, listed_of, IsMet, PassesFrom, HasWalked}
+use Rattle.graphql_values.specs.WalkSteps.{Stop, at_selection, at_name, IsInSet, IsName, Step, into_field, into_inline_fragment, to_name, into_fragment, MetFrom, StepOf, walk_into, entered_names, listed_of, IsMet, PassesFrom, HasWalked}
 use Rattle.graphql_values.specs.declared.variable.walks.Met.{Met}
 use Rattle.graphql_values.specs.declared.variable.walks.SelectionWalk.{SelectionWalk}
 
@@ -32,25 +32,25 @@ listed_words P Q Passes listed complete same h = record {
 
 -- what a walk from nothing has listed
 pub walk_has_listed : (walk : SelectionWalk) (set : SelectionSet) (Passes : Type 0) (old new : Met) (complete : Bool) →
-    names_of old ≡ [] → listed_of old ≡ [] → HasWalked walk (StandsIn set) Passes old new complete →
+    entered_names old ≡ [] → listed_of old ≡ [] → HasWalked walk (IsInSet set) Passes old new complete →
     HasListed (MetFrom (fragments_of walk.document.now) walk.into_fields set) Passes (listed_of new) complete
 walk_has_listed walk set Passes old new complete names listed w = record {
   each = each_standing (MetFrom (fragments_of walk.document.now) walk.into_fields set) (listed_of new) (λ s in'. from_start s in');
-  all = λ done s met. all_seen (StepOf walk) (StandsIn set) (IsMet old) (IsMet new) nothing (w.searched done) (at_selection met.0) (at_selection s) met.1 met.2;
+  all = λ done s met. all_seen (StepOf walk) (IsInSet set) (IsMet old) (IsMet new) nothing (w.searched done) (at_selection met.0) (at_selection s) met.1 met.2;
   bound = w.bound;
 } where
   nothing : (x : Stop) → ¬ IsMet old x
   nothing (at_selection s) h = none_stands s (subst (λ l. Contains l s) listed h)
   nothing (at_name name) h = let none : false ≡ true = subst (λ l. IsTrue (stands_on l name)) names h in let no : ⊥ = cc in no
 
-  start_is : (s : Selection) (start : Stop) → StandsIn set start → Leads (StepOf walk) start (at_selection s) →
+  start_is : (s : Selection) (start : Stop) → IsInSet set start → Leads (StepOf walk) start (at_selection s) →
       MetFrom (fragments_of walk.document.now) walk.into_fields set s
   start_is s (at_selection first) stands way = (first, stands, way)
   start_is s (at_name name) stands way = absurd stands
 
   from_start : (s : Selection) → Contains (listed_of new) s → MetFrom (fragments_of walk.document.now) walk.into_fields set s
   from_start s in' =
-      let found = only_found (StepOf walk) (StandsIn set) (IsMet old) (IsMet new) nothing w.finds (at_selection s) in' in
+      let found = only_found (StepOf walk) (IsInSet set) (IsMet old) (IsMet new) nothing w.finds (at_selection s) in' in
       start_is s found.0 found.1 found.2
 
 -- a descent that passes the bound of a walk from nothing
@@ -89,7 +89,7 @@ module _ (fragments : Fragments) where
   MetBy Met (at_selection first) s = (set : SelectionSet) → Contains (selections_of set) first → Met set s
   MetBy Met (at_name name) s = (d : Node Fragment) × (fragments name ≡ Some d) × Met d.value.value.selection_set s
 
-  met_in : (Met : SelectionSet → Selection → Type 0) (set : SelectionSet) (x : Stop) (s : Selection) → StandsIn set x → MetBy Met x s → Met set s
+  met_in : (Met : SelectionSet → Selection → Type 0) (set : SelectionSet) (x : Stop) (s : Selection) → IsInSet set x → MetBy Met x s → Met set s
   unfolding MetBy
   met_in Met set (at_selection first) s stands h = h set stands
   met_in Met set (at_name name) s stands h = absurd stands

@@ -27,8 +27,8 @@ abbrev pub IsAmong : List Selection → Stop → Type 0
 IsAmong selections (at_selection s) = Contains selections s
 IsAmong selections (at_name name) = ⊥
 
-abbrev pub StandsIn : SelectionSet → Stop → Type 0
-StandsIn set = IsAmong (selections_of set)
+abbrev pub IsInSet : SelectionSet → Stop → Type 0
+IsInSet set = IsAmong (selections_of set)
 
 -- it is the name
 abbrev pub IsName : NameText → Stop → Type 0
@@ -39,13 +39,13 @@ IsName name (at_name other) = SameName name other
 -- name to the selections of the fragment that it finds
 pub data Step (fragments : Fragments) (into_fields : Bool) : Stop → Stop → Type 0 where
   into_field : (f : Node Field) {x : Stop} → IsTrue into_fields →
-      StandsIn f.value.value.selection_set x → Step fragments into_fields (at_selection (kind.Field f)) x
+      IsInSet f.value.value.selection_set x → Step fragments into_fields (at_selection (kind.Field f)) x
   into_inline_fragment : (i : Node InlineFragment) {x : Stop} →
-      StandsIn i.value.value.selection_set x → Step fragments into_fields (at_selection (kind.InlineFragment i)) x
+      IsInSet i.value.value.selection_set x → Step fragments into_fields (at_selection (kind.InlineFragment i)) x
   to_name : (p : Node FragmentSpread) {x : Stop} →
       IsName p.value.value.fragment_name x → Step fragments into_fields (at_selection (kind.FragmentSpread p)) x
   into_fragment : {name : NameText} {d : Node Fragment} {x : Stop} → fragments name ≡ Some d →
-      StandsIn d.value.value.selection_set x → Step fragments into_fields (at_name name) x
+      IsInSet d.value.value.selection_set x → Step fragments into_fields (at_name name) x
 
 -- the steps lead from a selection of the set to this one
 abbrev pub MetFrom : Fragments → Bool → SelectionSet → Selection → Type 0
@@ -61,8 +61,8 @@ abbrev pub walk_into : Bool → Walk
 walk_into into_fields = record { into_fields = into_fields; into_fragments = true; goes_through = λ s. true }
 
 -- the names that were entered, and the selections that were listed
-abbrev pub names_of : Met → List NameText
-names_of met = map (λ name. name.now) met.entered.keys
+abbrev pub entered_names : Met → List NameText
+entered_names met = map (λ name. name.now) met.entered.keys
 
 abbrev pub listed_of : Met → List Selection
 listed_of met = map (λ s. s.now) met.selections.items
@@ -70,7 +70,7 @@ listed_of met = map (λ s. s.now) met.selections.items
 -- it was met
 abbrev pub IsMet : Met → Stop → Type 0
 IsMet met (at_selection s) = Contains (listed_of met) s
-IsMet met (at_name name) = IsTrue (stands_on (names_of met) name)
+IsMet met (at_name name) = IsTrue (stands_on (entered_names met) name)
 
 -- a descent from the set goes beyond the limit of a walk that stands this deep, and enters no fragment
 -- twice, nor one of those that were entered
@@ -79,7 +79,7 @@ pub record PassesFrom (walk : SelectionWalk) (met : Met) (limit : ℕ) (depth : 
   pub names : List NameText
   pub descent : Descent (fragments_of walk.document.now) (walk_into walk.into_fields) set steps names
   pub once : AreDistinct names
-  pub fresh : All (λ name. IsFalse (stands_on (names_of met) name)) names
+  pub fresh : All (λ name. IsFalse (stands_on (entered_names met) name)) names
   pub passes : limit < steps + depth
 
 -- a walk that begins with these has met what there is, or passes its bound
@@ -91,7 +91,7 @@ pub record HasWalked (walk : SelectionWalk) (begins : Stop → Type 0) (Passes :
 -- a walk over a set that is so deep
 abbrev pub WalksOver : SelectionWalk → DepthCounter → ℕ → SelectionSet → Met → Met → Bool → Type 0
 WalksOver walk counter depth set old new complete =
-    HasWalked walk (StandsIn set) (PassesFrom walk old (depth_limit counter) depth set) old new complete
+    HasWalked walk (IsInSet set) (PassesFrom walk old (depth_limit counter) depth set) old new complete
 
 -- a walk over what is below a selection of a set
 abbrev pub WalksBelow : SelectionWalk → DepthCounter → Selection → Met → Met → Bool → Type 0

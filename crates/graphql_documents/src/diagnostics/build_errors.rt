@@ -1,4 +1,4 @@
-ghost use Rattle.std.specs.Prelude.{Some};
+ghost use Rattle.std.specs.Prelude.{◌≡◌, Some};
 ghost use Rattle.graphql_documents.specs.Messages.{build_error_name};
 
 use crate::documents::coordinates::{FieldArgumentCoordinate, TypeAttributeCoordinate};
@@ -10,7 +10,7 @@ use crate::documents::values::Value;
 use std::fmt;
 
 /// A broken rule of subscriptions, of `@defer` or of merging fields.
-#[derive(Debug, Drop, PartialEq, Eq)]
+#[derive(Drop, PartialEq, Eq)]
 pub enum BuildError {
     /// A root field of a subscription is one of introspection. Reported at the field.
     ///
@@ -99,32 +99,40 @@ pub enum BuildError {
     },
 }
 
-/// The name of the rule.
+impl BuildError {
+    /// The name of the rule.
+    pub fn name(&self) -> &'static str
+        ensures { result.now ≡ build_error_name self.now }
+    {
+        match self {
+            BuildError::SubscriptionUsesIntrospection { .. } => "SubscriptionUsesIntrospection",
+            BuildError::SubscriptionUsesConditionalSelection { .. } =>
+                "SubscriptionUsesConditionalSelection",
+            BuildError::SubscriptionUsesMultipleFields { .. } => "SubscriptionUsesMultipleFields",
+            BuildError::DeferLabelMustNotBeVariable => "DeferLabelMustNotBeVariable",
+            BuildError::DuplicateDeferLabel { .. } => "DuplicateDeferLabel",
+            BuildError::DeferOnRootMutationOrSubscriptionField { .. } =>
+                "DeferOnRootMutationOrSubscriptionField",
+            BuildError::DeferInSubscriptionMustBeConditional =>
+                "DeferInSubscriptionMustBeConditional",
+            BuildError::ConflictingFieldName { .. } => "ConflictingFieldName",
+            BuildError::ConflictingFieldArgument { .. } => "ConflictingFieldArgument",
+            BuildError::ConflictingFieldType { .. } => "ConflictingFieldType",
+        }
+    }
+}
+
 impl fmt::Display for BuildError {
     ghost output = { λ error. Some (build_error_name error) };
 
     fn fmt<W: fmt::Write>(&self, f: &mut fmt::Formatter<W>) -> fmt::Result {
-        match self {
-            BuildError::SubscriptionUsesIntrospection { .. } => {
-                write!(f, "SubscriptionUsesIntrospection")
-            }
-            BuildError::SubscriptionUsesConditionalSelection { .. } => {
-                write!(f, "SubscriptionUsesConditionalSelection")
-            }
-            BuildError::SubscriptionUsesMultipleFields { .. } => {
-                write!(f, "SubscriptionUsesMultipleFields")
-            }
-            BuildError::DeferLabelMustNotBeVariable => write!(f, "DeferLabelMustNotBeVariable"),
-            BuildError::DuplicateDeferLabel { .. } => write!(f, "DuplicateDeferLabel"),
-            BuildError::DeferOnRootMutationOrSubscriptionField { .. } => {
-                write!(f, "DeferOnRootMutationOrSubscriptionField")
-            }
-            BuildError::DeferInSubscriptionMustBeConditional => {
-                write!(f, "DeferInSubscriptionMustBeConditional")
-            }
-            BuildError::ConflictingFieldName { .. } => write!(f, "ConflictingFieldName"),
-            BuildError::ConflictingFieldArgument { .. } => write!(f, "ConflictingFieldArgument"),
-            BuildError::ConflictingFieldType { .. } => write!(f, "ConflictingFieldType"),
-        }
+        f.write_str(self.name())
+    }
+}
+
+/// The name of the rule.
+impl fmt::Debug for BuildError {
+    fn fmt<W: fmt::Write>(&self, f: &mut fmt::Formatter<W>) -> fmt::Result {
+        fmt::Display::fmt(self, f)
     }
 }

@@ -14,7 +14,7 @@ use crate::documents::values::Value;
 use std::fmt;
 
 /// A broken rule, with what its message names.
-#[derive(Debug, Drop, PartialEq, Eq)]
+#[derive(Drop, PartialEq, Eq)]
 pub enum DiagnosticData {
     /// A variable has the name of an earlier one. Reported at the later declaration.
     ///
@@ -717,5 +717,12 @@ fn fragment_or_inline(name: &Option<Name>) -> NameOrAnon<'_, Name>
         name: name.as_ref(),
         if_some_prefix: "fragment",
         if_none: "inline fragment",
+    }
+}
+
+/// The message.
+impl fmt::Debug for DiagnosticData {
+    fn fmt<W: fmt::Write>(&self, f: &mut fmt::Formatter<W>) -> fmt::Result {
+        fmt::Display::fmt(self, f)
     }
 }

@@ -1,4 +1,4 @@
-ghost use Rattle.std.specs.Prelude.{Some};
+ghost use Rattle.std.specs.Prelude.{◌≡◌, Some};
 ghost use Rattle.graphql_documents.specs.DirectiveLocations.{location_text};
 ghost use Rattle.graphql_documents.specs.OperationTypes.{operation_type_text};
 
@@ -80,32 +80,40 @@ pub enum DirectiveLocation {
     InputFieldDefinition,
 }
 
-/// The location in capitals, as a directive definition writes it.
+impl DirectiveLocation {
+    /// The location in capitals, as a directive definition writes it.
+    pub fn name(&self) -> &'static str
+        ensures { result.now ≡ location_text self.now }
+    {
+        match self {
+            DirectiveLocation::Query => "QUERY",
+            DirectiveLocation::Mutation => "MUTATION",
+            DirectiveLocation::Subscription => "SUBSCRIPTION",
+            DirectiveLocation::Field => "FIELD",
+            DirectiveLocation::FragmentDefinition => "FRAGMENT_DEFINITION",
+            DirectiveLocation::FragmentSpread => "FRAGMENT_SPREAD",
+            DirectiveLocation::InlineFragment => "INLINE_FRAGMENT",
+            DirectiveLocation::VariableDefinition => "VARIABLE_DEFINITION",
+            DirectiveLocation::Schema => "SCHEMA",
+            DirectiveLocation::Scalar => "SCALAR",
+            DirectiveLocation::Object => "OBJECT",
+            DirectiveLocation::FieldDefinition => "FIELD_DEFINITION",
+            DirectiveLocation::ArgumentDefinition => "ARGUMENT_DEFINITION",
+            DirectiveLocation::Interface => "INTERFACE",
+            DirectiveLocation::Union => "UNION",
+            DirectiveLocation::Enum => "ENUM",
+            DirectiveLocation::EnumValue => "ENUM_VALUE",
+            DirectiveLocation::InputObject => "INPUT_OBJECT",
+            DirectiveLocation::InputFieldDefinition => "INPUT_FIELD_DEFINITION",
+        }
+    }
+}
+
 impl fmt::Display for DirectiveLocation {
     ghost output = { λ location. Some (location_text location) };
 
     fn fmt<W: fmt::Write>(&self, f: &mut fmt::Formatter<W>) -> fmt::Result {
-        match self {
-            DirectiveLocation::Query => write!(f, "QUERY"),
-            DirectiveLocation::Mutation => write!(f, "MUTATION"),
-            DirectiveLocation::Subscription => write!(f, "SUBSCRIPTION"),
-            DirectiveLocation::Field => write!(f, "FIELD"),
-            DirectiveLocation::FragmentDefinition => write!(f, "FRAGMENT_DEFINITION"),
-            DirectiveLocation::FragmentSpread => write!(f, "FRAGMENT_SPREAD"),
-            DirectiveLocation::InlineFragment => write!(f, "INLINE_FRAGMENT"),
-            DirectiveLocation::VariableDefinition => write!(f, "VARIABLE_DEFINITION"),
-            DirectiveLocation::Schema => write!(f, "SCHEMA"),
-            DirectiveLocation::Scalar => write!(f, "SCALAR"),
-            DirectiveLocation::Object => write!(f, "OBJECT"),
-            DirectiveLocation::FieldDefinition => write!(f, "FIELD_DEFINITION"),
-            DirectiveLocation::ArgumentDefinition => write!(f, "ARGUMENT_DEFINITION"),
-            DirectiveLocation::Interface => write!(f, "INTERFACE"),
-            DirectiveLocation::Union => write!(f, "UNION"),
-            DirectiveLocation::Enum => write!(f, "ENUM"),
-            DirectiveLocation::EnumValue => write!(f, "ENUM_VALUE"),
-            DirectiveLocation::InputObject => write!(f, "INPUT_OBJECT"),
-            DirectiveLocation::InputFieldDefinition => write!(f, "INPUT_FIELD_DEFINITION"),
-        }
+        f.write_str(self.name())
     }
 }
 
@@ -130,16 +138,24 @@ pub enum OperationType {
     Subscription,
 }
 
-/// The keyword of the operation.
+impl OperationType {
+    /// The keyword of the operation.
+    pub fn name(&self) -> &'static str
+        ensures { result.now ≡ operation_type_text self.now }
+    {
+        match self {
+            OperationType::Query => "query",
+            OperationType::Mutation => "mutation",
+            OperationType::Subscription => "subscription",
+        }
+    }
+}
+
 impl fmt::Display for OperationType {
     ghost output = { λ operation. Some (operation_type_text operation) };
 
     fn fmt<W: fmt::Write>(&self, f: &mut fmt::Formatter<W>) -> fmt::Result {
-        match self {
-            OperationType::Query => write!(f, "query"),
-            OperationType::Mutation => write!(f, "mutation"),
-            OperationType::Subscription => write!(f, "subscription"),
-        }
+        f.write_str(self.name())
     }
 }
 

@@ -1,7 +1,7 @@
-ghost use Rattle.std.specs.Prelude.{◌≡◌, None, IsTrue, IfOk};
+ghost use Rattle.std.specs.Prelude.{◌≡◌, None, IsTrue, IfOk, codes, false};
 ghost use Rattle.std.proofs.Props.{props};
 ghost use Rattle.graphql_documents.specs.Names.{is_name};
-ghost use Rattle.graphql_documents.specs.MetaFields.{IsTypename, IsSchemaField, IsTypeField};
+ghost use Rattle.graphql_documents.specs.MetaFields.{IsTypename, IsSchemaField, IsTypeField, argument_signature};
 
 use super::components::{Component, ComponentOrigin};
 use super::definitions::{FieldDefinition, InputValueDefinition};
@@ -32,35 +32,60 @@ impl MetaFields {
         ensures schema { IfOk result (λ fields. fields.schema.node.location ≡ None) }
         ensures type_by_name { IfOk result (λ fields. fields.type_by_name.node.location ≡ None) }
     {
-        let name_argument = InputValueDefinition {
-            name: known_name(alloc, "name")?,
-            ty: Node::new(alloc, Type::NonNullNamed(known_name(alloc, "String")?))?,
-            default_value: None,
-            directives: Vec::new(alloc),
-        };
-        let mut arguments = Vec::new(alloc);
-        arguments.push(Node::new(alloc, name_argument)?)?;
+        let typename = typename(alloc)?;
+        let schema = schema_field(alloc)?;
+        let type_by_name = type_field(alloc)?;
         Ok(MetaFields {
-            typename: field(
-                alloc,
-                known_name(alloc, "__typename")?,
-                Vec::new(alloc),
-                Type::NonNullNamed(known_name(alloc, "String")?),
-            )?,
-            schema: field(
-                alloc,
-                known_name(alloc, "__schema")?,
-                Vec::new(alloc),
-                Type::NonNullNamed(known_name(alloc, "__Schema")?),
-            )?,
-            type_by_name: field(
-                alloc,
-                known_name(alloc, "__type")?,
-                arguments,
-                Type::Named(known_name(alloc, "__Type")?),
-            )?,
+            typename,
+            schema,
+            type_by_name,
         })
     }
+}
+
+/// `__typename: String!`
+fn typename(alloc: Global) -> Result<Component<FieldDefinition>, ValidationError>
+    ensures field { IfOk result (λ field. IsTypename field.node.value.value) }
+    ensures location { IfOk result (λ field. field.node.location ≡ None) }
+{
+    let name = known_name(alloc, "__typename")?;
+    let ty = Type::NonNullNamed(known_name(alloc, "String")?);
+    field(alloc, name, Vec::new(alloc), ty)
+}
+
+/// `__schema: __Schema!`
+fn schema_field(alloc: Global) -> Result<Component<FieldDefinition>, ValidationError>
+    ensures field { IfOk result (λ field. IsSchemaField field.node.value.value) }
+    ensures location { IfOk result (λ field. field.node.location ≡ None) }
+{
+    let name = known_name(alloc, "__schema")?;
+    let ty = Type::NonNullNamed(known_name(alloc, "__Schema")?);
+    field(alloc, name, Vec::new(alloc), ty)
+}
+
+/// `__type(name: String!): __Type`
+fn type_field(alloc: Global) -> Result<Component<FieldDefinition>, ValidationError>
+    ensures field { IfOk result (λ field. IsTypeField field.node.value.value) }
+    ensures location { IfOk result (λ field. field.node.location ≡ None) }
+{
+    let mut arguments = Vec::new(alloc);
+    arguments.push(name_argument(alloc)?)?;
+    let name = known_name(alloc, "__type")?;
+    let ty = Type::Named(known_name(alloc, "__Type")?);
+    field(alloc, name, arguments, ty)
+}
+
+/// `name: String!`
+fn name_argument(alloc: Global) -> Result<Node<InputValueDefinition>, ValidationError>
+    ensures { IfOk result (λ argument. argument_signature argument.value.value ≡ (codes "name", codes "String!", false)) }
+{
+    let definition = InputValueDefinition {
+        name: known_name(alloc, "name")?,
+        ty: Node::new(alloc, Type::NonNullNamed(known_name(alloc, "String")?))?,
+        default_value: None,
+        directives: Vec::new(alloc),
+    };
+    Ok(Node::new(alloc, definition)?)
 }
 
 fn known_name(alloc: Global, text: &str) -> Result<Name, ValidationError>

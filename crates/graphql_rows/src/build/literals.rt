@@ -17,21 +17,30 @@ pub(super) fn value(alloc: Global, literal: &Literal<'_>) -> Result<Value, RowEr
         Literal::String(text) => Ok(Value::String(String::from_str(alloc, text)?)),
         Literal::Enum(text) => Ok(Value::Enum(name(alloc, text, None)?)),
         Literal::Variable(text) => Ok(Value::Variable(name(alloc, text, None)?)),
-        Literal::List(items) => {
-            let mut values = Vec::new(alloc);
-            for item in *items {
-                values.push(node(alloc, value(alloc, item)?, None)?)?;
-            }
-            Ok(Value::List(values))
-        }
-        Literal::Object(entries) => {
-            let mut fields = Vec::new(alloc);
-            for entry in *entries {
-                fields.push(object_field(alloc, entry)?)?;
-            }
-            Ok(Value::Object(fields))
-        }
+        Literal::List(items) => Ok(Value::List(list_items(alloc, items)?)),
+        Literal::Object(entries) => Ok(Value::Object(object_fields(alloc, entries)?)),
     }
+}
+
+#[cycle(value)]
+fn list_items(alloc: Global, items: &[Literal<'_>]) -> Result<Vec<Node<Value>>, RowError> {
+    let mut values = Vec::new(alloc);
+    for item in items {
+        values.push(node(alloc, value(alloc, item)?, None)?)?;
+    }
+    Ok(values)
+}
+
+#[cycle(value)]
+fn object_fields(
+    alloc: Global,
+    entries: &[ArgumentNotation<'_>],
+) -> Result<Vec<(Name, Node<Value>)>, RowError> {
+    let mut fields = Vec::new(alloc);
+    for entry in entries {
+        fields.push(object_field(alloc, entry)?)?;
+    }
+    Ok(fields)
 }
 
 #[cycle(value)]

@@ -23,22 +23,39 @@ pub fn schema(
     types: &[TypeNotation<'_>],
     directives: &[DirectiveDefinitionNotation<'_>],
 ) -> Result<Valid<Schema>, RowError> {
-    let mut all_types = IndexMap::new(alloc);
-    add_scalars(alloc, &mut all_types)?;
-    for notation in types {
-        add_type(alloc, &mut all_types, notation)?;
-    }
-    let mut all_directives = IndexMap::new(alloc);
-    add_directives(alloc, &mut all_directives)?;
-    for notation in directives {
-        add_directive(alloc, &mut all_directives, notation)?;
-    }
+    let meta_fields = MetaFields::new(alloc)?;
+    let directive_definitions = directives_by_name(alloc, directives)?;
+    let types = types_by_name(alloc, types)?;
+    let schema_definition = Node::new(alloc, roots(alloc, &types)?)?;
     Ok(Valid(Schema {
-        schema_definition: Node::new(alloc, roots(alloc, &all_types)?)?,
-        directive_definitions: all_directives,
-        types: all_types,
-        meta_fields: MetaFields::new(alloc)?,
+        schema_definition,
+        directive_definitions,
+        types,
+        meta_fields,
     }))
+}
+
+/// The built-in scalars, and then these types.
+fn types_by_name(alloc: Global, notation: &[TypeNotation<'_>]) -> Result<Types, RowError> {
+    let mut types = IndexMap::new(alloc);
+    add_scalars(alloc, &mut types)?;
+    for entry in notation {
+        add_type(alloc, &mut types, entry)?;
+    }
+    Ok(types)
+}
+
+/// The built-in directives, and then these.
+fn directives_by_name(
+    alloc: Global,
+    notation: &[DirectiveDefinitionNotation<'_>],
+) -> Result<Directives, RowError> {
+    let mut directives = IndexMap::new(alloc);
+    add_directives(alloc, &mut directives)?;
+    for entry in notation {
+        add_directive(alloc, &mut directives, entry)?;
+    }
+    Ok(directives)
 }
 
 /// Adds a type under its name.

@@ -6,7 +6,7 @@ ghost use Rattle.graphql_documents.specs.Names.{with_name};
 ghost use Rattle.graphql_documents.specs.Selections.{Inside, Reached, fragments_of};
 ghost use Rattle.graphql_documents.specs.Walks.{HasListed, PassesDepth, full_walk, root_walk};
 ghost use Rattle.graphql_documents.specs.declared.documents.executables.Selection.TheVariants as kind;
-ghost use Rattle.graphql_values.specs.WalkSteps.{MetFrom, WalksBelow, WalksOver, listed_of, names_of, walk_into};
+ghost use Rattle.graphql_values.specs.WalkSteps.{MetFrom, WalksBelow, WalksOver, listed_of, entered_names, walk_into};
 
 use graphql_documents::diagnostics::ValidationError;
 use graphql_documents::documents::{
@@ -85,8 +85,8 @@ struct Met<'doc> {
 impl<'doc> Met<'doc> {
     /// Adds the name of a fragment, and answers whether it is new.
     fn enter(&mut self, name: &'doc Name) -> Result<bool, ValidationError>
-        ensures is_new { IfOk result (λ new. new ≡ not (stands_on (names_of self.old) name.now)) }
-        ensures names { OnOk result (names_of self.new ≡ with_name (names_of self.old) name.now) }
+        ensures is_new { IfOk result (λ new. new ≡ not (stands_on (entered_names self.old) name.now)) }
+        ensures names { OnOk result (entered_names self.new ≡ with_name (entered_names self.old) name.now) }
         ensures selections { OnOk result (listed_of self.new ≡ listed_of self.old) }
     {
         Ok(self.entered.insert(name)?)

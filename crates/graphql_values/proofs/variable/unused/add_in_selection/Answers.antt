@@ -10,7 +10,8 @@ use Rattle.graphql_documents.specs.declared.documents.executables.InlineFragment
 use Rattle.graphql_documents.specs.declared.documents.nodes.Node.{Node}
 use Rattle.graphql_values.specs.Uses.{NamesAlso}
 use Rattle.graphql_values.proofs.UseLemmas.{also_in_words, also_then}
-use Rattle.graphql_values.proofs.UnusedLemmas.{on_ok, used_at_defined, used_at_field, used_at_inline, used_at_undefined}
+use Rattle.graphql_documents.proofs.ReportLemmas.{on_ok}
+use Rattle.graphql_values.proofs.OperationUseLemmas.{used_at_defined, used_at_field, used_at_inline, used_at_undefined}
 use Rattle.graphql_values.proofs.variable.unused.add_in_selection.Goals as goal
 
 pub returns-in_ok-add_in_directives-in-Field : goal.returns-in_ok-add_in_directives-in-Field

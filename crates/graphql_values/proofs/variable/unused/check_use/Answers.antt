@@ -1,7 +1,9 @@
 use Rattle.std.proofs.Common.{[], sym}
 use Rattle.std.proofs.lemmas.List.{append-nil}
 use Rattle.graphql_documents.specs.VariableReports.{no_name, unused_name, used_name}
-use Rattle.graphql_values.proofs.UnusedLemmas.{appends_on_ok, has_name, has_no_name, unused_report}
+use Rattle.graphql_documents.proofs.ReportLemmas.{appends_on_ok}
+use Rattle.graphql_values.proofs.NameSetLemmas.{has_name, has_no_name}
+use Rattle.graphql_values.proofs.UnusedLemmas.{unused_report}
 use Rattle.graphql_values.proofs.variable.unused.check_use.Goals as goal
 
 pub returns-then-contains : goal.returns-then-contains

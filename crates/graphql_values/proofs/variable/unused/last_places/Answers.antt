@@ -5,7 +5,8 @@ use Rattle.graphql_documents.specs.Names.{NameText, different_names}
 use Rattle.graphql_documents.specs.Spans.{recompose}
 use Rattle.graphql_documents.specs.declared.documents.definitions.VariableDefinition.{VariableDefinition}
 use Rattle.graphql_values.specs.Uses.{IsLastPlace}
-use Rattle.graphql_values.proofs.UnusedLemmas.{entry_names, names_more, places_more}
+use Rattle.graphql_values.proofs.NameSetLemmas.{entry_names}
+use Rattle.graphql_values.proofs.UnusedLemmas.{names_more, places_more}
 use Rattle.graphql_values.proofs.variable.unused.last_places.Goals as goal
 
 pub loop-variable-init : goal.loop-variable-init

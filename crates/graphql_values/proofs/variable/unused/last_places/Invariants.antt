@@ -3,7 +3,7 @@ use Rattle.std.specs.List.{IsDistinct}
 use Rattle.std.specs.Map.{keys_of}
 use Rattle.graphql_documents.specs.Names.{different_names}
 use Rattle.graphql_values.specs.Uses.{IsLastPlace}
-use Rattle.graphql_values.proofs.UnusedLemmas.{entry_names, same_key}
+use Rattle.graphql_values.proofs.NameSetLemmas.{entry_names, same_key}
 use Rattle.graphql_values.proofs.variable.unused.last_places.Given as goal
 
 abbrev pub invariant-loop-variable : goal.invariant-loop-variable

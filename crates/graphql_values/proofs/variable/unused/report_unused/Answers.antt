@@ -10,7 +10,8 @@ use Rattle.graphql_documents.specs.Reports.{Appends, KeepsReports}
 use Rattle.graphql_documents.specs.VariableReports.{AreUnusedReports, UsesReport, no_name}
 use Rattle.graphql_documents.specs.declared.documents.spans.SourceSpan.{SourceSpan}
 use Rattle.graphql_documents.proofs.ReportLemmas.{done_next, stands_next}
-use Rattle.graphql_values.proofs.UnusedLemmas.{appends_kept, appends_then, entry_names}
+use Rattle.graphql_values.proofs.NameSetLemmas.{entry_names}
+use Rattle.graphql_values.proofs.UnusedLemmas.{appends_kept, appends_then}
 use Rattle.graphql_values.specs.Uses.{IsLastPlace}
 use Rattle.graphql_values.proofs.variable.unused.report_unused.Goals as goal
 

@@ -10,7 +10,7 @@ use Rattle.graphql_documents.specs.Variables.{UsesVariable}
 use Rattle.graphql_documents.specs.declared.documents.executables.Operation.{Operation}
 use Rattle.graphql_documents.specs.declared.documents.spans.SourceSpan.{SourceSpan}
 use Rattle.graphql_values.specs.Uses.{HasUsed, IsLastPlace}
-use Rattle.graphql_values.proofs.UnusedLemmas.{entry_names}
+use Rattle.graphql_values.proofs.NameSetLemmas.{entry_names}
 use Rattle.graphql_values.proofs.variable.unused.report_unused.Given as goal
 
 abbrev pub invariant-loop-name : goal.invariant-loop-name

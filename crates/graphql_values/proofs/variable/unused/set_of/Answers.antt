@@ -2,7 +2,7 @@ use Rattle.std.proofs.Common.{[], ◌≡◌, ◌↔◌, ◌+◌, take, sym, subs
 use Rattle.std.proofs.lemmas.List.{take_all}
 use Rattle.graphql_documents.specs.Names.{NameText}
 use Rattle.graphql_values.specs.Uses.{IsNamedIn, names_of}
-use Rattle.graphql_values.proofs.UnusedLemmas.{named_more}
+use Rattle.graphql_values.proofs.NameSetLemmas.{named_more}
 use Rattle.graphql_values.proofs.variable.unused.set_of.Goals as goal
 
 pub loop-name-init : goal.loop-name-init

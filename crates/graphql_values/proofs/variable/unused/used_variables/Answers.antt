@@ -3,7 +3,8 @@ use Rattle.std.proofs.lemmas.List.{take_all}
 use Rattle.graphql_documents.specs.Selections.{fragments_of}
 use Rattle.graphql_documents.specs.Variables.{StandsInDirectives}
 use Rattle.graphql_values.specs.Uses.{NamesAlso}
-use Rattle.graphql_values.proofs.UnusedLemmas.{UsedBy, has_used_by, used_all, used_first, used_more}
+use Rattle.graphql_values.proofs.NameSetLemmas.{has_used_by}
+use Rattle.graphql_values.proofs.OperationUseLemmas.{UsedBy, used_all, used_first, used_more}
 use Rattle.graphql_values.proofs.variable.unused.used_variables.Goals as goal
 
 pub loop-selection-init : goal.loop-selection-init

@@ -10,7 +10,8 @@ use Rattle.graphql_documents.specs.declared.documents.definitions.VariableDefini
 use Rattle.graphql_documents.specs.declared.documents.executables.Selection.{Selection}
 use Rattle.graphql_documents.specs.declared.documents.nodes.Node.{Node}
 use Rattle.graphql_values.specs.Uses.{IsLastPlace}
-use Rattle.graphql_values.proofs.UnusedLemmas.{bound_reported, entry_names, lists_all, uses_kept, uses_reported}
+use Rattle.graphql_values.proofs.NameSetLemmas.{entry_names}
+use Rattle.graphql_values.proofs.UnusedLemmas.{bound_reported, lists_all, uses_kept, uses_reported}
 use Rattle.graphql_values.proofs.variable.unused.validate_unused_variables.Goals as goal
 
 pub returns-then-not-walked-clause-exact : goal.returns-then-not-walked-clause-exact

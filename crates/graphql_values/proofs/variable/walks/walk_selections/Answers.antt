@@ -1,6 +1,6 @@
 use Rattle.std.proofs.Common.{false}
 use Rattle.std.proofs.lemmas.Result.{IfOk-weaker}
-use Rattle.graphql_documents.proofs.FragmentLaws.{one_fragment_found}
+use Rattle.graphql_documents.proofs.SelectionLemmas.{one_fragment_found}
 use Rattle.graphql_documents.specs.Selections.{Inside, fragments_of}
 use Rattle.graphql_values.proofs.WalkedLemmas.{listed_words, met_inside}
 use Rattle.graphql_values.specs.WalkSteps.{MetFrom}

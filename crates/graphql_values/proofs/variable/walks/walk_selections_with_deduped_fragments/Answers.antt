@@ -1,6 +1,6 @@
 use Rattle.std.proofs.Common.{true}
 use Rattle.std.proofs.lemmas.Result.{IfOk-weaker}
-use Rattle.graphql_documents.proofs.FragmentLaws.{one_fragment_found}
+use Rattle.graphql_documents.proofs.SelectionLemmas.{one_fragment_found}
 use Rattle.graphql_documents.specs.Selections.{Reached, fragments_of}
 use Rattle.graphql_values.proofs.WalkedLemmas.{listed_words, met_reached}
 use Rattle.graphql_values.specs.WalkSteps.{MetFrom}

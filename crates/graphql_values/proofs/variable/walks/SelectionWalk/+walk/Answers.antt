@@ -6,7 +6,7 @@ use Rattle.graphql_documents.specs.Guards.{depth_limit, depth_of, stands_on}
 use Rattle.std.proofs.lemmas.List.{map-append}
 use Rattle.graphql_values.specs.declared.variable.walks.Met.{Met}
 use Rattle.graphql_documents.specs.Selections.{fragments_of}
-use Rattle.graphql_values.specs.WalkSteps.{HasWalked, StepOf, WalksOver, at_selection, names_of}
+use Rattle.graphql_values.specs.WalkSteps.{HasWalked, StepOf, WalksOver, at_selection, entered_names}
 use Rattle.graphql_values.proofs.variable.walks.SelectionWalk.+walk.Goals as goal
 
 pub walk_below-returns-in-Field-clause-walks : goal.walk_below-returns-in-Field-clause-walks
@@ -32,7 +32,7 @@ walk_fragment-returns-then-not-branch-clause-walks t c =
     let there = stood_there c.deref.result.now.fragment_name c.args.met.now c.enter.new.self c.in_ok-enter.field-0
     c.in_ok-enter.ensures.is_new c.in_ok-enter.ensures.names c.if-not-branch.true in
     walked_entered c.args.self.now c.args.spread.now _ _ c.args.met.now c.enter.new.self there.1 c.in_ok-enter.ensures.selections
-    (subst (λ p. IsTrue (stands_on (names_of c.args.met.now) p.fragment_name)) c.deref.ensures there.0)
+    (subst (λ p. IsTrue (stands_on (entered_names c.args.met.now) p.fragment_name)) c.deref.ensures there.0)
 
 pub walk_fragment-returns-in-Some-clause-walks : goal.walk_fragment-returns-in-Some-clause-walks
 walk_fragment-returns-in-Some-clause-walks t c =

@@ -5,7 +5,7 @@ use Rattle.graphql_documents.specs.Selections.{fragments_of}
 use Rattle.graphql_documents.specs.Walks.{PassesDepth}
 use Rattle.graphql_values.proofs.SelectionWalkLemmas.{walked_words}
 use Rattle.graphql_values.proofs.WalkedLemmas.{walk_has_listed, passes_bound}
-use Rattle.graphql_values.specs.WalkSteps.{HasWalked, PassesFrom, StandsIn, walk_into}
+use Rattle.graphql_values.specs.WalkSteps.{HasWalked, PassesFrom, IsInSet, walk_into}
 use Rattle.graphql_values.specs.declared.variable.walks.Met.{Met}
 use Rattle.graphql_values.proofs.variable.walks.SelectionWalk.over.Goals as goal
 
@@ -14,11 +14,11 @@ returns c =
     let walk = c.args.self.now in
     let set = c.args.set.now in
     let begun : Met = record { entered = c.new.result; selections = c.new-2.result } in
-    let Bounded = λ (limit depth : ℕ). HasWalked walk (StandsIn set) (PassesFrom walk begun limit depth set) begun c.walk_set.new.met c.in_ok-complete.complete in
+    let Bounded = λ (limit depth : ℕ). HasWalked walk (IsInSet set) (PassesFrom walk begun limit depth set) begun c.walk_set.new.met c.in_ok-complete.complete in
     let from_nothing : Bounded 500 0 =
     subst (λ limit. Bounded limit 0) c.with_limit-depth.ensures.limit
     (subst (Bounded (depth_limit c.with_limit-depth.result)) (c.with_limit-depth.ensures.depth ∙ c.new-3.ensures.depth) c.in_ok-complete.ensures.walks) in
     walk_has_listed walk set (PassesDepth (fragments_of walk.document.now) (walk_into walk.into_fields) set) begun c.walk_set.new.met c.in_ok-complete.complete
     (ap (map (λ r. r.now)) c.new.ensures.empty) (ap (map (λ r. r.now)) c.new-2.ensures.items)
-    (walked_words walk (StandsIn set) (StandsIn set) (PassesFrom walk begun 500 0 set) (PassesDepth (fragments_of walk.document.now) (walk_into walk.into_fields) set)
+    (walked_words walk (IsInSet set) (IsInSet set) (PassesFrom walk begun 500 0 set) (PassesDepth (fragments_of walk.document.now) (walk_into walk.into_fields) set)
     begun c.walk_set.new.met c.in_ok-complete.complete (λ x h. h) (λ x h. h) (passes_bound walk begun set) from_nothing)

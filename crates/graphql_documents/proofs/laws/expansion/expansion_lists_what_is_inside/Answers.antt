@@ -1,5 +1,0 @@
-use Rattle.graphql_documents.proofs.ExpansionLaws.{inside_is_listed}
-use Rattle.graphql_documents.proofs.laws.expansion.expansion_lists_what_is_inside.Goals as goal
-
-pub returns : goal.returns
-returns c = inside_is_listed

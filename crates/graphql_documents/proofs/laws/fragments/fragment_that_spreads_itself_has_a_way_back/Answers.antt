@@ -1,5 +1,0 @@
-use Rattle.graphql_documents.proofs.FragmentLaws.{spreads_itself}
-use Rattle.graphql_documents.proofs.laws.fragments.fragment_that_spreads_itself_has_a_way_back.Goals as goal
-
-pub returns : goal.returns
-returns c = spreads_itself

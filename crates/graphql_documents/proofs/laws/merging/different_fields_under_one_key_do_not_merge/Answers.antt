@@ -1,5 +1,0 @@
-use Rattle.graphql_documents.proofs.MergingLaws.{different_names_clash}
-use Rattle.graphql_documents.proofs.laws.merging.different_fields_under_one_key_do_not_merge.Goals as goal
-
-pub returns : goal.returns
-returns c = different_names_clash

@@ -1,5 +1,0 @@
-use Rattle.graphql_documents.proofs.MergingLaws.{leaf_fields_merge}
-use Rattle.graphql_documents.proofs.laws.merging.leaf_fields_that_agree_merge.Goals as goal
-
-pub returns : goal.returns
-returns c = leaf_fields_merge

@@ -1,5 +1,0 @@
-use Rattle.graphql_documents.proofs.MergingLaws.{same_shape_then}
-use Rattle.graphql_documents.proofs.laws.merging.sameness_of_shapes_goes_on.Goals as goal
-
-pub returns : goal.returns
-returns c = same_shape_then

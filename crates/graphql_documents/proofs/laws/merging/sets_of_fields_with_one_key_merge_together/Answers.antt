@@ -1,5 +1,0 @@
-use Rattle.graphql_documents.proofs.MergingLaws.{sets_below_merge}
-use Rattle.graphql_documents.proofs.laws.merging.sets_of_fields_with_one_key_merge_together.Goals as goal
-
-pub returns : goal.returns
-returns c = sets_below_merge

@@ -1,6 +1,0 @@
-use Rattle.graphql_documents.proofs.ReportLaws.{no_limit}
-use Rattle.std.proofs.Common.{None, refl}
-use Rattle.graphql_documents.proofs.laws.reports.limit_of_a_shallow_document_is_not_true.Goals as goal
-
-pub returns : goal.returns
-returns c same schema document shallow = no_limit document shallow same schema _ None refl

@@ -1,5 +1,0 @@
-use Rattle.graphql_documents.proofs.SchemaLaws.{no_required_field}
-use Rattle.graphql_documents.proofs.laws.schemas.nullable_fields_and_lists_are_no_way_back.Goals as goal
-
-pub returns : goal.returns
-returns c = no_required_field

@@ -1,5 +1,0 @@
-use Rattle.graphql_documents.proofs.SchemaLaws.{circle_of_required_fields}
-use Rattle.graphql_documents.proofs.laws.schemas.required_fields_in_a_circle_are_a_way_back.Goals as goal
-
-pub returns : goal.returns
-returns c = circle_of_required_fields

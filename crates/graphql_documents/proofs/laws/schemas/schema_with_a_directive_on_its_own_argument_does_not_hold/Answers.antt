@@ -1,5 +1,0 @@
-use Rattle.graphql_documents.proofs.SchemaLaws.{directive_on_its_own_argument_breaks}
-use Rattle.graphql_documents.proofs.laws.schemas.schema_with_a_directive_on_its_own_argument_does_not_hold.Goals as goal
-
-pub returns : goal.returns
-returns c = directive_on_its_own_argument_breaks

@@ -1,5 +1,0 @@
-use Rattle.graphql_documents.proofs.SchemaLaws.{empty_enum_breaks}
-use Rattle.graphql_documents.proofs.laws.schemas.schema_with_an_empty_enum_does_not_hold.Goals as goal
-
-pub returns : goal.returns
-returns c = empty_enum_breaks

@@ -1,5 +1,0 @@
-use Rattle.graphql_documents.proofs.SchemaLaws.{circle_of_required_fields_breaks}
-use Rattle.graphql_documents.proofs.laws.schemas.schema_with_required_fields_in_a_circle_does_not_hold.Goals as goal
-
-pub returns : goal.returns
-returns c = circle_of_required_fields_breaks

@@ -1,5 +1,0 @@
-use Rattle.graphql_documents.proofs.SelectionLaws.{only_fields_inside}
-use Rattle.graphql_documents.proofs.laws.selections.what_is_below_a_field_is_not_inside.Goals as goal
-
-pub returns : goal.returns
-returns c = only_fields_inside

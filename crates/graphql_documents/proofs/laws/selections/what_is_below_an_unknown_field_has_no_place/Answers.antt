@@ -1,5 +1,0 @@
-use Rattle.graphql_documents.proofs.SelectionLaws.{nothing_placed_below}
-use Rattle.graphql_documents.proofs.laws.selections.what_is_below_an_unknown_field_has_no_place.Goals as goal
-
-pub returns : goal.returns
-returns c = nothing_placed_below

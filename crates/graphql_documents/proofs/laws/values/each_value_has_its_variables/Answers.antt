@@ -1,5 +1,0 @@
-use Rattle.graphql_documents.proofs.VariableLaws.{each_has_variables}
-use Rattle.graphql_documents.proofs.laws.values.each_value_has_its_variables.Goals as goal
-
-pub returns : goal.returns
-returns c = each_has_variables

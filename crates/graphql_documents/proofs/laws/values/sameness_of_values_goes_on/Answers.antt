@@ -1,5 +1,0 @@
-use Rattle.graphql_documents.proofs.ValueLaws.{same_value_then}
-use Rattle.graphql_documents.proofs.laws.values.sameness_of_values_goes_on.Goals as goal
-
-pub returns : goal.returns
-returns c = same_value_then

@@ -1,0 +1,9 @@
+pub mod ExpansionLaws
+pub mod FragmentLaws
+pub mod MergingLaws
+pub mod ReportLaws
+pub mod SchemaLaws
+pub mod SelectionLaws
+pub mod TypeMapLaws
+pub mod ValueLaws
+pub mod VariableLaws

@@ -1,0 +1,60 @@
+-- What stands inside a selection set and below it.
+use Rattle.std.proofs.Common.{◌≡◌, [], ◌∷◌, Option, Some, None, refl, sym, ◌∙◌, ap, subst, Contains}
+use Rattle.graphql_documents.specs.Names.{NameText}
+use Rattle.graphql_documents.specs.Selections.{Fragments, selections_of, Includes, includes_itself, includes_inline_fragment, includes_spread, Inside, Reached, reached_inside, reached_below, definition_at, TypeBelow, below_unknown, below_known, Placed, standing_at, placed_in_field, placed_in_inline_fragment, placed_in_spread}
+use Rattle.graphql_documents.specs.declared.documents.nodes.Node.{Node}
+use Rattle.graphql_documents.specs.declared.documents.schemas.Schema.{Schema}
+use Rattle.graphql_documents.specs.declared.documents.executables.Selection.{Selection, out-Selection}
+use Rattle.graphql_documents.specs.declared.documents.executables.Selection.TheOpen as Open
+use Rattle.graphql_documents.specs.declared.documents.executables.Selection.TheVariants as kind
+use Rattle.graphql_documents.specs.declared.documents.executables.SelectionSet.{SelectionSet}
+use Rattle.graphql_documents.specs.declared.documents.executables.Field.{Field}
+use Rattle.graphql_documents.specs.declared.documents.executables.InlineFragment.{InlineFragment}
+use Rattle.graphql_documents.specs.declared.documents.executables.FragmentSpread.{FragmentSpread}
+use Rattle.graphql_documents.proofs.ListLemmas.{only_one}
+use Rattle.graphql_documents.proofs.SelectionLemmas.{not_inline, not_spread, same_field}
+
+pub below_a_field : (fragments : Fragments) (set : SelectionSet) (f : Node Field) (s : Selection) →
+    Contains (selections_of set) (kind.Field f) → Inside fragments f.value.value.selection_set s → Reached fragments set s
+below_a_field fragments set f s stands inside = reached_below (set, includes_itself, stands) (reached_inside inside)
+
+pub only_fields_inside : (fragments : Fragments) (set : SelectionSet) (s : Selection) →
+    ((t : Selection) → Contains (selections_of set) t → (f : Node Field) × (t ≡ kind.Field f)) →
+    Inside fragments set s → Contains (selections_of set) s
+only_fields_inside fragments set s fields (inner, included, stands) = under included fields stands where
+  under : {outer inner : SelectionSet} → Includes fragments outer inner →
+      ((t : Selection) → Contains (selections_of outer) t → (f : Node Field) × (t ≡ kind.Field f)) →
+      Contains (selections_of inner) s → Contains (selections_of outer) s
+  under includes_itself fields stands = stands
+  under (includes_inline_fragment {i = i} there more) fields stands =
+      let f = fields (kind.InlineFragment i) there in absurd (not_inline f.0 i f.1)
+  under (includes_spread {p = p} there is more) fields stands =
+      let f = fields (kind.FragmentSpread p) there in absurd (not_spread f.0 p f.1)
+
+-- below a field that its known type lacks there is no place
+nothing_below : {schema : Option Schema} {place : Option NameText} {field : NameText} {below : Option NameText} →
+    TypeBelow schema place field below → (t : NameText) → place ≡ Some t → definition_at schema place field ≡ None → ⊥
+nothing_below below_unknown t known lacks = let h : ⊥ = cc in h
+nothing_below (below_known {d = d} found) t known lacks = let h : ⊥ = cc in h
+
+-- where a field is all that a set has, no other selection stands there
+OnlyHas : SelectionSet → Node Field → Type 0
+OnlyHas set f = (x : Selection) → Contains (selections_of set) x → x ≡ kind.Field f
+
+at_most : {schema : Option Schema} {fragments : Fragments} {place here : Option NameText} {set : SelectionSet} {s : Selection} →
+    Placed schema fragments place set s here → (t : NameText) (f : Node Field) → place ≡ Some t → OnlyHas set f →
+    definition_at schema (Some t) f.value.value.name ≡ None → Contains (selections_of set) s
+unfolding OnlyHas
+at_most (standing_at stands) t f known only lacks = stands
+at_most (placed_in_field {f = g} stands below more) t f known only lacks =
+    let same : g ≡ f = same_field f g (only (kind.Field g) stands) in
+    absurd (nothing_below below t known (rw (same, known) lacks))
+at_most (placed_in_inline_fragment {i = i} stands more) t f known only lacks = absurd (not_inline f i (only (kind.InlineFragment i) stands))
+at_most (placed_in_spread {p = p} stands is more) t f known only lacks = absurd (not_spread f p (only (kind.FragmentSpread p) stands))
+
+pub nothing_placed_below : (schema : Option Schema) (fragments : Fragments) (t : NameText) (set : SelectionSet) (f : Node Field) (s : Selection) (here : Option NameText) →
+    selections_of set ≡ kind.Field f ∷ [] → definition_at schema (Some t) f.value.value.name ≡ None →
+    Placed schema fragments (Some t) set s here → Contains (selections_of set) s
+unfolding OnlyHas
+nothing_placed_below schema fragments t set f s here only lacks placed =
+    at_most placed t f refl (λ x in'. only_one (kind.Field f) x (subst (λ l. Contains l x) only in')) lacks

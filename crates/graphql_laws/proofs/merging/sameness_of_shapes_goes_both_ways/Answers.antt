@@ -1,0 +1,5 @@
+use Rattle.graphql_laws.proofs.MergingLaws.{same_shape_back}
+use Rattle.graphql_laws.proofs.merging.sameness_of_shapes_goes_both_ways.Goals as goal
+
+pub returns : goal.returns
+returns c = same_shape_back

@@ -1,0 +1,14 @@
+//! Laws of the definitions: what holds of every schema and document, whatever a validator does.
+//!
+//! Each function here does nothing. Its contract is the law.
+#![tactic(auto)]
+
+pub mod expansion;
+pub mod fragments;
+pub mod merging;
+pub mod reports;
+pub mod schemas;
+pub mod selections;
+pub mod type_maps;
+pub mod values;
+pub mod variables;
