@@ -51,26 +51,6 @@ distinct_more xs x = (
   ),
 )
 
--- arguments are found by the text of the name
-pub same_query : (a b : NameText) (xs : List (Node Argument)) → same_name a b ≡ true → argument_named a xs ≡ argument_named b xs
-same_query a b xs e =
-    let same : a.text ≡ b.text = (bytes_eq-Decides a.text b.text).0 e in
-    ap (λ text. find (λ x. bytes_eq x.value.value.name.text text) xs) same
-
--- the place of what a look-up found
-abbrev pub place_of : Option (Node Argument) → Option (Option SourceSpan)
-place_of o = option_map (λ a. a.location) o
-
--- what was found stands somewhere
-pub place_found : (o : Option (Node Argument)) (w : Option SourceSpan) → place_of o ≡ Some w →
-    (first : Node Argument) × (o ≡ Some first) × (w ≡ first.location)
-place_found None w e = absurd (let h : ⊥ = cc in h)
-place_found (Some first) w e = (first, refl, sym (same_Some first.location w e))
-
-pub place_missing : (o : Option (Node Argument)) → place_of o ≡ None → o ≡ None
-place_missing None e = refl
-place_missing (Some first) e = absurd (let h : ⊥ = cc in h)
-
 -- a choice with nothing behind it
 pub option_or_none : {X : Type 0} (o : Option X) → option_or o None ≡ o
 option_or_none None = refl
@@ -78,12 +58,6 @@ option_or_none (Some x) = refl
 
 -- one argument more
 module _ (xs : List (Node Argument)) (i : ℕ) (x : Node Argument) (within : i < length xs) (item : x ≡ get_or xs i x) where
-  pub named_more : (q : NameText) →
-      argument_named q (take (i + 1) xs) ≡ option_or (argument_named q (take i xs)) (cond (same_name x.value.value.name q) (Some x) None)
-  named_more q =
-      ap (argument_named q) (more_is xs i x within item) ∙
-      find-append (λ a. same_name a.value.value.name q) (take i xs) (x ∷ [])
-
   pub distinct_at :
       (HasDistinctNames (take i xs) × (argument_named x.value.value.name (take i xs) ≡ None)) ↔ HasDistinctNames (take (i + 1) xs)
   distinct_at = rw (more_is xs i x within item) (distinct_more (take i xs) x)
@@ -96,27 +70,3 @@ module _ (xs : List (Node Argument)) (i : ℕ) (x : Node Argument) (within : i <
     split = sym (take-append-drop i xs) ∙ ap (λ l. take i xs ++ l) (drop_more xs i x within ∙ ap (λ y. y ∷ drop (i + 1) xs) (sym item));
     first_is = e;
   }
-
-  -- then each name finds what it found before
-  pub still_found : (first : Node Argument) → argument_named x.value.value.name (take i xs) ≡ Some first →
-      (q : NameText) → argument_named q (take (i + 1) xs) ≡ argument_named q (take i xs)
-  still_found first e q = named_more q ∙ still_or (same_name x.value.value.name q) refl where
-    still_or : (b : Bool) → same_name x.value.value.name q ≡ b →
-        option_or (argument_named q (take i xs)) (cond b (Some x) None) ≡ argument_named q (take i xs)
-    still_or true s =
-        let found : argument_named q (take i xs) ≡ Some first = sym (same_query x.value.value.name q (take i xs) s) ∙ e in
-        rw found refl
-    still_or false s = option_or_none (argument_named q (take i xs))
-
-  -- else its name finds it, and each other name what it found before
-  pub newly_found : argument_named x.value.value.name (take i xs) ≡ None →
-      (q : NameText) → place_of (argument_named q (take (i + 1) xs)) ≡
-      cond (same_name x.value.value.name q) (Some x.location) (place_of (argument_named q (take i xs)))
-  newly_found e q = ap place_of (named_more q) ∙ newly_or (same_name x.value.value.name q) refl where
-    newly_or : (b : Bool) → same_name x.value.value.name q ≡ b →
-        place_of (option_or (argument_named q (take i xs)) (cond b (Some x) None)) ≡
-        cond b (Some x.location) (place_of (argument_named q (take i xs)))
-    newly_or true s =
-        let found : argument_named q (take i xs) ≡ None = sym (same_query x.value.value.name q (take i xs) s) ∙ e in
-        rw found refl
-    newly_or false s = ap place_of (option_or_none (argument_named q (take i xs)))

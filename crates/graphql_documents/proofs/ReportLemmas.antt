@@ -49,10 +49,6 @@ module _ {Entry : Type 0} where
     pub kept_by : (P : Type 0) (old new : List Entry) → Reports P Q old new → KeepsReports Q old new
     kept_by P old new r = record { added = r.added; appended = r.appended; each = r.each }
 
-    -- a true report is added
-    pub kept_one : (old : List Entry) (e : Entry) → Q e → KeepsReports Q old (old ++ e ∷ [])
-    kept_one old e q = record { added = e ∷ []; appended = refl; each = All-cons Q e [] q (All-nil Q) }
-
     -- the rule holds, and nothing was reported
     pub holds : (P : Type 0) (old : List Entry) → P → Reports P Q old old
     holds P old p = record { added = []; appended = sym (append-nil old); silent = (λ _. p, λ _. refl); each = All-nil Q }

@@ -126,10 +126,6 @@ found_holds P p (y ∷ ys) x all e =
 abbrev Kept : Type 0
 Kept = denote.Hole.Holds.Such the_family (claims (λ v. SameValue v v)) member-Value
 
--- the value of each node is the same as itself
-AreThemselves : List (Node Value) → Type 0
-AreThemselves nodes = All (λ n. SameValue n.value.value n.value.value) nodes
-
 abbrev item : Node Kept → Node Value
 item n = record { value = record { ptr = n.value.ptr; value = n.value.value.0 }; location = n.location }
 

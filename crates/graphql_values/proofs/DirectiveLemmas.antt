@@ -32,9 +32,6 @@ use Rattle.graphql_values.specs.declared.argument.owners.GivenArguments.{GivenAr
 use Rattle.graphql_values.proofs.FirstPlaceLemmas.{found_at, pairs_more}
 
 module _ (schema : Option Schema) where
-  may_follow : Node Directive → Node Directive → Type 0
-  may_follow earlier later = SameName earlier.value.value.name later.value.value.name → IsRepeatable schema later.value.value.name
-
   -- repetitions hold exactly where they held before the last directive, and it may stand behind the first of its name
   repetitions_more : (xs : List (Node Directive)) (x : Node Directive) →
       (RepetitionsHold schema xs × RepetitionHolds schema xs x) ↔ RepetitionsHold schema (xs ++ x ∷ [])

@@ -4,25 +4,21 @@ use Rattle.std.specs.List.{AllZip, cons_option}
 use Rattle.std.specs.Option.{option_map}
 use Rattle.std.specs.Prelude.{OnOk, OnErr, MatchResult}
 use Rattle.std.proofs.lemmas.List.{append-nil, append_assoc}
+use Rattle.std.proofs.lemmas.List.Elements.{All-nil}
 use Rattle.graphql_documents.specs.ArgumentReports.{AreRepetitionReports, IsRepetition, IsReportOf, RepetitionReport, repetitions_after}
 use Rattle.graphql_documents.specs.Arguments.{argument_named}
 use Rattle.graphql_documents.specs.Diagnostics.{IsDiagnostic}
 use Rattle.graphql_documents.specs.Reports.{Appends, Reports}
 use Rattle.graphql_documents.proofs.DiagnosticLemmas.{diagnostic_wider}
-use Rattle.graphql_documents.proofs.ReportLemmas.{appended_then, broken, more_is}
+use Rattle.graphql_documents.proofs.ArgumentLemmas.{repetition_at}
+use Rattle.graphql_documents.proofs.ReportLemmas.{appended_then, broken, in_words, more_is}
 use Rattle.graphql_documents.specs.declared.diagnostics.data.DiagnosticData.TheVariants as report
 use Rattle.graphql_documents.specs.declared.diagnostics.data.DiagnosticData.{DiagnosticData}
 use Rattle.graphql_documents.specs.declared.diagnostics.lists.DiagnosticEntry.{DiagnosticEntry}
 use Rattle.graphql_documents.specs.declared.documents.directives.Argument.{Argument}
 use Rattle.graphql_documents.specs.declared.documents.nodes.Node.{Node}
 use Rattle.graphql_documents.specs.declared.documents.spans.SourceSpan.{SourceSpan}
-
--- a push of one report, of which this holds
-pub pushed_one : {T E Entry : Type 0} (r : Result T E) (Are : List Entry → Type 0) (old new : List Entry) (e : Entry) →
-    OnOk r (new ≡ old ++ e ∷ []) → OnErr r (new ≡ old) → Are (e ∷ []) →
-    MatchResult r (λ _. Appends Are old new) (λ _. new ≡ old)
-pushed_one (Ok x) Are old new e ok err are = record { added = e ∷ []; appended = ok; are = are }
-pushed_one (Err x) Are old new e ok err are = err
+use Rattle.graphql_values.specs.Repetitions.{AreReportsOf, repetition_after}
 
 -- nothing was appended
 pub appends_none : {Entry : Type 0} (Are : List Entry → Type 0) (old : List Entry) → Are [] → Appends Are old old
@@ -40,50 +36,15 @@ cons_option_then : {X : Type 0} (o : Option X) (xs ys : List X) → cons_option 
 cons_option_then None xs ys = refl
 cons_option_then (Some x) xs ys = refl
 
--- what an argument repeats, if the first with its name stands before it
-abbrev repeated : Node Argument → Option (Node Argument) → List (Node Argument × Node Argument)
-repeated x first = cons_option (option_map (λ (f : Node Argument). (f, x)) first) []
-
 -- one argument more has at most one repetition more
 repetitions_more : (before given : List (Node Argument)) (x : Node Argument) →
-    repetitions_after before (given ++ x ∷ []) ≡ repetitions_after before given ++ repeated x (argument_named x.value.value.name (before ++ given))
-repetitions_more before [] x = ap (λ l. repeated x (argument_named x.value.value.name l)) (sym (append-nil before))
+    repetitions_after before (given ++ x ∷ []) ≡ repetitions_after before given ++ repetition_after (before ++ given) x
+repetitions_more before [] x = ap (λ l. repetition_after l x) (sym (append-nil before))
 repetitions_more before (a ∷ given) x =
     let o : Option (Node Argument × Node Argument) = option_map (λ first. (first, a)) (argument_named a.value.value.name before) in
     ap (cons_option o) (repetitions_more (before ++ a ∷ []) given x) ∙
-    cons_option_then o (repetitions_after (before ++ a ∷ []) given) (repeated x (argument_named x.value.value.name ((before ++ a ∷ []) ++ given))) ∙
-    ap (λ l. cons_option o (repetitions_after (before ++ a ∷ []) given) ++ repeated x (argument_named x.value.value.name l)) (append_assoc before (a ∷ []) given)
-
--- the reports are of these repetitions
-abbrev pub AreReportsOf : List (Node Argument × Node Argument) → List DiagnosticEntry → Type 0
-AreReportsOf pairs reports = AllZip (λ pair. IsDiagnostic (IsReportOf pair)) pairs reports
-
--- a walk over the arguments: one that repeats the first with its name, and one that is new
-module _ (xs : List (Node Argument)) (i : ℕ) (x : Node Argument) (within : i < length xs) (item : x ≡ get_or xs i x) where
-  abbrev now_repeated : List (Node Argument × Node Argument)
-  now_repeated = repeated x (argument_named x.value.value.name (take i xs))
-
-  appends_more : (old mid new : List DiagnosticEntry) → Appends (AreRepetitionReports (take i xs)) old mid →
-      Appends (AreReportsOf now_repeated) mid new → Appends (AreRepetitionReports (take (i + 1) xs)) old new
-  appends_more old mid new a b = record {
-    added = a.added ++ b.added;
-    appended = appended_then old mid new a.added b.added a.appended b.appended;
-    are =
-        subst (λ l. AreRepetitionReports l (a.added ++ b.added)) (sym (more_is xs i x within item))
-        (subst (λ pairs. AreReportsOf pairs (a.added ++ b.added)) (sym (repetitions_more [] (take i xs) x))
-        (zip_then (λ pair. IsDiagnostic (IsReportOf pair)) (repetitions_after [] (take i xs)) now_repeated a.added b.added a.are b.are));
-  }
-
-  pub appends_repetition : (first : Node Argument) (old mid new : List DiagnosticEntry) → argument_named x.value.value.name (take i xs) ≡ Some first →
-      Appends (AreRepetitionReports (take i xs)) old mid → Appends (AreReportsOf ((first, x) ∷ [])) mid new →
-      Appends (AreRepetitionReports (take (i + 1) xs)) old new
-  appends_repetition first old mid new found a b =
-      appends_more old mid new a (subst (λ o. Appends (AreReportsOf (repeated x o)) mid new) (sym found) b)
-
-  pub appends_new : (old mid : List DiagnosticEntry) → argument_named x.value.value.name (take i xs) ≡ None →
-      Appends (AreRepetitionReports (take i xs)) old mid → Appends (AreRepetitionReports (take (i + 1) xs)) old mid
-  appends_new old mid none a =
-      appends_more old mid mid a (subst (λ o. Appends (AreReportsOf (repeated x o)) mid mid) (sym none) (appends_none (AreReportsOf []) mid tt))
+    cons_option_then o (repetitions_after (before ++ a ∷ []) given) (repetition_after ((before ++ a ∷ []) ++ given) x) ∙
+    ap (λ l. cons_option o (repetitions_after (before ++ a ∷ []) given) ++ repetition_after l x) (append_assoc before (a ∷ []) given)
 
 -- the report of a repetition is that of one among the arguments
 module _ (given : List (Node Argument)) (first again : Node Argument) (repetition : IsRepetition given first again) where
@@ -102,3 +63,36 @@ module _ (given : List (Node Argument)) (first again : Node Argument) (repetitio
   pub reports_repetition : (old new : List DiagnosticEntry) → Appends (AreReportsOf ((first, again) ∷ [])) old new →
       Reports ⊥ (IsDiagnostic (RepetitionReport given)) old new
   reports_repetition old new a = of_one old new a.added a.appended a.are
+
+-- a walk over the arguments: one more
+module _ (xs : List (Node Argument)) (i : ℕ) (x : Node Argument) (within : i < length xs) (item : x ≡ get_or xs i x) where
+  pub appends_more : (old mid new : List DiagnosticEntry) → Appends (AreRepetitionReports (take i xs)) old mid →
+      Appends (AreReportsOf (repetition_after (take i xs) x)) mid new → Appends (AreRepetitionReports (take (i + 1) xs)) old new
+  appends_more old mid new a b = record {
+    added = a.added ++ b.added;
+    appended = appended_then old mid new a.added b.added a.appended b.appended;
+    are =
+        subst (λ l. AreRepetitionReports l (a.added ++ b.added)) (sym (more_is xs i x within item))
+        (subst (λ pairs. AreReportsOf pairs (a.added ++ b.added)) (sym (repetitions_more [] (take i xs) x))
+        (zip_then (λ pair. IsDiagnostic (IsReportOf pair)) (repetitions_after [] (take i xs)) (repetition_after (take i xs) x) a.added b.added a.are b.are));
+  }
+
+  none_added : (added : List DiagnosticEntry) → AreReportsOf [] added → added ≡ []
+  none_added [] are = refl
+  none_added (e ∷ added) are = absurd are
+
+  pub reports_more : (mid new : List DiagnosticEntry) → Appends (AreReportsOf (repetition_after (take i xs) x)) mid new →
+      Reports (argument_named x.value.value.name (take i xs) ≡ None) (IsDiagnostic (RepetitionReport xs)) mid new
+  reports_more mid new a = by (argument_named x.value.value.name (take i xs)) refl a.are where
+    by : (o : Option (Node Argument)) → argument_named x.value.value.name (take i xs) ≡ o →
+        AreReportsOf (cons_option (option_map (λ first. (first, x)) o) []) a.added →
+        Reports (o ≡ None) (IsDiagnostic (RepetitionReport xs)) mid new
+    by None e are = record {
+      added = [];
+      appended = subst (λ added. new ≡ mid ++ added) (none_added a.added are) a.appended;
+      silent = (λ none. refl, λ none. refl);
+      each = All-nil (IsDiagnostic (RepetitionReport xs));
+    }
+    by (Some first) e are =
+        in_words (IsDiagnostic (RepetitionReport xs)) ⊥ (Some first ≡ None) mid new (λ no. absurd no, λ none. absurd (let no : ⊥ = cc in no))
+        (reports_repetition xs first x (repetition_at xs i x within item first e) mid new (record { added = a.added; appended = a.appended; are = are }))

@@ -283,15 +283,6 @@ abbrev pub PassesBelow : SelectionWalk → Met → ℕ → ℕ → Selection →
 PassesBelow walk met limit depth s = (set : SelectionSet) → Contains (selections_of set) s → PassesFrom walk met limit depth set
 
 module _ (walk : SelectionWalk) where
-  -- nothing is to be done, as all of it was met before
-  pub walked_before : (begins : Stop → Type 0) (Passes : Type 0) (met : Met) → ((x : Stop) → begins x → IsMet met x) →
-      HasWalked walk begins Passes met met true
-  walked_before begins Passes met before = record {
-    finds = finds_nothing (StepOf walk) begins (IsMet met);
-    searched = λ h. searched_before (StepOf walk) begins (IsMet met) before;
-    bound = λ h. absurd (both_not true refl h);
-  }
-
   -- the walk is at its limit
   pub walked_to_limit : (set : SelectionSet) (limit depth : ℕ) (met : Met) → limit ≤ depth →
       HasWalked walk (IsInSet set) (PassesFrom walk met limit (depth + 1) set) met met false

@@ -1,6 +1,7 @@
 pub mod DirectiveSteps
 pub mod FirstPlaces
 pub mod GivenArguments
+pub mod Repetitions
 pub mod Searches
 pub mod Uses
 pub mod ValueSteps

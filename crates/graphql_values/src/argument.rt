@@ -4,15 +4,16 @@ mod given;
 mod owners;
 mod required;
 
-ghost use Rattle.std.specs.List.{AllZip};
-ghost use Rattle.std.specs.Prelude.{◌≡◌, [], ◌∷◌, MatchResult, OnOk};
-ghost use Rattle.graphql_documents.specs.ArgumentReports.{AreRepetitionReports, IsReportOf, RepetitionReport};
+ghost use Rattle.std.specs.Prelude.{◌≡◌, List, MatchResult, OnOk};
+ghost use Rattle.graphql_documents.specs.ArgumentReports.{AreRepetitionReports, RepetitionReport};
 ghost use Rattle.graphql_documents.specs.Arguments.{HasDistinctNames};
 ghost use Rattle.graphql_documents.specs.Diagnostics.{IsDiagnostic, entries};
 ghost use Rattle.graphql_documents.specs.Reports.{Appends, Checks};
 ghost use Rattle.graphql_documents.specs.declared.documents.directives.Argument.{Argument};
 ghost use Rattle.graphql_documents.specs.declared.documents.nodes.Node.{Node};
+ghost use Rattle.graphql_values.specs.Repetitions.{AreReportsOf, argument_place_in, repetition_after};
 
+use crate::first_places::first_place;
 pub use given::validate_given_arguments;
 use graphql_documents::diagnostics::{Details, DiagnosticData, DiagnosticList, ValidationError};
 use graphql_documents::documents::{Argument, Name, Node, SourceSpan};
@@ -33,30 +34,27 @@ pub fn validate_arguments(
 {
     let mut seen: HashMap<&Name, Option<SourceSpan>> = HashMap::new(diagnostics.allocator());
     for argument in arguments {
-        let name = &argument.value.name;
-        match seen.get(&name) {
-            Some(original) => {
-                let original = *original;
-                report_repetition(diagnostics, argument, original)?;
-            }
-            None => {
-                seen.insert(name, argument.location)?;
-            }
-        }
+        let first = first_place(&mut seen, &argument.value.name, argument.location)?;
+        check_repetition(diagnostics, argument, first)?;
     }
     Ok(())
 }
 
-fn report_repetition(
+/// Reports an argument that repeats the name of one before it. The first argument of the name, if there
+/// is one, stands at `first`.
+fn check_repetition(
     diagnostics: &mut DiagnosticList,
     argument: &Node<Argument>,
-    original: Option<SourceSpan>,
+    first: Option<Option<SourceSpan>>,
 ) -> Result<(), ValidationError>
-    ensures { (first : Node Argument) → original ≡ first.location →
+    ensures { (before : List (Node Argument)) → first ≡ argument_place_in before argument.now.value.value.name →
         MatchResult result
-        (λ _. Appends (AllZip (λ pair. IsDiagnostic (IsReportOf pair)) ((first, argument.now) ∷ [])) (entries diagnostics.old) (entries diagnostics.new))
+        (λ _. Appends (AreReportsOf (repetition_after before argument.now)) (entries diagnostics.old) (entries diagnostics.new))
         (λ _. entries diagnostics.new ≡ entries diagnostics.old) }
 {
+    let Some(original) = first else {
+        return Ok(());
+    };
     let name = argument.value.name.clone()?;
     diagnostics.push(
         argument.location,

@@ -2,7 +2,6 @@
 //! types and values.
 
 mod applications;
-mod first_places;
 mod variable_definitions;
 
 ghost use Rattle.std.specs.Prelude.{map};
@@ -13,8 +12,8 @@ ghost use Rattle.graphql_documents.specs.Directives.{ApplicationsHold};
 ghost use Rattle.graphql_documents.specs.Reports.{Checks};
 
 use crate::argument::validate_arguments;
+use crate::first_places::first_place;
 use applications::{check_repetition, validate_application};
-use first_places::first_place;
 use graphql_documents::diagnostics::{DiagnosticList, ValidationError};
 use graphql_documents::documents::{
     Directive, DirectiveLocation, Name, Node, Schema, SourceSpan, VariableDefinition,

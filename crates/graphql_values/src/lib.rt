@@ -5,5 +5,6 @@
 pub mod argument;
 mod copies;
 pub mod directive;
+mod first_places;
 pub mod value;
 pub mod variable;

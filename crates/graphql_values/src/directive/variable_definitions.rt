@@ -14,8 +14,8 @@ ghost use Rattle.graphql_documents.specs.declared.documents.nodes.Node.{Node};
 ghost use Rattle.graphql_documents.specs.declared.documents.schemas.Schema.{Schema};
 ghost use Rattle.graphql_values.specs.VariableSteps.{ChecksName, ChecksVariable, IsNewName, TypeHolds, variable_place_in};
 
-use super::first_places::first_place;
 use super::validate_directives;
+use crate::first_places::first_place;
 use crate::value::value_of_correct_type;
 use graphql_documents::diagnostics::{Details, DiagnosticData, DiagnosticList, ValidationError};
 use graphql_documents::documents::{

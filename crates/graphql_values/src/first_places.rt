@@ -11,7 +11,7 @@ use std::collections::HashMap;
 
 /// Answers the place that stands for this name. Where the name is new, there is none, and this place
 /// stands for it from then on.
-pub(super) fn first_place<'a>(
+pub(crate) fn first_place<'a>(
     seen: &mut HashMap<&'a Name, Option<SourceSpan>>,
     name: &'a Name,
     place: Option<SourceSpan>,

@@ -4,7 +4,7 @@ use Rattle.std.specs.Str.{bytes_eq}
 use Rattle.graphql_documents.specs.Names.{NameText, SameName, same_name}
 use Rattle.graphql_documents.proofs.NameLemmas.{same_text}
 use Rattle.graphql_values.proofs.FirstPlaceLemmas.{chosen_or}
-use Rattle.graphql_values.proofs.directive.first_places.first_place.Goals as goal
+use Rattle.graphql_values.proofs.first_places.first_place.Goals as goal
 
 pub returns-in_ok-insert-in-None-clause-remembered :
     goal.returns-in_ok-insert-in-None-clause-remembered
