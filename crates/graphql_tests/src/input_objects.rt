@@ -89,30 +89,36 @@ fn field_taking_an_object(rt: &impl Abort, alloc: Global) -> Valid<Schema> {
     schema(alloc, &types, &[]).expect(rt, "a schema")
 }
 
-/// What the argument `i` brings, of the type `input I { r: Int!, s: Int }`.
-fn check(rt: &impl Abort, alloc: Global, entries: &[ArgumentNotation<'_>], expected: &str) {
+/// The argument `i` brings these reports, of the type `input I { r: Int!, s: Int }`.
+fn check<'a>(
+    rt: &impl Abort,
+    alloc: Global,
+    arguments: &'a [ArgumentNotation<'a>],
+    expected: &str,
+) {
     let mut schema = field_taking_an_object(rt, alloc);
     schema
         .0
         .types
         .insert(name(rt, alloc, "I"), input_object(rt, alloc))
         .expect(rt, "memory for a type");
-    let arguments = [argument("i", Literal::Object(entries))];
-    let selections = [field("f", &arguments, &[])];
-    field_set_reports(rt, alloc, &schema, &selections, expected);
+    field_set_reports(rt, alloc, &schema, &[field("f", arguments, &[])], expected);
 }
 
 #[test]
 fn unknown_entries_are_reported(rt: HostRuntime) {
-    check(&rt, rt.alloc(), UNKNOWN, NO_FIELD);
+    let given = [argument("i", Literal::Object(UNKNOWN))];
+    check(&rt, rt.alloc(), &given, NO_FIELD);
 }
 
 #[test]
 fn null_is_no_required_field(rt: HostRuntime) {
-    check(&rt, rt.alloc(), NULL, NO_VALUE);
+    let given = [argument("i", Literal::Object(NULL))];
+    check(&rt, rt.alloc(), &given, NO_VALUE);
 }
 
 #[test]
 fn a_second_entry_does_not_make_up_for_null(rt: HostRuntime) {
-    check(&rt, rt.alloc(), TWICE, REPEATED);
+    let given = [argument("i", Literal::Object(TWICE))];
+    check(&rt, rt.alloc(), &given, REPEATED);
 }

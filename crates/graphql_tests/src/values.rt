@@ -25,32 +25,30 @@ fn field_taking_values(rt: &impl Abort, alloc: Global) -> Valid<Schema> {
     schema(alloc, &types, &[]).expect(rt, "a schema")
 }
 
-/// What this argument of `f` brings.
-fn check(rt: &impl Abort, alloc: Global, given: ArgumentNotation<'_>, expected: &str) {
+/// These arguments of `f` bring these reports.
+fn check<'a>(rt: &impl Abort, alloc: Global, given: &'a [ArgumentNotation<'a>], expected: &str) {
     let schema = field_taking_values(rt, alloc);
-    let arguments = [given];
-    let selections = [field("f", &arguments, &[])];
-    field_set_reports(rt, alloc, &schema, &selections, expected);
+    field_set_reports(rt, alloc, &schema, &[field("f", given, &[])], expected);
 }
 
 #[test]
 fn integers_have_32_bits(rt: HostRuntime) {
-    let greatest = argument("n", Literal::Int("2147483648"));
-    check(&rt, rt.alloc(), greatest, TOO_LARGE);
-    let least = argument("n", Literal::Int("-2147483648"));
-    check(&rt, rt.alloc(), least, "");
+    let greatest = [argument("n", Literal::Int("2147483648"))];
+    check(&rt, rt.alloc(), &greatest, TOO_LARGE);
+    let least = [argument("n", Literal::Int("-2147483648"))];
+    check(&rt, rt.alloc(), &least, "");
 }
 
 #[test]
 fn texts_are_no_integers(rt: HostRuntime) {
-    let given = argument("n", Literal::String("1"));
-    check(&rt, rt.alloc(), given, A_STRING);
+    let given = [argument("n", Literal::String("1"))];
+    check(&rt, rt.alloc(), &given, A_STRING);
 }
 
 #[test]
 fn one_value_stands_for_a_list(rt: HostRuntime) {
-    let given = argument("l", Literal::Int("1"));
-    check(&rt, rt.alloc(), given, "");
+    let given = [argument("l", Literal::Int("1"))];
+    check(&rt, rt.alloc(), &given, "");
 }
 
 /// A list of this many ones.
