@@ -1,16 +1,11 @@
 -- The first argument with a name, and lists of arguments with distinct names.
 use Rattle.std.proofs.Common.{◌≡◌, ◌↔◌, ℕ, zero, suc, ◌+◌, ◌<◌, List, [], ◌∷◌, ◌++◌, length, get_or, take, drop, Bool, true, false, cond, Option, Some, None, refl, sym, ◌∙◌, ap, find, arith}
-use Rattle.std.specs.Option.{option_or, option_map}
-use Rattle.std.specs.Str.{bytes_eq}
-use Rattle.std.proofs.lemmas.Slice.Eq.{bytes_eq-Decides}
-use Rattle.std.proofs.lemmas.Option.{same_Some}
+use Rattle.std.specs.Option.{option_or}
 use Rattle.std.proofs.lemmas.List.{get_or_append_left, get_or_push, length-append, take-append-drop, drop_more}
-use Rattle.std.proofs.lemmas.List.Folds.{find-append}
 use Rattle.std.proofs.lemmas.List.Quantifiers.{all_pairs_push}
-use Rattle.graphql_documents.specs.Names.{NameText, same_name}
+use Rattle.graphql_documents.specs.Names.{same_name}
 use Rattle.graphql_documents.specs.Arguments.{argument_named, HasDistinctNames}
 use Rattle.graphql_documents.specs.ArgumentReports.{IsRepetition}
-use Rattle.graphql_documents.specs.declared.documents.spans.SourceSpan.{SourceSpan}
 use Rattle.graphql_documents.specs.declared.documents.nodes.Node.{Node}
 use Rattle.graphql_documents.specs.declared.documents.directives.Argument.{Argument}
 use Rattle.graphql_documents.proofs.ReportLemmas.{more_is}

@@ -1,12 +1,11 @@
 -- Kinds of selections, included sets, and the fragment that a name finds.
-use Rattle.std.proofs.Common.{List, ℕ, ◌≡◌, [], ◌∷◌, Option, Some, None, refl, sym, ◌∙◌, ap, subst, Contains}
+use Rattle.std.proofs.Common.{List, ℕ, ◌≡◌, sym, ◌∙◌, ap}
 use Rattle.std.specs.Str.{bytes_eq}
 use Rattle.indexmap.specs.IndexMap.{get_by}
 use Rattle.graphql_documents.specs.Names.{NameText, SameName}
-use Rattle.graphql_documents.specs.Selections.{Fragments, fragments_of, selections_of, Includes, includes_itself, includes_inline_fragment, includes_spread, Inside, Reached, reached_inside, reached_below, definition_at, TypeBelow, below_unknown, below_known, Placed, standing_at, placed_in_field, placed_in_inline_fragment, placed_in_spread}
+use Rattle.graphql_documents.specs.Selections.{Fragments, fragments_of, Includes, includes_itself, includes_inline_fragment, includes_spread}
 use Rattle.graphql_documents.specs.declared.documents.nodes.Node.{Node}
-use Rattle.graphql_documents.specs.declared.documents.schemas.Schema.{Schema}
-use Rattle.graphql_documents.specs.declared.documents.executables.Selection.{Selection, out-Selection}
+use Rattle.graphql_documents.specs.declared.documents.executables.Selection.{out-Selection}
 use Rattle.graphql_documents.specs.declared.documents.executables.Selection.TheOpen as Open
 use Rattle.graphql_documents.specs.declared.documents.executables.Selection.TheVariants as kind
 use Rattle.graphql_documents.specs.declared.documents.executables.SelectionSet.{SelectionSet}

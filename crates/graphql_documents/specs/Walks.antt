@@ -1,5 +1,5 @@
 -- Walks over selections, how deep they go, and what they list.
-use Rattle.std.specs.Prelude.{◌≡◌, ℕ, suc, ◌<◌, Bool, true, false, not, List, [], ◌∷◌, Option, Some, IsTrue, IsFalse, All, Contains}
+use Rattle.std.specs.Prelude.{◌≡◌, ℕ, suc, ◌<◌, Bool, true, false, not, List, [], ◌∷◌, Some, IsTrue, IsFalse, All, Contains}
 use Rattle.graphql_documents.specs.Defer.{can_be_excluded}
 use Rattle.graphql_documents.specs.Names.{AreDistinct, NameText}
 use Rattle.graphql_documents.specs.Selections.{Fragments, selections_of}

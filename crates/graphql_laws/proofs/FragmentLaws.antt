@@ -1,18 +1,15 @@
 -- Which fragments have a way back to themselves.
-use Rattle.std.proofs.Common.{◌≡◌, List, [], ◌∷◌, ◌++◌, Some, refl, subst, All, ℕ, ap}
+use Rattle.std.proofs.Common.{◌≡◌, List, [], ◌∷◌, ◌++◌, Some, refl, subst, All}
 use Rattle.std.proofs.lemmas.List.Elements.{All-nil, All-cons, All-head}
-use Rattle.std.specs.Str.{bytes_eq}
-use Rattle.indexmap.specs.IndexMap.{get_by}
 use Rattle.graphql_documents.specs.Names.{NameText, SameName, DifferentNames}
-use Rattle.graphql_documents.specs.Selections.{Fragments, Written, fragments_of}
+use Rattle.graphql_documents.specs.Selections.{Fragments, Written}
 use Rattle.graphql_documents.specs.Paths.{Path, path_of_one, path_of_more}
 use Rattle.graphql_documents.specs.FragmentSpreads.{SpreadsBy, fragment_of, FragmentLeadsBack, FragmentHasNoWayBack}
 use Rattle.graphql_documents.specs.declared.documents.nodes.Node.{Node}
 use Rattle.graphql_documents.specs.declared.documents.executables.Selection.TheVariants as kind
-use Rattle.graphql_documents.specs.declared.documents.executables.ExecutableDocument.{ExecutableDocument}
 use Rattle.graphql_documents.specs.declared.documents.executables.Fragment.{Fragment}
 use Rattle.graphql_documents.specs.declared.documents.executables.FragmentSpread.{FragmentSpread}
-use Rattle.graphql_documents.proofs.NameLemmas.{same_name_back, same_name_then, not_both, same_text}
+use Rattle.graphql_documents.proofs.NameLemmas.{same_name_back, same_name_then, not_both}
 use Rattle.graphql_documents.proofs.ReportLemmas.{All-append_right}
 
 pub spreads_itself : (fragments : Fragments) (d : Node Fragment) (p : Node FragmentSpread) →

@@ -1,11 +1,11 @@
 -- Where the uses of variables bring no report, all variables are used, and the other way round.
-use Rattle.std.proofs.Common.{◌≡◌, ◌↔◌, Bool, true, false, List, [], ◌∷◌, ◌++◌, map, refl, subst, All, Contains}
+use Rattle.std.proofs.Common.{◌≡◌, ◌↔◌, Bool, true, false, List, [], ◌∷◌, map, refl, subst, All, Contains}
 use Rattle.std.specs.Prelude.{◌⊎◌}
 use Rattle.std.specs.List.{Any, fold, list_any}
 use mathlib.Core.Logic.{inl, inr}
 use Rattle.std.proofs.lemmas.List.Elements.{All-nil, All-cons, All-head, All-tail, All-contains, Contains-append_left, Contains-append_right, Contains-append_cases}
 use Rattle.std.proofs.lemmas.List.Folds.{Any-from_list_any}
-use Rattle.graphql_documents.specs.Names.{NameText, SameName, different_names, same_name, with_name}
+use Rattle.graphql_documents.specs.Names.{NameText, SameName, same_name, with_name}
 use Rattle.graphql_documents.specs.Selections.{Fragments}
 use Rattle.graphql_documents.specs.VariableReports.{AreUnusedReports, AreUsesReports, are_unused, defined_names, is_bound, no_name, unused_name, used_name}
 use Rattle.graphql_documents.specs.Variables.{UsesVariable, VariablesAreUsed}

@@ -1,5 +1,5 @@
 -- In a set of plain fields the places that are reached are those reached by fields alone.
-use Rattle.std.proofs.Common.{◌≡◌, ◌↔◌, arith, List, [], Option, Some, Result, Ok, Err, refl, sym, ap, ◌∙◌, subst, Contains}
+use Rattle.std.proofs.Common.{◌≡◌, ◌↔◌, arith, List, [], Option, Some, Result, Ok, Err, refl, sym, ap, subst, Contains}
 use Rattle.std.specs.Result.{result_ok}
 use Rattle.std.proofs.lemmas.Option.{same_Some, none-some}
 use Rattle.std.proofs.lemmas.List.Elements.{All-nil}
@@ -15,13 +15,10 @@ use Rattle.graphql_documents.specs.declared.documents.components.Component.{Comp
 use Rattle.graphql_documents.specs.declared.documents.definitions.FieldDefinition.{FieldDefinition}
 use Rattle.graphql_documents.specs.declared.documents.schemas.Schema.{Schema}
 use Rattle.graphql_documents.specs.declared.documents.executables.SelectionSet.{SelectionSet}
-use Rattle.graphql_documents.specs.declared.documents.executables.Selection.{Selection, out-Selection}
-use Rattle.graphql_documents.specs.declared.documents.executables.Selection.TheOpen as Open
+use Rattle.graphql_documents.specs.declared.documents.executables.Selection.{Selection}
 use Rattle.graphql_documents.specs.declared.documents.executables.Selection.TheVariants.{outs-Field, outs-InlineFragment, outs-FragmentSpread}
 use Rattle.graphql_documents.specs.declared.documents.executables.Selection.TheVariants as kind
 use Rattle.graphql_documents.specs.declared.documents.executables.Field.{Field}
-use Rattle.graphql_documents.specs.declared.documents.executables.InlineFragment.{InlineFragment}
-use Rattle.graphql_documents.specs.declared.documents.executables.FragmentSpread.{FragmentSpread}
 use Rattle.graphql_documents.specs.declared.documents.directives.Directive.{Directive}
 use Rattle.graphql_documents.specs.declared.documents.definitions.DirectiveLocation.{DirectiveLocation}
 use Rattle.graphql_documents.specs.declared.documents.definitions.VariableDefinition.{VariableDefinition}

@@ -25,8 +25,7 @@ use Rattle.graphql_documents.specs.declared.documents.definitions.FieldDefinitio
 use Rattle.graphql_documents.specs.declared.documents.schemas.Schema.{Schema}
 use Rattle.graphql_documents.specs.declared.documents.schemas.FieldLookupError.{FieldLookupError}
 use Rattle.graphql_documents.specs.declared.documents.executables.SelectionSet.{SelectionSet}
-use Rattle.graphql_documents.specs.declared.documents.executables.Selection.{Selection, out-Selection}
-use Rattle.graphql_documents.specs.declared.documents.executables.Selection.TheOpen as Open
+use Rattle.graphql_documents.specs.declared.documents.executables.Selection.{Selection}
 use Rattle.graphql_documents.specs.declared.documents.executables.Selection.TheVariants.{outs-Field}
 use Rattle.graphql_documents.specs.declared.documents.executables.Field.{Field}
 use Rattle.graphql_documents.specs.declared.documents.executables.Selection.TheVariants as kind

@@ -1,32 +1,13 @@
 -- Which variables an operation uses: what its selections use.
-use Rattle.std.proofs.Common.{◌≡◌, ◌↔◌, ℕ, ◌+◌, ◌<◌, arith, Bool, true, false, List, [], ◌∷◌, ◌++◌, length, get_or, take, map, refl, sym, ap, ◌∙◌, subst, All, Contains, Option, None, Some}
-use Rattle.std.specs.Prelude.{◌⊎◌, Result, Ok, Err, OnOk, OnErr, IfOk, MatchResult}
+use Rattle.std.proofs.Common.{◌≡◌, ◌↔◌, ℕ, ◌+◌, ◌<◌, arith, List, [], length, get_or, take, map, refl, sym, ap, ◌∙◌, subst, Contains, None, Some}
+use Rattle.std.specs.Prelude.{◌⊎◌}
 use Rattle.std.proofs.lemmas.Option.{none-some, same_Some}
 use Rattle.std.specs.Borrow.{Bor}
-use Rattle.std.specs.List.{Any, AllByRecursion, IsDistinct, list_any}
-use Rattle.std.specs.Map.{keys_of}
-use Rattle.std.proofs.lemmas.List.{append_assoc, map-append}
-use Rattle.std.proofs.lemmas.List.Elements.{All-nil, All-cons, All-head, All-tail, All-contains, Contains-append_left, Contains-append_right, Contains-append_cases}
-use Rattle.std.proofs.lemmas.Grind.{fold-append}
-use Rattle.std.proofs.lemmas.List.Folds.{Any-from_list_any, find-append, list_any-from_Any}
-use Rattle.indexmap.specs.IndexMap.{insert_entry}
-use Rattle.indexmap.specs.IndexSet.{insert_key}
+use Rattle.std.specs.List.{Any}
 use mathlib.Core.Logic.{inl, inr}
-use Rattle.graphql_documents.specs.Diagnostics.{IsDiagnostic}
-use Rattle.graphql_documents.specs.Names.{NameText, SameName, different_names, same_name, with_name}
-use Rattle.graphql_documents.specs.Reports.{Appends, KeepsReports}
+use Rattle.graphql_documents.specs.Names.{NameText}
 use Rattle.graphql_documents.specs.Selections.{Fragments, Reached, arguments_of, directives_of}
-use Rattle.graphql_documents.specs.Spans.{recompose}
-use Rattle.graphql_documents.specs.Values.{StandsIn}
-use Rattle.graphql_documents.specs.VariableReports.{AreUnusedReports, AreUsesReports, IsBoundReport, IsUnusedReport, UsesReport, are_unused, defined_names, is_bound, no_name, unused_name, used_name}
 use Rattle.graphql_documents.specs.Variables.{StandsInArguments, StandsInDirectives, UsesVariable, in_arguments, in_directives, in_fragment_definition, in_operation}
-use Rattle.graphql_documents.specs.Walks.{HasListed}
-use Rattle.graphql_documents.specs.declared.diagnostics.data.DiagnosticData.TheVariants as report
-use Rattle.graphql_documents.specs.declared.diagnostics.data.DiagnosticData.{DiagnosticData}
-use Rattle.graphql_documents.specs.declared.diagnostics.lists.DiagnosticEntry.{DiagnosticEntry}
-use Rattle.graphql_documents.specs.declared.documents.definitions.VariableDefinition.{VariableDefinition}
-use Rattle.graphql_documents.specs.declared.documents.directives.Argument.{Argument}
-use Rattle.graphql_documents.specs.declared.documents.directives.Directive.{Directive}
 use Rattle.graphql_documents.specs.declared.documents.executables.Field.{Field}
 use Rattle.graphql_documents.specs.declared.documents.executables.Fragment.{Fragment}
 use Rattle.graphql_documents.specs.declared.documents.executables.FragmentSpread.{FragmentSpread}
@@ -36,14 +17,9 @@ use Rattle.graphql_documents.specs.declared.documents.executables.Selection.TheO
 use Rattle.graphql_documents.specs.declared.documents.executables.Selection.TheVariants as kind
 use Rattle.graphql_documents.specs.declared.documents.executables.Selection.{Selection, out-Selection}
 use Rattle.graphql_documents.specs.declared.documents.nodes.Node.{Node}
-use Rattle.graphql_documents.specs.declared.documents.spans.SourceSpan.{SourceSpan}
-use Rattle.graphql_documents.specs.declared.documents.values.Value.{Value}
-use Rattle.graphql_documents.proofs.DiagnosticLemmas.{diagnostic_wider}
-use Rattle.graphql_documents.proofs.ListLemmas.{made_of, only_one, stands_first, stands_mapped}
-use Rattle.graphql_documents.proofs.NameLemmas.{same_name_back, same_name_itself, same_name_then}
-use Rattle.graphql_documents.proofs.ReportLemmas.{appended_then, more_is}
+use Rattle.graphql_documents.proofs.ListLemmas.{made_of, stands_mapped}
 use Rattle.graphql_documents.proofs.SelectionLemmas.{not_spread, same_spread, spread_not_inline}
-use Rattle.graphql_values.specs.Uses.{IsLastPlace, IsNamedIn, NamesAlso, UsedAt, in_definition, in_own_arguments, in_own_directives, names_of}
+use Rattle.graphql_values.specs.Uses.{IsNamedIn, NamesAlso, UsedAt, in_definition, in_own_arguments, in_own_directives, names_of}
 use Rattle.graphql_values.proofs.UseLemmas.{also_in_words, also_then, any_has, any_more, has_any, none_in_none}
 
 -- no variable stands in no arguments

@@ -1,5 +1,5 @@
 -- Each argument is looked up among those before it, by what `seen` has of them.
-use Rattle.std.proofs.Common.{◌≡◌, ◌+◌, None, take, sym, ap, ◌∙◌, subst, rules, arith}
+use Rattle.std.proofs.Common.{◌≡◌, None, take, sym, ap, ◌∙◌, subst, rules, arith}
 use Rattle.std.specs.HashMap.{get_by}
 use Rattle.std.proofs.lemmas.List.{take_all}
 use Rattle.graphql_documents.specs.ArgumentReports.{AreRepetitionReports, RepetitionReport}
