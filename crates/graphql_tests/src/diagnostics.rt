@@ -46,24 +46,19 @@ fn push(rt: &impl Abort, list: &mut DiagnosticList, location: Option<SourceSpan>
         .expect(rt, "memory for an entry");
 }
 
-/// The entry is the report at the place.
-fn is_at(rt: &impl Abort, alloc: Global, entry: &DiagnosticEntry, location: Option<SourceSpan>) {
-    let expected = repetition(rt, alloc, location);
-    if *entry != expected {
-        panic!(rt; "{entry:?} is not {expected:?}");
-    }
-}
-
 #[test]
 fn lists_keep_the_order_of_push(rt: HostRuntime) {
-    let places = [Some(SECOND), None, Some(FIRST)];
     let mut list = DiagnosticList::new(rt.alloc());
     assert!(rt; list.is_empty());
-    for location in places {
+    let mut expected = Vec::new(rt.alloc());
+    for location in [Some(SECOND), None, Some(FIRST)] {
         push(&rt, &mut list, location);
+        expected
+            .push(repetition(&rt, rt.alloc(), location))
+            .expect(&rt, "memory for an entry");
     }
     assert_eq!(rt; list.len(), 3);
-    for (entry, location) in list.iter().zip(&places) {
-        is_at(&rt, rt.alloc(), entry, *location);
+    for (entry, wanted) in list.iter().zip(&expected) {
+        assert!(rt; *entry == *wanted);
     }
 }
