@@ -2,7 +2,7 @@ use super::fixtures::{lines, query_of_itself};
 use graphql_documents::diagnostics::DiagnosticList;
 use graphql_documents::documents::{DirectiveLocation, Schema};
 use graphql_rows::build::{arguments, directives};
-use graphql_rows::notation::{DirectiveNotation, Literal, argument, directive};
+use graphql_rows::notation::{ArgumentNotation, DirectiveNotation, Literal, argument, directive};
 use graphql_values::argument::validate_arguments;
 use graphql_values::directive::validate_directives;
 use std::alloc::Global;
@@ -97,16 +97,21 @@ fn no_directive_is_defined_without_a_schema(rt: HostRuntime) {
     assert_eq!(rt; found.as_str(), UNDEFINED);
 }
 
+/// `if: null`
+const NULL: ArgumentNotation<'static> = ArgumentNotation {
+    name: "if",
+    value: Literal::Null,
+};
+
+/// `if: null, if: null, if: null`
+const THREE_TIMES: &[ArgumentNotation<'static>] = &[NULL, NULL, NULL];
+
 #[test]
 fn each_repeated_argument_is_reported(rt: HostRuntime) {
-    let given = [
-        argument("if", Literal::Null),
-        argument("if", Literal::Null),
-        argument("if", Literal::Null),
-    ];
-    let built = arguments(rt.alloc(), &given).expect(&rt, "arguments");
-    let mut diagnostics = DiagnosticList::new(rt.alloc());
+    let alloc = rt.alloc();
+    let built = arguments(alloc, THREE_TIMES).expect(&rt, "arguments");
+    let mut diagnostics = DiagnosticList::new(alloc);
     validate_arguments(&mut diagnostics, &built).expect(&rt, "memory for reports");
-    let found = lines(&rt, rt.alloc(), &diagnostics);
+    let found = lines(&rt, alloc, &diagnostics);
     assert_eq!(rt; found.as_str(), GIVEN_AGAIN);
 }

@@ -18,8 +18,6 @@ mod input_objects;
 #[cfg(test)]
 mod messages;
 #[cfg(test)]
-mod notation;
-#[cfg(test)]
 mod numbers;
 #[cfg(test)]
 mod schemas;

@@ -26,7 +26,7 @@ pub fn schema(
     let meta_fields = MetaFields::new(alloc)?;
     let directive_definitions = directives_by_name(alloc, directives)?;
     let types = types_by_name(alloc, types)?;
-    let schema_definition = Node::new(alloc, roots(alloc, &types)?)?;
+    let schema_definition = roots(alloc, &types)?;
     Ok(Valid(Schema {
         schema_definition,
         directive_definitions,
@@ -86,13 +86,15 @@ pub(super) fn add_directive(
     }
 }
 
-fn roots(alloc: Global, types: &Types) -> Result<SchemaDefinition, RowError> {
-    Ok(SchemaDefinition {
+/// The roots among these types.
+fn roots(alloc: Global, types: &Types) -> Result<Node<SchemaDefinition>, RowError> {
+    let definition = SchemaDefinition {
         directives: Vec::new(alloc),
         query: root(alloc, types, "Query")?,
         mutation: root(alloc, types, "Mutation")?,
         subscription: root(alloc, types, "Subscription")?,
-    })
+    };
+    Ok(Node::new(alloc, definition)?)
 }
 
 fn root(alloc: Global, types: &Types, text: &str) -> Result<Option<ComponentName>, RowError> {
