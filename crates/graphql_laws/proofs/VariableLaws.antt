@@ -99,11 +99,11 @@ module _ (fragments : Fragments) (o : Operation) where
   defined_as_used : VariablesAreUsed fragments o → All (UsesVariable fragments o) (defined_names o)
   defined_as_used all = each_standing (UsesVariable fragments o) (defined_names o) (λ u there.
       by u (only (map name_of o.variables.items) [] u there)) where
-    by : (u : NameText) → Contains [] u ⊎ Contains (map name_of o.variables.items) u → UsesVariable fragments o u
-    by u (inl none) = absurd (none_stands u none)
-    by u (inr there) =
-        let v = made_of name_of o.variables.items u there in
-        subst (UsesVariable fragments o) v.2 (All-contains (λ v. UsesVariable fragments o (name_of v)) o.variables.items v.0 all v.1)
+        by : (u : NameText) → Contains [] u ⊎ Contains (map name_of o.variables.items) u → UsesVariable fragments o u
+        by u (inl none) = absurd (none_stands u none)
+        by u (inr there) =
+            let v = made_of name_of o.variables.items u there in
+            subst (UsesVariable fragments o) v.2 (All-contains (λ v. UsesVariable fragments o (name_of v)) o.variables.items v.0 all v.1)
 
   pub none_reported : AreUsesReports fragments o [] ↔ VariablesAreUsed fragments o
   none_reported = (λ h. used_as_defined (no_report h refl), λ all. are_unused (silent (defined_names o) (defined_as_used all)))
