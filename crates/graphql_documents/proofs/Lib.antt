@@ -1,4 +1,3 @@
-pub mod ArgumentLemmas
 pub mod DiagnosticLemmas
 pub mod ListLemmas
 pub mod NameLemmas

@@ -43,20 +43,27 @@ abbrev pub RepetitionReport : List (Node Argument) → DiagnosticData → Option
 RepetitionReport given (report.UniqueArgument name original redefined) at = RepeatsArgument given name original redefined at
 RepetitionReport given r at = ⊥
 
+-- what an argument repeats, if one with its name stands before it, behind the first of them
+abbrev pub repetition_after : List (Node Argument) → Node Argument → List (Node Argument × Node Argument)
+repetition_after before a = cons_option (option_map (λ first. (first, a)) (argument_named a.value.value.name before)) []
+
 -- the arguments whose names stand before them, in order, each behind the first of its name
 abbrev pub repetitions_after : List (Node Argument) → List (Node Argument) → List (Node Argument × Node Argument)
 repetitions_after before [] = []
-repetitions_after before (a ∷ given) =
-    cons_option (option_map (λ first. (first, a)) (argument_named a.value.value.name before)) (repetitions_after (before ++ a ∷ []) given)
+repetitions_after before (a ∷ given) = repetition_after before a ++ repetitions_after (before ++ a ∷ []) given
 
 -- the report is of this repetition
 abbrev pub IsReportOf : Node Argument × Node Argument → DiagnosticData → Option SourceSpan → Type 0
 IsReportOf pair (report.UniqueArgument name original redefined) at = SaysRepeated pair.0 pair.1 name original redefined at
 IsReportOf pair r at = ⊥
 
+-- the reports are of these repetitions, one for each, in order
+abbrev pub AreReportsOf : List (Node Argument × Node Argument) → List DiagnosticEntry → Type 0
+AreReportsOf pairs reports = AllZip (λ pair. IsDiagnostic (IsReportOf pair)) pairs reports
+
 -- the reports are of the repetitions among these arguments, one for each, in order
 abbrev pub AreRepetitionReports : List (Node Argument) → List DiagnosticEntry → Type 0
-AreRepetitionReports given reports = AllZip (λ pair. IsDiagnostic (IsReportOf pair)) (repetitions_after [] given) reports
+AreRepetitionReports given reports = AreReportsOf (repetitions_after [] given) reports
 
 -- an argument is not defined: reported at the argument, with the coordinate and the place of the
 -- definition that lacks it

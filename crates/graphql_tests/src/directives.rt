@@ -1,9 +1,8 @@
-use super::fixtures::{lines, query_of_itself};
+use super::fixtures::{lines, name, query_of_itself};
 use graphql_documents::diagnostics::DiagnosticList;
 use graphql_documents::documents::{DirectiveLocation, Schema};
-use graphql_rows::build::{arguments, directives};
-use graphql_rows::notation::{ArgumentNotation, DirectiveNotation, Literal, argument, directive};
-use graphql_values::argument::validate_arguments;
+use graphql_rows::build::directives;
+use graphql_rows::notation::{DirectiveNotation, Literal, argument, directive};
 use graphql_values::directive::validate_directives;
 use std::alloc::Global;
 use std::process::Abort;
@@ -20,9 +19,6 @@ const UNDEFINED_TWICE: &str = "cannot find directive `@x` in this document\n\
     cannot find directive `@x` in this document\n";
 
 const UNDEFINED: &str = "cannot find directive `@skip` in this document\n";
-
-const GIVEN_AGAIN: &str = "the argument `if` is provided multiple times\n\
-    the argument `if` is provided multiple times\n";
 
 /// What these directives bring on a field, against the schema if there is one.
 fn reports(
@@ -97,21 +93,19 @@ fn no_directive_is_defined_without_a_schema(rt: HostRuntime) {
     assert_eq!(rt; found.as_str(), UNDEFINED);
 }
 
-/// `if: null`
-const NULL: ArgumentNotation<'static> = ArgumentNotation {
-    name: "if",
-    value: Literal::Null,
-};
-
-/// `if: null, if: null, if: null`
-const THREE_TIMES: &[ArgumentNotation<'static>] = &[NULL, NULL, NULL];
-
 #[test]
-fn each_repeated_argument_is_reported(rt: HostRuntime) {
+fn arguments_of_directives_are_found_by_name(rt: HostRuntime) {
     let alloc = rt.alloc();
-    let built = arguments(alloc, THREE_TIMES).expect(&rt, "arguments");
-    let mut diagnostics = DiagnosticList::new(alloc);
-    validate_arguments(&mut diagnostics, &built).expect(&rt, "memory for reports");
-    let found = lines(&rt, alloc, &diagnostics);
-    assert_eq!(rt; found.as_str(), GIVEN_AGAIN);
+    let given = [argument("if", Literal::Boolean(true))];
+    let built = directives(alloc, &[directive("skip", &given)]).expect(&rt, "a directive");
+    for application in &built {
+        let found = application
+            .value
+            .specified_argument_by_name(&name(&rt, alloc, "if"));
+        assert!(rt; found.is_some());
+        let found = application
+            .value
+            .specified_argument_by_name(&name(&rt, alloc, "x"));
+        assert!(rt; found.is_none());
+    }
 }

@@ -2,11 +2,15 @@
 #![tactic(auto)]
 
 #[cfg(test)]
+mod arguments;
+#[cfg(test)]
 mod diagnostics;
 #[cfg(test)]
 mod directives;
 #[cfg(test)]
 mod documents;
+#[cfg(test)]
+mod executables;
 #[cfg(test)]
 mod field_sets;
 #[cfg(test)]
@@ -23,6 +27,8 @@ mod numbers;
 mod schemas;
 #[cfg(test)]
 mod spans;
+#[cfg(test)]
+mod type_references;
 #[cfg(test)]
 mod usages;
 #[cfg(test)]

@@ -9,7 +9,6 @@ use Rattle.graphql_documents.specs.DirectiveReports.{ApplicationBreaks, Directiv
 use Rattle.graphql_documents.specs.Directives.{ApplicationHolds, ApplicationsHold, IsRepeatable, RepetitionsHold, directive_definition, directive_in}
 use Rattle.graphql_documents.specs.Names.{SameName, same_name}
 use Rattle.graphql_documents.specs.Reports.{Reports}
-use Rattle.graphql_documents.proofs.ArgumentLemmas.{find_none}
 use Rattle.graphql_documents.proofs.DiagnosticLemmas.{diagnostic_wider}
 use Rattle.graphql_documents.proofs.ListLemmas.{each_standing}
 use Rattle.graphql_documents.proofs.ReportLemmas.{All-append_left, All-append_right, both, checks_after, checks_words, ChecksList, in_words, wider}
@@ -29,7 +28,7 @@ use Rattle.graphql_documents.specs.declared.documents.spans.SourceSpan.{SourceSp
 use Rattle.graphql_values.specs.DirectiveSteps.{IsAppliedWell, RepetitionHolds}
 use Rattle.graphql_values.specs.GivenArguments.{GivenArgumentHolds, GivenArgumentReport, MissingArgumentReport, argument_coordinate_of, owner_coordinate}
 use Rattle.graphql_values.specs.declared.argument.owners.GivenArguments.{GivenArguments}
-use Rattle.graphql_values.proofs.FirstPlaceLemmas.{found_at, pairs_more}
+use Rattle.graphql_values.proofs.FirstPlaceLemmas.{find_none, found_at, pairs_more}
 
 module _ (schema : Option Schema) where
   -- repetitions hold exactly where they held before the last directive, and it may stand behind the first of its name

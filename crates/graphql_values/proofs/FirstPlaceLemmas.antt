@@ -1,5 +1,5 @@
 -- The first of each name, and lists of things whose names are distinct.
-use Rattle.std.proofs.Common.{◌≡◌, ◌↔◌, ℕ, suc, ◌<◌, List, [], ◌∷◌, ◌++◌, length, get_or, map, Bool, true, false, cond, Option, Some, None, refl, sym, ◌∙◌, ap, subst, find, AllPairs, arith}
+use Rattle.std.proofs.Common.{◌≡◌, ◌↔◌, ℕ, zero, suc, ◌+◌, ◌<◌, List, [], ◌∷◌, ◌++◌, length, get_or, map, Bool, true, false, cond, Option, Some, None, refl, sym, ◌∙◌, ap, subst, find, AllPairs, arith}
 use Rattle.std.specs.Option.{option_or, option_map}
 use Rattle.std.proofs.lemmas.Option.{same_Some}
 use Rattle.std.proofs.lemmas.List.{get_or_append_left, get_or_push, length-append, map-append}
@@ -7,8 +7,30 @@ use Rattle.std.proofs.lemmas.List.Folds.{find-append}
 use Rattle.std.proofs.lemmas.List.Quantifiers.{all_pairs_push}
 use Rattle.graphql_documents.specs.Names.{NameText, AreDistinct, DifferentNames, same_name}
 use Rattle.graphql_documents.specs.declared.documents.spans.SourceSpan.{SourceSpan}
-use Rattle.graphql_documents.proofs.ArgumentLemmas.{find_none, none_found, option_or_none}
 use Rattle.graphql_values.specs.FirstPlaces.{Remembers, place_in}
+
+-- a first choice that is none was not taken
+cond_none : {X : Type 0} (b : Bool) (x : X) (o : Option X) → cond b (Some x) o ≡ None → (b ≡ false) × (o ≡ None)
+cond_none true x o e = absurd (let h : ⊥ = cc in h)
+cond_none false x o e = (refl, e)
+
+-- no element passes a test that finds none
+pub find_none : {X : Type 0} (p : X → Bool) (xs : List X) (k : ℕ) (d : X) → find p xs ≡ None → k < length xs → p (get_or xs k d) ≡ false
+find_none p [] k d e h = absurd (omega arith)
+find_none p (x ∷ xs) zero d e h = (cond_none (p x) x (find p xs) e).0
+find_none p (x ∷ xs) (suc k) d e h = find_none p xs k d (cond_none (p x) x (find p xs) e).1 (omega arith)
+
+-- a test that no element passes finds none
+none_found : {X : Type 0} (p : X → Bool) (xs : List X) → ((k : ℕ) (d : X) → k < length xs → p (get_or xs k d) ≡ false) → find p xs ≡ None
+none_found p [] h = refl
+none_found p (x ∷ xs) h =
+    let head : p x ≡ false = h 0 x (omega arith) in
+    rw head (none_found p xs (λ k d l. h (suc k) d (omega arith)))
+
+-- a choice with nothing behind it
+option_or_none : {X : Type 0} (o : Option X) → option_or o None ≡ o
+option_or_none None = refl
+option_or_none (Some x) = refl
 
 -- what is put in front of nothing may as well be put behind it
 pub chosen_or : {X : Type 0} (b : Bool) (x : X) (o : Option X) → (b ≡ true → o ≡ None) → cond b (Some x) o ≡ option_or o (cond b (Some x) None)
@@ -52,12 +74,14 @@ pairs_more R xs x = (
 )
 
 -- names stay distinct exactly where the next one is new
-names_more : (names : List NameText) (name : NameText) →
-    (AreDistinct names × (find (λ n. same_name n name) names ≡ None)) ↔ AreDistinct (names ++ name ∷ [])
-names_more names name =
-    let pairs = pairs_more DifferentNames names name in (
-      λ p. pairs.0 (p.0, λ k d h. find_none (λ n. same_name n name) names k d p.1 h),
-      λ all. ((pairs.1 all).0, none_found (λ n. same_name n name) names (λ k d h. (pairs.1 all).1 k d h)),
+pub distinct_more : {X : Type 0} (name_of : X → NameText) (xs : List X) (x : X) →
+    (AllPairs (λ a b. DifferentNames (name_of a) (name_of b)) xs × (find (λ a. same_name (name_of a) (name_of x)) xs ≡ None)) ↔
+    AllPairs (λ a b. DifferentNames (name_of a) (name_of b)) (xs ++ x ∷ [])
+distinct_more {X} name_of xs x =
+    let pairs = pairs_more (λ (a b : X). DifferentNames (name_of a) (name_of b)) xs x in
+    let has_name = λ (a : X). same_name (name_of a) (name_of x) in (
+      λ p. pairs.0 (p.0, λ k d h. find_none has_name xs k d p.1 h),
+      λ all. ((pairs.1 all).0, none_found has_name xs (λ k d h. (pairs.1 all).1 k d h)),
     )
 
 module _ {X : Type 0} (name_of : X → NameText) (place_of : X → Option SourceSpan) where
@@ -81,7 +105,7 @@ module _ {X : Type 0} (name_of : X → NameText) (place_of : X → Option Source
       (AreDistinct (map name_of xs) × (find (λ y. same_name (name_of y) (name_of x)) xs ≡ None)) ↔ AreDistinct (map name_of (xs ++ x ∷ []))
   distinct_names_more xs x =
       let mapped = map-append name_of xs (x ∷ []) in
-      let names = names_more (map name_of xs) (name_of x) in (
+      let names = distinct_more (λ n. n) (map name_of xs) (name_of x) in (
         λ p. subst AreDistinct (sym mapped) (names.0 (p.0, find_mapped xs (name_of x) ∙ ap (option_map name_of) p.1)),
         λ all.
             let parts = names.1 (subst AreDistinct mapped all) in

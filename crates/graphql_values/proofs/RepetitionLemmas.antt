@@ -1,15 +1,14 @@
 -- Which arguments repeat a name, and the reports that say so.
-use Rattle.std.proofs.Common.{◌≡◌, ℕ, ◌+◌, ◌<◌, List, [], ◌∷◌, ◌++◌, Option, Some, None, length, get_or, take, refl, sym, ap, ◌∙◌, subst}
+use Rattle.std.proofs.Common.{◌≡◌, ◌↔◌, ℕ, ◌+◌, ◌<◌, List, [], ◌∷◌, ◌++◌, Option, Some, None, length, get_or, take, drop, refl, sym, ap, ◌∙◌, subst}
 use Rattle.std.specs.List.{AllZip, cons_option}
 use Rattle.std.specs.Option.{option_map}
-use Rattle.std.proofs.lemmas.List.{append-nil, append_assoc}
+use Rattle.std.proofs.lemmas.List.{append-nil, append_assoc, drop_more, take-append-drop}
 use Rattle.std.proofs.lemmas.List.Elements.{All-nil}
-use Rattle.graphql_documents.specs.ArgumentReports.{AreRepetitionReports, IsRepetition, IsReportOf, RepetitionReport, repetitions_after}
-use Rattle.graphql_documents.specs.Arguments.{argument_named}
+use Rattle.graphql_documents.specs.ArgumentReports.{AreRepetitionReports, AreReportsOf, IsRepetition, IsReportOf, RepetitionReport, repetition_after, repetitions_after}
+use Rattle.graphql_documents.specs.Arguments.{HasDistinctNames, argument_named}
 use Rattle.graphql_documents.specs.Diagnostics.{IsDiagnostic}
 use Rattle.graphql_documents.specs.Reports.{Appends, Reports}
 use Rattle.graphql_documents.proofs.DiagnosticLemmas.{diagnostic_wider}
-use Rattle.graphql_documents.proofs.ArgumentLemmas.{repetition_at}
 use Rattle.graphql_documents.proofs.ReportLemmas.{appended_then, broken, in_words, more_is}
 use Rattle.graphql_documents.specs.declared.diagnostics.data.DiagnosticData.TheVariants as report
 use Rattle.graphql_documents.specs.declared.diagnostics.data.DiagnosticData.{DiagnosticData}
@@ -17,7 +16,8 @@ use Rattle.graphql_documents.specs.declared.diagnostics.lists.DiagnosticEntry.{D
 use Rattle.graphql_documents.specs.declared.documents.directives.Argument.{Argument}
 use Rattle.graphql_documents.specs.declared.documents.nodes.Node.{Node}
 use Rattle.graphql_documents.specs.declared.documents.spans.SourceSpan.{SourceSpan}
-use Rattle.graphql_values.specs.Repetitions.{AreReportsOf, repetition_after}
+use Rattle.graphql_values.specs.Repetitions.{argument_name}
+use Rattle.graphql_values.proofs.FirstPlaceLemmas.{distinct_more}
 
 -- nothing was appended
 pub appends_none : {Entry : Type 0} (Are : List Entry → Type 0) (old : List Entry) → Are [] → Appends Are old old
@@ -31,19 +31,17 @@ zip_then R [] xs' (y ∷ ys) ys' a b = absurd a
 zip_then R (x ∷ xs) xs' [] ys' a b = absurd a
 zip_then R (x ∷ xs) xs' (y ∷ ys) ys' a b = (a.0, zip_then R xs xs' ys ys' a.1 b)
 
-cons_option_then : {X : Type 0} (o : Option X) (xs ys : List X) → cons_option o (xs ++ ys) ≡ cons_option o xs ++ ys
-cons_option_then None xs ys = refl
-cons_option_then (Some x) xs ys = refl
-
 -- one argument more has at most one repetition more
 repetitions_more : (before given : List (Node Argument)) (x : Node Argument) →
     repetitions_after before (given ++ x ∷ []) ≡ repetitions_after before given ++ repetition_after (before ++ given) x
-repetitions_more before [] x = ap (λ l. repetition_after l x) (sym (append-nil before))
+repetitions_more before [] x =
+    append-nil (repetition_after before x) ∙ ap (λ l. repetition_after l x) (sym (append-nil before))
 repetitions_more before (a ∷ given) x =
-    let o : Option (Node Argument × Node Argument) = option_map (λ first. (first, a)) (argument_named a.value.value.name before) in
-    ap (cons_option o) (repetitions_more (before ++ a ∷ []) given x) ∙
-    cons_option_then o (repetitions_after (before ++ a ∷ []) given) (repetition_after ((before ++ a ∷ []) ++ given) x) ∙
-    ap (λ l. cons_option o (repetitions_after (before ++ a ∷ []) given) ++ repetition_after l x) (append_assoc before (a ∷ []) given)
+    let one : List (Node Argument × Node Argument) = repetition_after before a in
+    let rest : List (Node Argument × Node Argument) = repetitions_after (before ++ a ∷ []) given in
+    ap (λ l. one ++ l) (repetitions_more (before ++ a ∷ []) given x) ∙
+    sym (append_assoc one rest (repetition_after ((before ++ a ∷ []) ++ given) x)) ∙
+    ap (λ l. (one ++ rest) ++ repetition_after l x) (append_assoc before (a ∷ []) given)
 
 -- the report of a repetition is that of one among the arguments
 module _ (given : List (Node Argument)) (first again : Node Argument) (repetition : IsRepetition given first again) where
@@ -65,6 +63,19 @@ module _ (given : List (Node Argument)) (first again : Node Argument) (repetitio
 
 -- a walk over the arguments: one more
 module _ (xs : List (Node Argument)) (i : ℕ) (x : Node Argument) (within : i < length xs) (item : x ≡ get_or xs i x) where
+  pub distinct_at :
+      (HasDistinctNames (take i xs) × (argument_named x.value.value.name (take i xs) ≡ None)) ↔ HasDistinctNames (take (i + 1) xs)
+  distinct_at = rw (more_is xs i x within item) (distinct_more argument_name (take i xs) x)
+
+  -- it repeats the first with its name, if there is one
+  repetition_at : (first : Node Argument) → argument_named x.value.value.name (take i xs) ≡ Some first → IsRepetition xs first x
+  repetition_at first e = record {
+    before = take i xs;
+    after = drop (i + 1) xs;
+    split = sym (take-append-drop i xs) ∙ ap (λ l. take i xs ++ l) (drop_more xs i x within ∙ ap (λ y. y ∷ drop (i + 1) xs) (sym item));
+    first_is = e;
+  }
+
   pub appends_more : (old mid new : List DiagnosticEntry) → Appends (AreRepetitionReports (take i xs)) old mid →
       Appends (AreReportsOf (repetition_after (take i xs) x)) mid new → Appends (AreRepetitionReports (take (i + 1) xs)) old new
   appends_more old mid new a b = record {
@@ -94,4 +105,4 @@ module _ (xs : List (Node Argument)) (i : ℕ) (x : Node Argument) (within : i <
     }
     by (Some first) e are =
         in_words (IsDiagnostic (RepetitionReport xs)) ⊥ (Some first ≡ None) mid new (λ no. absurd no, λ none. absurd (let no : ⊥ = cc in no))
-        (reports_repetition xs first x (repetition_at xs i x within item first e) mid new (record { added = a.added; appended = a.appended; are = are }))
+        (reports_repetition xs first x (repetition_at first e) mid new (record { added = a.added; appended = a.appended; are = are }))

@@ -7,11 +7,10 @@ use Rattle.graphql_documents.specs.Arguments.{HasDistinctNames, argument_named}
 use Rattle.graphql_documents.specs.Diagnostics.{IsDiagnostic, entries}
 use Rattle.graphql_documents.specs.Names.{same_name}
 use Rattle.graphql_documents.specs.Reports.{Appends, KeepsReports, Reports}
-use Rattle.graphql_documents.proofs.ArgumentLemmas.{distinct_at}
 use Rattle.graphql_documents.proofs.ReportLemmas.{both, checks-err, holds, in_words, kept_by, more_is}
 use Rattle.graphql_values.specs.Repetitions.{argument_name, argument_place, argument_place_in}
 use Rattle.graphql_values.proofs.FirstPlaceLemmas.{remembers_more}
-use Rattle.graphql_values.proofs.RepetitionLemmas.{appends_more, appends_none, reports_more}
+use Rattle.graphql_values.proofs.RepetitionLemmas.{appends_more, appends_none, distinct_at, reports_more}
 use Rattle.graphql_values.proofs.argument.validate_arguments.Goals as goal
 
 pub loop-argument-init : goal.loop-argument-init
