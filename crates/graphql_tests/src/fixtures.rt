@@ -1,12 +1,23 @@
 //! What tests build and print. Where memory is refused, the test ends.
 use graphql_documents::diagnostics::DiagnosticList;
-use graphql_documents::documents::{Schema, Valid};
-pub(crate) use graphql_documents_tests::fixtures::{name, node, text};
+use graphql_documents::documents::{Name, Node, Schema, Valid};
 use graphql_rows::build::{field_set, schema};
 use graphql_rows::notation::{SelectionNotation, object, output};
 use graphql_validation::entry::validate_field_set;
 use std::alloc::Global;
 use std::process::Abort;
+
+pub(crate) fn text(rt: &impl Abort, alloc: Global, written: &str) -> String {
+    String::from_str(alloc, written).expect(rt, "memory for a text")
+}
+
+pub(crate) fn name(rt: &impl Abort, alloc: Global, written: &str) -> Name {
+    Name::new(text(rt, alloc, written), None).expect(rt, "a name")
+}
+
+pub(crate) fn node<T: Drop>(rt: &impl Abort, alloc: Global, value: T) -> Node<T> {
+    Node::new(alloc, value).expect(rt, "memory for a node")
+}
 
 /// `type Query { q: Query a: Int b: Int }`
 pub(crate) fn query_of_itself(rt: &impl Abort, alloc: Global) -> Valid<Schema> {

@@ -4,7 +4,11 @@
 #[cfg(test)]
 mod arguments;
 #[cfg(test)]
+mod diagnostics;
+#[cfg(test)]
 mod directives;
+#[cfg(test)]
+mod documents;
 #[cfg(test)]
 mod executables;
 #[cfg(test)]
@@ -12,9 +16,17 @@ mod field_sets;
 #[cfg(test)]
 mod fixtures;
 #[cfg(test)]
+mod guards;
+#[cfg(test)]
 mod input_objects;
 #[cfg(test)]
+mod messages;
+#[cfg(test)]
+mod numbers;
+#[cfg(test)]
 mod schemas;
+#[cfg(test)]
+mod spans;
 #[cfg(test)]
 mod type_references;
 #[cfg(test)]

@@ -24,88 +24,68 @@ const SECOND: Option<SourceSpan> = Some(SourceSpan {
     end: 6,
 });
 
-/// What builds data and prints it, or ends the test.
-#[derive(Drop)]
-struct TestData<'a, R> {
-    rt: &'a R,
-    alloc: Global,
-}
-
-fn test_data<R: Abort + AllocGlobal>(rt: &R) -> TestData<'_, R> {
-    TestData {
-        rt,
-        alloc: rt.alloc(),
+fn attribute(rt: &impl Abort, alloc: Global, ty: &str, attribute: &str) -> TypeAttributeCoordinate {
+    TypeAttributeCoordinate {
+        ty: name(rt, alloc, ty),
+        attribute: name(rt, alloc, attribute),
     }
 }
 
-impl<R: Abort> TestData<'_, R> {
-    fn text(&self, written: &str) -> String {
-        text(self.rt, self.alloc, written)
-    }
-
-    fn name(&self, written: &str) -> Name {
-        name(self.rt, self.alloc, written)
-    }
-
-    fn node<T: Drop>(&self, value: T) -> Node<T> {
-        node(self.rt, self.alloc, value)
-    }
-
-    fn attribute(&self, ty: &str, attribute: &str) -> TypeAttributeCoordinate {
-        TypeAttributeCoordinate {
-            ty: self.name(ty),
-            attribute: self.name(attribute),
-        }
-    }
-
-    /// What is shown prints this text.
-    fn prints<T: Display + Drop>(&self, shown: T, expected: &str) {
-        let printed = shown
-            .to_string(self.alloc)
-            .expect(self.rt, "memory for a text");
-        if printed.as_str() != expected {
-            panic!(self.rt; "{expected} was expected, not {printed}");
-        }
+/// What is given prints this text.
+fn prints<T: Display + Drop>(rt: &impl Abort, alloc: Global, shown: T, expected: &str) {
+    let printed = shown.to_string(alloc).expect(rt, "memory for a text");
+    if printed.as_str() != expected {
+        panic!(rt; "{expected} was expected, not {printed}");
     }
 }
 
 #[test]
 fn repeated_names(rt: HostRuntime) {
-    let given = test_data(&rt);
-    given.prints(
+    let alloc = rt.alloc();
+    prints(
+        &rt,
+        alloc,
         DiagnosticData::UniqueVariable {
-            name: given.name("v"),
+            name: name(&rt, alloc, "v"),
             original_definition: FIRST,
             redefined_definition: SECOND,
         },
         "the variable `$v` is declared multiple times",
     );
-    given.prints(
+    prints(
+        &rt,
+        alloc,
         DiagnosticData::UniqueArgument {
-            name: given.name("n"),
+            name: name(&rt, alloc, "n"),
             original_definition: FIRST,
             redefined_definition: SECOND,
         },
         "the argument `n` is provided multiple times",
     );
-    given.prints(
+    prints(
+        &rt,
+        alloc,
         DiagnosticData::UniqueInputValue {
-            name: given.name("a"),
+            name: name(&rt, alloc, "a"),
             original_definition: FIRST,
             redefined_definition: SECOND,
         },
         "the value `a` is defined multiple times",
     );
-    given.prints(
+    prints(
+        &rt,
+        alloc,
         DiagnosticData::UniqueDirective {
-            name: given.name("d"),
+            name: name(&rt, alloc, "d"),
             original_application: FIRST,
         },
         "non-repeatable directive d can only be used once per location",
     );
-    given.prints(
+    prints(
+        &rt,
+        alloc,
         DiagnosticData::DuplicateRootOperationType {
-            name: given.name("Root"),
+            name: name(&rt, alloc, "Root"),
             original_operation: OperationType::Query,
             original_definition: FIRST,
             redefined_operation: OperationType::Mutation,
@@ -117,22 +97,26 @@ fn repeated_names(rt: HostRuntime) {
 
 #[test]
 fn unknown_arguments(rt: HostRuntime) {
-    let given = test_data(&rt);
-    let of_field = SchemaCoordinate::TypeAttribute(given.attribute("T", "f"));
-    given.prints(
+    let alloc = rt.alloc();
+    let of_field = SchemaCoordinate::TypeAttribute(attribute(&rt, alloc, "T", "f"));
+    prints(
+        &rt,
+        alloc,
         DiagnosticData::UndefinedArgument {
-            name: given.name("x"),
+            name: name(&rt, alloc, "x"),
             coordinate: of_field,
             definition_location: FIRST,
         },
         "the argument `x` is not supported by `T.f`",
     );
     let of_directive = SchemaCoordinate::Directive(DirectiveCoordinate {
-        directive: given.name("d"),
+        directive: name(&rt, alloc, "d"),
     });
-    given.prints(
+    prints(
+        &rt,
+        alloc,
         DiagnosticData::UndefinedArgument {
-            name: given.name("x"),
+            name: name(&rt, alloc, "x"),
             coordinate: of_directive,
             definition_location: FIRST,
         },
@@ -142,43 +126,55 @@ fn unknown_arguments(rt: HostRuntime) {
 
 #[test]
 fn unknown_names(rt: HostRuntime) {
-    let given = test_data(&rt);
-    given.prints(
+    let alloc = rt.alloc();
+    prints(
+        &rt,
+        alloc,
         DiagnosticData::UndefinedDefinition {
-            name: given.name("T"),
+            name: name(&rt, alloc, "T"),
         },
         "cannot find type `T` in this document",
     );
-    given.prints(
+    prints(
+        &rt,
+        alloc,
         DiagnosticData::UndefinedDirective {
-            name: given.name("d"),
+            name: name(&rt, alloc, "d"),
         },
         "cannot find directive `@d` in this document",
     );
-    given.prints(
+    prints(
+        &rt,
+        alloc,
         DiagnosticData::UndefinedVariable {
-            name: given.name("v"),
+            name: name(&rt, alloc, "v"),
         },
         "variable `$v` is not defined",
     );
-    given.prints(
+    prints(
+        &rt,
+        alloc,
         DiagnosticData::UndefinedFragment {
-            name: given.name("F"),
+            name: name(&rt, alloc, "F"),
         },
         "cannot find fragment `F` in this document",
     );
-    given.prints(
+    prints(
+        &rt,
+        alloc,
         DiagnosticData::UndefinedEnumValue {
-            value: given.name("RED"),
-            definition: given.name("Colour"),
+            value: name(&rt, alloc, "RED"),
+            definition: name(&rt, alloc, "Colour"),
             definition_location: FIRST,
         },
         "value `RED` does not exist on `Colour`",
     );
-    given.prints(
+    prints(
+        &rt,
+        alloc,
         DiagnosticData::UndefinedInputValue {
-            value: given.name("x"),
-            definition: given.name("Input"),
+            value: name(&rt, alloc, "x"),
+            definition: name(&rt, alloc, "Input"),
             definition_location: FIRST,
         },
         "field `x` does not exist on `Input`",
@@ -187,24 +183,28 @@ fn unknown_names(rt: HostRuntime) {
 
 #[test]
 fn missing_fields_of_interfaces(rt: HostRuntime) {
-    let given = test_data(&rt);
-    given.prints(
+    let alloc = rt.alloc();
+    prints(
+        &rt,
+        alloc,
         DiagnosticData::MissingInterfaceField {
-            name: given.name("T"),
-            interface: given.name("I"),
-            field: given.name("f"),
+            name: name(&rt, alloc, "T"),
+            interface: name(&rt, alloc, "I"),
+            field: name(&rt, alloc, "f"),
             implements_location: FIRST,
             field_location: SECOND,
         },
         "type `T` does not satisfy interface `I`: missing field `f`",
     );
-    given.prints(
+    prints(
+        &rt,
+        alloc,
         DiagnosticData::InvalidImplementationFieldType {
-            name: given.name("T"),
-            interface: given.name("I"),
-            field: given.name("f"),
-            interface_type: Type::NonNullNamed(given.name("A")),
-            actual_type: Type::Named(given.name("B")),
+            name: name(&rt, alloc, "T"),
+            interface: name(&rt, alloc, "I"),
+            field: name(&rt, alloc, "f"),
+            interface_type: Type::NonNullNamed(name(&rt, alloc, "A")),
+            actual_type: Type::Named(name(&rt, alloc, "B")),
             field_location: FIRST,
             interface_field_location: SECOND,
         },
@@ -214,37 +214,43 @@ fn missing_fields_of_interfaces(rt: HostRuntime) {
 
 #[test]
 fn missing_arguments_of_interfaces(rt: HostRuntime) {
-    let given = test_data(&rt);
-    given.prints(
+    let alloc = rt.alloc();
+    prints(
+        &rt,
+        alloc,
         DiagnosticData::MissingInterfaceFieldArgument {
-            name: given.name("T"),
-            interface: given.name("I"),
-            field: given.name("f"),
-            argument: given.name("a"),
+            name: name(&rt, alloc, "T"),
+            interface: name(&rt, alloc, "I"),
+            field: name(&rt, alloc, "f"),
+            argument: name(&rt, alloc, "a"),
             field_location: FIRST,
             interface_argument_location: SECOND,
         },
         "interface field `I.f` expects argument `a` but `T.f` does not provide it",
     );
-    given.prints(
+    prints(
+        &rt,
+        alloc,
         DiagnosticData::InvalidImplementationFieldArgumentType {
-            name: given.name("T"),
-            interface: given.name("I"),
-            field: given.name("f"),
-            argument: given.name("a"),
-            interface_type: given.node(Type::Named(given.name("A"))),
-            actual_type: given.node(Type::NonNullNamed(given.name("B"))),
+            name: name(&rt, alloc, "T"),
+            interface: name(&rt, alloc, "I"),
+            field: name(&rt, alloc, "f"),
+            argument: name(&rt, alloc, "a"),
+            interface_type: node(&rt, alloc, Type::Named(name(&rt, alloc, "A"))),
+            actual_type: node(&rt, alloc, Type::NonNullNamed(name(&rt, alloc, "B"))),
             argument_location: FIRST,
             interface_argument_location: SECOND,
         },
         "interface field `I.f` expects argument `a` of type `A` but `T.f` provides type `B!`",
     );
-    given.prints(
+    prints(
+        &rt,
+        alloc,
         DiagnosticData::ExtraRequiredImplementationFieldArgument {
-            name: given.name("T"),
-            interface: given.name("I"),
-            field: given.name("f"),
-            argument: given.name("a"),
+            name: name(&rt, alloc, "T"),
+            interface: name(&rt, alloc, "I"),
+            field: name(&rt, alloc, "f"),
+            argument: name(&rt, alloc, "a"),
             argument_location: FIRST,
             interface_field_location: SECOND,
         },
@@ -254,19 +260,23 @@ fn missing_arguments_of_interfaces(rt: HostRuntime) {
 
 #[test]
 fn implemented_interfaces(rt: HostRuntime) {
-    let given = test_data(&rt);
-    given.prints(
+    let alloc = rt.alloc();
+    prints(
+        &rt,
+        alloc,
         DiagnosticData::TransitiveImplementedInterfaces {
-            interface: given.name("A"),
-            via_interface: given.name("B"),
-            missing_interface: given.name("C"),
+            interface: name(&rt, alloc, "A"),
+            via_interface: name(&rt, alloc, "B"),
+            missing_interface: name(&rt, alloc, "C"),
             transitive_interface_location: FIRST,
         },
         "interface `A` declares that it implements `B`, but to do so it must also implement `C`",
     );
-    given.prints(
+    prints(
+        &rt,
+        alloc,
         DiagnosticData::RecursiveInterfaceDefinition {
-            name: given.name("I"),
+            name: name(&rt, alloc, "I"),
         },
         "interface I cannot implement itself",
     );
@@ -274,39 +284,45 @@ fn implemented_interfaces(rt: HostRuntime) {
 
 #[test]
 fn required_values(rt: HostRuntime) {
-    let given = test_data(&rt);
+    let alloc = rt.alloc();
     let of_field = FieldArgumentCoordinate {
-        ty: given.name("T"),
-        field: given.name("f"),
-        argument: given.name("a"),
+        ty: name(&rt, alloc, "T"),
+        field: name(&rt, alloc, "f"),
+        argument: name(&rt, alloc, "a"),
     };
-    given.prints(
+    prints(
+        &rt,
+        alloc,
         DiagnosticData::RequiredArgument {
-            name: given.name("y"),
+            name: name(&rt, alloc, "y"),
             coordinate: SchemaCoordinate::FieldArgument(of_field),
-            expected_type: given.node(Type::NonNullNamed(given.name("Z"))),
+            expected_type: node(&rt, alloc, Type::NonNullNamed(name(&rt, alloc, "Z"))),
             definition_location: FIRST,
         },
         "the required argument `T.f(a:)` is not provided",
     );
     let of_directive = DirectiveArgumentCoordinate {
-        directive: given.name("d"),
-        argument: given.name("a"),
+        directive: name(&rt, alloc, "d"),
+        argument: name(&rt, alloc, "a"),
     };
-    given.prints(
+    prints(
+        &rt,
+        alloc,
         DiagnosticData::RequiredArgument {
-            name: given.name("y"),
+            name: name(&rt, alloc, "y"),
             coordinate: SchemaCoordinate::DirectiveArgument(of_directive),
-            expected_type: given.node(Type::NonNullNamed(given.name("Z"))),
+            expected_type: node(&rt, alloc, Type::NonNullNamed(name(&rt, alloc, "Z"))),
             definition_location: FIRST,
         },
         "the required argument `@d(a:)` is not provided",
     );
-    given.prints(
+    prints(
+        &rt,
+        alloc,
         DiagnosticData::RequiredField {
-            name: given.name("y"),
-            coordinate: given.attribute("Input", "x"),
-            expected_type: given.node(Type::NonNullNamed(given.name("Z"))),
+            name: name(&rt, alloc, "y"),
+            coordinate: attribute(&rt, alloc, "Input", "x"),
+            expected_type: node(&rt, alloc, Type::NonNullNamed(name(&rt, alloc, "Z"))),
             definition_location: FIRST,
         },
         "the required field `Input.x` is not provided",
@@ -315,46 +331,58 @@ fn required_values(rt: HostRuntime) {
 
 #[test]
 fn kinds_of_types(rt: HostRuntime) {
-    let given = test_data(&rt);
-    given.prints(
+    let alloc = rt.alloc();
+    prints(
+        &rt,
+        alloc,
         DiagnosticData::OutputType {
-            name: given.name("f"),
+            name: name(&rt, alloc, "f"),
             describe_type: "an input object type",
             type_location: FIRST,
         },
         "`f` field must return an output type",
     );
-    given.prints(
+    prints(
+        &rt,
+        alloc,
         DiagnosticData::InputType {
-            name: given.name("a"),
+            name: name(&rt, alloc, "a"),
             describe_type: "an object type",
             type_location: FIRST,
         },
         "`a` field must be of an input type",
     );
-    given.prints(
+    prints(
+        &rt,
+        alloc,
         DiagnosticData::VariableInputType {
-            name: given.name("v"),
-            ty: given.node(Type::Named(given.name("T"))),
+            name: name(&rt, alloc, "v"),
+            ty: node(&rt, alloc, Type::Named(name(&rt, alloc, "T"))),
             describe_type: "a union type",
         },
         "`$v` variable must be of an input type",
     );
-    given.prints(
+    prints(
+        &rt,
+        alloc,
         DiagnosticData::RootOperationObjectType {
-            name: given.name("Query"),
+            name: name(&rt, alloc, "Query"),
             describe_type: "an interface type",
         },
         "`Query` field must return an object type",
     );
-    given.prints(
+    prints(
+        &rt,
+        alloc,
         DiagnosticData::UnionMemberObjectType {
-            name: given.name("M"),
+            name: name(&rt, alloc, "M"),
             describe_type: "a scalar type",
         },
         "union member `M` must be an object type",
     );
-    given.prints(
+    prints(
+        &rt,
+        alloc,
         DiagnosticData::QueryRootOperationType,
         "missing query root operation type in schema definition",
     );
@@ -362,31 +390,37 @@ fn kinds_of_types(rt: HostRuntime) {
 
 #[test]
 fn values_and_locations(rt: HostRuntime) {
-    let given = test_data(&rt);
-    let mut valid_locations = Vec::new(given.alloc);
+    let alloc = rt.alloc();
+    let mut valid_locations = Vec::new(alloc);
     valid_locations
         .push(DirectiveLocation::Object)
         .expect(&rt, "memory for a location");
-    given.prints(
+    prints(
+        &rt,
+        alloc,
         DiagnosticData::UnsupportedLocation {
-            name: given.name("d"),
+            name: name(&rt, alloc, "d"),
             location: DirectiveLocation::FieldDefinition,
             valid_locations,
             definition_location: FIRST,
         },
         "d directive is not supported for FIELD_DEFINITION location",
     );
-    given.prints(
+    prints(
+        &rt,
+        alloc,
         DiagnosticData::UnsupportedValueType {
-            value: given.node(Value::Enum(given.name("RED"))),
-            ty: given.node(Type::NonNullNamed(given.name("Int"))),
+            value: node(&rt, alloc, Value::Enum(name(&rt, alloc, "RED"))),
+            ty: node(&rt, alloc, Type::NonNullNamed(name(&rt, alloc, "Int"))),
             definition_location: FIRST,
         },
         "expected value of type Int!, found an enum",
     );
-    given.prints(
+    prints(
+        &rt,
+        alloc,
         DiagnosticData::IntCoercionError {
-            value: given.text("2147483648"),
+            value: text(&rt, alloc, "2147483648"),
         },
         "int cannot represent non 32-bit signed integer value",
     );
@@ -394,19 +428,23 @@ fn values_and_locations(rt: HostRuntime) {
 
 #[test]
 fn variables(rt: HostRuntime) {
-    let given = test_data(&rt);
-    given.prints(
+    let alloc = rt.alloc();
+    prints(
+        &rt,
+        alloc,
         DiagnosticData::UnusedVariable {
-            name: given.name("v"),
+            name: name(&rt, alloc, "v"),
         },
         "unused variable: `$v`",
     );
-    given.prints(
+    prints(
+        &rt,
+        alloc,
         DiagnosticData::DisallowedVariableUsage {
-            variable: given.name("v"),
-            variable_type: Type::Named(given.name("A")),
-            argument: given.name("a"),
-            argument_type: Type::NonNullNamed(given.name("B")),
+            variable: name(&rt, alloc, "v"),
+            variable_type: Type::Named(name(&rt, alloc, "A")),
+            argument: name(&rt, alloc, "a"),
+            argument_type: Type::NonNullNamed(name(&rt, alloc, "B")),
             variable_location: FIRST,
             argument_location: SECOND,
         },
@@ -416,18 +454,22 @@ fn variables(rt: HostRuntime) {
 
 #[test]
 fn selections(rt: HostRuntime) {
-    let given = test_data(&rt);
-    given.prints(
+    let alloc = rt.alloc();
+    prints(
+        &rt,
+        alloc,
         DiagnosticData::MissingSubselection {
-            coordinate: given.attribute("T", "f"),
-            output_type: given.name("U"),
+            coordinate: attribute(&rt, alloc, "T", "f"),
+            output_type: name(&rt, alloc, "U"),
             describe_type: "a union type",
         },
         "interface, union and object types must have a subselection set",
     );
-    given.prints(
+    prints(
+        &rt,
+        alloc,
         DiagnosticData::UnusedFragment {
-            name: given.name("F"),
+            name: name(&rt, alloc, "F"),
         },
         "fragment `F` must be used in an operation",
     );
@@ -435,36 +477,44 @@ fn selections(rt: HostRuntime) {
 
 #[test]
 fn conditions_of_fragments(rt: HostRuntime) {
-    let given = test_data(&rt);
-    given.prints(
+    let alloc = rt.alloc();
+    prints(
+        &rt,
+        alloc,
         DiagnosticData::InvalidFragmentTarget {
-            name: Some(given.name("F")),
-            ty: given.name("T"),
+            name: Some(name(&rt, alloc, "F")),
+            ty: name(&rt, alloc, "T"),
         },
         "fragment `F` must have a composite type in its type condition",
     );
-    given.prints(
+    prints(
+        &rt,
+        alloc,
         DiagnosticData::InvalidFragmentTarget {
             name: None,
-            ty: given.name("T"),
+            ty: name(&rt, alloc, "T"),
         },
         "inline fragment must have a composite type in its type condition",
     );
-    given.prints(
+    prints(
+        &rt,
+        alloc,
         DiagnosticData::InvalidFragmentSpread {
-            name: Some(given.name("F")),
-            type_condition: given.name("T"),
-            type_name: given.name("P"),
+            name: Some(name(&rt, alloc, "F")),
+            type_condition: name(&rt, alloc, "T"),
+            type_name: name(&rt, alloc, "P"),
             fragment_location: FIRST,
             type_location: SECOND,
         },
         "fragment `F` with type condition `T` cannot be applied to `P`",
     );
-    given.prints(
+    prints(
+        &rt,
+        alloc,
         DiagnosticData::InvalidFragmentSpread {
             name: None,
-            type_condition: given.name("T"),
-            type_name: given.name("P"),
+            type_condition: name(&rt, alloc, "T"),
+            type_name: name(&rt, alloc, "P"),
             fragment_location: FIRST,
             type_location: SECOND,
         },
@@ -474,77 +524,100 @@ fn conditions_of_fragments(rt: HostRuntime) {
 
 #[test]
 fn cycles_and_limits(rt: HostRuntime) {
-    let given = test_data(&rt);
-    given.prints(
+    let alloc = rt.alloc();
+    prints(
+        &rt,
+        alloc,
         DiagnosticData::RecursiveDirectiveDefinition {
-            name: given.name("d"),
-            trace: Vec::new(given.alloc),
+            name: name(&rt, alloc, "d"),
+            trace: Vec::new(alloc),
         },
         "`d` directive definition cannot reference itself",
     );
-    given.prints(
+    prints(
+        &rt,
+        alloc,
         DiagnosticData::RecursiveInputObjectDefinition {
-            name: given.name("Input"),
-            trace: Vec::new(given.alloc),
+            name: name(&rt, alloc, "Input"),
+            trace: Vec::new(alloc),
         },
         "`Input` input object cannot reference itself",
     );
-    given.prints(
+    prints(
+        &rt,
+        alloc,
         DiagnosticData::RecursiveFragmentDefinition {
-            name: given.name("F"),
+            name: name(&rt, alloc, "F"),
             head_location: FIRST,
-            trace: Vec::new(given.alloc),
+            trace: Vec::new(alloc),
         },
         "`F` fragment cannot reference itself",
     );
-    given.prints(
+    prints(
+        &rt,
+        alloc,
         DiagnosticData::DeeplyNestedType {
-            name: given.name("A1"),
+            name: name(&rt, alloc, "A1"),
             describe_type: "input object",
         },
         "`A1` contains too much nesting",
     );
-    given.prints(DiagnosticData::RecursionError, "too much recursion");
+    prints(
+        &rt,
+        alloc,
+        DiagnosticData::RecursionError,
+        "too much recursion",
+    );
 }
 
 #[test]
 fn empty_types_and_reserved_names(rt: HostRuntime) {
-    let given = test_data(&rt);
-    given.prints(
+    let alloc = rt.alloc();
+    prints(
+        &rt,
+        alloc,
         DiagnosticData::EmptyFieldSet {
-            type_name: given.name("T"),
+            type_name: name(&rt, alloc, "T"),
             type_location: FIRST,
-            extensions_locations: Vec::new(given.alloc),
+            extensions_locations: Vec::new(alloc),
         },
         "`T` has no fields",
     );
-    given.prints(
+    prints(
+        &rt,
+        alloc,
         DiagnosticData::EmptyValueSet {
-            type_name: given.name("E"),
+            type_name: name(&rt, alloc, "E"),
             type_location: FIRST,
-            extensions_locations: Vec::new(given.alloc),
+            extensions_locations: Vec::new(alloc),
         },
         "`E` has no enum values",
     );
-    given.prints(
+    prints(
+        &rt,
+        alloc,
         DiagnosticData::EmptyMemberSet {
-            type_name: given.name("U"),
+            type_name: name(&rt, alloc, "U"),
             type_location: FIRST,
-            extensions_locations: Vec::new(given.alloc),
+            extensions_locations: Vec::new(alloc),
         },
         "`U` has no member types",
     );
-    given.prints(
+    prints(
+        &rt,
+        alloc,
         DiagnosticData::EmptyInputValueSet {
-            type_name: given.name("Input"),
+            type_name: name(&rt, alloc, "Input"),
             type_location: FIRST,
-            extensions_locations: Vec::new(given.alloc),
+            extensions_locations: Vec::new(alloc),
         },
         "`Input` has no input values",
     );
-    given.prints(
+    prints(
+        &rt,
+        alloc,
         DiagnosticData::ReservedName {
-            name: given.name("__f"),
+            name: name(&rt, alloc, "__f"),
             describe: "a field",
         },
         "a field cannot be named `__f` as names starting with two underscores are reserved",
@@ -553,58 +626,67 @@ fn empty_types_and_reserved_names(rt: HostRuntime) {
 
 #[test]
 fn names_or_words(rt: HostRuntime) {
-    let given = test_data(&rt);
-    let written = given.name("F");
+    let alloc = rt.alloc();
+    let written = name(&rt, alloc, "F");
     let named = NameOrAnon {
         name: Some(&written),
         if_some_prefix: "fragment",
         if_none: "inline fragment",
     };
-    given.prints(named, "fragment `F`");
+    prints(&rt, alloc, named, "fragment `F`");
     let anonymous: NameOrAnon<'_, Name> = NameOrAnon {
         name: None,
         if_some_prefix: "fragment",
         if_none: "inline fragment",
     };
-    given.prints(anonymous, "inline fragment");
+    prints(&rt, alloc, anonymous, "inline fragment");
     let number = NameOrAnon {
         name: Some(&7u8),
         if_some_prefix: "case",
         if_none: "no case",
     };
-    given.prints(number, "case `7`");
+    prints(&rt, alloc, number, "case `7`");
 }
 
 #[test]
 fn details_show_messages_and_names(rt: HostRuntime) {
-    let given = test_data(&rt);
-    given.prints(RecursionLimitError, "too much recursion");
-    given.prints(
+    let alloc = rt.alloc();
+    prints(&rt, alloc, RecursionLimitError, "too much recursion");
+    prints(
+        &rt,
+        alloc,
         Details::RecursionLimit(RecursionLimitError),
         "RecursionLimitError",
     );
     let unused = DiagnosticData::UnusedVariable {
-        name: given.name("v"),
+        name: name(&rt, alloc, "v"),
     };
-    given.prints(Details::Diagnostic(unused), "unused variable: `$v`");
+    prints(
+        &rt,
+        alloc,
+        Details::Diagnostic(unused),
+        "unused variable: `$v`",
+    );
     let subscription = BuildError::SubscriptionUsesMultipleFields {
-        name: Some(given.name("S")),
-        fields: Vec::new(given.alloc),
+        name: Some(name(&rt, alloc, "S")),
+        fields: Vec::new(alloc),
     };
-    given.prints(
+    prints(
+        &rt,
+        alloc,
         Details::Build(subscription),
         "SubscriptionUsesMultipleFields",
     );
     let conflict = BuildError::ConflictingFieldType {
-        alias: given.name("x"),
+        alias: name(&rt, alloc, "x"),
         original_location: FIRST,
-        original_coordinate: given.attribute("A", "f"),
-        original_type: Type::Named(given.name("Int")),
+        original_coordinate: attribute(&rt, alloc, "A", "f"),
+        original_type: Type::Named(name(&rt, alloc, "Int")),
         conflicting_location: SECOND,
-        conflicting_coordinate: given.attribute("B", "g"),
-        conflicting_type: Type::Named(given.name("String")),
+        conflicting_coordinate: attribute(&rt, alloc, "B", "g"),
+        conflicting_type: Type::Named(name(&rt, alloc, "String")),
     };
-    given.prints(Details::Build(conflict), "ConflictingFieldType");
+    prints(&rt, alloc, Details::Build(conflict), "ConflictingFieldType");
 }
 
 /// The value is called this.
@@ -616,21 +698,21 @@ fn is_called(rt: &impl Abort, value: Value, expected: &str) {
 
 #[test]
 fn kinds_of_values(rt: HostRuntime) {
-    let given = test_data(&rt);
-    let integer = IntValue::new(given.text("1")).expect(&rt, "an integer");
+    let alloc = rt.alloc();
+    let integer = IntValue::new(text(&rt, alloc, "1")).expect(&rt, "an integer");
     is_called(&rt, Value::Null, "null");
-    is_called(&rt, Value::Enum(given.name("E")), "an enum");
-    is_called(&rt, Value::Variable(given.name("v")), "a variable");
-    is_called(&rt, Value::String(given.text("s")), "a string");
+    is_called(&rt, Value::Enum(name(&rt, alloc, "E")), "an enum");
+    is_called(&rt, Value::Variable(name(&rt, alloc, "v")), "a variable");
+    is_called(&rt, Value::String(text(&rt, alloc, "s")), "a string");
     is_called(&rt, Value::Int(integer), "an integer");
     is_called(&rt, Value::Boolean(true), "a boolean");
-    is_called(&rt, Value::List(Vec::new(given.alloc)), "a list");
-    is_called(&rt, Value::Object(Vec::new(given.alloc)), "an input object");
+    is_called(&rt, Value::List(Vec::new(alloc)), "a list");
+    is_called(&rt, Value::Object(Vec::new(alloc)), "an input object");
 }
 
 #[test]
 fn locations_of_directives(rt: HostRuntime) {
-    let given = test_data(&rt);
+    let alloc = rt.alloc();
     for (location, expected) in [
         (DirectiveLocation::Query, "QUERY"),
         (DirectiveLocation::Mutation, "MUTATION"),
@@ -655,14 +737,14 @@ fn locations_of_directives(rt: HostRuntime) {
             "INPUT_FIELD_DEFINITION",
         ),
     ] {
-        given.prints(location, expected);
+        prints(&rt, alloc, location, expected);
     }
 }
 
 #[test]
 fn keywords_of_operations(rt: HostRuntime) {
-    let given = test_data(&rt);
-    given.prints(OperationType::Query, "query");
-    given.prints(OperationType::Mutation, "mutation");
-    given.prints(OperationType::Subscription, "subscription");
+    let alloc = rt.alloc();
+    prints(&rt, alloc, OperationType::Query, "query");
+    prints(&rt, alloc, OperationType::Mutation, "mutation");
+    prints(&rt, alloc, OperationType::Subscription, "subscription");
 }
