@@ -24,68 +24,88 @@ const SECOND: Option<SourceSpan> = Some(SourceSpan {
     end: 6,
 });
 
-fn attribute(rt: &impl Abort, alloc: Global, ty: &str, attribute: &str) -> TypeAttributeCoordinate {
-    TypeAttributeCoordinate {
-        ty: name(rt, alloc, ty),
-        attribute: name(rt, alloc, attribute),
+/// What builds data and prints it, or ends the test.
+#[derive(Drop)]
+struct TestData<'a, R> {
+    rt: &'a R,
+    alloc: Global,
+}
+
+fn test_data<R: Abort + AllocGlobal>(rt: &R) -> TestData<'_, R> {
+    TestData {
+        rt,
+        alloc: rt.alloc(),
     }
 }
 
-/// What is given prints this text.
-fn prints<T: Display + Drop>(rt: &impl Abort, alloc: Global, shown: T, expected: &str) {
-    let printed = shown.to_string(alloc).expect(rt, "memory for a text");
-    if printed.as_str() != expected {
-        panic!(rt; "{expected} was expected, not {printed}");
+impl<R: Abort> TestData<'_, R> {
+    fn text(&self, written: &str) -> String {
+        text(self.rt, self.alloc, written)
+    }
+
+    fn name(&self, written: &str) -> Name {
+        name(self.rt, self.alloc, written)
+    }
+
+    fn node<T: Drop>(&self, value: T) -> Node<T> {
+        node(self.rt, self.alloc, value)
+    }
+
+    fn attribute(&self, ty: &str, attribute: &str) -> TypeAttributeCoordinate {
+        TypeAttributeCoordinate {
+            ty: self.name(ty),
+            attribute: self.name(attribute),
+        }
+    }
+
+    /// What is shown prints this text.
+    fn prints<T: Display + Drop>(&self, shown: T, expected: &str) {
+        let printed = shown
+            .to_string(self.alloc)
+            .expect(self.rt, "memory for a text");
+        if printed.as_str() != expected {
+            panic!(self.rt; "{expected} was expected, not {printed}");
+        }
     }
 }
 
 #[test]
 fn repeated_names(rt: HostRuntime) {
-    let alloc = rt.alloc();
-    prints(
-        &rt,
-        alloc,
+    let given = test_data(&rt);
+    given.prints(
         DiagnosticData::UniqueVariable {
-            name: name(&rt, alloc, "v"),
+            name: given.name("v"),
             original_definition: FIRST,
             redefined_definition: SECOND,
         },
         "the variable `$v` is declared multiple times",
     );
-    prints(
-        &rt,
-        alloc,
+    given.prints(
         DiagnosticData::UniqueArgument {
-            name: name(&rt, alloc, "n"),
+            name: given.name("n"),
             original_definition: FIRST,
             redefined_definition: SECOND,
         },
         "the argument `n` is provided multiple times",
     );
-    prints(
-        &rt,
-        alloc,
+    given.prints(
         DiagnosticData::UniqueInputValue {
-            name: name(&rt, alloc, "a"),
+            name: given.name("a"),
             original_definition: FIRST,
             redefined_definition: SECOND,
         },
         "the value `a` is defined multiple times",
     );
-    prints(
-        &rt,
-        alloc,
+    given.prints(
         DiagnosticData::UniqueDirective {
-            name: name(&rt, alloc, "d"),
+            name: given.name("d"),
             original_application: FIRST,
         },
         "non-repeatable directive d can only be used once per location",
     );
-    prints(
-        &rt,
-        alloc,
+    given.prints(
         DiagnosticData::DuplicateRootOperationType {
-            name: name(&rt, alloc, "Root"),
+            name: given.name("Root"),
             original_operation: OperationType::Query,
             original_definition: FIRST,
             redefined_operation: OperationType::Mutation,
@@ -97,26 +117,22 @@ fn repeated_names(rt: HostRuntime) {
 
 #[test]
 fn unknown_arguments(rt: HostRuntime) {
-    let alloc = rt.alloc();
-    let of_field = SchemaCoordinate::TypeAttribute(attribute(&rt, alloc, "T", "f"));
-    prints(
-        &rt,
-        alloc,
+    let given = test_data(&rt);
+    let of_field = SchemaCoordinate::TypeAttribute(given.attribute("T", "f"));
+    given.prints(
         DiagnosticData::UndefinedArgument {
-            name: name(&rt, alloc, "x"),
+            name: given.name("x"),
             coordinate: of_field,
             definition_location: FIRST,
         },
         "the argument `x` is not supported by `T.f`",
     );
     let of_directive = SchemaCoordinate::Directive(DirectiveCoordinate {
-        directive: name(&rt, alloc, "d"),
+        directive: given.name("d"),
     });
-    prints(
-        &rt,
-        alloc,
+    given.prints(
         DiagnosticData::UndefinedArgument {
-            name: name(&rt, alloc, "x"),
+            name: given.name("x"),
             coordinate: of_directive,
             definition_location: FIRST,
         },
@@ -126,55 +142,43 @@ fn unknown_arguments(rt: HostRuntime) {
 
 #[test]
 fn unknown_names(rt: HostRuntime) {
-    let alloc = rt.alloc();
-    prints(
-        &rt,
-        alloc,
+    let given = test_data(&rt);
+    given.prints(
         DiagnosticData::UndefinedDefinition {
-            name: name(&rt, alloc, "T"),
+            name: given.name("T"),
         },
         "cannot find type `T` in this document",
     );
-    prints(
-        &rt,
-        alloc,
+    given.prints(
         DiagnosticData::UndefinedDirective {
-            name: name(&rt, alloc, "d"),
+            name: given.name("d"),
         },
         "cannot find directive `@d` in this document",
     );
-    prints(
-        &rt,
-        alloc,
+    given.prints(
         DiagnosticData::UndefinedVariable {
-            name: name(&rt, alloc, "v"),
+            name: given.name("v"),
         },
         "variable `$v` is not defined",
     );
-    prints(
-        &rt,
-        alloc,
+    given.prints(
         DiagnosticData::UndefinedFragment {
-            name: name(&rt, alloc, "F"),
+            name: given.name("F"),
         },
         "cannot find fragment `F` in this document",
     );
-    prints(
-        &rt,
-        alloc,
+    given.prints(
         DiagnosticData::UndefinedEnumValue {
-            value: name(&rt, alloc, "RED"),
-            definition: name(&rt, alloc, "Colour"),
+            value: given.name("RED"),
+            definition: given.name("Colour"),
             definition_location: FIRST,
         },
         "value `RED` does not exist on `Colour`",
     );
-    prints(
-        &rt,
-        alloc,
+    given.prints(
         DiagnosticData::UndefinedInputValue {
-            value: name(&rt, alloc, "x"),
-            definition: name(&rt, alloc, "Input"),
+            value: given.name("x"),
+            definition: given.name("Input"),
             definition_location: FIRST,
         },
         "field `x` does not exist on `Input`",
@@ -183,28 +187,24 @@ fn unknown_names(rt: HostRuntime) {
 
 #[test]
 fn missing_fields_of_interfaces(rt: HostRuntime) {
-    let alloc = rt.alloc();
-    prints(
-        &rt,
-        alloc,
+    let given = test_data(&rt);
+    given.prints(
         DiagnosticData::MissingInterfaceField {
-            name: name(&rt, alloc, "T"),
-            interface: name(&rt, alloc, "I"),
-            field: name(&rt, alloc, "f"),
+            name: given.name("T"),
+            interface: given.name("I"),
+            field: given.name("f"),
             implements_location: FIRST,
             field_location: SECOND,
         },
         "type `T` does not satisfy interface `I`: missing field `f`",
     );
-    prints(
-        &rt,
-        alloc,
+    given.prints(
         DiagnosticData::InvalidImplementationFieldType {
-            name: name(&rt, alloc, "T"),
-            interface: name(&rt, alloc, "I"),
-            field: name(&rt, alloc, "f"),
-            interface_type: Type::NonNullNamed(name(&rt, alloc, "A")),
-            actual_type: Type::Named(name(&rt, alloc, "B")),
+            name: given.name("T"),
+            interface: given.name("I"),
+            field: given.name("f"),
+            interface_type: Type::NonNullNamed(given.name("A")),
+            actual_type: Type::Named(given.name("B")),
             field_location: FIRST,
             interface_field_location: SECOND,
         },
@@ -214,43 +214,37 @@ fn missing_fields_of_interfaces(rt: HostRuntime) {
 
 #[test]
 fn missing_arguments_of_interfaces(rt: HostRuntime) {
-    let alloc = rt.alloc();
-    prints(
-        &rt,
-        alloc,
+    let given = test_data(&rt);
+    given.prints(
         DiagnosticData::MissingInterfaceFieldArgument {
-            name: name(&rt, alloc, "T"),
-            interface: name(&rt, alloc, "I"),
-            field: name(&rt, alloc, "f"),
-            argument: name(&rt, alloc, "a"),
+            name: given.name("T"),
+            interface: given.name("I"),
+            field: given.name("f"),
+            argument: given.name("a"),
             field_location: FIRST,
             interface_argument_location: SECOND,
         },
         "interface field `I.f` expects argument `a` but `T.f` does not provide it",
     );
-    prints(
-        &rt,
-        alloc,
+    given.prints(
         DiagnosticData::InvalidImplementationFieldArgumentType {
-            name: name(&rt, alloc, "T"),
-            interface: name(&rt, alloc, "I"),
-            field: name(&rt, alloc, "f"),
-            argument: name(&rt, alloc, "a"),
-            interface_type: node(&rt, alloc, Type::Named(name(&rt, alloc, "A"))),
-            actual_type: node(&rt, alloc, Type::NonNullNamed(name(&rt, alloc, "B"))),
+            name: given.name("T"),
+            interface: given.name("I"),
+            field: given.name("f"),
+            argument: given.name("a"),
+            interface_type: given.node(Type::Named(given.name("A"))),
+            actual_type: given.node(Type::NonNullNamed(given.name("B"))),
             argument_location: FIRST,
             interface_argument_location: SECOND,
         },
         "interface field `I.f` expects argument `a` of type `A` but `T.f` provides type `B!`",
     );
-    prints(
-        &rt,
-        alloc,
+    given.prints(
         DiagnosticData::ExtraRequiredImplementationFieldArgument {
-            name: name(&rt, alloc, "T"),
-            interface: name(&rt, alloc, "I"),
-            field: name(&rt, alloc, "f"),
-            argument: name(&rt, alloc, "a"),
+            name: given.name("T"),
+            interface: given.name("I"),
+            field: given.name("f"),
+            argument: given.name("a"),
             argument_location: FIRST,
             interface_field_location: SECOND,
         },
@@ -260,23 +254,19 @@ fn missing_arguments_of_interfaces(rt: HostRuntime) {
 
 #[test]
 fn implemented_interfaces(rt: HostRuntime) {
-    let alloc = rt.alloc();
-    prints(
-        &rt,
-        alloc,
+    let given = test_data(&rt);
+    given.prints(
         DiagnosticData::TransitiveImplementedInterfaces {
-            interface: name(&rt, alloc, "A"),
-            via_interface: name(&rt, alloc, "B"),
-            missing_interface: name(&rt, alloc, "C"),
+            interface: given.name("A"),
+            via_interface: given.name("B"),
+            missing_interface: given.name("C"),
             transitive_interface_location: FIRST,
         },
         "interface `A` declares that it implements `B`, but to do so it must also implement `C`",
     );
-    prints(
-        &rt,
-        alloc,
+    given.prints(
         DiagnosticData::RecursiveInterfaceDefinition {
-            name: name(&rt, alloc, "I"),
+            name: given.name("I"),
         },
         "interface I cannot implement itself",
     );
@@ -284,45 +274,39 @@ fn implemented_interfaces(rt: HostRuntime) {
 
 #[test]
 fn required_values(rt: HostRuntime) {
-    let alloc = rt.alloc();
+    let given = test_data(&rt);
     let of_field = FieldArgumentCoordinate {
-        ty: name(&rt, alloc, "T"),
-        field: name(&rt, alloc, "f"),
-        argument: name(&rt, alloc, "a"),
+        ty: given.name("T"),
+        field: given.name("f"),
+        argument: given.name("a"),
     };
-    prints(
-        &rt,
-        alloc,
+    given.prints(
         DiagnosticData::RequiredArgument {
-            name: name(&rt, alloc, "y"),
+            name: given.name("y"),
             coordinate: SchemaCoordinate::FieldArgument(of_field),
-            expected_type: node(&rt, alloc, Type::NonNullNamed(name(&rt, alloc, "Z"))),
+            expected_type: given.node(Type::NonNullNamed(given.name("Z"))),
             definition_location: FIRST,
         },
         "the required argument `T.f(a:)` is not provided",
     );
     let of_directive = DirectiveArgumentCoordinate {
-        directive: name(&rt, alloc, "d"),
-        argument: name(&rt, alloc, "a"),
+        directive: given.name("d"),
+        argument: given.name("a"),
     };
-    prints(
-        &rt,
-        alloc,
+    given.prints(
         DiagnosticData::RequiredArgument {
-            name: name(&rt, alloc, "y"),
+            name: given.name("y"),
             coordinate: SchemaCoordinate::DirectiveArgument(of_directive),
-            expected_type: node(&rt, alloc, Type::NonNullNamed(name(&rt, alloc, "Z"))),
+            expected_type: given.node(Type::NonNullNamed(given.name("Z"))),
             definition_location: FIRST,
         },
         "the required argument `@d(a:)` is not provided",
     );
-    prints(
-        &rt,
-        alloc,
+    given.prints(
         DiagnosticData::RequiredField {
-            name: name(&rt, alloc, "y"),
-            coordinate: attribute(&rt, alloc, "Input", "x"),
-            expected_type: node(&rt, alloc, Type::NonNullNamed(name(&rt, alloc, "Z"))),
+            name: given.name("y"),
+            coordinate: given.attribute("Input", "x"),
+            expected_type: given.node(Type::NonNullNamed(given.name("Z"))),
             definition_location: FIRST,
         },
         "the required field `Input.x` is not provided",
@@ -331,58 +315,46 @@ fn required_values(rt: HostRuntime) {
 
 #[test]
 fn kinds_of_types(rt: HostRuntime) {
-    let alloc = rt.alloc();
-    prints(
-        &rt,
-        alloc,
+    let given = test_data(&rt);
+    given.prints(
         DiagnosticData::OutputType {
-            name: name(&rt, alloc, "f"),
+            name: given.name("f"),
             describe_type: "an input object type",
             type_location: FIRST,
         },
         "`f` field must return an output type",
     );
-    prints(
-        &rt,
-        alloc,
+    given.prints(
         DiagnosticData::InputType {
-            name: name(&rt, alloc, "a"),
+            name: given.name("a"),
             describe_type: "an object type",
             type_location: FIRST,
         },
         "`a` field must be of an input type",
     );
-    prints(
-        &rt,
-        alloc,
+    given.prints(
         DiagnosticData::VariableInputType {
-            name: name(&rt, alloc, "v"),
-            ty: node(&rt, alloc, Type::Named(name(&rt, alloc, "T"))),
+            name: given.name("v"),
+            ty: given.node(Type::Named(given.name("T"))),
             describe_type: "a union type",
         },
         "`$v` variable must be of an input type",
     );
-    prints(
-        &rt,
-        alloc,
+    given.prints(
         DiagnosticData::RootOperationObjectType {
-            name: name(&rt, alloc, "Query"),
+            name: given.name("Query"),
             describe_type: "an interface type",
         },
         "`Query` field must return an object type",
     );
-    prints(
-        &rt,
-        alloc,
+    given.prints(
         DiagnosticData::UnionMemberObjectType {
-            name: name(&rt, alloc, "M"),
+            name: given.name("M"),
             describe_type: "a scalar type",
         },
         "union member `M` must be an object type",
     );
-    prints(
-        &rt,
-        alloc,
+    given.prints(
         DiagnosticData::QueryRootOperationType,
         "missing query root operation type in schema definition",
     );
@@ -390,37 +362,31 @@ fn kinds_of_types(rt: HostRuntime) {
 
 #[test]
 fn values_and_locations(rt: HostRuntime) {
-    let alloc = rt.alloc();
-    let mut valid_locations = Vec::new(alloc);
+    let given = test_data(&rt);
+    let mut valid_locations = Vec::new(given.alloc);
     valid_locations
         .push(DirectiveLocation::Object)
         .expect(&rt, "memory for a location");
-    prints(
-        &rt,
-        alloc,
+    given.prints(
         DiagnosticData::UnsupportedLocation {
-            name: name(&rt, alloc, "d"),
+            name: given.name("d"),
             location: DirectiveLocation::FieldDefinition,
             valid_locations,
             definition_location: FIRST,
         },
         "d directive is not supported for FIELD_DEFINITION location",
     );
-    prints(
-        &rt,
-        alloc,
+    given.prints(
         DiagnosticData::UnsupportedValueType {
-            value: node(&rt, alloc, Value::Enum(name(&rt, alloc, "RED"))),
-            ty: node(&rt, alloc, Type::NonNullNamed(name(&rt, alloc, "Int"))),
+            value: given.node(Value::Enum(given.name("RED"))),
+            ty: given.node(Type::NonNullNamed(given.name("Int"))),
             definition_location: FIRST,
         },
         "expected value of type Int!, found an enum",
     );
-    prints(
-        &rt,
-        alloc,
+    given.prints(
         DiagnosticData::IntCoercionError {
-            value: text(&rt, alloc, "2147483648"),
+            value: given.text("2147483648"),
         },
         "int cannot represent non 32-bit signed integer value",
     );
@@ -428,23 +394,19 @@ fn values_and_locations(rt: HostRuntime) {
 
 #[test]
 fn variables(rt: HostRuntime) {
-    let alloc = rt.alloc();
-    prints(
-        &rt,
-        alloc,
+    let given = test_data(&rt);
+    given.prints(
         DiagnosticData::UnusedVariable {
-            name: name(&rt, alloc, "v"),
+            name: given.name("v"),
         },
         "unused variable: `$v`",
     );
-    prints(
-        &rt,
-        alloc,
+    given.prints(
         DiagnosticData::DisallowedVariableUsage {
-            variable: name(&rt, alloc, "v"),
-            variable_type: Type::Named(name(&rt, alloc, "A")),
-            argument: name(&rt, alloc, "a"),
-            argument_type: Type::NonNullNamed(name(&rt, alloc, "B")),
+            variable: given.name("v"),
+            variable_type: Type::Named(given.name("A")),
+            argument: given.name("a"),
+            argument_type: Type::NonNullNamed(given.name("B")),
             variable_location: FIRST,
             argument_location: SECOND,
         },
@@ -454,22 +416,18 @@ fn variables(rt: HostRuntime) {
 
 #[test]
 fn selections(rt: HostRuntime) {
-    let alloc = rt.alloc();
-    prints(
-        &rt,
-        alloc,
+    let given = test_data(&rt);
+    given.prints(
         DiagnosticData::MissingSubselection {
-            coordinate: attribute(&rt, alloc, "T", "f"),
-            output_type: name(&rt, alloc, "U"),
+            coordinate: given.attribute("T", "f"),
+            output_type: given.name("U"),
             describe_type: "a union type",
         },
         "interface, union and object types must have a subselection set",
     );
-    prints(
-        &rt,
-        alloc,
+    given.prints(
         DiagnosticData::UnusedFragment {
-            name: name(&rt, alloc, "F"),
+            name: given.name("F"),
         },
         "fragment `F` must be used in an operation",
     );
@@ -477,44 +435,36 @@ fn selections(rt: HostRuntime) {
 
 #[test]
 fn conditions_of_fragments(rt: HostRuntime) {
-    let alloc = rt.alloc();
-    prints(
-        &rt,
-        alloc,
+    let given = test_data(&rt);
+    given.prints(
         DiagnosticData::InvalidFragmentTarget {
-            name: Some(name(&rt, alloc, "F")),
-            ty: name(&rt, alloc, "T"),
+            name: Some(given.name("F")),
+            ty: given.name("T"),
         },
         "fragment `F` must have a composite type in its type condition",
     );
-    prints(
-        &rt,
-        alloc,
+    given.prints(
         DiagnosticData::InvalidFragmentTarget {
             name: None,
-            ty: name(&rt, alloc, "T"),
+            ty: given.name("T"),
         },
         "inline fragment must have a composite type in its type condition",
     );
-    prints(
-        &rt,
-        alloc,
+    given.prints(
         DiagnosticData::InvalidFragmentSpread {
-            name: Some(name(&rt, alloc, "F")),
-            type_condition: name(&rt, alloc, "T"),
-            type_name: name(&rt, alloc, "P"),
+            name: Some(given.name("F")),
+            type_condition: given.name("T"),
+            type_name: given.name("P"),
             fragment_location: FIRST,
             type_location: SECOND,
         },
         "fragment `F` with type condition `T` cannot be applied to `P`",
     );
-    prints(
-        &rt,
-        alloc,
+    given.prints(
         DiagnosticData::InvalidFragmentSpread {
             name: None,
-            type_condition: name(&rt, alloc, "T"),
-            type_name: name(&rt, alloc, "P"),
+            type_condition: given.name("T"),
+            type_name: given.name("P"),
             fragment_location: FIRST,
             type_location: SECOND,
         },
@@ -524,100 +474,77 @@ fn conditions_of_fragments(rt: HostRuntime) {
 
 #[test]
 fn cycles_and_limits(rt: HostRuntime) {
-    let alloc = rt.alloc();
-    prints(
-        &rt,
-        alloc,
+    let given = test_data(&rt);
+    given.prints(
         DiagnosticData::RecursiveDirectiveDefinition {
-            name: name(&rt, alloc, "d"),
-            trace: Vec::new(alloc),
+            name: given.name("d"),
+            trace: Vec::new(given.alloc),
         },
         "`d` directive definition cannot reference itself",
     );
-    prints(
-        &rt,
-        alloc,
+    given.prints(
         DiagnosticData::RecursiveInputObjectDefinition {
-            name: name(&rt, alloc, "Input"),
-            trace: Vec::new(alloc),
+            name: given.name("Input"),
+            trace: Vec::new(given.alloc),
         },
         "`Input` input object cannot reference itself",
     );
-    prints(
-        &rt,
-        alloc,
+    given.prints(
         DiagnosticData::RecursiveFragmentDefinition {
-            name: name(&rt, alloc, "F"),
+            name: given.name("F"),
             head_location: FIRST,
-            trace: Vec::new(alloc),
+            trace: Vec::new(given.alloc),
         },
         "`F` fragment cannot reference itself",
     );
-    prints(
-        &rt,
-        alloc,
+    given.prints(
         DiagnosticData::DeeplyNestedType {
-            name: name(&rt, alloc, "A1"),
+            name: given.name("A1"),
             describe_type: "input object",
         },
         "`A1` contains too much nesting",
     );
-    prints(
-        &rt,
-        alloc,
-        DiagnosticData::RecursionError,
-        "too much recursion",
-    );
+    given.prints(DiagnosticData::RecursionError, "too much recursion");
 }
 
 #[test]
 fn empty_types_and_reserved_names(rt: HostRuntime) {
-    let alloc = rt.alloc();
-    prints(
-        &rt,
-        alloc,
+    let given = test_data(&rt);
+    given.prints(
         DiagnosticData::EmptyFieldSet {
-            type_name: name(&rt, alloc, "T"),
+            type_name: given.name("T"),
             type_location: FIRST,
-            extensions_locations: Vec::new(alloc),
+            extensions_locations: Vec::new(given.alloc),
         },
         "`T` has no fields",
     );
-    prints(
-        &rt,
-        alloc,
+    given.prints(
         DiagnosticData::EmptyValueSet {
-            type_name: name(&rt, alloc, "E"),
+            type_name: given.name("E"),
             type_location: FIRST,
-            extensions_locations: Vec::new(alloc),
+            extensions_locations: Vec::new(given.alloc),
         },
         "`E` has no enum values",
     );
-    prints(
-        &rt,
-        alloc,
+    given.prints(
         DiagnosticData::EmptyMemberSet {
-            type_name: name(&rt, alloc, "U"),
+            type_name: given.name("U"),
             type_location: FIRST,
-            extensions_locations: Vec::new(alloc),
+            extensions_locations: Vec::new(given.alloc),
         },
         "`U` has no member types",
     );
-    prints(
-        &rt,
-        alloc,
+    given.prints(
         DiagnosticData::EmptyInputValueSet {
-            type_name: name(&rt, alloc, "Input"),
+            type_name: given.name("Input"),
             type_location: FIRST,
-            extensions_locations: Vec::new(alloc),
+            extensions_locations: Vec::new(given.alloc),
         },
         "`Input` has no input values",
     );
-    prints(
-        &rt,
-        alloc,
+    given.prints(
         DiagnosticData::ReservedName {
-            name: name(&rt, alloc, "__f"),
+            name: given.name("__f"),
             describe: "a field",
         },
         "a field cannot be named `__f` as names starting with two underscores are reserved",
@@ -626,67 +553,58 @@ fn empty_types_and_reserved_names(rt: HostRuntime) {
 
 #[test]
 fn names_or_words(rt: HostRuntime) {
-    let alloc = rt.alloc();
-    let written = name(&rt, alloc, "F");
+    let given = test_data(&rt);
+    let written = given.name("F");
     let named = NameOrAnon {
         name: Some(&written),
         if_some_prefix: "fragment",
         if_none: "inline fragment",
     };
-    prints(&rt, alloc, named, "fragment `F`");
+    given.prints(named, "fragment `F`");
     let anonymous: NameOrAnon<'_, Name> = NameOrAnon {
         name: None,
         if_some_prefix: "fragment",
         if_none: "inline fragment",
     };
-    prints(&rt, alloc, anonymous, "inline fragment");
+    given.prints(anonymous, "inline fragment");
     let number = NameOrAnon {
         name: Some(&7u8),
         if_some_prefix: "case",
         if_none: "no case",
     };
-    prints(&rt, alloc, number, "case `7`");
+    given.prints(number, "case `7`");
 }
 
 #[test]
 fn details_show_messages_and_names(rt: HostRuntime) {
-    let alloc = rt.alloc();
-    prints(&rt, alloc, RecursionLimitError, "too much recursion");
-    prints(
-        &rt,
-        alloc,
+    let given = test_data(&rt);
+    given.prints(RecursionLimitError, "too much recursion");
+    given.prints(
         Details::RecursionLimit(RecursionLimitError),
         "RecursionLimitError",
     );
     let unused = DiagnosticData::UnusedVariable {
-        name: name(&rt, alloc, "v"),
+        name: given.name("v"),
     };
-    prints(
-        &rt,
-        alloc,
-        Details::Diagnostic(unused),
-        "unused variable: `$v`",
-    );
+    given.prints(Details::Diagnostic(unused), "unused variable: `$v`");
     let subscription = BuildError::SubscriptionUsesMultipleFields {
-        name: Some(name(&rt, alloc, "S")),
-        fields: Vec::new(alloc),
+        name: Some(given.name("S")),
+        fields: Vec::new(given.alloc),
     };
-    prints(
-        &rt,
-        alloc,
+    given.prints(
         Details::Build(subscription),
         "SubscriptionUsesMultipleFields",
     );
     let conflict = BuildError::ConflictingFieldType {
-        alias: name(&rt, alloc, "x"),
+        alias: given.name("x"),
         original_location: FIRST,
-        original_coordinate: attribute(&rt, alloc, "A", "f"),
-        original_type: Type::Named(name(&rt, alloc, "Int")),
+        original_coordinate: given.attribute("A", "f"),
+        original_type: Type::Named(given.name("Int")),
         conflicting_location: SECOND,
-        conflicting_coordinate: attribute(&rt, alloc, "B", "g"),
-        conflicting_type: Type::Named(name(&rt, alloc, "String")),
+        conflicting_coordinate: given.attribute("B", "g"),
+        conflicting_type: Type::Named(given.name("String")),
     };
-    prints(&rt, alloc, Details::Build(conflict), "ConflictingFieldType");
+    given.prints(Details::Build(conflict), "ConflictingFieldType");
 }
 
 /// The value is called this.
@@ -698,21 +616,21 @@ fn is_called(rt: &impl Abort, value: Value, expected: &str) {
 
 #[test]
 fn kinds_of_values(rt: HostRuntime) {
-    let alloc = rt.alloc();
-    let integer = IntValue::new(text(&rt, alloc, "1")).expect(&rt, "an integer");
+    let given = test_data(&rt);
+    let integer = IntValue::new(given.text("1")).expect(&rt, "an integer");
     is_called(&rt, Value::Null, "null");
-    is_called(&rt, Value::Enum(name(&rt, alloc, "E")), "an enum");
-    is_called(&rt, Value::Variable(name(&rt, alloc, "v")), "a variable");
-    is_called(&rt, Value::String(text(&rt, alloc, "s")), "a string");
+    is_called(&rt, Value::Enum(given.name("E")), "an enum");
+    is_called(&rt, Value::Variable(given.name("v")), "a variable");
+    is_called(&rt, Value::String(given.text("s")), "a string");
     is_called(&rt, Value::Int(integer), "an integer");
     is_called(&rt, Value::Boolean(true), "a boolean");
-    is_called(&rt, Value::List(Vec::new(alloc)), "a list");
-    is_called(&rt, Value::Object(Vec::new(alloc)), "an input object");
+    is_called(&rt, Value::List(Vec::new(given.alloc)), "a list");
+    is_called(&rt, Value::Object(Vec::new(given.alloc)), "an input object");
 }
 
 #[test]
 fn locations_of_directives(rt: HostRuntime) {
-    let alloc = rt.alloc();
+    let given = test_data(&rt);
     for (location, expected) in [
         (DirectiveLocation::Query, "QUERY"),
         (DirectiveLocation::Mutation, "MUTATION"),
@@ -737,14 +655,14 @@ fn locations_of_directives(rt: HostRuntime) {
             "INPUT_FIELD_DEFINITION",
         ),
     ] {
-        prints(&rt, alloc, location, expected);
+        given.prints(location, expected);
     }
 }
 
 #[test]
 fn keywords_of_operations(rt: HostRuntime) {
-    let alloc = rt.alloc();
-    prints(&rt, alloc, OperationType::Query, "query");
-    prints(&rt, alloc, OperationType::Mutation, "mutation");
-    prints(&rt, alloc, OperationType::Subscription, "subscription");
+    let given = test_data(&rt);
+    given.prints(OperationType::Query, "query");
+    given.prints(OperationType::Mutation, "mutation");
+    given.prints(OperationType::Subscription, "subscription");
 }
