@@ -1,8 +1,8 @@
 //! What tests build and print. Where memory is refused, the test ends.
 use graphql_documents::diagnostics::DiagnosticList;
-use graphql_documents::documents::{Name, Node, Schema, Valid};
-use graphql_rows::build::{field_set, schema};
-use graphql_rows::notation::{SelectionNotation, object, output};
+use graphql_documents::documents::{InputValueDefinition, Name, Node, Schema, Valid};
+use graphql_rows::build::{field_set, inputs, schema};
+use graphql_rows::notation::{InputNotation, SelectionNotation, object, output};
 use graphql_validation::entry::validate_field_set;
 use std::alloc::Global;
 use std::process::Abort;
@@ -17,6 +17,16 @@ pub(crate) fn name(rt: &impl Abort, alloc: Global, written: &str) -> Name {
 
 pub(crate) fn node<T: Drop>(rt: &impl Abort, alloc: Global, value: T) -> Node<T> {
     Node::new(alloc, value).expect(rt, "memory for a node")
+}
+
+/// The definition of an argument.
+pub(crate) fn argument_definition(
+    rt: &impl Abort,
+    alloc: Global,
+    taken: InputNotation<'_>,
+) -> Node<InputValueDefinition> {
+    let mut built = inputs(alloc, &[taken], None).expect(rt, "an argument");
+    built.pop().expect(rt, "an argument")
 }
 
 /// `type Query { q: Query a: Int b: Int }`

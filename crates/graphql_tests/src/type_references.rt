@@ -1,18 +1,12 @@
+use super::fixtures::argument_definition;
 use graphql_documents::documents::{InputValueDefinition, Node};
-use graphql_rows::build::inputs;
-use graphql_rows::notation::{InputNotation, Literal, input, input_or};
+use graphql_rows::notation::{Literal, input, input_or};
 use std::alloc::Global;
 use std::process::Abort;
 
-/// The definition of an argument.
-fn defined(rt: &impl Abort, alloc: Global, taken: InputNotation<'_>) -> Node<InputValueDefinition> {
-    let mut built = inputs(alloc, &[taken], None).expect(rt, "an argument");
-    built.pop().expect(rt, "an argument")
-}
-
 /// An argument whose type is written so.
 fn of_type(rt: &impl Abort, alloc: Global, written: &str) -> Node<InputValueDefinition> {
-    defined(rt, alloc, input("n", written))
+    argument_definition(rt, alloc, input("n", written))
 }
 
 #[test]
@@ -52,8 +46,20 @@ fn a_stricter_type_stands_for_a_looser_one(rt: HostRuntime) {
 #[test]
 fn a_default_makes_an_argument_optional(rt: HostRuntime) {
     let alloc = rt.alloc();
-    assert!(rt; defined(&rt, alloc, input("n", "Int!")).value.is_required());
-    assert!(rt; !defined(&rt, alloc, input("n", "Int")).value.is_required());
+    assert!(rt;
+        argument_definition(&rt, alloc, input("n", "Int!"))
+            .value
+            .is_required()
+    );
+    assert!(rt;
+        !argument_definition(&rt, alloc, input("n", "Int"))
+            .value
+            .is_required()
+    );
     let with_default = input_or("n", "Int!", Literal::Int("1"));
-    assert!(rt; !defined(&rt, alloc, with_default).value.is_required());
+    assert!(rt;
+        !argument_definition(&rt, alloc, with_default)
+            .value
+            .is_required()
+    );
 }

@@ -1,7 +1,7 @@
-use super::fixtures::reports;
+use super::fixtures::{argument_definition, reports};
 use graphql_documents::diagnostics::DiagnosticList;
-use graphql_documents::documents::{Argument, InputValueDefinition, Node, VariableDefinition};
-use graphql_rows::build::{arguments, inputs, schema, variables};
+use graphql_documents::documents::{Argument, Node, VariableDefinition};
+use graphql_rows::build::{arguments, schema, variables};
 use graphql_rows::notation::{
     InputNotation, Literal, VariableNotation, argument, input, input_or, variable, variable_or,
 };
@@ -14,12 +14,6 @@ const MISUSED: &str =
     "variable `$v` of type `Int` cannot be used for argument `n` of type `Int!`\n";
 
 const WRONG_ITEM: &str = "expected value of type Int, found a variable\n";
-
-/// The definition of an argument.
-fn place(rt: &impl Abort, alloc: Global, taken: InputNotation<'_>) -> Node<InputValueDefinition> {
-    let mut places = inputs(alloc, &[taken], None).expect(rt, "an argument");
-    places.pop().expect(rt, "an argument")
-}
 
 /// The definition of a variable, alone.
 fn defined(
@@ -37,7 +31,7 @@ fn is_allowed(
     taken: InputNotation<'_>,
 ) -> bool {
     let variable = defined(rt, alloc, written).pop().expect(rt, "a variable");
-    let place = place(rt, alloc, taken);
+    let place = argument_definition(rt, alloc, taken);
     is_variable_usage_allowed(&variable.value, &place.value)
 }
 
@@ -73,7 +67,7 @@ fn given(rt: &impl Abort, alloc: Global, value: Literal<'_>) -> Node<Argument> {
 /// What `n: $v` brings at a place of the type `Int!`, where this variable is defined.
 fn usage(rt: &impl Abort, alloc: Global, written: VariableNotation<'_>, expected: &str) -> bool {
     let built = defined(rt, alloc, written);
-    let place = place(rt, alloc, input("n", "Int!"));
+    let place = argument_definition(rt, alloc, input("n", "Int!"));
     let argument = given(rt, alloc, Literal::Variable("v"));
     let mut diagnostics = DiagnosticList::new(alloc);
     let allowed = validate_variable_usage(&mut diagnostics, &place, &built, &argument).expect(
@@ -102,7 +96,7 @@ const IN_A_LIST: &[Literal<'static>] = &[Literal::Variable("v")];
 fn item(rt: &impl Abort, alloc: Global, written: VariableNotation<'_>, expected: &str) {
     let schema = schema(alloc, &[], &[]).expect(rt, "a schema");
     let built = defined(rt, alloc, written);
-    let place = place(rt, alloc, input("n", "[Int]"));
+    let place = argument_definition(rt, alloc, input("n", "[Int]"));
     let argument = given(rt, alloc, Literal::List(IN_A_LIST));
     let mut diagnostics = DiagnosticList::new(alloc);
     validate_values(
