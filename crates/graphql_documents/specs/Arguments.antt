@@ -46,11 +46,15 @@ pub record ArgumentValueHolds (schema : Schema) (variables : List (Node Variable
   pub usage : UsageHolds variables definition value
   pub accepted : Accepts schema variables definition.ty.value.value value
 
--- each argument's value holds, by the first definition with its name. Specification: 5.6 Values
+-- the value of the argument holds, by the first definition with its name
+abbrev pub ValueHoldsBy : Schema → List (Node VariableDefinition) → List (Node InputValueDefinition) → Node Argument → Type 0
+ValueHoldsBy schema variables definitions a =
+    (d : Node InputValueDefinition) → definition_named a.value.value.name definitions ≡ Some d →
+    ArgumentValueHolds schema variables d.value.value a.value.value.value.value.value
+
+-- each argument's value holds. Specification: 5.6 Values
 abbrev pub ArgumentValuesHold : Schema → List (Node VariableDefinition) → List (Node InputValueDefinition) → List (Node Argument) → Type 0
-ArgumentValuesHold schema variables definitions given =
-    All (λ a. (d : Node InputValueDefinition) → definition_named a.value.value.name definitions ≡ Some d →
-    ArgumentValueHolds schema variables d.value.value a.value.value.value.value.value) given
+ArgumentValuesHold schema variables definitions given = All (ValueHoldsBy schema variables definitions) given
 
 -- the arguments agree with the definitions
 pub record ArgumentsHold (schema : Schema) (variables : List (Node VariableDefinition)) (definitions : List (Node InputValueDefinition)) (given : List (Node Argument)) : Type 0 where

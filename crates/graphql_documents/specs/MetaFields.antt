@@ -1,5 +1,5 @@
 -- The meta-fields that every schema has. Specification: 4.1 Type Name Introspection, 4.2 Schema Introspection.
-use Rattle.std.specs.Prelude.{◌≡◌, ℕ, Bool, false, List, [], ◌∷◌, codes, map, is_some}
+use Rattle.std.specs.Prelude.{◌≡◌, ℕ, Bool, false, List, [], ◌∷◌, codes, length, map, is_some, sum_by}
 use Rattle.graphql_documents.specs.TypeReferences.{type_text}
 use Rattle.graphql_documents.specs.declared.documents.definitions.FieldDefinition.{FieldDefinition}
 use Rattle.graphql_documents.specs.declared.documents.definitions.InputValueDefinition.{InputValueDefinition}
@@ -8,11 +8,13 @@ use Rattle.graphql_documents.specs.declared.documents.definitions.InputValueDefi
 abbrev pub argument_signature : InputValueDefinition → List ℕ × List ℕ × Bool
 argument_signature d = (d.name.text, type_text d.ty.value.value, is_some d.default_value)
 
--- the field has this name, these arguments and this type
+-- the field has this name, these arguments and this type, and no directives, on its arguments neither
 pub record HasSignature (d : FieldDefinition) (name : List ℕ) (arguments : List (List ℕ × List ℕ × Bool)) (ty : List ℕ) : Type 0 where
   pub named : d.name.text ≡ name
   pub takes : map (λ a. argument_signature a.value.value) d.arguments.items ≡ arguments
   pub gives : type_text d.ty ≡ ty
+  pub no_directives : length d.directives.items ≡ 0
+  pub no_argument_directives : sum_by (λ a. length a.value.value.directives.items) d.arguments.items ≡ 0
 
 -- `__typename: String!`
 abbrev pub IsTypename : FieldDefinition → Type 0

@@ -1,6 +1,8 @@
 -- References to types. Specification: 2.11 Type References.
-use Rattle.std.specs.Prelude.{ℕ, Bool, true, false, not, List, ◌++◌, codes}
+use Rattle.std.specs.Prelude.{◌≡◌, ℕ, Bool, true, false, not, List, ◌++◌, codes, Option}
 use Rattle.graphql_documents.specs.Names.{NameText, same_name}
+use Rattle.graphql_documents.specs.declared.documents.nodes.Node.{Node}
+use Rattle.graphql_documents.specs.declared.documents.spans.SourceSpan.{SourceSpan}
 use Rattle.graphql_documents.specs.declared.documents.type_references.Type.{«Type»}
 use Rattle.graphql_documents.specs.declared.documents.type_references.Type.TheVariants.{Named, NonNullNamed, List', NonNullList'}
 
@@ -65,3 +67,38 @@ same_type (NonNullNamed a) (NonNullNamed b) = same_name a b
 same_type (List' place a) (List' other b) = same_type a b
 same_type (NonNullList' place a) (NonNullList' other b) = same_type a b
 same_type _ _ = false
+
+-- a type as written: its wrappers, and its name with the place where this stands
+pub data TypeText : Type 0 where
+  name_text : NameText → TypeText
+  non_null_name_text : NameText → TypeText
+  list_text : TypeText → TypeText
+  non_null_list_text : TypeText → TypeText
+
+abbrev pub as_written : «Type» → TypeText
+as_written (Named name) = name_text name
+as_written (NonNullNamed name) = non_null_name_text name
+as_written (List' place item) = list_text (as_written item)
+as_written (NonNullList' place item) = non_null_list_text (as_written item)
+
+-- the second type is a copy of the first, its name at the same place
+abbrev pub IsTypeCopy : «Type» → «Type» → Type 0
+IsTypeCopy ty copy = as_written copy ≡ as_written ty
+
+-- a type, and where it is written; that of the items of a list is written where the list is
+pub record TypeReference : Type 0 where
+  pub ty : «Type»
+  pub location : Option SourceSpan
+
+-- the type of a node, where that stands
+abbrev pub reference_of : Node «Type» → TypeReference
+reference_of node = record { ty = node.value.value; location = node.location }
+
+-- the type of the items of a list
+abbrev pub item_reference : TypeReference → TypeReference
+item_reference reference = record { ty = item_type reference.ty; location = reference.location }
+
+-- a node that is a copy of the reference
+pub record IsReferenceCopy (reference : TypeReference) (copy : Node «Type») : Type 0 where
+  pub ty : IsTypeCopy reference.ty copy.value.value
+  pub location : copy.location ≡ reference.location

@@ -7,8 +7,8 @@ use Rattle.graphql_documents.specs.Names.{NameText, SameName, same_name}
 use Rattle.graphql_documents.specs.Nodes.{SameNode}
 use Rattle.graphql_documents.specs.Numbers.{FitsInt, integer_value}
 use Rattle.graphql_documents.specs.SchemaReferences.{as_input_object, named}
-use Rattle.graphql_documents.specs.Schemas.{IsInputObject, is_input_type, location_of, type_definition}
-use Rattle.graphql_documents.specs.TypeReferences.{inner_named_type, is_list, is_non_null, item_type, same_type}
+use Rattle.graphql_documents.specs.Schemas.{IsInputObject, is_input_type, type_definition}
+use Rattle.graphql_documents.specs.TypeReferences.{IsReferenceCopy, TypeReference, inner_named_type, is_list, is_non_null, item_reference, item_type, reference_of}
 use Rattle.graphql_documents.specs.Values.{entry_named}
 use Rattle.graphql_documents.specs.VariableUsage.{variable_named}
 use Rattle.graphql_documents.specs.declared.diagnostics.data.DiagnosticData.TheVariants as report
@@ -52,17 +52,17 @@ abbrev pub TakesLists : «Type» → ExtendedType → Type 0
 TakesLists ty d = IsTrue (is_list ty || is_custom_scalar d) × IsTrue (is_input_type d)
 
 -- a value lies in another, which must be accepted for a type: it must be accepted for this type itself
-pub data LiesWithin (schema : Schema) : «Type» → Node Value → «Type» → Node Value → Type 0 where
-  within_itself : {ty : «Type»} {value : Node Value} → LiesWithin schema ty value ty value
-  within_item : {ty inner_ty : «Type»} {value item inner : Node Value} {d : ExtendedType} (items : Vec (Node Value) Global) →
-      type_definition schema (inner_named_type ty) ≡ Some d → TakesLists ty d →
+pub data LiesWithin (schema : Schema) : TypeReference → Node Value → TypeReference → Node Value → Type 0 where
+  within_itself : {ty : TypeReference} {value : Node Value} → LiesWithin schema ty value ty value
+  within_item : {ty inner_ty : TypeReference} {value item inner : Node Value} {d : ExtendedType} (items : Vec (Node Value) Global) →
+      type_definition schema (inner_named_type ty.ty) ≡ Some d → TakesLists ty.ty d →
       value.value.value ≡ literal.List items → Contains items.items item →
-      LiesWithin schema (item_type ty) item inner_ty inner → LiesWithin schema ty value inner_ty inner
-  within_entry : {ty inner_ty : «Type»} {value entry inner : Node Value} {d : Node InputObjectType}
+      LiesWithin schema (item_reference ty) item inner_ty inner → LiesWithin schema ty value inner_ty inner
+  within_entry : {ty inner_ty : TypeReference} {value entry inner : Node Value} {d : Node InputObjectType}
       (entries : Vec (NameText × Node Value) Global) (field : NameText × Component InputValueDefinition) →
-      IsInputObject schema (inner_named_type ty) d → value.value.value ≡ literal.Object entries →
+      IsInputObject schema (inner_named_type ty.ty) d → value.value.value ≡ literal.Object entries →
       Contains d.value.value.fields.entries field → entry_named field.0 entries.items ≡ Some entry →
-      LiesWithin schema field.1.node.value.value.ty.value.value entry inner_ty inner → LiesWithin schema ty value inner_ty inner
+      LiesWithin schema (reference_of field.1.node.value.value.ty) entry inner_ty inner → LiesWithin schema ty value inner_ty inner
 
 -- the value cannot stand for the type, whatever its items and entries; the report names the second
 -- type: that of the items, where a list would stand for a list of no input type
@@ -82,15 +82,15 @@ pub data CannotStandFor (variables : List (Node VariableDefinition)) (ty : «Typ
   object_for_no_object : (entries : Vec (NameText × Node Value) Global) →
       IsFalse (is_custom_scalar d) → as_input_object d ≡ None → CannotStandFor variables ty d (literal.Object entries) ty
 
--- the value cannot stand for the type: reported at the value, with the type's definition
-pub record HasUnsupportedType (schema : Schema) (variables : List (Node VariableDefinition)) (ty : «Type») (value : Node Value) (reported : Node Value) (named : Node «Type») (definition_location at : Option SourceSpan) : Type 0 where
+-- the value cannot stand for the type: reported at the value, with the type as it is written, and where
+pub record HasUnsupportedType (schema : Schema) (variables : List (Node VariableDefinition)) (ty : TypeReference) (value : Node Value) (reported : Node Value) (named : Node «Type») (definition_location at : Option SourceSpan) : Type 0 where
   pub definition : ExtendedType
   pub as_type : «Type»
-  pub defined : type_definition schema (inner_named_type ty) ≡ Some definition
-  pub cannot : CannotStandFor variables ty definition value.value.value as_type
+  pub defined : type_definition schema (inner_named_type ty.ty) ≡ Some definition
+  pub cannot : CannotStandFor variables ty.ty definition value.value.value as_type
   pub value_is : SameNode value reported
-  pub type_is : IsTrue (same_type named.value.value as_type)
-  pub definition_location_is : definition_location ≡ location_of definition
+  pub type_is : IsReferenceCopy (record { ty = as_type; location = ty.location }) named
+  pub definition_location_is : definition_location ≡ ty.location
   pub at_is : at ≡ value.location
 
 -- an integer is too large or too small for Int: reported at the value, with its text
@@ -153,22 +153,22 @@ pub record IsNoVariable (schema : Schema) (variables : List (Node VariableDefini
   pub at_is : at ≡ value.location
 
 -- the report names what is wrong with the value itself
-abbrev pub ValueBreaks : Schema → List (Node VariableDefinition) → «Type» → Node Value → DiagnosticData → Option SourceSpan → Type 0
+abbrev pub ValueBreaks : Schema → List (Node VariableDefinition) → TypeReference → Node Value → DiagnosticData → Option SourceSpan → Type 0
 ValueBreaks schema variables ty value (report.UnsupportedValueType reported named definition_location) at =
     HasUnsupportedType schema variables ty value reported named definition_location at
-ValueBreaks schema variables ty value (report.IntCoercionError text) at = IsNoInt schema ty value (string_bytes text) at
+ValueBreaks schema variables ty value (report.IntCoercionError text) at = IsNoInt schema ty.ty value (string_bytes text) at
 ValueBreaks schema variables ty value (report.UndefinedEnumValue name definition definition_location) at =
-    IsNoEnumValue schema ty value name definition definition_location at
+    IsNoEnumValue schema ty.ty value name definition definition_location at
 ValueBreaks schema variables ty value (report.UndefinedInputValue name definition definition_location) at =
-    HasUnknownEntry schema ty value name definition definition_location at
+    HasUnknownEntry schema ty.ty value name definition definition_location at
 ValueBreaks schema variables ty value (report.RequiredField name coordinate expected definition_location) at =
-    MissesField schema ty value name coordinate expected definition_location at
-ValueBreaks schema variables ty value (report.UndefinedVariable name) at = IsNoVariable schema variables ty value name at
+    MissesField schema ty.ty value name coordinate expected definition_location at
+ValueBreaks schema variables ty value (report.UndefinedVariable name) at = IsNoVariable schema variables ty.ty value name at
 ValueBreaks schema variables ty value _ at = ⊥
 
 -- the report names what is wrong with a value that is this one or lies in it
-pub record ValueReport (schema : Schema) (variables : List (Node VariableDefinition)) (ty : «Type») (value : Node Value) (r : DiagnosticData) (at : Option SourceSpan) : Type 0 where
-  pub inner_ty : «Type»
+pub record ValueReport (schema : Schema) (variables : List (Node VariableDefinition)) (ty : TypeReference) (value : Node Value) (r : DiagnosticData) (at : Option SourceSpan) : Type 0 where
+  pub inner_ty : TypeReference
   pub inner : Node Value
   pub lies : LiesWithin schema ty value inner_ty inner
   pub broken : ValueBreaks schema variables inner_ty inner r at

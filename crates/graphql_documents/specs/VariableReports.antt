@@ -1,5 +1,6 @@
 -- What a report says of the variables of an operation. Specification: 5.8 Variables.
 use Rattle.std.specs.Prelude.{◌≡◌, ℕ, List, [], ◌∷◌, ◌++◌, Option, None, Some, IsFalse, Contains, map}
+use Rattle.std.specs.Borrow.{Bor}
 use Rattle.graphql_documents.specs.DirectiveReports.{DirectivesBreak}
 use Rattle.graphql_documents.specs.Diagnostics.{IsDiagnostic}
 use Rattle.graphql_documents.specs.Names.{NameText, SameName, different_names}
@@ -7,7 +8,7 @@ use Rattle.graphql_documents.specs.Nodes.{SameNode}
 use Rattle.graphql_documents.specs.Schemas.{is_input_type, kind_text, type_definition}
 use Rattle.graphql_documents.specs.Selections.{Fragments}
 use Rattle.graphql_documents.specs.Spans.{recompose}
-use Rattle.graphql_documents.specs.TypeReferences.{inner_named_type}
+use Rattle.graphql_documents.specs.TypeReferences.{inner_named_type, reference_of}
 use Rattle.graphql_documents.specs.ValueReports.{ValueReport}
 use Rattle.graphql_documents.specs.VariableUsage.{variable_named}
 use Rattle.graphql_documents.specs.Variables.{UsesVariable}
@@ -75,13 +76,15 @@ pub record HasWrongDefault (schema : Option Schema) (v : Node VariableDefinition
   pub value : Node Value
   pub has_schema : schema ≡ Some against
   pub is_default : v.value.value.default_value ≡ Some value
-  pub broken : ValueReport against [] v.value.value.ty.value.value value r at
+  pub broken : ValueReport against [] (reference_of v.value.value.ty) value r at
 
 -- the report names what is wrong with the definition of a variable, its directives apart
-abbrev pub VariableBreaks : Option Schema → Node VariableDefinition → DiagnosticData → Option SourceSpan → Type 0
-VariableBreaks schema v (report.VariableInputType name ty describe) at = HasNoInputType schema v name ty describe.now at
-VariableBreaks schema v (report.UndefinedDefinition name) at = HasUndefinedType schema v name at
-VariableBreaks schema v r at = HasWrongDefault schema v r at
+pub data VariableBreaks (schema : Option Schema) (v : Node VariableDefinition) : DiagnosticData → Option SourceSpan → Type 0 where
+  of_no_input_type : {name : NameText} {ty : Node «Type»} {describe : Bor (List ℕ)} {at : Option SourceSpan} →
+      HasNoInputType schema v name ty describe.now at → VariableBreaks schema v (report.VariableInputType name ty describe) at
+  of_undefined_type : {name : NameText} {at : Option SourceSpan} →
+      HasUndefinedType schema v name at → VariableBreaks schema v (report.UndefinedDefinition name) at
+  of_default : {r : DiagnosticData} {at : Option SourceSpan} → HasWrongDefault schema v r at → VariableBreaks schema v r at
 
 -- the report names what is wrong with the definitions of variables
 pub data VariablesReport (schema : Option Schema) (variables : List (Node VariableDefinition)) : DiagnosticData → Option SourceSpan → Type 0 where

@@ -22,9 +22,9 @@ pub use coordinates::{
 };
 pub use definitions::{
     DirectiveDefinition, DirectiveLocation, EnumValueDefinition, FieldDefinition,
-    InputValueDefinition, OperationType, VariableDefinition,
+    InputValueDefinition, OperationType, VariableDefinition, definition_named, variable_named,
 };
-pub use directives::{Argument, Directive};
+pub use directives::{Argument, Directive, argument_named};
 pub use executables::{
     ExecutableDocument, Field, FieldSet, Fragment, FragmentSpread, InlineFragment, Operation,
     OperationMap, Selection, SelectionSet, Valid,

@@ -1,7 +1,8 @@
-ghost use Rattle.std.specs.Prelude.{Some};
+ghost use Rattle.std.specs.Prelude.{◌≡◌, IfOk, Some};
 ghost use Rattle.graphql_documents.specs.Coordinates.{type_coordinate_text, type_attribute_text, field_argument_text, directive_text, directive_argument_text, coordinate_text};
 
 use super::names::{Name, NamedType};
+use crate::diagnostics::errors::ValidationError;
 use std::fmt;
 
 /// The coordinate of a type: `T`.
@@ -46,6 +47,61 @@ pub enum SchemaCoordinate {
     FieldArgument(FieldArgumentCoordinate),
     Directive(DirectiveCoordinate),
     DirectiveArgument(DirectiveArgumentCoordinate),
+}
+
+impl TypeAttributeCoordinate {
+    /// The coordinate of this field, input field or value of this type.
+    pub fn new(ty: &NamedType, attribute: &Name) -> Result<TypeAttributeCoordinate, ValidationError>
+        ensures { IfOk result (λ c. c ≡ record { ty = ty.now; attribute = attribute.now }) }
+    {
+        Ok(TypeAttributeCoordinate {
+            ty: ty.clone()?,
+            attribute: attribute.clone()?,
+        })
+    }
+}
+
+impl FieldArgumentCoordinate {
+    /// The coordinate of this argument of this field of the type.
+    pub fn new(
+        ty: &NamedType,
+        field: &Name,
+        argument: &Name,
+    ) -> Result<FieldArgumentCoordinate, ValidationError>
+        ensures { IfOk result (λ c. c ≡ record { ty = ty.now; field = field.now; argument = argument.now }) }
+    {
+        Ok(FieldArgumentCoordinate {
+            ty: ty.clone()?,
+            field: field.clone()?,
+            argument: argument.clone()?,
+        })
+    }
+}
+
+impl DirectiveCoordinate {
+    /// The coordinate of the directive of this name.
+    pub fn new(directive: &Name) -> Result<DirectiveCoordinate, ValidationError>
+        ensures { IfOk result (λ c. c ≡ record { directive = directive.now }) }
+    {
+        Ok(DirectiveCoordinate {
+            directive: directive.clone()?,
+        })
+    }
+}
+
+impl DirectiveArgumentCoordinate {
+    /// The coordinate of this argument of the directive.
+    pub fn new(
+        directive: &Name,
+        argument: &Name,
+    ) -> Result<DirectiveArgumentCoordinate, ValidationError>
+        ensures { IfOk result (λ c. c ≡ record { directive = directive.now; argument = argument.now }) }
+    {
+        Ok(DirectiveArgumentCoordinate {
+            directive: directive.clone()?,
+            argument: argument.clone()?,
+        })
+    }
 }
 
 impl fmt::Display for TypeCoordinate {

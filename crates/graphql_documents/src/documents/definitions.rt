@@ -1,6 +1,9 @@
+ghost use Rattle.std.specs.Option.{option_copied};
 ghost use Rattle.std.specs.Prelude.{◌≡◌, Some};
+ghost use Rattle.graphql_documents.specs.Arguments.{definition_named};
 ghost use Rattle.graphql_documents.specs.DirectiveLocations.{location_text};
 ghost use Rattle.graphql_documents.specs.OperationTypes.{operation_type_text};
+ghost use Rattle.graphql_documents.specs.VariableUsage.{variable_named};
 
 use super::directives::Directive;
 use super::names::Name;
@@ -32,6 +35,18 @@ impl InputValueDefinition {
     {
         self.ty.value.is_non_null() && self.default_value.is_none()
     }
+}
+
+/// The first definition with this name.
+///
+/// Specification: 5.4.1 Argument Names.
+pub fn definition_named<'a>(
+    definitions: &'a [Node<InputValueDefinition>],
+    name: &Name,
+) -> Option<&'a Node<InputValueDefinition>>
+    ensures { option_copied result ≡ definition_named name.now definitions.now }
+{
+    definitions.iter().find(|d| d.value.name == *name)
 }
 
 /// A field of an object type or an interface.
@@ -168,4 +183,16 @@ pub struct VariableDefinition {
     pub ty: Node<Type>,
     pub default_value: Option<Node<Value>>,
     pub directives: Vec<Node<Directive>>,
+}
+
+/// The first variable with this name.
+///
+/// Specification: 5.8.1 Variable Uniqueness.
+pub fn variable_named<'a>(
+    variables: &'a [Node<VariableDefinition>],
+    name: &Name,
+) -> Option<&'a Node<VariableDefinition>>
+    ensures { option_copied result ≡ variable_named name.now variables.now }
+{
+    variables.iter().find(|v| v.value.name == *name)
 }

@@ -1,3 +1,7 @@
+ghost use Rattle.std.specs.Option.{option_copied};
+ghost use Rattle.std.specs.Prelude.{◌≡◌};
+ghost use Rattle.graphql_documents.specs.Arguments.{argument_named};
+
 use super::names::Name;
 use super::nodes::Node;
 use super::values::Value;
@@ -11,6 +15,18 @@ pub struct Argument {
     pub value: Node<Value>,
 }
 
+/// The first argument with this name.
+///
+/// Specification: 5.4.2 Argument Uniqueness.
+pub fn argument_named<'a>(
+    arguments: &'a [Node<Argument>],
+    name: &Name,
+) -> Option<&'a Node<Argument>>
+    ensures { option_copied result ≡ argument_named name.now arguments.now }
+{
+    arguments.iter().find(|a| a.value.name == *name)
+}
+
 /// An application of a directive.
 ///
 /// Specification: 2.12 Directives.
@@ -21,14 +37,10 @@ pub struct Directive {
 }
 
 impl Directive {
-    ghost use Rattle.std.specs.Prelude.{◌≡◌};
-    ghost use Rattle.std.specs.Option.{option_copied};
-    ghost use Rattle.graphql_documents.specs.Arguments.{argument_named};
-
     /// The first argument with this name, as given.
     pub fn specified_argument_by_name(&self, name: &Name) -> Option<&Node<Argument>>
         ensures { option_copied result ≡ argument_named name.now self.now.arguments.items }
     {
-        self.arguments.iter().find(|a| a.value.name == *name)
+        argument_named(&self.arguments, name)
     }
 }

@@ -1,4 +1,4 @@
-ghost use Rattle.std.specs.Prelude.{◌≡◌, None, IsTrue, IfOk, codes, false};
+ghost use Rattle.std.specs.Prelude.{◌≡◌, None, IsTrue, IfOk, codes, false, length};
 ghost use Rattle.std.proofs.Props.{props};
 ghost use Rattle.graphql_documents.specs.Names.{is_name};
 ghost use Rattle.graphql_documents.specs.MetaFields.{IsTypename, IsSchemaField, IsTypeField, argument_signature};
@@ -77,7 +77,8 @@ fn type_field(alloc: Global) -> Result<Component<FieldDefinition>, ValidationErr
 
 /// `name: String!`
 fn name_argument(alloc: Global) -> Result<Node<InputValueDefinition>, ValidationError>
-    ensures { IfOk result (λ argument. argument_signature argument.value.value ≡ (codes "name", codes "String!", false)) }
+    ensures signature { IfOk result (λ argument. argument_signature argument.value.value ≡ (codes "name", codes "String!", false)) }
+    ensures directives { IfOk result (λ argument. length argument.value.value.directives.items ≡ 0) }
 {
     let definition = InputValueDefinition {
         name: known_name(alloc, "name")?,
@@ -108,6 +109,7 @@ fn field(
     ensures name { IfOk result (λ field. field.node.value.value.name ≡ name) }
     ensures arguments { IfOk result (λ field. field.node.value.value.arguments ≡ arguments) }
     ensures ty { IfOk result (λ field. field.node.value.value.ty ≡ ty) }
+    ensures directives { IfOk result (λ field. length field.node.value.value.directives.items ≡ 0) }
     ensures location { IfOk result (λ field. field.node.location ≡ None) }
 {
     let definition = FieldDefinition {

@@ -1,7 +1,8 @@
 ghost use Rattle.std.specs.Prelude.{◌≡◌, Some};
-ghost use Rattle.graphql_documents.specs.TypeReferences.{inner_named_type, is_assignable, is_list, is_named, is_non_null, item_type, type_text};
+ghost use Rattle.graphql_documents.specs.TypeReferences.{IsTypeCopy, inner_named_type, is_assignable, is_list, is_named, is_non_null, item_type, type_text};
 
 use super::names::NamedType;
+use std::alloc::AllocError;
 use std::fmt;
 
 /// A reference to a type, as fields, arguments and variables have it.
@@ -73,6 +74,25 @@ impl Type {
                 item.is_assignable_to(other)
             }
             _ => false,
+        }
+    }
+}
+
+impl Clone for Type {
+    ghost is_clone = { IsTypeCopy };
+
+    fn clone(&self) -> Result<Type, AllocError> {
+        match self {
+            Type::Named(name) => Ok(Type::Named(name.clone()?)),
+            Type::NonNullNamed(name) => Ok(Type::NonNullNamed(name.clone()?)),
+            Type::List(item) => {
+                let copy = (**item).clone()?;
+                Ok(Type::List(Box::new(*Box::allocator(item), copy)?))
+            }
+            Type::NonNullList(item) => {
+                let copy = (**item).clone()?;
+                Ok(Type::NonNullList(Box::new(*Box::allocator(item), copy)?))
+            }
         }
     }
 }
