@@ -3,7 +3,7 @@
 use Rattle.std.specs.Prelude.{◌≡◌, Bool, Some, Ok, All, Contains, IsTrue, unwrap_or, ⊤}
 use Rattle.graphql_documents.specs.Names.{NameText, SameName}
 use Rattle.graphql_documents.specs.TypeReferences.{inner_named_type}
-use Rattle.graphql_documents.specs.Schemas.{type_definition, type_field, is_output_type, own_name, fields_of, input_fields_of, root_operation}
+use Rattle.graphql_documents.specs.Schemas.{NamesKind, type_field, is_output_type, own_name, fields_of, input_fields_of, root_operation}
 use Rattle.graphql_documents.specs.Selections.{SetWritten, selections_of}
 use Rattle.graphql_documents.specs.Defer.{operations_of}
 use Rattle.graphql_documents.specs.declared.documents.nodes.Node.{Node}
@@ -37,17 +37,13 @@ pub record StandsUnderOwnNames (schema : Schema) : Type 0 where
   pub types : All (λ entry. TypeStandsUnderItsName entry.0 entry.1) schema.types.entries
   pub directives : All (λ entry. SameName entry.0 entry.1.value.value.name) schema.directive_definitions.entries
 
--- the type with this name is a defined output type. Specification: 3.4.2 Input and Output Types
-abbrev pub NamesOutputType : Schema → NameText → Type 0
-NamesOutputType schema name = (d : ExtendedType) × (type_definition schema name ≡ Some d) × IsTrue (is_output_type d)
-
 module _ (same_definition : FieldDefinition → FieldDefinition → Bool) where
   -- the field has the definition that the type gives it, of an output type, and its set is of that type
   pub record FieldIsBuilt (schema : Schema) (parent : NameText) (f : Field) : Type 0 where
     pub definition : Component FieldDefinition
     pub is_of_parent : type_field schema parent f.name ≡ Ok definition
     pub same : IsTrue (same_definition f.definition.value.value definition.node.value.value)
-    pub output : NamesOutputType schema (inner_named_type f.definition.value.value.ty)
+    pub output : NamesKind schema is_output_type (inner_named_type f.definition.value.value.ty)
     pub set_type : SameName f.selection_set.ty (inner_named_type f.definition.value.value.ty)
 
   -- what stands in the set is built for its type

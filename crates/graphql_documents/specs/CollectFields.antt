@@ -1,9 +1,9 @@
 -- The fields that an object answers, by response key. Specification: 6.3.2 Field Collection, without
 -- `@skip` and `@include`.
-use Rattle.std.specs.Prelude.{◌≡◌, List, [], ◌∷◌, ◌++◌, Some, Any, Contains, IfSome}
+use Rattle.std.specs.Prelude.{◌≡◌, ◌⊎◌, List, [], ◌∷◌, ◌++◌, None, Some, Any, Contains, IfSome, IsFalse, IsTrue}
 use Rattle.graphql_documents.specs.Names.{NameText, SameName}
 use Rattle.graphql_documents.specs.Schemas.{type_definition, IsListed}
-use Rattle.graphql_documents.specs.Selections.{Fragments, response_key, selections_of}
+use Rattle.graphql_documents.specs.Selections.{Fragments, is_entered, response_key, selections_of}
 use Rattle.graphql_documents.specs.Merging.{FieldSelection, set_of}
 use Rattle.graphql_documents.specs.declared.documents.nodes.Node.{Node}
 use Rattle.graphql_documents.specs.declared.documents.schemas.Schema.{Schema}
@@ -12,6 +12,8 @@ use Rattle.graphql_documents.specs.declared.documents.schemas.InterfaceType.{Int
 use Rattle.graphql_documents.specs.declared.documents.schemas.UnionType.{UnionType}
 use Rattle.graphql_documents.specs.declared.documents.schemas.ExtendedType.TheVariants.{Object, Interface, Union}
 use Rattle.graphql_documents.specs.declared.documents.executables.SelectionSet.{SelectionSet}
+use Rattle.graphql_documents.specs.declared.documents.executables.Field.{Field}
+use Rattle.graphql_documents.specs.declared.documents.executables.Selection.{Selection}
 use Rattle.graphql_documents.specs.declared.documents.executables.Selection.TheVariants as kind
 use Rattle.graphql_documents.specs.declared.documents.executables.InlineFragment.{InlineFragment}
 use Rattle.graphql_documents.specs.declared.documents.executables.FragmentSpread.{FragmentSpread}
@@ -45,6 +47,47 @@ pub data CollectedFrom (schema : Schema) (fragments : Fragments) (object : NameT
       fragments p.value.value.fragment_name ≡ Some d →
       CollectedFrom schema fragments object d.value.value.selection_set x →
       CollectedFrom schema fragments object set x
+
+-- these fields are collected from selections of a set of the type, or from sets whose types may not
+-- apply, depth first, where these names of fragments were met before; and the names met by then
+mutual
+  pub data CollectsAmong (schema : Schema) (fragments : Fragments) (object : NameText) : NameText → List NameText → List Selection → List FieldSelection → List NameText → Type 0 where
+    collects_none : {parent : NameText} {seen : List NameText} → CollectsAmong schema fragments object parent seen [] [] seen
+    collects_field : {parent : NameText} {seen met : List NameText} {rest : List Selection} {fields : List FieldSelection} (f : Node Field) →
+        CollectsAmong schema fragments object parent seen rest fields met →
+        CollectsAmong schema fragments object parent seen (kind.Field f ∷ rest) (record { parent = parent; field = f } ∷ fields) met
+    collects_inline_fragment : {parent : NameText} {seen between met : List NameText} {rest : List Selection} {within fields : List FieldSelection} (i : Node InlineFragment) →
+        IfSome i.value.value.type_condition (AppliesTo schema object) →
+        CollectsIn schema fragments object seen i.value.value.selection_set within between →
+        CollectsAmong schema fragments object parent between rest fields met →
+        CollectsAmong schema fragments object parent seen (kind.InlineFragment i ∷ rest) (within ++ fields) met
+    collects_past_inline_fragment : {parent condition : NameText} {seen met : List NameText} {rest : List Selection} {fields : List FieldSelection} (i : Node InlineFragment) →
+        i.value.value.type_condition ≡ Some condition → ¬ AppliesTo schema object condition →
+        CollectsAmong schema fragments object parent seen rest fields met →
+        CollectsAmong schema fragments object parent seen (kind.InlineFragment i ∷ rest) fields met
+    collects_past_spread : {parent : NameText} {seen met : List NameText} {rest : List Selection} {fields : List FieldSelection} (p : Node FragmentSpread) →
+        IsTrue (is_entered seen p.value.value.fragment_name) ⊎ (fragments p.value.value.fragment_name ≡ None) →
+        CollectsAmong schema fragments object parent seen rest fields met →
+        CollectsAmong schema fragments object parent seen (kind.FragmentSpread p ∷ rest) fields met
+    collects_spread : {parent : NameText} {seen between met : List NameText} {rest : List Selection} {within fields : List FieldSelection} (p : Node FragmentSpread) (d : Node Fragment) →
+        IsFalse (is_entered seen p.value.value.fragment_name) → fragments p.value.value.fragment_name ≡ Some d →
+        CollectsIn schema fragments object (seen ++ p.value.value.fragment_name ∷ []) d.value.value.selection_set within between →
+        CollectsAmong schema fragments object parent between rest fields met →
+        CollectsAmong schema fragments object parent seen (kind.FragmentSpread p ∷ rest) (within ++ fields) met
+
+  pub data CollectsIn (schema : Schema) (fragments : Fragments) (object : NameText) : List NameText → SelectionSet → List FieldSelection → List NameText → Type 0 where
+    collects_set : {seen met : List NameText} {set : SelectionSet} {fields : List FieldSelection} →
+        AppliesTo schema object set.ty → CollectsAmong schema fragments object set.ty seen (selections_of set) fields met →
+        CollectsIn schema fragments object seen set fields met
+    collects_past_set : {seen : List NameText} {set : SelectionSet} →
+        ¬ AppliesTo schema object set.ty → CollectsIn schema fragments object seen set [] seen
+
+-- the fields collected from several sets: those of each set in order, each named fragment once
+pub data CollectsFrom (schema : Schema) (fragments : Fragments) (object : NameText) : List NameText → List SelectionSet → List FieldSelection → Type 0 where
+  collected_all : {seen : List NameText} → CollectsFrom schema fragments object seen [] []
+  collect_next : {seen met : List NameText} {set : SelectionSet} {sets : List SelectionSet} {within fields : List FieldSelection} →
+      CollectsIn schema fragments object seen set within met → CollectsFrom schema fragments object met sets fields →
+      CollectsFrom schema fragments object seen (set ∷ sets) (within ++ fields)
 
 -- the field is collected from one of the sets, under this key
 abbrev pub Collected : Schema → Fragments → NameText → List SelectionSet → NameText → FieldSelection → Type 0

@@ -4,6 +4,7 @@ use Rattle.std.specs.declared.alloc.Global.{Global}
 use Rattle.graphql_documents.specs.Defer.{CanBeDisabled, DefersIn, Open, argument_value, defers, operations_of}
 use Rattle.graphql_documents.specs.Names.{NameText}
 use Rattle.graphql_documents.specs.Selections.{Fragments, Inside, directives_of, fragments_of}
+use Rattle.graphql_documents.specs.Walks.{LabelsStandTooDeep}
 use Rattle.graphql_documents.specs.declared.diagnostics.build_errors.BuildError.TheVariants as build
 use Rattle.graphql_documents.specs.declared.diagnostics.build_errors.BuildError.{BuildError}
 use Rattle.graphql_documents.specs.declared.documents.definitions.OperationType.TheVariants as operation
@@ -32,16 +33,16 @@ pub record HasVariableLabel (document : ExecutableDocument) (at : Option SourceS
   pub at_is : at ≡ value.location
 
 -- the text of the label of a `@defer`, and where it stands
-pub record HasLabel (d : Node Directive) (text : List ℕ) (place : Option SourceSpan) : Type 0 where
+pub record HasLabel (d : Node Directive) (text : List ℕ) (location : Option SourceSpan) : Type 0 where
   pub value : Node Value
   pub label : String Global
   pub labelled : argument_value (codes "label") d.value.value ≡ Some value
   pub is_text : value.value.value ≡ literal.String label
   pub text_is : text ≡ string_bytes label
-  pub place_is : place ≡ value.location
+  pub location_is : location ≡ value.location
 
 -- a `@defer` has the label of an earlier one: reported at the later label's value, with the place of
--- the first
+-- the first that was met. That is the first of all, unless some stand too deep to be met
 pub record RepeatsLabel (document : ExecutableDocument) (text : List ℕ) (original at : Option SourceSpan) : Type 0 where
   pub before : List (Node Directive)
   pub first : Node Directive
@@ -49,7 +50,7 @@ pub record RepeatsLabel (document : ExecutableDocument) (text : List ℕ) (origi
   pub again : Node Directive
   pub after : List (Node Directive)
   pub are_all : DefersIn document (before ++ first ∷ (between ++ again ∷ after))
-  pub none_before : (d : Node Directive) (place : Option SourceSpan) → Contains before d → ¬ HasLabel d text place
+  pub none_before : ¬ LabelsStandTooDeep document → (d : Node Directive) (location : Option SourceSpan) → Contains before d → ¬ HasLabel d text location
   pub first_has_it : HasLabel first text original
   pub again_has_it : HasLabel again text at
 

@@ -1,11 +1,15 @@
 -- Lists of reports.
-use Rattle.std.specs.Prelude.{List, Option}
+use Rattle.std.specs.Prelude.{ℕ, List, Option}
+use Rattle.std.specs.Borrow.{Bor}
 use Rattle.std.specs.Vec.{vec_allocator}
 use Rattle.std.specs.declared.alloc.Global.{Global}
+use Rattle.graphql_documents.specs.Names.{NameText}
 use Rattle.graphql_documents.specs.declared.documents.spans.SourceSpan.{SourceSpan}
+use Rattle.graphql_documents.specs.declared.diagnostics.data.DiagnosticData.TheVariants as report
 use Rattle.graphql_documents.specs.declared.diagnostics.data.DiagnosticData.{DiagnosticData}
 use Rattle.graphql_documents.specs.declared.diagnostics.details.Details.{Details}
-use Rattle.graphql_documents.specs.declared.diagnostics.details.Details.TheVariants.{Diagnostic}
+use Rattle.graphql_documents.specs.declared.diagnostics.details.Details.TheVariants.{Diagnostic, RecursionLimit}
+use Rattle.graphql_documents.specs.declared.diagnostics.errors.RecursionLimitError.{RecursionLimitError}
 use Rattle.graphql_documents.specs.declared.diagnostics.lists.DiagnosticEntry.{DiagnosticEntry}
 use Rattle.graphql_documents.specs.declared.diagnostics.lists.DiagnosticList.{DiagnosticList}
 
@@ -25,3 +29,13 @@ Says P _ at = ⊥
 -- the same of an entry
 abbrev pub IsDiagnostic : (DiagnosticData → Option SourceSpan → Type 0) → DiagnosticEntry → Type 0
 IsDiagnostic P entry = Says P entry.details entry.location
+
+-- what is reported is that a walk or a path passes its bound
+pub data IsLimit : Details → Type 0 where
+  limit_of_walk : IsLimit (Diagnostic report.RecursionError)
+  limit_of_path : {name : NameText} {describe : Bor (List ℕ)} → IsLimit (Diagnostic (report.DeeplyNestedType name describe))
+  limit_of_depth : {limit : RecursionLimitError} → IsLimit (RecursionLimit limit)
+
+-- the same of an entry
+abbrev pub IsLimitEntry : DiagnosticEntry → Type 0
+IsLimitEntry entry = IsLimit entry.details

@@ -4,11 +4,11 @@ use Rattle.indexmap.specs.IndexMap.{values}
 use Rattle.graphql_documents.specs.Defer.{operations_of}
 use Rattle.graphql_documents.specs.DeferReports.{DeferBreaks}
 use Rattle.graphql_documents.specs.DirectiveReports.{DirectivesBreak}
-use Rattle.graphql_documents.specs.Documents.{IsFragmentUsed, operation_location, root_place}
+use Rattle.graphql_documents.specs.Documents.{IsFragmentUsed, operation_location, root_type}
 use Rattle.graphql_documents.specs.MergingReports.{MergingBreaks}
 use Rattle.graphql_documents.specs.Names.{NameText}
 use Rattle.graphql_documents.specs.SelectionReports.{SelectionReport}
-use Rattle.graphql_documents.specs.Selections.{fragments_of}
+use Rattle.graphql_documents.specs.Selections.{fragments_of, selections_of}
 use Rattle.graphql_documents.specs.SubscriptionReports.{SubscriptionBreaks}
 use Rattle.graphql_documents.specs.VariableReports.{IsUnusedVariable, VariablesReport}
 use Rattle.graphql_documents.specs.declared.diagnostics.build_errors.BuildError.{BuildError}
@@ -34,7 +34,7 @@ pub data OperationReport (schema : Option Schema) (document : ExecutableDocument
   of_unused_variable : {name : NameText} {at : Option SourceSpan} →
       IsUnusedVariable (fragments_of document) o name at → OperationReport schema document o (report.UnusedVariable name) at
   of_selection : {r : DiagnosticData} {at : Option SourceSpan} →
-      SelectionReport schema (fragments_of document) o.variables.items (root_place schema o) o.selection_set r at →
+      SelectionReport schema (fragments_of document) o.variables.items (root_type schema o) (selections_of o.selection_set) r at →
       OperationReport schema document o r at
 
 -- a fragment is not used: reported at the fragment

@@ -40,13 +40,17 @@ pub record HasNoInput (schema : Schema) (d : Node InputValueDefinition) (name : 
   pub type_location_is : type_location ≡ d.value.value.ty.location
   pub at_is : at ≡ d.location
 
--- the report names what is wrong with an argument or an input field; `describe` says which of the two
-abbrev pub InputValueBreaks : Schema → DirectiveLocation → List ℕ → Node InputValueDefinition → DiagnosticData → Option SourceSpan → Type 0
-InputValueBreaks schema location what d (report.ReservedName name describe) at = IsReserved what d.value.value.name describe.now name at
-InputValueBreaks schema location what d (report.InputType name describe type_location) at = HasNoInput schema d name describe.now type_location at
-InputValueBreaks schema location what d (report.UndefinedDefinition name) at =
-    IsUndefinedType schema (inner_named_type d.value.value.ty.value.value) name at
-InputValueBreaks schema location what d r at = DirectivesBreak (Some schema) [] location d.value.value.directives.items r at
+-- the report names what is wrong with an argument or an input field, which this text describes
+pub data InputValueBreaks (schema : Schema) (location : DirectiveLocation) (what : List ℕ) (d : Node InputValueDefinition) : DiagnosticData → Option SourceSpan → Type 0 where
+  of_input_name : {describe : Bor (List ℕ)} {name : NameText} {at : Option SourceSpan} →
+      IsReserved what d.value.value.name describe.now name at → InputValueBreaks schema location what d (report.ReservedName name describe) at
+  of_input_directives : {r : DiagnosticData} {at : Option SourceSpan} →
+      DirectivesBreak (Some schema) [] location d.value.value.directives.items r at → InputValueBreaks schema location what d r at
+  of_input_type : {describe : Bor (List ℕ)} {name : NameText} {type_location at : Option SourceSpan} →
+      HasNoInput schema d name describe.now type_location at → InputValueBreaks schema location what d (report.InputType name describe type_location) at
+  of_undefined_input_type : {name : NameText} {at : Option SourceSpan} →
+      IsUndefinedType schema (inner_named_type d.value.value.ty.value.value) name at →
+      InputValueBreaks schema location what d (report.UndefinedDefinition name) at
 
 -- an argument has the name of an earlier one: reported at the first
 pub record RepeatsDefinition (arguments : List (Node InputValueDefinition)) (name : NameText) (original redefined at : Option SourceSpan) : Type 0 where
@@ -61,12 +65,15 @@ pub record RepeatsDefinition (arguments : List (Node InputValueDefinition)) (nam
   pub redefined_is : redefined ≡ again.location
   pub at_is : at ≡ first.location
 
--- the report names what is wrong with the arguments of a field or a directive
-abbrev pub ArgumentDefinitionsBreak : Schema → List (Node InputValueDefinition) → DiagnosticData → Option SourceSpan → Type 0
-ArgumentDefinitionsBreak schema arguments (report.UniqueInputValue name original redefined) at =
-    RepeatsDefinition arguments name original redefined at
-ArgumentDefinitionsBreak schema arguments r at =
-    (d : Node InputValueDefinition) × Contains arguments d × InputValueBreaks schema allowed_at.ArgumentDefinition (codes "an argument") d r at
+-- the report names what is wrong with the arguments of a field or a directive, whose directives stand at
+-- this location
+pub data ArgumentDefinitionsBreak (schema : Schema) (location : DirectiveLocation) (arguments : List (Node InputValueDefinition)) : DiagnosticData → Option SourceSpan → Type 0 where
+  of_argument : {d : Node InputValueDefinition} {r : DiagnosticData} {at : Option SourceSpan} →
+      Contains arguments d → InputValueBreaks schema location (codes "an argument") d r at →
+      ArgumentDefinitionsBreak schema location arguments r at
+  of_repeated_definition : {name : NameText} {original redefined at : Option SourceSpan} →
+      RepeatsDefinition arguments name original redefined at →
+      ArgumentDefinitionsBreak schema location arguments (report.UniqueInputValue name original redefined) at
 
 -- a field is of no output type: reported at the field, with the place of the innermost name
 pub record HasNoOutput (schema : Schema) (d : Node FieldDefinition) (name : NameText) (describe : List ℕ) (type_location at : Option SourceSpan) : Type 0 where
@@ -75,8 +82,7 @@ pub record HasNoOutput (schema : Schema) (d : Node FieldDefinition) (name : Name
   pub type_location_is : type_location ≡ (inner_named_type d.value.value.ty).location
   pub at_is : at ≡ d.location
 
--- the report names what is wrong with a field; reports that may be of its directives or of its
--- arguments say either
+-- the report names what is wrong with a field, its type apart
 pub data FieldDefinitionBreaks (schema : Schema) (d : Node FieldDefinition) : DiagnosticData → Option SourceSpan → Type 0 where
   field_name : {describe : Bor (List ℕ)} {name : NameText} {at : Option SourceSpan} →
       IsReserved (codes "a field") d.value.value.name describe.now name at →
@@ -84,10 +90,13 @@ pub data FieldDefinitionBreaks (schema : Schema) (d : Node FieldDefinition) : Di
   field_directives : {r : DiagnosticData} {at : Option SourceSpan} →
       DirectivesBreak (Some schema) [] allowed_at.FieldDefinition d.value.value.directives.items r at → FieldDefinitionBreaks schema d r at
   field_arguments : {r : DiagnosticData} {at : Option SourceSpan} →
-      ArgumentDefinitionsBreak schema d.value.value.arguments.items r at → FieldDefinitionBreaks schema d r at
+      ArgumentDefinitionsBreak schema allowed_at.ArgumentDefinition d.value.value.arguments.items r at → FieldDefinitionBreaks schema d r at
+
+-- the report names what is wrong with the type of a field
+pub data FieldTypeBreaks (schema : Schema) (d : Node FieldDefinition) : DiagnosticData → Option SourceSpan → Type 0 where
   field_type : {describe : Bor (List ℕ)} {name : NameText} {type_location at : Option SourceSpan} →
       HasNoOutput schema d name describe.now type_location at →
-      FieldDefinitionBreaks schema d (report.OutputType name describe type_location) at
+      FieldTypeBreaks schema d (report.OutputType name describe type_location) at
   field_type_undefined : {name : NameText} {at : Option SourceSpan} →
       IsUndefinedType schema (inner_named_type d.value.value.ty) name at →
-      FieldDefinitionBreaks schema d (report.UndefinedDefinition name) at
+      FieldTypeBreaks schema d (report.UndefinedDefinition name) at

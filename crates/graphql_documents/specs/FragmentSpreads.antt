@@ -1,10 +1,10 @@
--- Fragments, where they may be spread, and ways back to them. Specification: 5.5 Fragments.
-use Rattle.std.specs.Prelude.{◌≡◌, ◌⊎◌, ℕ, List, Option, None, Some, IsTrue, ⊤}
+-- Fragments, where they may be spread, and cycles of spreads. Specification: 5.5 Fragments.
+use Rattle.std.specs.Prelude.{◌≡◌, ◌⊎◌, ℕ, List, Option, None, Some, IsFalse, ⊤}
 use Rattle.graphql_documents.specs.Names.{NameText, SameName}
-use Rattle.graphql_documents.specs.Schemas.{type_definition, is_composite, IsPossibleType}
-use Rattle.graphql_documents.specs.Selections.{Fragments, Written}
+use Rattle.graphql_documents.specs.Schemas.{type_definition, is_composite, IsPossibleType, NamesKind}
+use Rattle.graphql_documents.specs.Selections.{Fragments, Written, is_entered}
 use Rattle.graphql_documents.specs.Directives.{ApplicationsHold}
-use Rattle.graphql_documents.specs.Paths.{LeadsBack, HasNoWayBack, HasLongPath}
+use Rattle.graphql_documents.specs.Paths.{IsCycle, HasNoCycle, HasLongPath}
 use Rattle.graphql_documents.specs.declared.documents.nodes.Node.{Node}
 use Rattle.graphql_documents.specs.declared.documents.definitions.DirectiveLocation.TheVariants as at
 use Rattle.graphql_documents.specs.declared.documents.definitions.VariableDefinition.{VariableDefinition}
@@ -17,21 +17,20 @@ use Rattle.graphql_documents.specs.declared.documents.executables.Fragment.{Frag
 
 -- the name is that of an object, interface or union. Specification: 5.5.1.3 Fragments on Composite Types
 abbrev pub NamesComposite : Schema → NameText → Type 0
-NamesComposite schema name =
-    (d : ExtendedType) × (type_definition schema name ≡ Some d) × IsTrue (is_composite d)
+NamesComposite schema name = NamesKind schema is_composite name
 
 -- an object is a value of both types
 abbrev pub HaveCommonObject : Schema → ExtendedType → ExtendedType → Type 0
 HaveCommonObject schema a b =
     (name : NameText) × (other : NameText) × IsPossibleType schema a name × IsPossibleType schema b other × SameName name other
 
--- what holds on the condition can be met at a place of this type. Specification: 5.5.2.3 Fragment
--- Spread Is Possible
+-- what is selected on the condition can be met on this type. Specification: 5.5.2.3 Fragment Spread Is
+-- Possible
 abbrev pub IsPossibleAt : Schema → NameText → Option NameText → Type 0
 IsPossibleAt schema condition None = ⊤
-IsPossibleAt schema condition (Some place) =
-    (a b : ExtendedType) → type_definition schema condition ≡ Some a → type_definition schema place ≡ Some b →
-    SameName condition place ⊎ HaveCommonObject schema a b
+IsPossibleAt schema condition (Some parent) =
+    (a b : ExtendedType) → type_definition schema condition ≡ Some a → type_definition schema parent ≡ Some b →
+    SameName condition parent ⊎ HaveCommonObject schema a b
 
 -- the spread stands in the fragment, at any depth
 abbrev pub SpreadsBy : Node Fragment → Node FragmentSpread → Type 0
@@ -45,16 +44,16 @@ fragment_of fragments p = fragments p.value.value.fragment_name
 abbrev pub SpreadsBack : Node Fragment → Node FragmentSpread → Type 0
 SpreadsBack d p = SameName p.value.value.fragment_name d.value.value.name
 
--- a way of spreads leads from the fragment back to it
-abbrev pub FragmentLeadsBack : Fragments → Node Fragment → List (Node FragmentSpread) → Type 0
-FragmentLeadsBack fragments d path = LeadsBack SpreadsBy (fragment_of fragments) SpreadsBack d path
+-- the path of spreads leads from the fragment back to it
+abbrev pub IsFragmentCycle : Fragments → Node Fragment → List (Node FragmentSpread) → Type 0
+IsFragmentCycle fragments d path = IsCycle SpreadsBy (fragment_of fragments) SpreadsBack d path
 
--- no way of spreads leads from the fragment back to it. Specification: 5.5.2.2 Fragment Spreads Must
+-- no path of spreads leads from the fragment back to it. Specification: 5.5.2.2 Fragment Spreads Must
 -- Not Form Cycles
-abbrev pub FragmentHasNoWayBack : Fragments → Node Fragment → Type 0
-FragmentHasNoWayBack fragments d = HasNoWayBack SpreadsBy (fragment_of fragments) SpreadsBack d
+abbrev pub FragmentHasNoCycle : Fragments → Node Fragment → Type 0
+FragmentHasNoCycle fragments d = HasNoCycle SpreadsBy (fragment_of fragments) SpreadsBack d
 
--- a way of spreads from the fragment goes through this many fragments, or more, its own counted
+-- a path of spreads from the fragment goes through this many fragments, or more, its own counted
 abbrev pub HasLongSpreadPath : Fragments → Node Fragment → ℕ → Type 0
 HasLongSpreadPath fragments d count =
     HasLongPath SpreadsBy (fragment_of fragments) (λ p. p.value.value.fragment_name) d.value.value.name d count
@@ -63,27 +62,27 @@ HasLongSpreadPath fragments d count =
 abbrev pub TargetHolds : Option Schema → NameText → Type 0
 TargetHolds schema condition = (s : Schema) → schema ≡ Some s → NamesComposite s condition
 
--- with a schema, the condition can be met at the place
+-- with a schema, what is selected on the condition can be met on the type
 abbrev pub IsPossibleIn : Option Schema → NameText → Option NameText → Type 0
-IsPossibleIn schema condition place = (s : Schema) → schema ≡ Some s → IsPossibleAt s condition place
+IsPossibleIn schema condition parent = (s : Schema) → schema ≡ Some s → IsPossibleAt s condition parent
 
--- an inline fragment holds at a place of this type
-pub record InlineFragmentHolds (schema : Option Schema) (variables : List (Node VariableDefinition)) (place : Option NameText) (i : InlineFragment) : Type 0 where
+-- an inline fragment holds on this type
+pub record InlineFragmentHolds (schema : Option Schema) (variables : List (Node VariableDefinition)) (parent : Option NameText) (i : InlineFragment) : Type 0 where
   pub directives : ApplicationsHold schema variables at.InlineFragment i.directives.items
   pub target : (condition : NameText) → i.type_condition ≡ Some condition → TargetHolds schema condition
-  pub possible : (condition : NameText) → i.type_condition ≡ Some condition → IsPossibleIn schema condition place
+  pub possible : (condition : NameText) → i.type_condition ≡ Some condition → IsPossibleIn schema condition parent
 
 -- a fragment holds by itself, with the variables of an operation that reaches it
 pub record FragmentHolds (schema : Option Schema) (fragments : Fragments) (variables : List (Node VariableDefinition)) (d : Node Fragment) : Type 0 where
   pub directives : ApplicationsHold schema variables at.FragmentDefinition d.value.value.directives.items
   pub target : TargetHolds schema d.value.value.selection_set.ty
-  pub no_way_back : FragmentHasNoWayBack fragments d
+  pub no_cycle : FragmentHasNoCycle fragments d
 
--- a spread holds at a place of this type: its directives do, and it names a fragment that is
--- possible there and holds
-pub record SpreadHolds (schema : Option Schema) (fragments : Fragments) (variables : List (Node VariableDefinition)) (place : Option NameText) (p : FragmentSpread) : Type 0 where
+-- a spread holds on this type: its directives do, and it names a fragment that is possible there, and
+-- holds, unless it was gone into before
+pub record SpreadHolds (schema : Option Schema) (entered : List NameText) (fragments : Fragments) (variables : List (Node VariableDefinition)) (parent : Option NameText) (p : FragmentSpread) : Type 0 where
   pub directives : ApplicationsHold schema variables at.FragmentSpread p.directives.items
   pub definition : Node Fragment
   pub defined : fragments p.fragment_name ≡ Some definition
-  pub possible : IsPossibleIn schema definition.value.value.selection_set.ty place
-  pub holds : FragmentHolds schema fragments variables definition
+  pub possible : IsPossibleIn schema definition.value.value.selection_set.ty parent
+  pub holds : IsFalse (is_entered entered p.fragment_name) → FragmentHolds schema fragments variables definition

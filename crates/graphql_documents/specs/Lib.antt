@@ -3,6 +3,7 @@ pub mod Arguments
 pub mod Built
 pub mod CollectFields
 pub mod Coordinates
+pub mod DefaultValues
 pub mod Defer
 pub mod DeferReports
 pub mod Diagnostics
@@ -24,6 +25,7 @@ pub mod ImplementationReports
 pub mod Implementations
 pub mod InputCoercion
 pub mod Limits
+pub mod MergedFields
 pub mod Merging
 pub mod MergingReports
 pub mod Messages

@@ -1,8 +1,8 @@
 -- When a report of a limit is true: a chain in the document or schema really passes the bound.
-use Rattle.std.specs.Prelude.{◌≡◌, ◌≢◌, ℕ, ◌<◌, ◌≤◌, Bool, ◌⊎◌, List, [], ◌∷◌, ◌++◌, length, Option, None, Some, codes, Contains, AllPairs}
+use Rattle.std.specs.Prelude.{◌≡◌, ◌≢◌, ℕ, ◌+◌, ◌<◌, ◌≤◌, Bool, ◌⊎◌, List, [], ◌∷◌, ◌++◌, length, Option, None, Some, codes, Contains, AllPairs}
 use Rattle.indexmap.specs.IndexMap.{values}
 use Rattle.std.specs.Borrow.{Bor}
-use Rattle.graphql_documents.specs.Defer.{operations_of, sets_of}
+use Rattle.graphql_documents.specs.Defer.{operations_of}
 use Rattle.graphql_documents.specs.Expansion.{Expansion, MergesBelow, Pass}
 use Rattle.graphql_documents.specs.FragmentSpreads.{HasLongSpreadPath}
 use Rattle.graphql_documents.specs.Merging.{Chain, FieldSelection, SameFields, set_of}
@@ -10,7 +10,7 @@ use Rattle.graphql_documents.specs.Names.{NameText}
 use Rattle.graphql_documents.specs.SchemaReferences.{HasLongDirectivePath, HasLongRequiredPath, HasLongTypePath}
 use Rattle.graphql_documents.specs.Selections.{Fragments, fragments_of, selections_of}
 use Rattle.graphql_documents.specs.Spans.{recompose}
-use Rattle.graphql_documents.specs.Walks.{PassesDepth, full_walk, open_walk, root_walk, written_walk}
+use Rattle.graphql_documents.specs.Walks.{LabelsStandTooDeep, PassesDepth, full_walk, open_walk, root_walk}
 use Rattle.graphql_documents.specs.declared.diagnostics.data.DiagnosticData.TheVariants as report
 use Rattle.graphql_documents.specs.declared.diagnostics.data.DiagnosticData.{DiagnosticData}
 use Rattle.graphql_documents.specs.declared.diagnostics.details.Details.TheVariants as details
@@ -29,23 +29,37 @@ use Rattle.graphql_documents.specs.declared.documents.schemas.InputObjectType.{I
 use Rattle.graphql_documents.specs.declared.documents.schemas.Schema.{Schema}
 use Rattle.graphql_documents.specs.declared.documents.spans.SourceSpan.{SourceSpan}
 
+-- how many names a path of fragments, of input objects or of directives and of types may have
+abbrev pub fragment_bound : ℕ
+fragment_bound = 100
+
+abbrev pub input_object_bound : ℕ
+input_object_bound = 32
+
+abbrev pub directive_bound : ℕ
+directive_bound = 32
+
+-- how deep the fields of an operation are merged
+abbrev pub merging_bound : ℕ
+merging_bound = 128
+
 -- a report that a definition nests too deep is true of a fragment: reported at its head
 pub record FragmentNestsTooDeep (fragments : Fragments) (d : Node Fragment) (name : NameText) (describe : List ℕ) (at : Option SourceSpan) : Type 0 where
-  pub long : HasLongSpreadPath fragments d 101
+  pub long : HasLongSpreadPath fragments d (fragment_bound + 1)
   pub name_is : name ≡ d.value.value.name
   pub describe_is : describe ≡ codes "fragment"
   pub at_is : at ≡ recompose d.location d.value.value.name.location
 
 -- the same of an input object: reported there
 pub record InputObjectNestsTooDeep (schema : Schema) (d : Node InputObjectType) (name : NameText) (describe : List ℕ) (at : Option SourceSpan) : Type 0 where
-  pub long : HasLongRequiredPath schema d 33
+  pub long : HasLongRequiredPath schema d (input_object_bound + 1)
   pub name_is : name ≡ d.value.value.name
   pub describe_is : describe ≡ codes "input object"
   pub at_is : at ≡ d.location
 
 -- the same of a directive definition: reported at its head
 pub record DirectiveNestsTooDeep (schema : Schema) (d : Node DirectiveDefinition) (name : NameText) (describe : List ℕ) (at : Option SourceSpan) : Type 0 where
-  pub long : HasLongDirectivePath schema d 33 ⊎ HasLongTypePath schema d 33
+  pub long : HasLongDirectivePath schema d (directive_bound + 1) ⊎ HasLongTypePath schema d (directive_bound + 1)
   pub name_is : name ≡ d.value.value.name
   pub describe_is : describe ≡ codes "directive"
   pub at_is : at ≡ recompose d.location d.value.value.name.location
@@ -57,13 +71,13 @@ pub data MergingDescent (schema : Schema) (fragments : Fragments) (pass : Pass) 
       MergesBelow schema fragments pass fields below → MergingDescent schema fragments pass below further →
       MergingDescent schema fragments pass fields (below ∷ further)
 
--- the fields of an operation nest too deep to be merged: some chain of fields is longer than 128, and
--- so are the steps of a pass from the operation's fields, no list of the same fields twice
+-- the fields of an operation nest too deep to be merged: some chain of fields passes the bound, and so
+-- do the steps of a pass from the operation's fields, no list of the same fields twice
 pub record MergingPasses (same : Field → Field → Bool) (schema : Schema) (fragments : Fragments) (set : SelectionSet) : Type 0 where
   pub chain : List FieldSelection
   pub last : FieldSelection
   pub is_chain : Chain fragments set (chain ++ last ∷ [])
-  pub chain_passes : 128 ≤ length chain
+  pub chain_passes : merging_bound ≤ length chain
   pub last_selects : selections_of (set_of last) ≢ []
   pub pass : Pass
   pub fields : List FieldSelection
@@ -71,10 +85,17 @@ pub record MergingPasses (same : Field → Field → Bool) (schema : Schema) (fr
   pub begins : Expansion fragments (set ∷ []) fields
   pub descent : MergingDescent schema fragments pass fields steps
   pub once : AllPairs (λ a b. ¬ SameFields same a b) (fields ∷ steps)
-  pub steps_pass : 128 < length steps
+  pub steps_pass : merging_bound < length steps
 
--- a report of a limit is true of a document: reported without a place, but for merging, at an operation,
--- where the fields of some operation nest too deep
+-- the fields of one of these operations, the ones merged so far, nest too deep: reported at the last of
+-- them
+pub record MergingNestsTooDeep (same : Field → Field → Bool) (schema : Schema) (fragments : Fragments) (before : List (Node Operation)) (o : Node Operation) (at : Option SourceSpan) : Type 0 where
+  pub deep : Node Operation
+  pub is_merged : Contains (before ++ o ∷ []) deep
+  pub passes : MergingPasses same schema fragments deep.value.value.selection_set
+  pub at_is : at ≡ o.location
+
+-- a report of a limit is true of a document: reported without a place, but for merging
 pub data DocumentLimit (same : Field → Field → Bool) (schema : Option Schema) (document : ExecutableDocument) : Details → Option SourceSpan → Type 0 where
   fragment_nests : {d : Node Fragment} {name : NameText} {describe : Bor (List ℕ)} {at : Option SourceSpan} →
       Contains (values document.fragments) d → FragmentNestsTooDeep (fragments_of document) d name describe.now at →
@@ -85,8 +106,7 @@ pub data DocumentLimit (same : Field → Field → Bool) (schema : Option Schema
   walk_of_root : {o : Node Operation} →
       Contains (operations_of document) o → PassesDepth (fragments_of document) root_walk o.value.value.selection_set →
       DocumentLimit same schema document (details.Diagnostic report.RecursionError) None
-  walk_of_labels : {set : SelectionSet} →
-      Contains (sets_of document) set → PassesDepth (fragments_of document) written_walk set →
+  walk_of_labels : LabelsStandTooDeep document →
       DocumentLimit same schema document (details.Diagnostic report.RecursionError) None
   walk_of_conditions : {o : Node Operation} →
       Contains (operations_of document) o → PassesDepth (fragments_of document) open_walk o.value.value.selection_set →
@@ -94,9 +114,9 @@ pub data DocumentLimit (same : Field → Field → Bool) (schema : Option Schema
   walk_of_fragments : {o : Node Operation} {limit : RecursionLimitError} →
       Contains (operations_of document) o → PassesDepth (fragments_of document) full_walk o.value.value.selection_set →
       DocumentLimit same schema document (details.RecursionLimit limit) None
-  merging_limit : {s : Schema} {o deep : Node Operation} {limit : RecursionLimitError} {at : Option SourceSpan} →
-      schema ≡ Some s → Contains (operations_of document) o → Contains (operations_of document) deep →
-      MergingPasses same s (fragments_of document) deep.value.value.selection_set → at ≡ o.location →
+  merging_limit : {s : Schema} {before : List (Node Operation)} (after : List (Node Operation)) {o : Node Operation} {limit : RecursionLimitError} {at : Option SourceSpan} →
+      schema ≡ Some s → operations_of document ≡ before ++ o ∷ after →
+      MergingNestsTooDeep same s (fragments_of document) before o at →
       DocumentLimit same schema document (details.RecursionLimit limit) at
 
 -- a report of a limit is true of a schema

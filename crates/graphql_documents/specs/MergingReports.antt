@@ -4,7 +4,7 @@ use Rattle.graphql_documents.specs.Arguments.{argument_named}
 use Rattle.graphql_documents.specs.Merging.{FieldSelection, OverlapThroughout, SameShape, Together, type_of}
 use Rattle.graphql_documents.specs.Names.{DifferentNames, NameText, SameName}
 use Rattle.graphql_documents.specs.Selections.{Fragments, response_key}
-use Rattle.graphql_documents.specs.TypeReferences.{same_type}
+use Rattle.graphql_documents.specs.TypeReferences.{IsTypeCopy}
 use Rattle.graphql_documents.specs.Values.{IsCopy, SameValue}
 use Rattle.graphql_documents.specs.declared.diagnostics.build_errors.BuildError.TheVariants as build
 use Rattle.graphql_documents.specs.declared.diagnostics.build_errors.BuildError.{BuildError}
@@ -84,10 +84,10 @@ pub record HaveDifferentShapes (schema : Schema) (fragments : Fragments) (set : 
   pub alias_is : SameName alias (response_key x.field.value.value)
   pub original_location_is : original_location ≡ x.field.location
   pub original_is : original ≡ coordinate_of x
-  pub original_type_is : IsTrue (same_type original_type (type_of x))
+  pub original_type_is : IsTypeCopy (type_of x) original_type
   pub conflicting_location_is : conflicting_location ≡ y.field.location
   pub conflicting_is : conflicting ≡ coordinate_of y
-  pub conflicting_type_is : IsTrue (same_type conflicting_type (type_of y))
+  pub conflicting_type_is : IsTypeCopy (type_of y) conflicting_type
   pub at_is : at ≡ y.field.location
 
 -- the report names two fields of an operation that cannot be merged

@@ -1,4 +1,4 @@
--- References between the definitions of a schema, and ways back. Specification: 3.10 Input Objects, Circular
+-- References between the definitions of a schema, and cycles. Specification: 3.10 Input Objects, Circular
 -- References; 3.13 Directives, on definitions that refer to themselves.
 use Rattle.std.specs.Prelude.{ℕ, List, [], ◌∷◌, ◌++◌, Option, None, Some, Contains, IsSome, flat_map, filter_map, map, option_map}
 use Rattle.std.specs.Option.{option_and_then}
@@ -6,7 +6,7 @@ use Rattle.graphql_documents.specs.Names.{NameText, SameName, HasDifferentNames}
 use Rattle.graphql_documents.specs.TypeReferences.{inner_named_type}
 use Rattle.graphql_documents.specs.Schemas.{type_definition}
 use Rattle.graphql_documents.specs.Directives.{directive_definition}
-use Rattle.graphql_documents.specs.Paths.{Path, LeadsBack, HasNoWayBack, HasLongPath}
+use Rattle.graphql_documents.specs.Paths.{Path, IsCycle, HasNoCycle, HasLongPath}
 use Rattle.graphql_documents.specs.declared.documents.nodes.Node.{Node}
 use Rattle.graphql_documents.specs.declared.documents.type_references.Type.{«Type»}
 use Rattle.graphql_documents.specs.declared.documents.type_references.Type.TheVariants.{NonNullNamed}
@@ -42,13 +42,13 @@ pub record RequiresBy (schema : Schema) (d : Node InputObjectType) (field : Node
 abbrev pub RequiresBack : Node InputObjectType → Node InputValueDefinition → Type 0
 RequiresBack d field = SameName (inner_named_type field.value.value.ty.value.value) d.value.value.name
 
--- a chain of required fields leads from the input object back to it
-abbrev pub InputObjectLeadsBack : Schema → Node InputObjectType → List (Node InputValueDefinition) → Type 0
-InputObjectLeadsBack schema d path = LeadsBack (RequiresBy schema) (input_object_of schema) RequiresBack d path
+-- the chain of required fields leads from the input object back to it
+abbrev pub IsInputObjectCycle : Schema → Node InputObjectType → List (Node InputValueDefinition) → Type 0
+IsInputObjectCycle schema d path = IsCycle (RequiresBy schema) (input_object_of schema) RequiresBack d path
 
 -- no chain of required fields leads from the input object back to it
-abbrev pub InputObjectHasNoWayBack : Schema → Node InputObjectType → Type 0
-InputObjectHasNoWayBack schema d = HasNoWayBack (RequiresBy schema) (input_object_of schema) RequiresBack d
+abbrev pub InputObjectHasNoCycle : Schema → Node InputObjectType → Type 0
+InputObjectHasNoCycle schema d = HasNoCycle (RequiresBy schema) (input_object_of schema) RequiresBack d
 
 -- a chain of required fields goes through this many input objects, or more, its first counted
 abbrev pub HasLongRequiredPath : Schema → Node InputObjectType → ℕ → Type 0
@@ -104,13 +104,13 @@ abbrev pub AppliesBack : SchemaPart → SchemaReference → Type 0
 AppliesBack (directive_part d) (by_directive r) = SameName r.value.value.name d.value.value.name
 AppliesBack _ _ = ⊥
 
--- a way of references leads from the directive definition back to it
-abbrev pub DirectiveLeadsBack : Schema → Node DirectiveDefinition → List SchemaReference → Type 0
-DirectiveLeadsBack schema d path = LeadsBack PartRefersBy (part_of schema) AppliesBack (directive_part d) path
+-- the path of references leads from the directive definition back to it
+abbrev pub IsDirectiveCycle : Schema → Node DirectiveDefinition → List SchemaReference → Type 0
+IsDirectiveCycle schema d path = IsCycle PartRefersBy (part_of schema) AppliesBack (directive_part d) path
 
--- no way of references leads from the directive definition back to it
-abbrev pub DirectiveHasNoWayBack : Schema → Node DirectiveDefinition → Type 0
-DirectiveHasNoWayBack schema d = HasNoWayBack PartRefersBy (part_of schema) AppliesBack (directive_part d)
+-- no path of references leads from the directive definition back to it
+abbrev pub DirectiveHasNoCycle : Schema → Node DirectiveDefinition → Type 0
+DirectiveHasNoCycle schema d = HasNoCycle PartRefersBy (part_of schema) AppliesBack (directive_part d)
 
 -- the applications of directives on a path
 abbrev pub applied : SchemaReference → Option (Node Directive)
@@ -122,14 +122,14 @@ abbrev pub named : SchemaReference → Option NameText
 named (by_directive d) = None
 named (by_type name) = Some name
 
--- a way of references from the directive definition goes through this many directives, or more, its
+-- a path of references from the directive definition goes through this many directives, or more, its
 -- own counted
 abbrev pub HasLongDirectivePath : Schema → Node DirectiveDefinition → ℕ → Type 0
 HasLongDirectivePath schema d count =
     (path : List SchemaReference) × Path PartRefersBy (part_of schema) (directive_part d) path ×
     HasDifferentNames count (d.value.value.name ∷ map (λ r. r.value.value.name) (filter_map applied path))
 
--- a way of references from the directive definition goes through this many types, or more
+-- a path of references from the directive definition goes through this many types, or more
 abbrev pub HasLongTypePath : Schema → Node DirectiveDefinition → ℕ → Type 0
 HasLongTypePath schema d count =
     (path : List SchemaReference) × Path PartRefersBy (part_of schema) (directive_part d) path ×

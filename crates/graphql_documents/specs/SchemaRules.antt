@@ -2,10 +2,10 @@
 use Rattle.std.specs.Prelude.{◌≡◌, ◌≢◌, ◌⊎◌, Bool, List, [], None, Some, All, IsTrue, IsSome, map}
 use Rattle.graphql_documents.specs.Names.{NameText, AreDistinct, IsFreeName}
 use Rattle.graphql_documents.specs.TypeReferences.{inner_named_type}
-use Rattle.graphql_documents.specs.Schemas.{type_definition, is_built_in, is_input_type, is_output_type, roots_of}
+use Rattle.graphql_documents.specs.Schemas.{NamesKind, type_definition, is_built_in, is_input_type, is_object_type, is_output_type, roots_of}
 use Rattle.graphql_documents.specs.Directives.{ApplicationsHold}
 use Rattle.graphql_documents.specs.TypeMaps.{names_built_in_scalar}
-use Rattle.graphql_documents.specs.SchemaReferences.{InputObjectHasNoWayBack, DirectiveHasNoWayBack, directives_of_type}
+use Rattle.graphql_documents.specs.SchemaReferences.{InputObjectHasNoCycle, DirectiveHasNoCycle, directives_of_type}
 use Rattle.graphql_documents.specs.Implementations.{ImplementationsHold, DoesNotListItself, FieldList}
 use Rattle.graphql_documents.specs.declared.documents.nodes.Node.{Node}
 use Rattle.graphql_documents.specs.declared.documents.directives.Directive.{Directive}
@@ -33,8 +33,7 @@ DirectivesHoldAt schema location directives = ApplicationsHold (Some schema) [] 
 -- the name is that of a type of which the test is true, or of a built-in scalar that may still be added
 abbrev pub NamesType : Schema → (ExtendedType → Bool) → NameText → Type 0
 NamesType schema test name =
-    ((d : ExtendedType) × (type_definition schema name ≡ Some d) × IsTrue (test d)) ⊎
-    ((type_definition schema name ≡ None) × IsTrue (names_built_in_scalar name.text))
+    NamesKind schema test name ⊎ ((type_definition schema name ≡ None) × IsTrue (names_built_in_scalar name.text))
 
 -- an argument or an input field holds. Specification: 3.6.1 Field Arguments, 3.10 Input Objects
 pub record InputValueDefinitionHolds (schema : Schema) (location : DirectiveLocation) (d : InputValueDefinition) : Type 0 where
@@ -42,16 +41,17 @@ pub record InputValueDefinitionHolds (schema : Schema) (location : DirectiveLoca
   pub directives : DirectivesHoldAt schema location d.directives.items
   pub ty : NamesType schema is_input_type (inner_named_type d.ty.value.value)
 
--- the arguments of a field or a directive hold, and their names are distinct
-pub record ArgumentDefinitionsHold (schema : Schema) (arguments : List (Node InputValueDefinition)) : Type 0 where
-  pub each : All (λ d. InputValueDefinitionHolds schema at.ArgumentDefinition d.value.value) arguments
+-- the arguments of a field or a directive, whose directives stand at this location, hold, and their names
+-- are distinct
+pub record ArgumentDefinitionsHold (schema : Schema) (location : DirectiveLocation) (arguments : List (Node InputValueDefinition)) : Type 0 where
+  pub each : All (λ d. InputValueDefinitionHolds schema location d.value.value) arguments
   pub distinct : AreDistinct (map (λ d. d.value.value.name) arguments)
 
 -- a field holds, its type apart. Specification: 3.6 Objects
 pub record FieldDefinitionHolds (schema : Schema) (d : FieldDefinition) : Type 0 where
   pub name : IsFreeName d.name
   pub directives : DirectivesHoldAt schema at.FieldDefinition d.directives.items
-  pub arguments : ArgumentDefinitionsHold schema d.arguments.items
+  pub arguments : ArgumentDefinitionsHold schema at.ArgumentDefinition d.arguments.items
 
 -- the fields of an object or interface hold, each with its type
 abbrev pub FieldDefinitionsHold : Schema → FieldList → Type 0
@@ -79,14 +79,10 @@ pub record InterfaceHolds (schema : Schema) (d : Node InterfaceType) : Type 0 wh
   pub is_not_empty : d.value.value.fields.entries ≢ []
   pub implementations : ImplementationsHold schema d.value.value.fields.entries d.value.value.implements_interfaces.keys
 
--- the name is that of an object type
-abbrev pub NamesObject : Schema → NameText → Type 0
-NamesObject schema name = (d : Node ObjectType) × (type_definition schema name ≡ Some (Object d))
-
 -- a union holds. Specification: 3.8 Unions
 pub record UnionHolds (schema : Schema) (d : Node UnionType) : Type 0 where
   pub directives : DirectivesHoldAt schema at.Union (directives_of_type (Union d))
-  pub members : All (λ member. NamesObject schema member.name) d.value.value.members.keys
+  pub members : All (λ member. NamesKind schema is_object_type member.name) d.value.value.members.keys
   pub is_not_empty : d.value.value.members.keys ≢ []
 
 -- a value of an enum holds. Specification: 3.9 Enums
@@ -103,7 +99,7 @@ pub record EnumHolds (schema : Schema) (d : Node EnumType) : Type 0 where
 -- an input object holds. Specification: 3.10 Input Objects
 pub record InputObjectHolds (schema : Schema) (d : Node InputObjectType) : Type 0 where
   pub directives : DirectivesHoldAt schema at.InputObject (directives_of_type (InputObject d))
-  pub no_way_back : InputObjectHasNoWayBack schema d
+  pub no_cycle : InputObjectHasNoCycle schema d
   pub fields : All (λ entry. InputValueDefinitionHolds schema at.InputFieldDefinition entry.1.node.value.value) d.value.value.fields.entries
   pub is_not_empty : d.value.value.fields.entries ≢ []
 
@@ -119,12 +115,12 @@ TypeHolds schema (InputObject d) = InputObjectHolds schema d
 -- a directive definition holds. Specification: 3.13 Directives
 pub record DirectiveDefinitionHolds (schema : Schema) (d : Node DirectiveDefinition) : Type 0 where
   pub name : IsFreeName d.value.value.name
-  pub arguments : ArgumentDefinitionsHold schema d.value.value.arguments.items
-  pub no_way_back : DirectiveHasNoWayBack schema d
+  pub arguments : ArgumentDefinitionsHold schema at.ArgumentDefinition d.value.value.arguments.items
+  pub no_cycle : DirectiveHasNoCycle schema d
 
 -- the root types are objects, and no type serves as two. Specification: 3.3.1 Root Operation Types
 pub record RootsHold (schema : Schema) (d : SchemaDefinition) : Type 0 where
-  pub objects : All (λ root. NamesObject schema root.1.name) (roots_of d)
+  pub objects : All (λ root. NamesKind schema is_object_type root.1.name) (roots_of d)
   pub distinct : AreDistinct (map (λ root. root.1.name) (roots_of d))
 
 -- the schema definition holds. Specification: 3.3 Schema

@@ -1,9 +1,10 @@
 -- Types and fields of a schema. Specification: 3 Type System.
-use Rattle.std.specs.Prelude.{◌≡◌, ℕ, Bool, true, false, ◌&&◌, List, [], ◌∷◌, ◌++◌, Option, None, Some, Result, Ok, Err, codes, is_none, if◌then◌else◌, Any, Contains}
-use Rattle.std.specs.Option.{option_map_or}
+use Rattle.std.specs.Prelude.{◌≡◌, ℕ, Bool, true, false, ◌&&◌, List, [], ◌∷◌, ◌++◌, Option, None, Some, Result, Ok, Err, codes, is_none, if◌then◌else◌, Any, Contains, IsTrue, filter, flat_map, map}
+use Rattle.std.specs.List.{list_any}
+use Rattle.std.specs.Option.{option_and_then, option_map_or}
 use Rattle.std.specs.Str.{bytes_eq}
 use Rattle.indexmap.specs.IndexMap.{get}
-use Rattle.graphql_documents.specs.Names.{NameText, SameName, same_name, is_built_in_place}
+use Rattle.graphql_documents.specs.Names.{NameText, SameName, same_name, is_built_in_place, different_names}
 use Rattle.graphql_documents.specs.TypeReferences.{is_non_null}
 use Rattle.graphql_documents.specs.declared.documents.spans.SourceSpan.{SourceSpan}
 use Rattle.graphql_documents.specs.declared.documents.nodes.Node.{Node}
@@ -56,6 +57,20 @@ is_input_type _ = false
 abbrev pub is_output_type : ExtendedType → Bool
 is_output_type (InputObject d) = false
 is_output_type _ = true
+
+-- an object type
+abbrev pub is_object_type : ExtendedType → Bool
+is_object_type (Object d) = true
+is_object_type _ = false
+
+-- an interface
+abbrev pub is_interface_type : ExtendedType → Bool
+is_interface_type (Interface d) = true
+is_interface_type _ = false
+
+-- the name is that of a type of which the test is true
+abbrev pub NamesKind : Schema → (ExtendedType → Bool) → NameText → Type 0
+NamesKind schema test name = (d : ExtendedType) × (type_definition schema name ≡ Some d) × IsTrue (test d)
 
 -- where the definition stands
 abbrev pub location_of : ExtendedType → Option SourceSpan
@@ -143,6 +158,15 @@ type_field schema type_name field =
 abbrev pub is_required : InputValueDefinition → Bool
 is_required d = is_non_null d.ty.value.value && is_none d.default_value
 
+-- a type definition as an interface
+abbrev pub as_interface : ExtendedType → Option (Node InterfaceType)
+as_interface (Interface d) = Some d
+as_interface _ = None
+
+-- the interface with this name, if the schema defines one
+abbrev pub interface_named : Schema → NameText → Option (Node InterfaceType)
+interface_named schema name = option_and_then as_interface (type_definition schema name)
+
 -- the interface with this name. Specification: 3.7 Interfaces
 abbrev pub IsInterface : Schema → NameText → Node InterfaceType → Type 0
 IsInterface schema name d = type_definition schema name ≡ Some (Interface d)
@@ -195,3 +219,30 @@ IsPossibleType schema (Object d) name = SameName d.value.value.name name
 IsPossibleType schema (Interface d) name = IsImplementedBy schema d.value.value.name name
 IsPossibleType schema (Union d) name = IsListed name d.value.value.members.keys
 IsPossibleType schema _ name = ⊥
+
+-- the type lists an interface of this name
+abbrev pub lists_interface : NameText → ExtendedType → Bool
+lists_interface interface d = list_any (λ listed. same_name listed.name interface) (interfaces_of d)
+
+-- the names of the interfaces that some type lists, each once, in order of first listing
+abbrev pub listed_interfaces : Schema → List NameText
+listed_interfaces schema =
+    different_names (flat_map (λ entry. map (λ listed. listed.name) (interfaces_of entry.1)) schema.types.entries)
+
+-- the own names of the types of a kind that list the interface, each once, in order
+abbrev pub implementers_of_kind : Schema → (ExtendedType → Bool) → NameText → List NameText
+implementers_of_kind schema test interface =
+    different_names (map (λ entry. own_name entry.1) (filter (λ entry. test entry.1 && lists_interface interface entry.1) schema.types.entries))
+
+-- what implements an interface: objects, and interfaces
+pub record ImplementerNames : Type 0 where
+  pub objects : List NameText
+  pub interfaces : List NameText
+
+-- each interface that some type lists, with what implements it. Specification: 3.7 Interfaces
+abbrev pub implementers_map : Schema → List (NameText × ImplementerNames)
+implementers_map schema =
+    map (λ interface. (interface, record {
+      objects = implementers_of_kind schema is_object_type interface;
+      interfaces = implementers_of_kind schema is_interface_type interface;
+    })) (listed_interfaces schema)

@@ -1,5 +1,6 @@
 -- Selections and the places where they stand. Specification: 2.4 Selection Sets to 2.8 Fragments.
-use Rattle.std.specs.Prelude.{◌≡◌, List, [], Option, None, Some, Contains, unwrap_or}
+use Rattle.std.specs.Prelude.{◌≡◌, Bool, List, [], Option, None, Some, Contains, unwrap_or, if◌then◌else◌}
+use Rattle.std.specs.List.{list_any}
 use Rattle.std.specs.Option.{option_and_then}
 use Rattle.std.specs.Result.{result_ok}
 use Rattle.indexmap.specs.IndexMap.{get}
@@ -70,6 +71,15 @@ no_fragments name = None
 abbrev pub fragments_of : ExecutableDocument → Fragments
 fragments_of document name = get same_name document.fragments name
 
+-- the fragment of this name is one of those that were gone into
+abbrev pub is_entered : List NameText → NameText → Bool
+is_entered entered name = list_any (same_name name) entered
+
+-- the fragments without those that were gone into: what is placed among these is reached without going
+-- through the others
+abbrev pub without : List NameText → Fragments → Fragments
+without entered fragments name = if is_entered entered name then None else fragments name
+
 -- a set, and the sets of the inline fragments and spread fragments in it, at any depth but not below
 -- a field
 pub data Includes (fragments : Fragments) : SelectionSet → SelectionSet → Type 0 where
@@ -95,44 +105,44 @@ pub data Reached (fragments : Fragments) : SelectionSet → Selection → Type 0
   reached_below : {set : SelectionSet} {s : Selection} {f : Node Field} →
       Inside fragments set (kind.Field f) → Reached fragments f.value.value.selection_set s → Reached fragments set s
 
--- the definition of a field at a place: none without a schema, at a place of no known type, or
--- where the type lacks the field. Specification: 5.3.1 Field Selections
+-- the definition of a field on a type: none without a schema, where the type is not known, or where it
+-- lacks the field. Specification: 5.3.1 Field Selections
 abbrev pub definition_at : Option Schema → Option NameText → NameText → Option (Component FieldDefinition)
-definition_at schema place field =
-    option_and_then (λ s. option_and_then (λ t. result_ok (type_field s t field)) place) schema
+definition_at schema parent field =
+    option_and_then (λ s. option_and_then (λ t. result_ok (type_field s t field)) parent) schema
 
--- the type of the place in a field's set: that of the field, and none below a place of no known
--- type. Below a field that its parent lacks there is no place
+-- the type on which the selections in a field's set stand: that of the field, and none below a type that
+-- is not known. Below a field that its type lacks nothing has a place
 pub data TypeBelow (schema : Option Schema) : Option NameText → NameText → Option NameText → Type 0 where
   below_unknown : {field : NameText} → TypeBelow schema None field None
-  below_known : {place : Option NameText} {field : NameText} {d : Component FieldDefinition} →
-      definition_at schema place field ≡ Some d →
-      TypeBelow schema place field (Some (inner_named_type d.node.value.value.ty))
+  below_known : {parent : Option NameText} {field : NameText} {d : Component FieldDefinition} →
+      definition_at schema parent field ≡ Some d →
+      TypeBelow schema parent field (Some (inner_named_type d.node.value.value.ty))
 
--- the type of the place under a type condition: with a schema the condition, or the type around it
--- where there is none
+-- the type on which selections stand under a type condition: with a schema the condition, or the type
+-- around it where there is none
 abbrev pub type_under : Option Schema → Option NameText → Option NameText → Option NameText
-type_under None place condition = None
-type_under (Some schema) place None = place
-type_under (Some schema) place (Some condition) = Some condition
+type_under None parent condition = None
+type_under (Some schema) parent None = parent
+type_under (Some schema) parent (Some condition) = Some condition
 
--- s is reached from a set at a place of this type, and stands at a place of that type: in the set
--- itself, or from the set of a field, inline fragment or spread fragment that stands in it
-pub data Placed (schema : Option Schema) (fragments : Fragments) : Option NameText → SelectionSet → Selection → Option NameText → Type 0 where
-  standing_at : {place : Option NameText} {set : SelectionSet} {s : Selection} →
-      Contains (selections_of set) s →
-      Placed schema fragments place set s place
-  placed_in_field : {place below at : Option NameText} {set : SelectionSet} {s : Selection} {f : Node Field} →
-      Contains (selections_of set) (kind.Field f) →
-      TypeBelow schema place f.value.value.name below →
-      Placed schema fragments below f.value.value.selection_set s at →
-      Placed schema fragments place set s at
-  placed_in_inline_fragment : {place at : Option NameText} {set : SelectionSet} {s : Selection} {i : Node InlineFragment} →
-      Contains (selections_of set) (kind.InlineFragment i) →
-      Placed schema fragments (type_under schema place i.value.value.type_condition) i.value.value.selection_set s at →
-      Placed schema fragments place set s at
-  placed_in_spread : {place at : Option NameText} {set : SelectionSet} {s : Selection} {p : Node FragmentSpread} {d : Node Fragment} →
-      Contains (selections_of set) (kind.FragmentSpread p) →
+-- s is reached from these selections, which stand on the first type, and stands on the second: it is one
+-- of them, or is reached from the set of a field, inline fragment or spread fragment among them
+pub data Placed (schema : Option Schema) (fragments : Fragments) : Option NameText → List Selection → Selection → Option NameText → Type 0 where
+  standing_at : {parent : Option NameText} {selections : List Selection} {s : Selection} →
+      Contains selections s →
+      Placed schema fragments parent selections s parent
+  placed_in_field : {parent below at : Option NameText} {selections : List Selection} {s : Selection} (f : Node Field) →
+      Contains selections (kind.Field f) →
+      TypeBelow schema parent f.value.value.name below →
+      Placed schema fragments below (selections_of f.value.value.selection_set) s at →
+      Placed schema fragments parent selections s at
+  placed_in_inline_fragment : {parent at : Option NameText} {selections : List Selection} {s : Selection} (i : Node InlineFragment) →
+      Contains selections (kind.InlineFragment i) →
+      Placed schema fragments (type_under schema parent i.value.value.type_condition) (selections_of i.value.value.selection_set) s at →
+      Placed schema fragments parent selections s at
+  placed_in_spread : {parent at : Option NameText} {selections : List Selection} {s : Selection} {p : Node FragmentSpread} (d : Node Fragment) →
+      Contains selections (kind.FragmentSpread p) →
       fragments p.value.value.fragment_name ≡ Some d →
-      Placed schema fragments (type_under schema place (Some d.value.value.selection_set.ty)) d.value.value.selection_set s at →
-      Placed schema fragments place set s at
+      Placed schema fragments (type_under schema parent (Some d.value.value.selection_set.ty)) (selections_of d.value.value.selection_set) s at →
+      Placed schema fragments parent selections s at

@@ -1,6 +1,6 @@
 -- The built-in scalars that a schema keeps: those that it uses. Specification: 3.5 Scalars, Built-in Scalars.
 use Rattle.std.specs.Prelude.{◌≡◌, ℕ, Bool, ◌&&◌, not, List, [], ◌∷◌, ◌++◌, Some, codes, filter, flat_map, map}
-use Rattle.std.specs.List.{AllZip, list_any}
+use Rattle.std.specs.List.{AllZip, list_all, list_any}
 use Rattle.std.specs.Str.{bytes_eq}
 use Rattle.graphql_documents.specs.Names.{NameText}
 use Rattle.graphql_documents.specs.TypeReferences.{inner_named_type}
@@ -81,3 +81,19 @@ pub record IsAddedScalar (text : List ℕ) (entry : NameText × ExtendedType) : 
 abbrev pub IsSettled : Schema → List (NameText × ExtendedType) → Type 0
 IsSettled schema settled =
     (added : List (NameText × ExtendedType)) × (settled ≡ kept_types schema ++ added) × AllZip IsAddedScalar (missing_scalars schema) added
+
+-- a schema once its types are settled; nothing else of it changes
+pub record IsSettledSchema (schema settled : Schema) : Type 0 where
+  pub types : IsSettled schema settled.types.entries
+  pub definition : settled.schema_definition ≡ schema.schema_definition
+  pub directives : settled.directive_definitions ≡ schema.directive_definitions
+  pub meta_fields : settled.meta_fields ≡ schema.meta_fields
+
+-- the text is that of a built-in scalar, and one of these names has it: what stays recorded of names that
+-- are referred to
+abbrev pub is_recorded : List NameText → List ℕ → Bool
+is_recorded names text = names_built_in_scalar text && list_any (λ name. bytes_eq name.text text) names
+
+-- each built-in scalar is recorded
+abbrev pub all_recorded : List NameText → Bool
+all_recorded names = list_all (is_recorded names) built_in_scalar_names

@@ -1,9 +1,9 @@
 -- Variables of operations: their definitions and their uses. Specification: 5.8 Variables.
-use Rattle.std.specs.Prelude.{◌≡◌, List, [], Option, Some, All, Any, IsTrue, map}
+use Rattle.std.specs.Prelude.{◌≡◌, List, [], Option, Some, All, Any, map}
 use Rattle.graphql_documents.specs.Names.{NameText, AreDistinct}
 use Rattle.graphql_documents.specs.TypeReferences.{inner_named_type}
 use Rattle.graphql_documents.specs.Values.{StandsIn}
-use Rattle.graphql_documents.specs.Schemas.{type_definition, is_input_type}
+use Rattle.graphql_documents.specs.Schemas.{NamesKind, is_input_type}
 use Rattle.graphql_documents.specs.InputCoercion.{Accepts}
 use Rattle.graphql_documents.specs.Directives.{ApplicationsHold}
 use Rattle.graphql_documents.specs.Selections.{Fragments, Reached, directives_of, arguments_of}
@@ -14,7 +14,6 @@ use Rattle.graphql_documents.specs.declared.documents.directives.Directive.{Dire
 use Rattle.graphql_documents.specs.declared.documents.definitions.DirectiveLocation.TheVariants as at
 use Rattle.graphql_documents.specs.declared.documents.definitions.VariableDefinition.{VariableDefinition}
 use Rattle.graphql_documents.specs.declared.documents.schemas.Schema.{Schema}
-use Rattle.graphql_documents.specs.declared.documents.schemas.ExtendedType.{ExtendedType}
 use Rattle.graphql_documents.specs.declared.documents.executables.Operation.{Operation}
 use Rattle.graphql_documents.specs.declared.documents.executables.Selection.{Selection}
 use Rattle.graphql_documents.specs.declared.documents.executables.Selection.TheVariants as kind
@@ -23,8 +22,7 @@ use Rattle.graphql_documents.specs.declared.documents.executables.Fragment.{Frag
 
 -- the variable's type is a defined input type. Specification: 5.8.2 Variables Are Input Types
 abbrev pub HasInputType : Schema → VariableDefinition → Type 0
-HasInputType schema v =
-    (d : ExtendedType) × (type_definition schema (inner_named_type v.ty.value.value) ≡ Some d) × IsTrue (is_input_type d)
+HasInputType schema v = NamesKind schema is_input_type (inner_named_type v.ty.value.value)
 
 -- the variable's default is accepted for its type, without variables
 abbrev pub DefaultHolds : Schema → VariableDefinition → Type 0

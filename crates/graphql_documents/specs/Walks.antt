@@ -1,8 +1,9 @@
 -- Walks over selections, how deep they go, and what they list.
 use Rattle.std.specs.Prelude.{◌≡◌, ℕ, suc, ◌<◌, Bool, true, false, not, List, [], ◌∷◌, Some, IsTrue, IsFalse, All, Contains}
-use Rattle.graphql_documents.specs.Defer.{can_be_excluded}
+use Rattle.graphql_documents.specs.Defer.{can_be_excluded, sets_of}
 use Rattle.graphql_documents.specs.Names.{AreDistinct, NameText}
-use Rattle.graphql_documents.specs.Selections.{Fragments, selections_of}
+use Rattle.graphql_documents.specs.Selections.{Fragments, fragments_of, selections_of}
+use Rattle.graphql_documents.specs.declared.documents.executables.ExecutableDocument.{ExecutableDocument}
 use Rattle.graphql_documents.specs.declared.documents.executables.Field.{Field}
 use Rattle.graphql_documents.specs.declared.documents.executables.Fragment.{Fragment}
 use Rattle.graphql_documents.specs.declared.documents.executables.FragmentSpread.{FragmentSpread}
@@ -34,13 +35,17 @@ pub data Descent (fragments : Fragments) (walk : Walk) : SelectionSet → ℕ �
       fragments p.value.value.fragment_name ≡ Some d →
       Descent fragments walk d.value.value.selection_set n names → Descent fragments walk set (suc n) (p.value.value.fragment_name ∷ names)
 
--- a descent from the set passes through more than 500 sets, and enters no fragment twice
+-- how many sets, one below another, a walk goes into
+abbrev pub walk_bound : ℕ
+walk_bound = 500
+
+-- a descent from the set passes through more sets than a walk goes into, and enters no fragment twice
 pub record PassesDepth (fragments : Fragments) (walk : Walk) (set : SelectionSet) : Type 0 where
   pub depth : ℕ
   pub entered : List NameText
   pub descent : Descent fragments walk set depth entered
   pub once : AreDistinct entered
-  pub passes : 500 < depth
+  pub passes : walk_bound < depth
 
 -- into everything: for variables and for fragments
 abbrev pub full_walk : Walk
@@ -57,6 +62,11 @@ written_walk = record { into_fields = true; into_fragments = false; goes_through
 -- into what cannot be left out: for the conditions of `@defer`
 abbrev pub open_walk : Walk
 open_walk = record { into_fields = true; into_fragments = true; goes_through = λ s. not (can_be_excluded s) }
+
+-- a set of the document is too deep for the walk that seeks labels
+abbrev pub LabelsStandTooDeep : ExecutableDocument → Type 0
+LabelsStandTooDeep document =
+    (set : SelectionSet) × Contains (sets_of document) set × PassesDepth (fragments_of document) written_walk set
 
 -- a walk has listed selections: each of them is one that it is to meet; where it came to an end, all
 -- of these are listed; where it did not, a descent passes its bound
