@@ -1,10 +1,10 @@
--- Which fragments have a way back to themselves.
+-- Which fragments stand on a cycle.
 use Rattle.std.proofs.Common.{◌≡◌, List, [], ◌∷◌, ◌++◌, Some, refl, subst, All}
 use Rattle.std.proofs.lemmas.List.Elements.{All-nil, All-cons, All-head}
 use Rattle.graphql_documents.specs.Names.{NameText, SameName, DifferentNames}
 use Rattle.graphql_documents.specs.Selections.{Fragments, Written}
 use Rattle.graphql_documents.specs.Paths.{Path, path_of_one, path_of_more}
-use Rattle.graphql_documents.specs.FragmentSpreads.{SpreadsBy, fragment_of, FragmentLeadsBack, FragmentHasNoWayBack}
+use Rattle.graphql_documents.specs.FragmentSpreads.{SpreadsBy, fragment_of, IsFragmentCycle, FragmentHasNoCycle}
 use Rattle.graphql_documents.specs.declared.documents.nodes.Node.{Node}
 use Rattle.graphql_documents.specs.declared.documents.executables.Selection.TheVariants as kind
 use Rattle.graphql_documents.specs.declared.documents.executables.Fragment.{Fragment}
@@ -14,7 +14,7 @@ use Rattle.graphql_documents.proofs.ReportLemmas.{All-append_right}
 
 pub spreads_itself : (fragments : Fragments) (d : Node Fragment) (p : Node FragmentSpread) →
     Written d.value.value.selection_set (kind.FragmentSpread p) → SameName p.value.value.fragment_name d.value.value.name →
-    ¬ FragmentHasNoWayBack fragments d
+    ¬ FragmentHasNoCycle fragments d
 spreads_itself fragments d p written back none =
     none (p ∷ []) (record { before = []; last = p; ends = refl; is_path = path_of_one written; is_back = back })
 
@@ -40,7 +40,7 @@ pub reaches_only_another : (fragments : Fragments) (d e : Node Fragment) (path :
     ((p : Node FragmentSpread) → Written d.value.value.selection_set (kind.FragmentSpread p) → SameName p.value.value.fragment_name e.value.value.name) →
     ((p : Node FragmentSpread) → Written e.value.value.selection_set (kind.FragmentSpread p) → SameName p.value.value.fragment_name e.value.value.name) →
     ((name : NameText) → SameName name e.value.value.name → fragments name ≡ Some e) →
-    DifferentNames d.value.value.name e.value.value.name → ¬ FragmentLeadsBack fragments d path
+    DifferentNames d.value.value.name e.value.value.name → ¬ IsFragmentCycle fragments d path
 reaches_only_another fragments d e path only itself found other leads =
     let all : All (Names e) (leads.before ++ leads.last ∷ []) = subst (All (Names e)) leads.ends (all_name fragments e found itself leads.is_path only) in
     let last : Names e leads.last = All-head (Names e) leads.last [] (All-append_right (Names e) leads.before (leads.last ∷ []) all) in
@@ -48,9 +48,9 @@ reaches_only_another fragments d e path only itself found other leads =
     let own = d.value.value.name in
     not_both own e.value.value.name (same_name_then own named e.value.value.name (same_name_back named own leads.is_back) last) other
 
-pub no_spread_no_way_back : (fragments : Fragments) (d : Node Fragment) →
-    ((p : Node FragmentSpread) → ¬ Written d.value.value.selection_set (kind.FragmentSpread p)) → FragmentHasNoWayBack fragments d
-no_spread_no_way_back fragments d none path leads = begins leads.is_path none where
+pub no_spread_no_cycle : (fragments : Fragments) (d : Node Fragment) →
+    ((p : Node FragmentSpread) → ¬ Written d.value.value.selection_set (kind.FragmentSpread p)) → FragmentHasNoCycle fragments d
+no_spread_no_cycle fragments d none path leads = begins leads.is_path none where
   begins : {d : Node Fragment} {path : List (Node FragmentSpread)} → Path SpreadsBy (fragment_of fragments) d path →
       ¬ ((p : Node FragmentSpread) → ¬ Written d.value.value.selection_set (kind.FragmentSpread p))
   begins (path_of_one {r = p} written) none = none p written

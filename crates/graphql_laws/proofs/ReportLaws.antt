@@ -35,10 +35,10 @@ module _ (document : ExecutableDocument)
   no_limit same schema d at is (fragment_nests in' nests) = let f : ⊥ = cc in f
   no_limit same schema d at is (walk_of_variables {o = o} in' p) = no_descent_passes _ _ p
   no_limit same schema d at is (walk_of_root {o = o} in' p) = no_descent_passes _ _ p
-  no_limit same schema d at is (walk_of_labels {set = set} in' p) = no_descent_passes _ _ p
+  no_limit same schema d at is (walk_of_labels deep) = no_descent_passes _ _ deep.2
   no_limit same schema d at is (walk_of_conditions {o = o} in' p) = no_descent_passes _ _ p
   no_limit same schema d at is (walk_of_fragments in' p) = let f : ⊥ = cc in f
-  no_limit same schema d at is (merging_limit has in' deep passes at_is) = let f : ⊥ = cc in f
+  no_limit same schema d at is (merging_limit after has split nests) = let f : ⊥ = cc in f
 
 pub other_place : (schema : Option Schema) (place : Option NameText) (f : Node Field)
     (owner : TypeAttributeCoordinate) (output : NameText) (describe : Bor (List ℕ)) (at : Option SourceSpan) →
@@ -51,4 +51,4 @@ pub other_coordinate : (schema : Option Schema) (parent : NameText) (f : Node Fi
     ¬ FieldBreaks schema (Some parent) f (report.UndefinedArgument name owner location) at
 other_coordinate schema parent f name owner location at other broken =
     other (broken.3.coordinate_is ∙
-    ap (λ ty. coordinate.TypeAttribute (record { ty = ty; attribute = f.value.value.name })) (sym (same_Some parent broken.0 broken.2.place_is)))
+    ap (λ ty. coordinate.TypeAttribute (record { ty = ty; attribute = f.value.value.name })) (sym (same_Some parent broken.0 broken.2.parent_is)))

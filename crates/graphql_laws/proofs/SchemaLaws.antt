@@ -8,7 +8,7 @@ use Rattle.indexmap.specs.IndexMap.{get_by}
 use Rattle.graphql_documents.specs.Names.{NameText, SameName, IsFreeName}
 use Rattle.graphql_documents.specs.Schemas.{type_definition, IsInputObject}
 use Rattle.graphql_documents.specs.Paths.{Path, path_of_one, path_of_more}
-use Rattle.graphql_documents.specs.SchemaReferences.{required_name, as_input_object, input_object_of, RequiresBy, InputObjectHasNoWayBack, SchemaReference, by_directive, by_type, DirectiveHasNoWayBack}
+use Rattle.graphql_documents.specs.SchemaReferences.{required_name, as_input_object, input_object_of, RequiresBy, InputObjectHasNoCycle, SchemaReference, by_directive, by_type, DirectiveHasNoCycle}
 use Rattle.graphql_documents.specs.SchemaRules.{TypeHolds, SchemaHolds, DirectiveDefinitionHolds}
 use Rattle.graphql_documents.specs.declared.documents.nodes.Node.{Node}
 use Rattle.graphql_documents.specs.declared.documents.components.Component.{Component}
@@ -55,7 +55,7 @@ module _ (schema : Schema) (field : Node InputValueDefinition) (name : NameText)
 pub circle_of_required_fields : (schema : Schema) (a b : Node InputObjectType) (x y : InputField) (to_b to_a : NameText) →
     Contains a.value.value.fields.entries x → x.1.node.value.value.ty.value.value ≡ NonNullNamed to_b → IsInputObject schema to_b b →
     Contains b.value.value.fields.entries y → y.1.node.value.value.ty.value.value ≡ NonNullNamed to_a → IsInputObject schema to_a a →
-    SameName to_a a.value.value.name → ¬ InputObjectHasNoWayBack schema a
+    SameName to_a a.value.value.name → ¬ InputObjectHasNoCycle schema a
 circle_of_required_fields schema a b x y to_b to_a in_a type_x is_b in_b type_y is_a back none =
     none (x.1.node ∷ (y.1.node ∷ [])) (record {
       before = x.1.node ∷ [];
@@ -73,7 +73,7 @@ pub circle_of_required_fields_breaks : (schema : Schema) (key : NameText) (a b :
     SameName to_a a.value.value.name → ¬ SchemaHolds schema
 circle_of_required_fields_breaks schema key a b x y to_b to_a stands in_a type_x is_b in_b type_y is_a back holds =
     circle_of_required_fields schema a b x y to_b to_a in_a type_x is_b in_b type_y is_a back
-    (type_holds schema key (InputObject a) stands holds).no_way_back
+    (type_holds schema key (InputObject a) stands holds).no_cycle
 
 -- only a non-null name requires an input object
 named_if_required : (schema : Schema) (ty : «Type») →
@@ -90,7 +90,7 @@ first_requires (path_of_more {r = r} by is more) = (r, by)
 
 pub no_required_field : (schema : Schema) (a : Node InputObjectType) →
     ((field : InputField) (name : NameText) → Contains a.value.value.fields.entries field → field.1.node.value.value.ty.value.value ≢ NonNullNamed name) →
-    InputObjectHasNoWayBack schema a
+    InputObjectHasNoCycle schema a
 no_required_field schema a none path leads =
     let first = first_requires leads.is_path in
     let entry = made_of (λ (field : InputField). field.1.node) a.value.value.fields.entries first.0 first.1.stands in
@@ -102,7 +102,7 @@ one_type_found schema a b same = ap (λ (text : List ℕ). get_by (λ (key : Nam
 
 pub directive_on_its_own_argument : (schema : Schema) (d : Node DirectiveDefinition) (argument : Node InputValueDefinition) (applied : Node Directive) →
     Contains d.value.value.arguments.items argument → Contains argument.value.value.directives.items applied →
-    SameName applied.value.value.name d.value.value.name → ¬ DirectiveHasNoWayBack schema d
+    SameName applied.value.value.name d.value.value.name → ¬ DirectiveHasNoCycle schema d
 directive_on_its_own_argument schema d argument applied in_d in_argument back none =
     let references : Node InputValueDefinition → List SchemaReference =
     λ a. map by_directive a.value.value.directives.items ++ by_type (inner_named_type a.value.value.ty.value.value) ∷ [] in
@@ -123,4 +123,4 @@ pub directive_on_its_own_argument_breaks : (schema : Schema) (key : NameText) (d
     SameName applied.value.value.name d.value.value.name → ¬ SchemaHolds schema
 directive_on_its_own_argument_breaks schema key d argument applied stands in_d in_argument back holds =
     directive_on_its_own_argument schema d argument applied in_d in_argument back
-    (All-contains (λ entry. DirectiveDefinitionHolds schema entry.1) schema.directive_definitions.entries (key, d) holds.directives stands).no_way_back
+    (All-contains (λ entry. DirectiveDefinitionHolds schema entry.1) schema.directive_definitions.entries (key, d) holds.directives stands).no_cycle

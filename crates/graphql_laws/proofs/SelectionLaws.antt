@@ -1,5 +1,5 @@
 -- What stands inside a selection set and below it.
-use Rattle.std.proofs.Common.{◌≡◌, [], ◌∷◌, Option, Some, None, refl, subst, Contains}
+use Rattle.std.proofs.Common.{◌≡◌, List, [], ◌∷◌, Option, Some, None, refl, subst, Contains}
 use Rattle.graphql_documents.specs.Names.{NameText}
 use Rattle.graphql_documents.specs.Selections.{Fragments, selections_of, Includes, includes_itself, includes_inline_fragment, includes_spread, Inside, Reached, reached_inside, reached_below, definition_at, TypeBelow, below_unknown, below_known, Placed, standing_at, placed_in_field, placed_in_inline_fragment, placed_in_spread}
 use Rattle.graphql_documents.specs.declared.documents.nodes.Node.{Node}
@@ -29,29 +29,29 @@ only_fields_inside fragments set s fields (inner, included, stands) = under incl
       let f = fields (kind.FragmentSpread p) there in absurd (not_spread f.0 p f.1)
 
 -- below a field that its known type lacks there is no place
-nothing_below : {schema : Option Schema} {place : Option NameText} {field : NameText} {below : Option NameText} →
-    TypeBelow schema place field below → (t : NameText) → place ≡ Some t → definition_at schema place field ≡ None → ⊥
+nothing_below : {schema : Option Schema} {parent : Option NameText} {field : NameText} {below : Option NameText} →
+    TypeBelow schema parent field below → (t : NameText) → parent ≡ Some t → definition_at schema parent field ≡ None → ⊥
 nothing_below below_unknown t known lacks = let h : ⊥ = cc in h
 nothing_below (below_known {d = d} found) t known lacks = let h : ⊥ = cc in h
 
--- where a field is all that a set has, no other selection stands there
-OnlyHas : SelectionSet → Node Field → Type 0
-OnlyHas set f = (x : Selection) → Contains (selections_of set) x → x ≡ kind.Field f
+-- where a field is all there is, there is no other selection
+OnlyHas : List Selection → Node Field → Type 0
+OnlyHas selections f = (x : Selection) → Contains selections x → x ≡ kind.Field f
 
-at_most : {schema : Option Schema} {fragments : Fragments} {place here : Option NameText} {set : SelectionSet} {s : Selection} →
-    Placed schema fragments place set s here → (t : NameText) (f : Node Field) → place ≡ Some t → OnlyHas set f →
-    definition_at schema (Some t) f.value.value.name ≡ None → Contains (selections_of set) s
+at_most : {schema : Option Schema} {fragments : Fragments} {parent here : Option NameText} {selections : List Selection} {s : Selection} →
+    Placed schema fragments parent selections s here → (t : NameText) (f : Node Field) → parent ≡ Some t → OnlyHas selections f →
+    definition_at schema (Some t) f.value.value.name ≡ None → Contains selections s
 unfolding OnlyHas
 at_most (standing_at stands) t f known only lacks = stands
-at_most (placed_in_field {f = g} stands below more) t f known only lacks =
+at_most (placed_in_field g stands below more) t f known only lacks =
     let same : g ≡ f = same_field f g (only (kind.Field g) stands) in
     absurd (nothing_below below t known (rw (same, known) lacks))
-at_most (placed_in_inline_fragment {i = i} stands more) t f known only lacks = absurd (not_inline f i (only (kind.InlineFragment i) stands))
-at_most (placed_in_spread {p = p} stands is more) t f known only lacks = absurd (not_spread f p (only (kind.FragmentSpread p) stands))
+at_most (placed_in_inline_fragment i stands more) t f known only lacks = absurd (not_inline f i (only (kind.InlineFragment i) stands))
+at_most (placed_in_spread {p = p} d stands is more) t f known only lacks = absurd (not_spread f p (only (kind.FragmentSpread p) stands))
 
 pub nothing_placed_below : (schema : Option Schema) (fragments : Fragments) (t : NameText) (set : SelectionSet) (f : Node Field) (s : Selection) (here : Option NameText) →
     selections_of set ≡ kind.Field f ∷ [] → definition_at schema (Some t) f.value.value.name ≡ None →
-    Placed schema fragments (Some t) set s here → Contains (selections_of set) s
+    Placed schema fragments (Some t) (selections_of set) s here → Contains (selections_of set) s
 unfolding OnlyHas
 nothing_placed_below schema fragments t set f s here only lacks placed =
     at_most placed t f refl (λ x in'. only_one (kind.Field f) x (subst (λ l. Contains l x) only in')) lacks

@@ -1,30 +1,30 @@
-//! Laws of ways back to a fragment.
+//! Laws of cycles of fragments.
 
 ghost use Rattle.std.specs.Prelude.{◌≡◌, List, Some};
 ghost use Rattle.graphql_documents.specs.Names.{NameText, SameName, DifferentNames};
 ghost use Rattle.graphql_documents.specs.Selections.{Fragments, Written, fragments_of};
-ghost use Rattle.graphql_documents.specs.FragmentSpreads.{FragmentLeadsBack, FragmentHasNoWayBack};
+ghost use Rattle.graphql_documents.specs.FragmentSpreads.{IsFragmentCycle, FragmentHasNoCycle};
 ghost use Rattle.graphql_documents.specs.declared.documents.executables.ExecutableDocument.{ExecutableDocument};
 ghost use Rattle.graphql_documents.specs.declared.documents.executables.Fragment.{Fragment};
 ghost use Rattle.graphql_documents.specs.declared.documents.executables.FragmentSpread.{FragmentSpread};
 ghost use Rattle.graphql_documents.specs.declared.documents.executables.Selection.TheVariants as kind;
 ghost use Rattle.graphql_documents.specs.declared.documents.nodes.Node.{Node};
 
-/// A fragment that spreads itself has a way back, also where the spread stands below a field.
+/// A fragment that spreads itself has a cycle, also where the spread stands below a field.
 ///
 /// Specification: 5.5.2.2 Fragment Spreads Must Not Form Cycles.
-pub fn fragment_that_spreads_itself_has_a_way_back()
+pub fn fragment_that_spreads_itself_has_a_cycle()
     ensures { (fragments : Fragments) (d : Node Fragment) (p : Node FragmentSpread) →
         Written d.value.value.selection_set (kind.FragmentSpread p) →
         SameName p.value.value.fragment_name d.value.value.name →
-        ¬ FragmentHasNoWayBack fragments d }
+        ¬ FragmentHasNoCycle fragments d }
 {}
 
-/// A fragment that only reaches a circle has no way back itself: it spreads nothing but another, and that
+/// A fragment that only reaches a circle has no cycle itself: it spreads nothing but another, and that
 /// spreads nothing but itself.
 ///
 /// Specification: 5.5.2.2 Fragment Spreads Must Not Form Cycles.
-pub fn fragment_that_only_reaches_a_circle_has_no_way_back()
+pub fn fragment_that_only_reaches_a_circle_has_no_cycle()
     ensures { (fragments : Fragments) (d e : Node Fragment) (path : List (Node FragmentSpread)) →
         ((p : Node FragmentSpread) → Written d.value.value.selection_set (kind.FragmentSpread p) →
         SameName p.value.value.fragment_name e.value.value.name) →
@@ -32,16 +32,16 @@ pub fn fragment_that_only_reaches_a_circle_has_no_way_back()
         SameName p.value.value.fragment_name e.value.value.name) →
         ((name : NameText) → SameName name e.value.value.name → fragments name ≡ Some e) →
         DifferentNames d.value.value.name e.value.value.name →
-        ¬ FragmentLeadsBack fragments d path }
+        ¬ IsFragmentCycle fragments d path }
 {}
 
-/// A fragment in which no fragment is spread has no way back.
+/// A fragment in which no fragment is spread has no cycle.
 ///
 /// Specification: 5.5.2.2 Fragment Spreads Must Not Form Cycles.
-pub fn fragment_without_spreads_has_no_way_back()
+pub fn fragment_without_spreads_has_no_cycle()
     ensures { (fragments : Fragments) (d : Node Fragment) →
         ((p : Node FragmentSpread) → ¬ Written d.value.value.selection_set (kind.FragmentSpread p)) →
-        FragmentHasNoWayBack fragments d }
+        FragmentHasNoCycle fragments d }
 {}
 
 /// Names of one text find one fragment in a document, wherever they stand.

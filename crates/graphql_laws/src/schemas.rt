@@ -3,7 +3,7 @@
 ghost use Rattle.std.specs.Prelude.{◌≡◌, ◌≢◌, [], Contains};
 ghost use Rattle.graphql_documents.specs.Names.{NameText, SameName};
 ghost use Rattle.graphql_documents.specs.Schemas.{IsInputObject, type_definition};
-ghost use Rattle.graphql_documents.specs.SchemaReferences.{InputObjectHasNoWayBack, DirectiveHasNoWayBack};
+ghost use Rattle.graphql_documents.specs.SchemaReferences.{InputObjectHasNoCycle, DirectiveHasNoCycle};
 ghost use Rattle.graphql_documents.specs.SchemaRules.{SchemaHolds};
 ghost use Rattle.graphql_documents.specs.declared.documents.components.Component.{Component};
 ghost use Rattle.graphql_documents.specs.declared.documents.definitions.DirectiveDefinition.{DirectiveDefinition};
@@ -24,16 +24,16 @@ pub fn schema_with_an_empty_enum_does_not_hold()
         Contains schema.types.entries (key, Enum d) → d.value.value.values.entries ≡ [] → ¬ SchemaHolds schema }
 {}
 
-/// Two input objects that must each hold the other have a way back.
+/// Two input objects that must each hold the other have a cycle.
 ///
 /// Specification: 3.10 Input Objects, Circular References.
-pub fn required_fields_in_a_circle_are_a_way_back()
+pub fn required_fields_in_a_circle_are_a_cycle()
     ensures { (schema : Schema) (a b : Node InputObjectType) (x y : NameText × Component InputValueDefinition) (to_b to_a : NameText) →
         Contains a.value.value.fields.entries x → x.1.node.value.value.ty.value.value ≡ NonNullNamed to_b →
         IsInputObject schema to_b b →
         Contains b.value.value.fields.entries y → y.1.node.value.value.ty.value.value ≡ NonNullNamed to_a →
         IsInputObject schema to_a a → SameName to_a a.value.value.name →
-        ¬ InputObjectHasNoWayBack schema a }
+        ¬ InputObjectHasNoCycle schema a }
 {}
 
 /// A schema with such an input object does not hold.
@@ -49,14 +49,14 @@ pub fn schema_with_required_fields_in_a_circle_does_not_hold()
         ¬ SchemaHolds schema }
 {}
 
-/// Fields that are nullable or lists lead no way back, whatever they hold.
+/// Fields that are nullable or lists make no cycle, whatever they hold.
 ///
 /// Specification: 3.10 Input Objects, Circular References.
-pub fn nullable_fields_and_lists_are_no_way_back()
+pub fn nullable_fields_and_lists_are_no_cycle()
     ensures { (schema : Schema) (a : Node InputObjectType) →
         ((field : NameText × Component InputValueDefinition) (name : NameText) → Contains a.value.value.fields.entries field →
         field.1.node.value.value.ty.value.value ≢ NonNullNamed name) →
-        InputObjectHasNoWayBack schema a }
+        InputObjectHasNoCycle schema a }
 {}
 
 /// Names of one text find one type in a schema, wherever they stand.
@@ -66,14 +66,14 @@ pub fn names_of_one_text_find_one_type()
     ensures { (schema : Schema) (a b : NameText) → SameName a b → type_definition schema a ≡ type_definition schema b }
 {}
 
-/// A directive that is applied to an argument of its own has a way back.
+/// A directive that is applied to an argument of its own has a cycle.
 ///
 /// Specification: 3.13 Directives, Type Validation.
-pub fn directive_on_its_own_argument_has_a_way_back()
+pub fn directive_on_its_own_argument_has_a_cycle()
     ensures { (schema : Schema) (d : Node DirectiveDefinition) (argument : Node InputValueDefinition) (applied : Node Directive) →
         Contains d.value.value.arguments.items argument → Contains argument.value.value.directives.items applied →
         SameName applied.value.value.name d.value.value.name →
-        ¬ DirectiveHasNoWayBack schema d }
+        ¬ DirectiveHasNoCycle schema d }
 {}
 
 /// A schema with such a directive does not hold.

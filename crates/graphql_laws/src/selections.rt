@@ -35,5 +35,5 @@ pub fn what_is_below_an_unknown_field_has_no_place()
     ensures { (schema : Option Schema) (fragments : Fragments) (ty : NameText) (set : SelectionSet)
         (f : Node Field) (s : Selection) (here : Option NameText) →
         selections_of set ≡ kind.Field f ∷ [] → definition_at schema (Some ty) f.value.value.name ≡ None →
-        Placed schema fragments (Some ty) set s here → Contains (selections_of set) s }
+        Placed schema fragments (Some ty) (selections_of set) s here → Contains (selections_of set) s }
 {}

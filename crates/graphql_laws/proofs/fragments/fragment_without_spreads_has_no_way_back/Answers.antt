@@ -1,5 +1,0 @@
-use Rattle.graphql_laws.proofs.FragmentLaws.{no_spread_no_way_back}
-use Rattle.graphql_laws.proofs.fragments.fragment_without_spreads_has_no_way_back.Goals as goal
-
-pub returns : goal.returns
-returns c = no_spread_no_way_back
