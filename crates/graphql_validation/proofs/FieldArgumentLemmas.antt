@@ -42,7 +42,7 @@ module _ (schema : Schema) (parent : NameText) (f : Node Field) (d : Component F
     of_given (report.UndefinedArgument name reported definition_location) at said =
         let lacks : LacksArgument arguments.definitions.now arguments.given.now (owner_coordinate arguments.owner) arguments.definition_location
         name reported definition_location at = said in
-        inl (parent, d, record { place_is = refl; definition_is = is }, rw (are.definitions_are, are.given_is, are.coordinate_is, are.definition_location_is) at lacks)
+        inl (parent, d, record { parent_is = refl; definition_is = is }, rw (are.definitions_are, are.given_is, are.coordinate_is, are.definition_location_is) at lacks)
     of_given r at said =
         let breaks : ArgumentValuesBreak schema [] arguments.definitions.now arguments.given.now r at = said in
         inr (record {
@@ -57,7 +57,7 @@ module _ (schema : Schema) (parent : NameText) (f : Node Field) (d : Component F
     of_missing (report.RequiredArgument name reported expected definition_location) at said =
         let misses : MissesArgument arguments.definitions.now arguments.given.now (argument_coordinate_of arguments.owner) arguments.location
         name reported expected definition_location at = said in
-        inl (parent, d, record { place_is = refl; definition_is = is }, rw (are.definitions_are, are.given_is, are.argument_coordinate_is, are.location_is) at misses)
+        inl (parent, d, record { parent_is = refl; definition_is = is }, rw (are.definitions_are, are.given_is, are.argument_coordinate_is, are.location_is) at misses)
     of_missing r at said = absurd said
 
   -- a report on a given argument, or on one that is missing

@@ -39,41 +39,51 @@ known_below schema place field at (below_known {d = d} e) parent is =
     (d, found_ok (type_field schema parent field) d (subst (λ p. definition_at (Some schema) p field ≡ Some d) is e), refl)
 
 -- what is placed is reached by fields
-pub placed_reached : (schema : Schema) (place : Option NameText) (set : SelectionSet) (s : Selection) (at : Option NameText) →
-    Placed (Some schema) no_fragments place set s at →
+placed_among : {schema : Schema} {place at : Option NameText} {selections : List Selection} {s : Selection} →
+    Placed (Some schema) no_fragments place selections s at → (set : SelectionSet) → selections ≡ selections_of set →
     (parent : NameText) → place ≡ Some parent → IsPlain set → (f : Node Field) → s ≡ kind.Field f →
     (t : NameText) × (at ≡ Some t) × ReachedByFields schema parent set f t
-placed_reached schema place set s at (standing_at in') parent is plain f e =
-    (parent, is, stands (subst (Contains (selections_of set)) e in'))
-placed_reached schema place set s at (placed_in_field {below = u} {f = g} in' under p) parent is plain f e =
+placed_among {selections = selections} (standing_at in') set same parent is plain f e =
+    (parent, is, stands (subst (λ l. Contains l (kind.Field f)) same (subst (Contains selections) e in')))
+placed_among {schema = schema} {place = place} (placed_in_field {below = u} g in' under p) set same parent is plain f e =
+    let stands_here = subst (λ l. Contains l (kind.Field g)) same in' in
     let k = known_below schema place g.value.value.name u under parent is in
-    let r = placed_reached schema u g.value.value.selection_set s at p (inner_named_type k.0.node.value.value.ty) k.2
-    (λ x w. plain x (w.0, set_in_field in' w.1, w.2)) f e in
-    (r.0, r.1, below in' k.1 r.2)
-placed_reached schema place set s at (placed_in_inline_fragment {i = i} in' p) parent is plain f e =
-    let field = plain (kind.InlineFragment i) (_, set_itself, in') in
+    let r = placed_among p g.value.value.selection_set refl (inner_named_type k.0.node.value.value.ty) k.2
+    (λ x w. plain x (w.0, set_in_field stands_here w.1, w.2)) f e in
+    (r.0, r.1, below stands_here k.1 r.2)
+placed_among (placed_in_inline_fragment i in' p) set same parent is plain f e =
+    let field = plain (kind.InlineFragment i) (_, set_itself, subst (λ l. Contains l (kind.InlineFragment i)) same in') in
     absurd (not_inline field.field i field.is_field)
-placed_reached schema place set s at (placed_in_spread {d = d} in' found p) parent is plain f e =
-    absurd (none-some d found)
+placed_among (placed_in_spread d in' found p) set same parent is plain f e = absurd (none-some d found)
+
+pub placed_reached : (schema : Schema) (place : Option NameText) (set : SelectionSet) (s : Selection) (at : Option NameText) →
+    Placed (Some schema) no_fragments place (selections_of set) s at →
+    (parent : NameText) → place ≡ Some parent → IsPlain set → (f : Node Field) → s ≡ kind.Field f →
+    (t : NameText) × (at ≡ Some t) × ReachedByFields schema parent set f t
+placed_reached schema place set s at p = placed_among p set refl
 
 -- what is reached by fields is placed
 pub reached_placed : (schema : Schema) (parent : NameText) (set : SelectionSet) (f : Node Field) (t : NameText) →
-    ReachedByFields schema parent set f t → Placed (Some schema) no_fragments (Some parent) set (kind.Field f) (Some t)
+    ReachedByFields schema parent set f t → Placed (Some schema) no_fragments (Some parent) (selections_of set) (kind.Field f) (Some t)
 reached_placed schema parent set f t (stands in') = standing_at in'
 reached_placed schema parent set f t (below {g = g} {d = d} in' is r) =
-    placed_in_field in' (below_known (ap result_ok is))
+    placed_in_field g in' (below_known (ap result_ok is))
     (reached_placed schema (inner_named_type d.node.value.value.ty) g.value.value.selection_set f t r)
 
 -- in a plain set only fields are placed, and these without directives
-placed_plain : (schema : Option Schema) (place : Option NameText) (set : SelectionSet) (s : Selection) (at : Option NameText) →
-    Placed schema no_fragments place set s at → IsPlain set → IsPlainField s
-placed_plain schema place set s at (standing_at in') plain = plain s (_, set_itself, in')
-placed_plain schema place set s at (placed_in_field {below = u} {f = g} in' under p) plain =
-    placed_plain schema u g.value.value.selection_set s at p (λ x w. plain x (w.0, set_in_field in' w.1, w.2))
-placed_plain schema place set s at (placed_in_inline_fragment {i = i} in' p) plain =
-    let field = plain (kind.InlineFragment i) (_, set_itself, in') in
+plain_among : {schema : Option Schema} {place at : Option NameText} {selections : List Selection} {s : Selection} →
+    Placed schema no_fragments place selections s at → (set : SelectionSet) → selections ≡ selections_of set → IsPlain set → IsPlainField s
+plain_among {s = s} (standing_at in') set same plain = plain s (_, set_itself, subst (λ l. Contains l s) same in')
+plain_among (placed_in_field g in' under p) set same plain =
+    plain_among p g.value.value.selection_set refl (λ x w. plain x (w.0, set_in_field (subst (λ l. Contains l (kind.Field g)) same in') w.1, w.2))
+plain_among (placed_in_inline_fragment i in' p) set same plain =
+    let field = plain (kind.InlineFragment i) (_, set_itself, subst (λ l. Contains l (kind.InlineFragment i)) same in') in
     absurd (not_inline field.field i field.is_field)
-placed_plain schema place set s at (placed_in_spread {d = d} in' found p) plain = absurd (none-some d found)
+plain_among (placed_in_spread d in' found p) set same plain = absurd (none-some d found)
+
+placed_plain : (schema : Option Schema) (place : Option NameText) (set : SelectionSet) (s : Selection) (at : Option NameText) →
+    Placed schema no_fragments place (selections_of set) s at → IsPlain set → IsPlainField s
+placed_plain schema place set s at p = plain_among p set refl
 
 -- no directives hold wherever they are
 none_applied : (schema : Option Schema) (variables : List (Node VariableDefinition)) (location : DirectiveLocation) (directives : List (Node Directive)) →

@@ -73,19 +73,19 @@ none_reached schema parent set e =
     reached_hold schema parent set (subst (All (SelectionHolds schema parent)) (sym e) (All-nil (SelectionHolds schema parent)))
 
 -- a report on what is reached from the set of a field is one on what is reached from its own set
-below_set : {schema : Option Schema} {place below : Option NameText} {set : SelectionSet} {f : Node Field} {r : DiagnosticData} {at : Option SourceSpan} →
-    Contains (selections_of set) (kind.Field f) → TypeBelow schema place f.value.value.name below →
-    SelectionReport schema no_fragments [] below f.value.value.selection_set r at →
-    SelectionReport schema no_fragments [] place set r at
-below_set in' is (of_field_directives g p b) = of_field_directives g (placed_in_field in' is p) b
-below_set in' is (of_field_form g p b) = of_field_form g (placed_in_field in' is p) b
-below_set in' is (of_field_values g p b) = of_field_values g (placed_in_field in' is p) b
-below_set in' is (of_inline_fragment_directives i p b) = of_inline_fragment_directives i (placed_in_field in' is p) b
-below_set in' is (of_inline_fragment i p b) = of_inline_fragment i (placed_in_field in' is p) b
-below_set in' is (of_spread_directives s p b) = of_spread_directives s (placed_in_field in' is p) b
-below_set in' is (of_spread s p b) = of_spread s (placed_in_field in' is p) b
-below_set in' is (of_fragment_directives s p found b) = of_fragment_directives s (placed_in_field in' is p) found b
-below_set in' is (of_fragment s p found b) = of_fragment s (placed_in_field in' is p) found b
+below_set : {schema : Option Schema} {place below : Option NameText} {selections : List Selection} {f : Node Field} {r : DiagnosticData} {at : Option SourceSpan} →
+    Contains selections (kind.Field f) → TypeBelow schema place f.value.value.name below →
+    SelectionReport schema no_fragments [] below (selections_of f.value.value.selection_set) r at →
+    SelectionReport schema no_fragments [] place selections r at
+below_set {f = h} in' is (of_field_directives g p b) = of_field_directives g (placed_in_field h in' is p) b
+below_set {f = h} in' is (of_field_form g p b) = of_field_form g (placed_in_field h in' is p) b
+below_set {f = h} in' is (of_field_values g p b) = of_field_values g (placed_in_field h in' is p) b
+below_set {f = h} in' is (of_inline_fragment_directives i p b) = of_inline_fragment_directives i (placed_in_field h in' is p) b
+below_set {f = h} in' is (of_inline_fragment i p b) = of_inline_fragment i (placed_in_field h in' is p) b
+below_set {f = h} in' is (of_spread_directives s p b) = of_spread_directives s (placed_in_field h in' is p) b
+below_set {f = h} in' is (of_spread s p b) = of_spread s (placed_in_field h in' is p) b
+below_set {f = h} in' is (of_fragment_directives s p found b) = of_fragment_directives s (placed_in_field h in' is p) found b
+below_set {f = h} in' is (of_fragment s p found b) = of_fragment s (placed_in_field h in' is p) found b
 
 module _ (schema : Schema) (parent : NameText) (set : SelectionSet) (f : Node Field) (in' : Contains (selections_of set) (kind.Field f)) where
   -- a report on a field of the set
@@ -114,7 +114,7 @@ module _ (schema : Schema) (parent : NameText) (set : SelectionSet) (f : Node Fi
     pub names_arguments : (e : DiagnosticEntry) → ReportsDefinedField schema parent f d e → NamesBrokenSelection schema parent set e
     names_arguments e r = diagnostic_wider _ _ (λ said at broken. by_part said at broken) e (r (ap result_ok is)) where
       by_part : (said : DiagnosticData) (at : Option SourceSpan) → BareFieldBreaks schema parent f said at →
-          SelectionReport (Some schema) no_fragments [] (Some parent) set said at
+          SelectionReport (Some schema) no_fragments [] (Some parent) (selections_of set) said at
       by_part said at (inl broken) = of_field_form f (standing_at in') broken
       by_part said at (inr broken) = of_field_values f (standing_at in') broken
 
@@ -141,10 +141,10 @@ module _ (schema : Schema) (parent : NameText) (set : SelectionSet) (f : Node Fi
     pub checked_in_set : (given : List (Node Argument)) (old distinct known new : List DiagnosticEntry) → given ≡ f.value.value.arguments.items →
         Reports (HasDistinctNames given) (IsDiagnostic (RepetitionReport given)) old distinct →
         Reports (FieldArgumentsHold schema f.value.value d.node.value.value) (ReportsDefinedField schema parent f d) distinct known →
-        Reports (HasNeededSelection (Some schema) f.value.value d.node.value.value)
+        Reports (HasNeededSelection (Some schema) f.value.value d.node.value.value.ty)
         (λ e. definition_at (Some schema) (Some parent) f.value.value.name ≡ Some d → ReportsField (Some schema) (Some parent) f e) known new →
         Reports ((HasDistinctNames f.value.value.arguments.items × FieldArgumentsHold schema f.value.value d.node.value.value) ×
-        HasNeededSelection (Some schema) f.value.value d.node.value.value)
+        HasNeededSelection (Some schema) f.value.value d.node.value.value.ty)
         (NamesBrokenSelection schema parent set) old new
     checked_in_set given old distinct known new same r s t =
         both _ _ _ _ _ _ (arguments_in_set given old distinct known same r s) (wider _ _ _ _ _ names_checked t)
@@ -209,7 +209,7 @@ module _ (schema : Schema) (f : Field) (d : FieldDefinition) where
 abbrev pub DefinedFieldHolds : Schema → Node Field → Component FieldDefinition → Type 0
 DefinedFieldHolds schema f d =
     ((HasDistinctNames f.value.value.arguments.items × FieldArgumentsHold schema f.value.value d.node.value.value) ×
-    HasNeededSelection (Some schema) f.value.value d.node.value.value) ×
+    HasNeededSelection (Some schema) f.value.value d.node.value.value.ty) ×
     ReachedFieldsHold schema (inner_named_type d.node.value.value.ty) f.value.value.selection_set
 
 -- with a definition it must agree with that, and what is below it must hold

@@ -71,4 +71,4 @@ pub record FieldHoldsBelow (schema : Schema) (parent : NameText) (f : Node Field
 
 -- the report names a rule that is broken at a selection reached from the set, on this type
 abbrev pub NamesBrokenSelection : Schema → NameText → SelectionSet → DiagnosticEntry → Type 0
-NamesBrokenSelection schema parent set = IsDiagnostic (SelectionReport (Some schema) no_fragments [] (Some parent) set)
+NamesBrokenSelection schema parent set = IsDiagnostic (SelectionReport (Some schema) no_fragments [] (Some parent) (selections_of set))

@@ -83,7 +83,7 @@ fn validate_leaf_field_selection(
     field: &Node<Field>,
     definition: &Component<FieldDefinition>,
 ) -> Result<bool, ValidationError>
-    ensures checks { Checks result (HasNeededSelection (Some schema.now) field.now.value.value definition.now.node.value.value)
+    ensures checks { Checks result (HasNeededSelection (Some schema.now) field.now.value.value definition.now.node.value.value.ty)
         (λ e. definition_at (Some schema.now) (Some parent.now) field.now.value.value.name ≡ Some definition.now →
         ReportsField (Some schema.now) (Some parent.now) field.now e)
         diagnostics.old diagnostics.new }
@@ -115,7 +115,7 @@ fn type_without_selection<'a>(
     definition: &FieldDefinition,
 ) -> Option<&'a ExtendedType>
     ensures { MatchOption result
-        (HasNeededSelection (Some schema.now) field.now definition.now)
+        (HasNeededSelection (Some schema.now) field.now definition.now.ty)
         (λ ty. IsUnselected (Some schema.now) field.now definition.now ty.now) }
 {
     let type_definition = schema.types.get(definition.ty.inner_named_type())?;

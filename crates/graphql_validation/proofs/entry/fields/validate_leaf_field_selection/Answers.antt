@@ -15,9 +15,9 @@ returns-clause-checks c =
     (λ is. (
       c.args.parent.now,
       c.args.definition.now,
-      record { place_is = refl; definition_is = is },
+      record { parent_is = refl; definition_is = is },
       record {
-        ty = c.in-Some.type_definition.now;
+        definition = c.in-Some.type_definition.now;
         is_defined = unselected.is_defined;
         composite = unselected.composite;
         empty = unselected.empty;
