@@ -4,6 +4,7 @@ pub mod MergingLaws
 pub mod ReportLaws
 pub mod SchemaLaws
 pub mod SelectionLaws
+pub mod SubscriptionLaws
 pub mod TypeMapLaws
 pub mod ValueLaws
 pub mod VariableLaws

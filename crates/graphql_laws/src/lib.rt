@@ -9,6 +9,7 @@ pub mod merging;
 pub mod reports;
 pub mod schemas;
 pub mod selections;
+pub mod subscriptions;
 pub mod type_maps;
 pub mod values;
 pub mod variables;
