@@ -1,5 +1,7 @@
+pub mod ExpandedListLaws
 pub mod ExpansionLaws
 pub mod FragmentLaws
+pub mod GroupLaws
 pub mod MergingLaws
 pub mod ReportLaws
 pub mod SchemaLaws

@@ -5,6 +5,7 @@
 
 pub mod expansion;
 pub mod fragments;
+pub mod merged_sets;
 pub mod merging;
 pub mod reports;
 pub mod schemas;
