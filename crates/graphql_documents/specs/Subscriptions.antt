@@ -1,6 +1,6 @@
 -- Subscriptions have one root field. Specification: 5.2.3.1 Single Root Field; draft, on introspection
 -- fields and conditions at the root.
-use Rattle.std.specs.Prelude.{◌≡◌, ◌+◌, ◌≤◌, Bool, ◌||◌, List, [], ◌∷◌, ◌++◌, Some, None, All, AllPairs, IsFalse, IsTrue, codes, length, sum_by}
+use Rattle.std.specs.Prelude.{◌≡◌, ◌+◌, ◌≤◌, Bool, ◌||◌, List, [], ◌∷◌, ◌++◌, Option, Some, None, All, AllPairs, IsFalse, IsTrue, codes, filter_map, length, sum_by}
 use Rattle.std.specs.List.{list_any}
 use Rattle.std.specs.Str.{bytes_eq}
 use Rattle.graphql_documents.specs.Names.{NameText, SameName, DifferentNames, same_name}
@@ -8,7 +8,8 @@ use Rattle.graphql_documents.specs.Selections.{Fragments, Inside, selections_of,
 use Rattle.graphql_documents.specs.declared.documents.nodes.Node.{Node}
 use Rattle.graphql_documents.specs.declared.documents.directives.Directive.{Directive}
 use Rattle.graphql_documents.specs.declared.documents.executables.SelectionSet.{SelectionSet}
-use Rattle.graphql_documents.specs.declared.documents.executables.Selection.{Selection}
+use Rattle.graphql_documents.specs.declared.documents.executables.Selection.{Selection, out-Selection}
+use Rattle.graphql_documents.specs.declared.documents.executables.Selection.TheOpen as Open
 use Rattle.graphql_documents.specs.declared.documents.executables.Selection.TheVariants as kind
 use Rattle.graphql_documents.specs.declared.documents.executables.Field.{Field}
 use Rattle.graphql_documents.specs.declared.documents.executables.InlineFragment.{InlineFragment}
@@ -64,6 +65,18 @@ pub data WalkedFields (fragments : Fragments) : List NameText → List Selection
       WalkedFields fragments (p.value.value.fragment_name ∷ seen) (selections_of d.value.value.selection_set) within between →
       WalkedFields fragments between rest fields met →
       WalkedFields fragments seen (kind.FragmentSpread p ∷ rest) (within ++ fields) met
+
+-- a selection as a field, if it is one
+abbrev pub field_of : Selection → Option (Node Field)
+field_of s = elim (out-Selection s) [
+  | Open.Field f ↦ Some f
+  | Open.FragmentSpread p ↦ None
+  | Open.InlineFragment i ↦ None
+]
+
+-- the fields among selections, in order
+abbrev pub fields_among : List Selection → List (Node Field)
+fields_among selections = filter_map field_of selections
 
 -- a fragment that a spread inside the set names, with the fields written in it
 pub record SpreadFields (fragments : Fragments) (set : SelectionSet) (name : NameText) (fields : List (Node Field)) : Type 0 where

@@ -67,7 +67,7 @@ pub record IsUnusedVariable (fragments : Fragments) (o : Operation) (name : Name
   pub split : o.variables.items ≡ before ++ v ∷ after
   pub is_last : variable_named v.value.value.name after ≡ None
   pub unused : ¬ UsesVariable fragments o v.value.value.name
-  pub name_is : SameName name v.value.value.name
+  pub name_is : name ≡ v.value.value.name
   pub at_is : at ≡ recompose v.location v.value.value.name.location
 
 -- the default of a variable is wrong

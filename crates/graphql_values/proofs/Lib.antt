@@ -15,4 +15,5 @@ pub mod UsageLemmas
 pub mod UseLemmas
 pub mod VariableLemmas
 pub mod WalkLemmas
+pub mod WalkOrderLemmas
 pub mod WalkedLemmas

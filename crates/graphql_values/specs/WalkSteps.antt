@@ -1,8 +1,9 @@
 -- The steps of a walk over selections, for the contracts of its private functions.
-use Rattle.std.specs.Prelude.{◌≡◌, ◌+◌, ◌<◌, ℕ, Bool, true, List, Some, IsTrue, IsFalse, All, Contains, map}
+use Rattle.std.specs.Prelude.{◌≡◌, ◌+◌, ◌<◌, ℕ, Bool, true, List, [], ◌∷◌, ◌++◌, Some, IsTrue, IsFalse, All, Contains, map, reverse}
 use Rattle.graphql_documents.specs.Guards.{depth_limit, depth_of, stands_on}
 use Rattle.graphql_documents.specs.Names.{AreDistinct, NameText, SameName}
 use Rattle.graphql_documents.specs.Selections.{Fragments, fragments_of, selections_of}
+use Rattle.graphql_documents.specs.Subscriptions.{WalkedFields, fields_among}
 use Rattle.graphql_documents.specs.Walks.{Descent, Walk}
 use Rattle.graphql_documents.specs.declared.documents.executables.Field.{Field}
 use Rattle.graphql_documents.specs.declared.documents.executables.Fragment.{Fragment}
@@ -99,3 +100,22 @@ WalksBelow walk counter s old new complete =
     HasWalked walk (StepOf walk (at_selection s))
     ((set : SelectionSet) → Contains (selections_of set) s → PassesFrom walk old (depth_limit counter) (depth_of counter) set)
     old new complete
+
+-- the fields that were newly listed, behind these, are those that a walk over the selections meets, each
+-- time that it meets one, in order; the names that were entered last stand first there
+pub record ListsInOrder (fragments : Fragments) (selections : List Selection) (before : List (Node Field)) (old new : Met) : Type 0 where
+  pub fields : List (Node Field)
+  pub listed : fields_among (listed_of new) ≡ fields_among (listed_of old) ++ fields
+  pub walked : WalkedFields fragments (reverse (entered_names old)) selections (before ++ fields) (reverse (entered_names new))
+
+-- a walk that does not go into fields lists those of a set in order
+abbrev pub OrderOver : SelectionWalk → SelectionSet → Met → Met → Bool → Type 0
+OrderOver walk set old new complete =
+    IsTrue complete → IsFalse walk.into_fields →
+    ListsInOrder (fragments_of walk.document.now) (selections_of set) [] old new
+
+-- and with a selection that is listed already those below it
+abbrev pub OrderBelow : SelectionWalk → Selection → Met → Met → Bool → Type 0
+OrderBelow walk s old new complete =
+    IsTrue complete → IsFalse walk.into_fields →
+    ListsInOrder (fragments_of walk.document.now) (s ∷ []) (fields_among (s ∷ [])) old new

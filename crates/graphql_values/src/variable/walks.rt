@@ -1,12 +1,13 @@
 //! Walks over the selections of an operation.
 
-ghost use Rattle.std.specs.Prelude.{◌≡◌, ◌+◌, map, not, IfOk, OnOk};
+ghost use Rattle.std.specs.Prelude.{◌≡◌, ◌+◌, List, [], map, not, IfOk, IsFalse, IsTrue, OnOk};
 ghost use Rattle.graphql_documents.specs.Guards.{depth_limit, depth_of, stands_on};
-ghost use Rattle.graphql_documents.specs.Names.{with_name};
-ghost use Rattle.graphql_documents.specs.Selections.{Inside, Reached, fragments_of};
+ghost use Rattle.graphql_documents.specs.Names.{NameText, with_name};
+ghost use Rattle.graphql_documents.specs.Selections.{Inside, Reached, fragments_of, selections_of};
+ghost use Rattle.graphql_documents.specs.Subscriptions.{WalkedFields, fields_among};
 ghost use Rattle.graphql_documents.specs.Walks.{HasListed, PassesDepth, full_walk, root_walk};
 ghost use Rattle.graphql_documents.specs.declared.documents.executables.Selection.TheVariants as kind;
-ghost use Rattle.graphql_values.specs.WalkSteps.{MetFrom, WalksBelow, WalksOver, listed_of, entered_names, walk_into};
+ghost use Rattle.graphql_values.specs.WalkSteps.{MetFrom, OrderBelow, OrderOver, WalksBelow, WalksOver, listed_of, entered_names, walk_into};
 
 use graphql_documents::diagnostics::ValidationError;
 use graphql_documents::documents::{
@@ -29,7 +30,8 @@ pub struct Walked<'doc> {
 
 /// Walks over each selection that stands inside a set: in the set itself or in that of a fragment in
 /// it, at any depth, but not below fields. Each named fragment is gone into once, and an undefined one
-/// gives nothing. The walk stops where it would go into more than 500 sets, one in another. The only
+/// gives nothing. A selection is listed before what stands in its set or fragment, and that before the
+/// next selection. The walk stops where it would go into more than 500 sets, one in another. The only
 /// error is want of memory.
 ///
 /// Specification: 5.2.3.1 Single Root Field.
@@ -38,9 +40,12 @@ pub fn walk_selections<'doc>(
     document: &'doc ExecutableDocument,
     selection_set: &'doc SelectionSet,
 ) -> Result<Walked<'doc>, ValidationError>
-    ensures { IfOk result (λ walked. HasListed (Inside (fragments_of document.now) selection_set.now)
+    ensures listed { IfOk result (λ walked. HasListed (Inside (fragments_of document.now) selection_set.now)
         (PassesDepth (fragments_of document.now) root_walk selection_set.now)
         (map (λ s. s.now) walked.selections.items) walked.complete) }
+    ensures ordered { IfOk result (λ walked. IsTrue walked.complete → (met : List NameText) ×
+        WalkedFields (fragments_of document.now) [] (selections_of selection_set.now)
+        (fields_among (map (λ s. s.now) walked.selections.items)) met) }
 {
     let walk = SelectionWalk {
         document,
@@ -96,9 +101,12 @@ impl<'doc> Met<'doc> {
 impl<'doc> SelectionWalk<'doc> {
     /// Walks over a set.
     fn over(&self, alloc: Global, set: &'doc SelectionSet) -> Result<Walked<'doc>, ValidationError>
-        ensures { IfOk result (λ walked. HasListed (MetFrom (fragments_of self.now.document.now) self.now.into_fields set.now)
+        ensures listed { IfOk result (λ walked. HasListed (MetFrom (fragments_of self.now.document.now) self.now.into_fields set.now)
             (PassesDepth (fragments_of self.now.document.now) (walk_into self.now.into_fields) set.now)
             (map (λ s. s.now) walked.selections.items) walked.complete) }
+        ensures ordered { IfOk result (λ walked. IsTrue walked.complete → IsFalse self.now.into_fields → (met : List NameText) ×
+            WalkedFields (fragments_of self.now.document.now) [] (selections_of set.now)
+            (fields_among (map (λ s. s.now) walked.selections.items)) met) }
     {
         let mut met = Met {
             entered: IndexSet::new(alloc),
@@ -121,6 +129,7 @@ impl<'doc> SelectionWalk<'doc> {
         depth: &mut DepthCounter,
     ) -> Result<bool, ValidationError>
         ensures walks { IfOk result (λ complete. WalksOver self.now depth.old (depth_of depth.old) set.now met.old met.new complete) }
+        ensures order { IfOk result (λ complete. OrderOver self.now set.now met.old met.new complete) }
         ensures depth { OnOk result (depth_of depth.new ≡ depth_of depth.old) }
         ensures limit { OnOk result (depth_limit depth.new ≡ depth_limit depth.old) }
     {
@@ -142,6 +151,7 @@ impl<'doc> SelectionWalk<'doc> {
         depth: &mut DepthCounter,
     ) -> Result<bool, ValidationError>
         ensures walks { IfOk result (λ complete. WalksBelow self.now depth.old selection.now met.old met.new complete) }
+        ensures order { IfOk result (λ complete. OrderBelow self.now selection.now met.old met.new complete) }
         ensures depth { OnOk result (depth_of depth.new ≡ depth_of depth.old) }
         ensures limit { OnOk result (depth_limit depth.new ≡ depth_limit depth.old) }
     {
@@ -166,6 +176,7 @@ impl<'doc> SelectionWalk<'doc> {
         depth: &mut DepthCounter,
     ) -> Result<bool, ValidationError>
         ensures walks { IfOk result (λ complete. WalksBelow self.now depth.old (kind.FragmentSpread spread.now) met.old met.new complete) }
+        ensures order { IfOk result (λ complete. OrderBelow self.now (kind.FragmentSpread spread.now) met.old met.new complete) }
         ensures depth { OnOk result (depth_of depth.new ≡ depth_of depth.old) }
         ensures limit { OnOk result (depth_limit depth.new ≡ depth_limit depth.old) }
     {
@@ -188,6 +199,7 @@ impl<'doc> SelectionWalk<'doc> {
         depth: &mut DepthCounter,
     ) -> Result<bool, ValidationError>
         ensures walks { IfOk result (λ complete. WalksOver self.now depth.old (depth_of depth.old + 1) set.now met.old met.new complete) }
+        ensures order { IfOk result (λ complete. OrderOver self.now set.now met.old met.new complete) }
         ensures depth { OnOk result (depth_of depth.new ≡ depth_of depth.old) }
         ensures limit { OnOk result (depth_limit depth.new ≡ depth_limit depth.old) }
     {

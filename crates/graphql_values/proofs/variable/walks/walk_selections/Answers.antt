@@ -1,14 +1,23 @@
-use Rattle.std.proofs.Common.{false}
+use Rattle.std.proofs.Common.{List, [], map, IsTrue, false, refl}
 use Rattle.std.proofs.lemmas.Result.{IfOk-weaker}
 use Rattle.graphql_documents.proofs.SelectionLemmas.{one_fragment_found}
-use Rattle.graphql_documents.specs.Selections.{Inside, fragments_of}
+use Rattle.graphql_documents.specs.Selections.{Inside, fragments_of, selections_of}
+use Rattle.graphql_documents.specs.Names.{NameText}
+use Rattle.graphql_documents.specs.Subscriptions.{WalkedFields, fields_among}
+use Rattle.graphql_values.specs.declared.variable.walks.Walked.{Walked}
 use Rattle.graphql_values.proofs.WalkedLemmas.{listed_words, met_inside}
 use Rattle.graphql_values.specs.WalkSteps.{MetFrom}
 use Rattle.graphql_values.proofs.variable.walks.walk_selections.Goals as goal
 
-pub returns : goal.returns
-returns c =
+pub returns-clause-listed : goal.returns-clause-listed
+returns-clause-listed c =
     let fragments = fragments_of c.args.document.now in
     let set = c.args.selection_set.now in
     IfOk-weaker _ _ _ (λ walked. listed_words (MetFrom fragments false set) (Inside fragments set) _ _ _
-    (met_inside fragments (one_fragment_found c.args.document.now) set)) c.over.ensures
+    (met_inside fragments (one_fragment_found c.args.document.now) set)) c.over.ensures.listed
+
+pub returns-clause-ordered : goal.returns-clause-ordered
+returns-clause-ordered c =
+    let fragments = fragments_of c.args.document.now in
+    let Ordered = λ (walked : Walked). (met : List NameText) × WalkedFields fragments [] (selections_of c.args.selection_set.now) (fields_among (map (λ s. s.now) walked.selections.items)) met in
+    IfOk-weaker _ _ (λ walked. IsTrue walked.complete → Ordered walked) (λ walked ordered done. ordered done refl) c.over.ensures.ordered

@@ -11,4 +11,4 @@ returns c =
     let fragments = fragments_of c.args.document.now in
     let set = c.args.selection_set.now in
     IfOk-weaker _ _ _ (λ walked. listed_words (MetFrom fragments true set) (Reached fragments set) _ _ _
-    (met_reached fragments (one_fragment_found c.args.document.now) set)) c.over.ensures
+    (met_reached fragments (one_fragment_found c.args.document.now) set)) c.over.ensures.listed

@@ -1,13 +1,19 @@
 -- Each exit of the walk over selections.
 use Rattle.std.proofs.lemmas.Result.{IfOk-weaker}
 use Rattle.graphql_values.proofs.SelectionWalkLemmas.{walked_field, stood_there, was_entered, PassesBelow, walked_inline_fragment, walked_to_limit, walked_fragment, walked_entered, walked_undefined, walked_part, searched_next, walked_whole, Entered}
-use Rattle.std.proofs.Common.{rules, ◌≡◌, subst, IsTrue, Some, None, refl, sym, ap, ◌∙◌, ◌+◌, map, ℕ, Bool, false}
+use Rattle.std.proofs.Common.{rules, ◌≡◌, subst, IsTrue, Some, None, refl, sym, ap, ◌∙◌, ◌+◌, map, ℕ, Bool, true, false, [], IsFalse}
 use Rattle.graphql_documents.specs.Guards.{depth_limit, depth_of, stands_on}
 use Rattle.std.proofs.lemmas.List.{map-append}
 use Rattle.graphql_values.specs.declared.variable.walks.Met.{Met}
-use Rattle.graphql_documents.specs.Selections.{fragments_of}
-use Rattle.graphql_values.specs.WalkSteps.{HasWalked, StepOf, WalksOver, at_selection, entered_names}
+use Rattle.graphql_documents.specs.declared.documents.executables.Selection.TheVariants as kind
+use Rattle.graphql_documents.specs.Selections.{fragments_of, selections_of}
+use Rattle.graphql_values.proofs.WalkOrderLemmas.{ordered_entered, ordered_field, ordered_fragment, ordered_inline_fragment, ordered_next, ordered_none, ordered_undefined, ordered_whole}
+use Rattle.graphql_values.specs.WalkSteps.{HasWalked, ListsInOrder, OrderBelow, StepOf, WalksOver, at_selection, entered_names}
 use Rattle.graphql_values.proofs.variable.walks.SelectionWalk.+walk.Goals as goal
+
+-- a walk goes into fields, or does not
+into_and_not : (into : Bool) → into ≡ true → IsFalse into → ⊥
+into_and_not into goes stays = let no : ⊥ = cc in no
 
 pub walk_below-returns-in-Field-clause-walks : goal.walk_below-returns-in-Field-clause-walks
 walk_below-returns-in-Field-clause-walks t c =
@@ -76,7 +82,74 @@ walk_set-loop-selection-preserved t c = record {
       (record { names = refl; listed = ap (map (λ s. s.now)) c.in_ok-push.ensures.items ∙ map-append (λ s. s.now) _ _ })
       c.loop-selection.invariant.searched
       (c.in_ok-walk_below.ensures.walks.searched c.if-not-branch.false);
+  ordered = λ kept. ordered_next (fragments_of c.args.self.now.document.now) c.deref-selection-items.result.now c.loop-selection.selection-index c.selection-item.result
+      c.args.met.now c.loop-selection.met (record { entered = c.loop-selection.met.entered; selections = c.push.new.self }) c.walk_below.new.met
+      c.loop-selection-test.true c.selection-item.is
+      (record { names = refl; listed = ap (map (λ s. s.now)) c.in_ok-push.ensures.items ∙ map-append (λ s. s.now) _ _ })
+      (c.loop-selection.invariant.ordered kept)
+      (c.in_ok-walk_below.ensures.order c.if-not-branch.false kept);
 }
+
+pub walk_below-returns-in-Field-clause-order : goal.walk_below-returns-in-Field-clause-order
+walk_below-returns-in-Field-clause-order t c =
+    IfOk-weaker _ _ (OrderBelow c.args.self.now c.args.selection.now c.args.met.now c.walk_deeper.new.met)
+    (λ complete o done kept. absurd (into_and_not c.args.self.now.into_fields c.if-self.true kept)) c.walk_deeper.ensures.order
+
+pub walk_below-returns-in-Field-2-clause-order : goal.walk_below-returns-in-Field-2-clause-order
+walk_below-returns-in-Field-2-clause-order t c = λ done kept.
+    ordered_field (fragments_of c.args.self.now.document.now) c.args.selection.now c.in-Field-2.field-0 c.args.met.now c.in-Field-2.is
+
+pub walk_set-loop-selection-init : goal.walk_set-loop-selection-init
+walk_set-loop-selection-init t c = record {
+  depth = refl;
+  limit = refl;
+  searched = search rules;
+  ordered = λ kept. ordered_none (fragments_of c.args.self.now.document.now) c.args.met.now;
+}
+
+pub walk_below-returns-in-InlineFragment-clause-order : goal.walk_below-returns-in-InlineFragment-clause-order
+walk_below-returns-in-InlineFragment-clause-order t c =
+    let fragments = fragments_of c.args.self.now.document.now in
+    let new = c.walk_deeper-in-InlineFragment.new.met in
+    IfOk-weaker _ _ (OrderBelow c.args.self.now c.args.selection.now c.args.met.now new)
+    (λ complete o done kept. ordered_inline_fragment fragments c.args.selection.now c.in-InlineFragment.fragment c.args.met.now new c.in-InlineFragment.is
+    (subst (λ i. ListsInOrder fragments (selections_of i.selection_set) [] c.args.met.now new) c.deref-in-InlineFragment.ensures (o done kept)))
+    c.walk_deeper-in-InlineFragment.ensures.order
+
+pub walk_fragment-returns-then-not-branch-clause-order : goal.walk_fragment-returns-then-not-branch-clause-order
+walk_fragment-returns-then-not-branch-clause-order t c = λ done kept.
+    let there = stood_there c.deref.result.now.fragment_name c.args.met.now c.enter.new.self c.in_ok-enter.field-0
+    c.in_ok-enter.ensures.is_new c.in_ok-enter.ensures.names c.if-not-branch.true in
+    ordered_entered (fragments_of c.args.self.now.document.now) c.args.spread.now c.args.met.now c.enter.new.self there.1 c.in_ok-enter.ensures.selections
+    (subst (λ p. IsTrue (stands_on (entered_names c.args.met.now) p.fragment_name)) c.deref.ensures there.0)
+
+pub walk_fragment-returns-in-Some-clause-order : goal.walk_fragment-returns-in-Some-clause-order
+walk_fragment-returns-in-Some-clause-order t c =
+    let fragments = fragments_of c.args.self.now.document.now in
+    let mid = c.enter.new.self in
+    let new = c.walk_deeper.new.met in
+    let entered = was_entered c.deref.result.now.fragment_name c.args.met.now mid c.in_ok-enter.field-0
+    c.in_ok-enter.ensures.is_new c.in_ok-enter.ensures.names c.in_ok-enter.ensures.selections c.if-not-branch.false in
+    IfOk-weaker _ _ (OrderBelow c.args.self.now (kind.FragmentSpread c.args.spread.now) c.args.met.now new)
+    (λ complete o done kept. ordered_fragment fragments c.args.spread.now c.args.met.now new c.in-Some.fragment.now mid
+    (subst (λ p. Entered p.fragment_name c.args.met.now mid) c.deref.ensures entered)
+    (subst (λ p. fragments p.fragment_name ≡ Some c.in-Some.fragment.now) c.deref.ensures (sym c.in-Some.ensures.value))
+    (subst (λ f. ListsInOrder fragments (selections_of f.selection_set) [] mid new) c.deref-in-Some.ensures (o done kept)))
+    c.walk_deeper.ensures.order
+
+pub walk_fragment-returns-in-None-clause-order : goal.walk_fragment-returns-in-None-clause-order
+walk_fragment-returns-in-None-clause-order t c = λ done kept.
+    let fragments = fragments_of c.args.self.now.document.now in
+    let entered = was_entered c.deref.result.now.fragment_name c.args.met.now c.enter.new.self c.in_ok-enter.field-0
+    c.in_ok-enter.ensures.is_new c.in_ok-enter.ensures.names c.in_ok-enter.ensures.selections c.if-not-branch.false in
+    ordered_undefined fragments c.args.spread.now c.args.met.now c.enter.new.self
+    (subst (λ p. Entered p.fragment_name c.args.met.now c.enter.new.self) c.deref.ensures entered)
+    (subst (λ p. fragments p.fragment_name ≡ None) c.deref.ensures (sym c.in-None.ensures.value))
+
+pub walk_set-returns-clause-order : goal.walk_set-returns-clause-order
+walk_set-returns-clause-order t c = λ done kept.
+    ordered_whole (fragments_of c.args.self.now.document.now) c.args.set.now c.deref-selection-items.result.now c.loop-selection.selection-index c.args.met.now c.loop-selection.met
+    c.loop-selection-test.false c.deref-selection-items.ensures.value (c.loop-selection.invariant.ordered kept)
 
 pub walk_set-returns-clause-walks : goal.walk_set-returns-clause-walks
 walk_set-returns-clause-walks t c =

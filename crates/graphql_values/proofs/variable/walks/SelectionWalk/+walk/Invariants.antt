@@ -1,8 +1,10 @@
--- The walk goes on while it is below its limit, and has searched what it has passed.
-use Rattle.std.proofs.Common.{◌≡◌, ◌+◌, ◌-◌, ◌*◌, take}
+-- The walk goes on while it is below its limit, has searched what it has passed, and has listed its
+-- fields in order.
+use Rattle.std.proofs.Common.{◌≡◌, ◌+◌, ◌-◌, ◌*◌, [], IsFalse, take}
 use Rattle.graphql_documents.specs.Guards.{depth_limit, depth_of}
+use Rattle.graphql_documents.specs.Selections.{fragments_of}
 use Rattle.graphql_values.specs.Searches.{Searched}
-use Rattle.graphql_values.specs.WalkSteps.{IsAmong, IsMet, StepOf}
+use Rattle.graphql_values.specs.WalkSteps.{IsAmong, IsMet, ListsInOrder, StepOf}
 use Rattle.graphql_values.proofs.variable.walks.SelectionWalk.+walk.Given as goal
 
 abbrev pub decreases-walk_set : goal.decreases-walk_set
@@ -23,4 +25,6 @@ invariant-walk_set-loop-selection l = record {
   limit : depth_limit l.depth ≡ depth_limit l.initial.depth;
   searched : Searched (StepOf l.self) (IsAmong (take l.selection-index l.selection-items))
       (IsMet l.initial.met) (IsMet l.met);
+  ordered : IsFalse l.self.into_fields →
+      ListsInOrder (fragments_of l.self.document.now) (take l.selection-index l.selection-items) [] l.initial.met l.met;
 }
