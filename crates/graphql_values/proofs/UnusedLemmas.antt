@@ -28,89 +28,85 @@ use Rattle.graphql_documents.specs.declared.documents.spans.SourceSpan.{SourceSp
 use Rattle.graphql_documents.proofs.DiagnosticLemmas.{diagnostic_wider}
 use Rattle.graphql_documents.proofs.NameLemmas.{same_name_back, same_name_itself}
 use Rattle.graphql_documents.proofs.ReportLemmas.{appended_then, more_is}
-use Rattle.graphql_values.specs.Uses.{IsLastPlace}
+use Rattle.graphql_values.specs.Uses.{IsLastDefinition}
 use Rattle.graphql_values.proofs.NameSetLemmas.{apart, apart_back, entry_names, names_inserted, same_key}
 use Rattle.graphql_documents.proofs.VariableUseLemmas.{uses_same}
 
--- the place of the last variable of a name, when one more is defined
-module _ (variables : List (Node VariableDefinition)) (x : Node VariableDefinition) where
-  last_itself : (name : NameText) (place : Option SourceSpan) → SameName name x.value.value.name → place ≡ recompose x.location x.value.value.name.location →
-      IsLastPlace (variables ++ x ∷ []) name place
-  last_itself name place same is = record { before = variables; v = x; after = []; split = refl; is_last = refl; same = same; place_is = is }
+-- a name with its last variable
+abbrev pub LastEntry : Type 0
+LastEntry = Bor NameText × Bor (Node VariableDefinition)
 
-  last_still : (name : NameText) (place : Option SourceSpan) → same_name x.value.value.name name ≡ false → IsLastPlace variables name place →
-      IsLastPlace (variables ++ x ∷ []) name place
-  last_still name place other l = record {
+abbrev pub IsLast : List (Node VariableDefinition) → LastEntry → Type 0
+IsLast variables e = IsLastDefinition variables e.0.now e.1.now
+
+-- the last variable of a name, when one more is defined
+module _ (variables : List (Node VariableDefinition)) (x : Node VariableDefinition) where
+  last_itself : (name : NameText) (v : Node VariableDefinition) → v ≡ x → SameName name x.value.value.name → IsLastDefinition (variables ++ x ∷ []) name v
+  last_itself name v is same =
+      subst (IsLastDefinition (variables ++ x ∷ []) name) (sym is) (record { before = variables; after = []; split = refl; is_last = refl; same = same })
+
+  last_still : (name : NameText) (v : Node VariableDefinition) → same_name x.value.value.name name ≡ false → IsLastDefinition variables name v →
+      IsLastDefinition (variables ++ x ∷ []) name v
+  last_still name v other l = record {
     before = l.before;
-    v = l.v;
     after = l.after ++ x ∷ [];
-    split = ap (λ vs. vs ++ x ∷ []) l.split ∙ append_assoc l.before (l.v ∷ l.after) (x ∷ []);
-    is_last = find-append (λ v. same_name v.value.value.name l.v.value.value.name) l.after (x ∷ []) ∙
-        rw (l.is_last, apart_back x.value.value.name name l.v.value.value.name other l.same) refl;
+    split = ap (λ vs. vs ++ x ∷ []) l.split ∙ append_assoc l.before (v ∷ l.after) (x ∷ []);
+    is_last = find-append (λ w. same_name w.value.value.name v.value.value.name) l.after (x ∷ []) ∙
+        rw (l.is_last, apart_back x.value.value.name name v.value.value.name other l.same) refl;
     same = l.same;
-    place_is = l.place_is;
   }
 
-  -- the places of names that differ from a name stay
-  rest_still : (entries : List (Bor NameText × Option SourceSpan)) (known : Bor NameText) → SameName x.value.value.name known.now →
-      AllByRecursion (λ y. same_key known y ≡ false) (keys_of entries) →
-      All (λ e. IsLastPlace variables e.0.now e.1) entries → All (λ e. IsLastPlace (variables ++ x ∷ []) e.0.now e.1) entries
-  rest_still [] known same others all = All-nil (λ e. IsLastPlace (variables ++ x ∷ []) e.0.now e.1)
+  -- those of names that differ from a name stay
+  rest_still : (entries : List LastEntry) (known : Bor NameText) → SameName x.value.value.name known.now →
+      AllByRecursion (λ y. same_key known y ≡ false) (keys_of entries) → All (IsLast variables) entries → All (IsLast (variables ++ x ∷ [])) entries
+  rest_still [] known same others all = All-nil (IsLast (variables ++ x ∷ []))
   rest_still (e ∷ entries) known same others all =
-      All-cons (λ e. IsLastPlace (variables ++ x ∷ []) e.0.now e.1) e entries
-      (last_still e.0.now e.1 (apart x.value.value.name known.now e.0.now same others.0) (All-head (λ e. IsLastPlace variables e.0.now e.1) e entries all))
-      (rest_still entries known same others.1 (All-tail (λ e. IsLastPlace variables e.0.now e.1) e entries all))
+      All-cons (IsLast (variables ++ x ∷ [])) e entries
+      (last_still e.0.now e.1.now (apart x.value.value.name known.now e.0.now same others.0) (All-head (IsLast variables) e entries all))
+      (rest_still entries known same others.1 (All-tail (IsLast variables) e entries all))
 
-  one_placed : (e : Bor NameText × Option SourceSpan) (entries : List (Bor NameText × Option SourceSpan)) (k : Bor NameText) (place : Option SourceSpan) →
-      k.now ≡ x.value.value.name → place ≡ recompose x.location x.value.value.name.location → IsDistinct same_key (keys_of (e ∷ entries)) →
-      All (λ e. IsLastPlace variables e.0.now e.1) (e ∷ entries) →
-      All (λ e. IsLastPlace (variables ++ x ∷ []) e.0.now e.1) (insert_entry same_key entries k place) →
-      (b : Bool) → same_key k e.0 ≡ b → All (λ e. IsLastPlace (variables ++ x ∷ []) e.0.now e.1) (insert_entry same_key (e ∷ entries) k place)
-  unfolding IsDistinct
-  one_placed e entries k place named is distinct all more true known =
-      let P = λ (f : Bor NameText × Option SourceSpan). IsLastPlace variables f.0.now f.1 in
-      let Q = λ (f : Bor NameText × Option SourceSpan). IsLastPlace (variables ++ x ∷ []) f.0.now f.1 in
-      let same : SameName x.value.value.name e.0.now = subst (λ n. SameName n e.0.now) named known in
-      let entry : insert_entry same_key (e ∷ entries) k place ≡ (e.0, place) ∷ entries = rw known refl in
-      subst (All Q) (sym entry)
-      (All-cons Q (e.0, place) entries (last_itself e.0.now place (same_name_back x.value.value.name e.0.now same) is)
-      (rest_still entries e.0 same distinct.0 (All-tail P e entries all)))
-  one_placed e entries k place named is distinct all more false other =
-      let P = λ (f : Bor NameText × Option SourceSpan). IsLastPlace variables f.0.now f.1 in
-      let Q = λ (f : Bor NameText × Option SourceSpan). IsLastPlace (variables ++ x ∷ []) f.0.now f.1 in
-      let differs : same_name x.value.value.name e.0.now ≡ false = subst (λ n. same_name n e.0.now ≡ false) named other in
-      let entry : insert_entry same_key (e ∷ entries) k place ≡ e ∷ insert_entry same_key entries k place = rw other refl in
-      subst (All Q) (sym entry)
-      (All-cons Q e (insert_entry same_key entries k place) (last_still e.0.now e.1 differs (All-head P e entries all)) more)
+  module _ (k : Bor NameText) (v : Bor (Node VariableDefinition)) (named : k.now ≡ x.value.value.name) (is : v.now ≡ x) where
+    one_inserted : (e : LastEntry) (entries : List LastEntry) → IsDistinct same_key (keys_of (e ∷ entries)) → All (IsLast variables) (e ∷ entries) →
+        All (IsLast (variables ++ x ∷ [])) (insert_entry same_key entries k v) →
+        (b : Bool) → same_key k e.0 ≡ b → All (IsLast (variables ++ x ∷ [])) (insert_entry same_key (e ∷ entries) k v)
+    unfolding IsDistinct
+    one_inserted e entries distinct all more true known =
+        let same : SameName x.value.value.name e.0.now = subst (λ n. SameName n e.0.now) named known in
+        let entry : insert_entry same_key (e ∷ entries) k v ≡ (e.0, v) ∷ entries = rw known refl in
+        subst (All (IsLast (variables ++ x ∷ []))) (sym entry)
+        (All-cons (IsLast (variables ++ x ∷ [])) (e.0, v) entries (last_itself e.0.now v.now is (same_name_back x.value.value.name e.0.now same))
+        (rest_still entries e.0 same distinct.0 (All-tail (IsLast variables) e entries all)))
+    one_inserted e entries distinct all more false other =
+        let differs : same_name x.value.value.name e.0.now ≡ false = subst (λ n. same_name n e.0.now ≡ false) named other in
+        let entry : insert_entry same_key (e ∷ entries) k v ≡ e ∷ insert_entry same_key entries k v = rw other refl in
+        subst (All (IsLast (variables ++ x ∷ []))) (sym entry)
+        (All-cons (IsLast (variables ++ x ∷ [])) e (insert_entry same_key entries k v) (last_still e.0.now e.1.now differs (All-head (IsLast variables) e entries all)) more)
 
-  pub places_inserted : (entries : List (Bor NameText × Option SourceSpan)) (k : Bor NameText) (place : Option SourceSpan) →
-      k.now ≡ x.value.value.name → place ≡ recompose x.location x.value.value.name.location → IsDistinct same_key (keys_of entries) →
-      All (λ e. IsLastPlace variables e.0.now e.1) entries → All (λ e. IsLastPlace (variables ++ x ∷ []) e.0.now e.1) (insert_entry same_key entries k place)
-  unfolding IsDistinct
-  places_inserted [] k place named is distinct all =
-      All-cons (λ e. IsLastPlace (variables ++ x ∷ []) e.0.now e.1) (k, place) [] (last_itself k.now place (subst (λ n. SameName k.now n) named (same_name_itself k.now)) is) (All-nil (λ e. IsLastPlace (variables ++ x ∷ []) e.0.now e.1))
-  places_inserted (e ∷ entries) k place named is distinct all =
-      one_placed e entries k place named is distinct all
-      (places_inserted entries k place named is distinct.1 (All-tail (λ e. IsLastPlace variables e.0.now e.1) e entries all)) (same_key k e.0) refl
+    pub last_inserted : (entries : List LastEntry) → IsDistinct same_key (keys_of entries) → All (IsLast variables) entries →
+        All (IsLast (variables ++ x ∷ [])) (insert_entry same_key entries k v)
+    unfolding IsDistinct
+    last_inserted [] distinct all =
+        All-cons (IsLast (variables ++ x ∷ [])) (k, v) [] (last_itself k.now v.now is (subst (λ n. SameName k.now n) named (same_name_itself k.now)))
+        (All-nil (IsLast (variables ++ x ∷ [])))
+    last_inserted (e ∷ entries) distinct all =
+        one_inserted e entries distinct all (last_inserted entries distinct.1 (All-tail (IsLast variables) e entries all)) (same_key k e.0) refl
 
--- the places of the last variables of each name, when one more is walked over
-module _ (variables : List (Node VariableDefinition)) (i : ℕ) (x : Node VariableDefinition) (within : i < length variables) (item : x ≡ get_or variables i x) where
-  pub names_more : (entries : List (Bor NameText × Option SourceSpan)) (k : Bor NameText) (place : Option SourceSpan) → k.now ≡ x.value.value.name →
-      entry_names entries ≡ different_names (map (λ v. v.value.value.name) (take i variables)) →
-      entry_names (insert_entry same_key entries k place) ≡ different_names (map (λ v. v.value.value.name) (take (i + 1) variables))
-  names_more entries k place named are =
-      names_inserted entries k place ∙ ap (λ l. with_name l k.now) are ∙ ap (with_name (different_names (map (λ v. v.value.value.name) (take i variables)))) named ∙
+-- the last variables of each name, when one more is walked over
+module _ (variables : List (Node VariableDefinition)) (i : ℕ) (x : Node VariableDefinition) (within : i < length variables) (item : x ≡ get_or variables i x)
+    (entries : List LastEntry) (k : Bor NameText) (v : Bor (Node VariableDefinition)) (named : k.now ≡ x.value.value.name) where
+  pub names_more : entry_names entries ≡ different_names (map (λ v. v.value.value.name) (take i variables)) →
+      entry_names (insert_entry same_key entries k v) ≡ different_names (map (λ v. v.value.value.name) (take (i + 1) variables))
+  names_more are =
+      names_inserted entries k v ∙ ap (λ l. with_name l k.now) are ∙ ap (with_name (different_names (map (λ v. v.value.value.name) (take i variables)))) named ∙
       sym (ap (λ l. different_names (map (λ v. v.value.value.name) l)) (more_is variables i x within item) ∙
       ap different_names (map-append (λ (v : Node VariableDefinition). v.value.value.name) (take i variables) (x ∷ [])) ∙
       fold-append with_name [] (map (λ v. v.value.value.name) (take i variables)) (x.value.value.name ∷ []))
 
-  pub places_more : (entries : List (Bor NameText × Option SourceSpan)) (k : Bor NameText) (place : Option SourceSpan) → k.now ≡ x.value.value.name →
-      place ≡ recompose x.location x.value.value.name.location → IsDistinct same_key (keys_of entries) →
-      All (λ e. IsLastPlace (take i variables) e.0.now e.1) entries →
-      All (λ e. IsLastPlace (take (i + 1) variables) e.0.now e.1) (insert_entry same_key entries k place)
-  places_more entries k place named is distinct all =
-      subst (λ l. All (λ e. IsLastPlace l e.0.now e.1) (insert_entry same_key entries k place)) (sym (more_is variables i x within item))
-      (places_inserted (take i variables) x entries k place named is distinct all)
+  pub last_more : v.now ≡ x → IsDistinct same_key (keys_of entries) → All (IsLast (take i variables)) entries →
+      All (IsLast (take (i + 1) variables)) (insert_entry same_key entries k v)
+  last_more is distinct all =
+      subst (λ l. All (IsLast l) (insert_entry same_key entries k v)) (sym (more_is variables i x within item))
+      (last_inserted (take i variables) x k v named is entries distinct all)
 
 -- reports of unused variables after others
 pub reports_then : (fragments : Fragments) (o : Operation) {names : List NameText} {reports : List DiagnosticEntry} → AreUnusedReports fragments o names reports →
@@ -133,21 +129,27 @@ each_says_unused fragments o (used_name used others) = each_says_unused fragment
 each_says_unused fragments o (unused_name {name = name} {entry = e} {reports = reports} says others) =
     All-cons (IsDiagnostic (UsesReport fragments o)) e reports (says_unused fragments o name e says) (each_says_unused fragments o others)
 
--- a variable that is not used, at its last place
-pub unused_report : (fragments : Fragments) (o : Operation) (name reported : NameText) (place : Option SourceSpan) →
-    IsLastPlace o.variables.items name place → ¬ UsesVariable fragments o name → reported ≡ name →
+-- a variable of this name is used, and the last one is reported where it is not
+pub used_report : (fragments : Fragments) (o : Operation) (name : NameText) (v : Node VariableDefinition) → IsLastDefinition o.variables.items name v →
+    UsesVariable fragments o v.value.value.name → AreUnusedReports fragments o (name ∷ []) []
+used_report fragments o name v last used =
+    used_name (uses_same fragments o v.value.value.name name (same_name_back name v.value.value.name last.same) used) no_name
+
+pub unused_report : (fragments : Fragments) (o : Operation) (name reported : NameText) (v : Node VariableDefinition) (place : Option SourceSpan) →
+    IsLastDefinition o.variables.items name v → ¬ UsesVariable fragments o v.value.value.name → reported ≡ v.value.value.name →
+    place ≡ recompose v.location v.value.value.name.location →
     IsUnusedReport fragments o name (report.UnusedVariable reported) place
-unused_report fragments o name reported place last unused is = (
-  subst (λ n. SameName n name) (sym is) (same_name_itself name),
+unused_report fragments o name reported v place last unused is at = (
+  subst (λ n. SameName n name) (sym is) (same_name_back name v.value.value.name last.same),
   record {
     before = last.before;
-    v = last.v;
+    v = v;
     after = last.after;
     split = last.split;
     is_last = last.is_last;
-    unused = λ used. unused (uses_same fragments o last.v.value.value.name name (same_name_back name last.v.value.value.name last.same) used);
-    name_is = subst (λ n. SameName n last.v.value.value.name) (sym is) last.same;
-    at_is = last.place_is;
+    unused = unused;
+    name_is = is;
+    at_is = at;
   },
 )
 

@@ -1,10 +1,9 @@
 -- The variables that a walk over an operation has met.
-use Rattle.std.specs.Prelude.{◌≡◌, ◌↔◌, ◌⊎◌, List, ◌∷◌, ◌++◌, Option, None, Some, Contains, map}
+use Rattle.std.specs.Prelude.{◌≡◌, ◌↔◌, ◌⊎◌, List, ◌∷◌, ◌++◌, None, Some, Contains, map}
 use Rattle.std.specs.Borrow.{Bor}
 use Rattle.indexmap.specs.IndexSet.{IndexSet}
 use Rattle.graphql_documents.specs.Names.{NameText, SameName}
 use Rattle.graphql_documents.specs.Selections.{Fragments, arguments_of, directives_of}
-use Rattle.graphql_documents.specs.Spans.{recompose}
 use Rattle.graphql_documents.specs.VariableUsage.{variable_named}
 use Rattle.graphql_documents.specs.Variables.{StandsInArguments, StandsInDirectives}
 use Rattle.graphql_documents.specs.declared.documents.definitions.VariableDefinition.{VariableDefinition}
@@ -13,7 +12,6 @@ use Rattle.graphql_documents.specs.declared.documents.executables.FragmentSpread
 use Rattle.graphql_documents.specs.declared.documents.executables.Selection.TheVariants as kind
 use Rattle.graphql_documents.specs.declared.documents.executables.Selection.{Selection}
 use Rattle.graphql_documents.specs.declared.documents.nodes.Node.{Node}
-use Rattle.graphql_documents.specs.declared.documents.spans.SourceSpan.{SourceSpan}
 
 -- the new list is the old one with more names behind it, of which this holds
 pub record AddsNames (Are : List NameText → Type 0) (old new : List (Bor NameText)) : Type 0 where
@@ -47,12 +45,10 @@ pub data UsedAt (fragments : Fragments) (s : Selection) (name : NameText) : Type
 abbrev pub HasUsed : {S : Type 0} → (NameText → Type 0) → IndexSet (Bor NameText) S → Type 0
 HasUsed Used set = (name : NameText) → IsNamedIn (names_of set.keys) name ↔ Used name
 
--- the place is that of the last variable of this name
-pub record IsLastPlace (variables : List (Node VariableDefinition)) (name : NameText) (place : Option SourceSpan) : Type 0 where
+-- the last variable of this name
+pub record IsLastDefinition (variables : List (Node VariableDefinition)) (name : NameText) (v : Node VariableDefinition) : Type 0 where
   pub before : List (Node VariableDefinition)
-  pub v : Node VariableDefinition
   pub after : List (Node VariableDefinition)
   pub split : variables ≡ before ++ v ∷ after
   pub is_last : variable_named v.value.value.name after ≡ None
   pub same : SameName name v.value.value.name
-  pub place_is : place ≡ recompose v.location v.value.value.name.location

@@ -1,13 +1,13 @@
 ghost use Rattle.std.specs.Prelude.{◌≡◌, ◌↔◌, [], ◌∷◌, All, Contains, IsTrue, IfOk, OnOk, MatchResult, map};
 ghost use Rattle.graphql_documents.specs.Diagnostics.{IsDiagnostic, entries};
-ghost use Rattle.graphql_documents.specs.Names.{different_names};
+ghost use Rattle.graphql_documents.specs.Names.{NameText, different_names};
 ghost use Rattle.graphql_documents.specs.Reports.{Appends, Checks, KeepsReports};
 ghost use Rattle.graphql_documents.specs.Selections.{Fragments, Reached, fragments_of};
 ghost use Rattle.graphql_documents.specs.VariableReports.{AreUnusedReports, AreUsesReports, UsesReport};
 ghost use Rattle.graphql_documents.specs.Variables.{UsesVariable};
 ghost use Rattle.graphql_documents.specs.declared.documents.executables.Operation.{Operation};
 ghost use Rattle.graphql_documents.specs.declared.documents.executables.Selection.{Selection};
-ghost use Rattle.graphql_values.specs.Uses.{HasUsed, IsLastPlace, IsNamedIn, NamesAlso, UsedAt, names_of};
+ghost use Rattle.graphql_values.specs.Uses.{HasUsed, IsLastDefinition, IsNamedIn, NamesAlso, UsedAt, names_of};
 
 use super::uses::{add_in_arguments, add_in_directives};
 use super::walks::walk_selections_with_deduped_fragments;
@@ -20,7 +20,8 @@ use std::alloc::Global;
 
 /// Reports each variable of the operation that is not used: neither in its directives, nor in the
 /// directives or arguments of a selection that it reaches, nor in the directives of a fragment that it
-/// reaches. Each name is reported once, in order of its first definition, at its last one.
+/// reaches. Each name is reported once, in order of its first definition, as its last one writes it and
+/// at that place.
 ///
 /// Where the walk over the operation passes its bound, this alone is reported. The only error is want of
 /// memory.
@@ -40,8 +41,8 @@ pub fn validate_unused_variables(
         return diagnostics.push(None, Details::Diagnostic(DiagnosticData::RecursionError));
     }
     let used = used_variables(alloc, document, operation, &walked.selections)?;
-    let places = last_places(alloc, &operation.variables)?;
-    report_unused(diagnostics, &places, &used)
+    let last = last_definitions(alloc, &operation.variables)?;
+    report_unused(diagnostics, &last, &used)
 }
 
 /// The variables that the operation and these selections use.
@@ -100,56 +101,56 @@ fn set_of<'doc>(
     Ok(set)
 }
 
-/// Reports each of these variables that is not used, at its place.
+/// Reports each of these variables that is not used.
 fn report_unused(
     diagnostics: &mut DiagnosticList,
-    places: &IndexMap<&Name, Option<SourceSpan>>,
+    variables: &IndexMap<&Name, &Node<VariableDefinition>>,
     used: &IndexSet<&Name>,
 ) -> Result<(), ValidationError>
     ensures { (fragments : Fragments) (o : Operation) → HasUsed (UsesVariable fragments o) used.now →
-        All (λ e. IsLastPlace o.variables.items e.0.now e.1) places.now.entries →
+        All (λ e. IsLastDefinition o.variables.items e.0.now e.1.now) variables.now.entries →
         MatchResult result
-        (λ _. Appends (AreUnusedReports fragments o (map (λ e. e.0.now) places.now.entries)) (entries diagnostics.old) (entries diagnostics.new))
+        (λ _. Appends (AreUnusedReports fragments o (map (λ e. e.0.now) variables.now.entries)) (entries diagnostics.old) (entries diagnostics.new))
         (λ _. KeepsReports (IsDiagnostic (UsesReport fragments o)) (entries diagnostics.old) (entries diagnostics.new)) }
 {
-    for (name, place) in places {
-        check_use(diagnostics, name, *place, used)?;
+    for (_, variable) in variables {
+        check_use(diagnostics, variable, used)?;
     }
     Ok(())
 }
 
-/// The place of the last definition of each name, in order of the first.
-fn last_places<'doc>(
+/// The last definition of each name, in order of the first.
+fn last_definitions<'doc>(
     alloc: Global,
     variables: &'doc [Node<VariableDefinition>],
-) -> Result<IndexMap<&'doc Name, Option<SourceSpan>>, ValidationError>
-    ensures names { IfOk result (λ places. map (λ e. e.0.now) places.entries ≡ different_names (map (λ v. v.value.value.name) variables.now)) }
-    ensures places { IfOk result (λ places. All (λ e. IsLastPlace variables.now e.0.now e.1) places.entries) }
+) -> Result<IndexMap<&'doc Name, &'doc Node<VariableDefinition>>, ValidationError>
+    ensures names { IfOk result (λ last. map (λ e. e.0.now) last.entries ≡ different_names (map (λ v. v.value.value.name) variables.now)) }
+    ensures definitions { IfOk result (λ last. All (λ e. IsLastDefinition variables.now e.0.now e.1.now) last.entries) }
 {
-    let mut places = IndexMap::new(alloc);
+    let mut last = IndexMap::new(alloc);
     for variable in variables {
-        let name = &variable.value.name;
-        let place = SourceSpan::recompose(variable.location, name.location());
-        places.insert(name, place)?;
+        last.insert(&variable.value.name, variable)?;
     }
-    Ok(places)
+    Ok(last)
 }
 
-/// Reports a variable at this place if it is not used.
+/// Reports a variable if its name is not used.
 fn check_use(
     diagnostics: &mut DiagnosticList,
-    name: &Name,
-    place: Option<SourceSpan>,
+    variable: &Node<VariableDefinition>,
     used: &IndexSet<&Name>,
 ) -> Result<(), ValidationError>
-    ensures { (fragments : Fragments) (o : Operation) → HasUsed (UsesVariable fragments o) used.now → IsLastPlace o.variables.items name.now place →
+    ensures { (fragments : Fragments) (o : Operation) (name : NameText) → HasUsed (UsesVariable fragments o) used.now →
+        IsLastDefinition o.variables.items name variable.now →
         MatchResult result
-        (λ _. Appends (AreUnusedReports fragments o (name.now ∷ [])) (entries diagnostics.old) (entries diagnostics.new))
+        (λ _. Appends (AreUnusedReports fragments o (name ∷ [])) (entries diagnostics.old) (entries diagnostics.new))
         (λ _. entries diagnostics.new ≡ entries diagnostics.old) }
 {
+    let name = &variable.value.name;
     if used.contains(&name) {
         return Ok(());
     }
+    let place = SourceSpan::recompose(variable.location, name.location());
     let name = name.clone()?;
     diagnostics.push(
         place,

@@ -9,9 +9,8 @@ use Rattle.graphql_documents.specs.VariableReports.{AreUnusedReports, UsesReport
 use Rattle.graphql_documents.specs.declared.documents.definitions.VariableDefinition.{VariableDefinition}
 use Rattle.graphql_documents.specs.declared.documents.executables.Selection.{Selection}
 use Rattle.graphql_documents.specs.declared.documents.nodes.Node.{Node}
-use Rattle.graphql_values.specs.Uses.{IsLastPlace}
 use Rattle.graphql_values.proofs.NameSetLemmas.{entry_names}
-use Rattle.graphql_values.proofs.UnusedLemmas.{bound_reported, lists_all, uses_kept, uses_reported}
+use Rattle.graphql_values.proofs.UnusedLemmas.{IsLast, bound_reported, lists_all, uses_kept, uses_reported}
 use Rattle.graphql_values.proofs.variable.unused.validate_unused_variables.Goals as goal
 
 pub returns-then-not-walked-clause-exact : goal.returns-then-not-walked-clause-exact
@@ -30,14 +29,13 @@ reported c =
     let used = c.in_ok-used.ensures
     (subst (λ (l : List (Bor Selection)). (s : Selection) → Contains (map (λ (b : Bor Selection). b.now) l) s ↔ Reached fragments o.selection_set s)
     (sym c.deref.ensures.value) reach) in
-    let places = subst (λ (l : List (Node VariableDefinition)). All (λ e. IsLastPlace l e.0.now e.1) c.in_ok-places.places.entries)
-    c.deref-2.ensures.value c.in_ok-places.ensures.places in
-    let names : entry_names c.in_ok-places.places.entries ≡ defined_names o =
-    c.in_ok-places.ensures.names ∙ ap (λ (l : List (Node VariableDefinition)). different_names (map (λ v. v.value.value.name) l)) c.deref-2.ensures.value in
+    let last = subst (λ (l : List (Node VariableDefinition)). All (IsLast l) c.in_ok-last.last.entries) c.deref-2.ensures.value c.in_ok-last.ensures.definitions in
+    let names : entry_names c.in_ok-last.last.entries ≡ defined_names o =
+    c.in_ok-last.ensures.names ∙ ap (λ (l : List (Node VariableDefinition)). different_names (map (λ v. v.value.value.name) l)) c.deref-2.ensures.value in
     subst (λ (l : List NameText). MatchResult c.report_unused.result
     (λ _. Appends (AreUnusedReports fragments o l) (entries c.args.diagnostics.now) (entries c.report_unused.new.diagnostics))
     (λ _. KeepsReports (IsDiagnostic (UsesReport fragments o)) (entries c.args.diagnostics.now) (entries c.report_unused.new.diagnostics)))
-    names (c.report_unused.ensures fragments o used places)
+    names (c.report_unused.ensures fragments o used last)
 
 pub returns-clause-exact : goal.returns-clause-exact
 returns-clause-exact c = uses_reported c.report_unused.result (fragments_of c.args.document.now) c.args.operation.now _ _ (reported c)
