@@ -3,9 +3,9 @@ use Rattle.std.proofs.Common.{◌≡◌, ◌↔◌, ℕ, ◌<◌, List, [], ◌�
 use Rattle.std.proofs.lemmas.List.Elements.{All-append, All-cons, All-contains, All-head, All-nil, All-weaker}
 use Rattle.std.proofs.lemmas.Option.{same_Some, none-some}
 use Rattle.graphql_documents.specs.ArgumentReports.{RepetitionReport}
-use Rattle.graphql_documents.specs.Arguments.{ArgumentNamesHold, ArgumentValueHolds, ArgumentValuesHold, HasDistinctNames, IsDefined, IsGivenIfRequired, definition_named}
+use Rattle.graphql_documents.specs.Arguments.{ArgumentNamesHold, ArgumentValuesHold, HasDistinctNames, IsDefined, IsGivenIfRequired, ValueHoldsBy}
 use Rattle.graphql_documents.specs.Diagnostics.{IsDiagnostic}
-use Rattle.graphql_documents.specs.DirectiveReports.{ApplicationBreaks, DirectivesBreak, IsApplied}
+use Rattle.graphql_documents.specs.DirectiveReports.{DirectivesBreak, IsApplied, of_application, of_argument_values, of_missing_argument, of_repeated_argument, of_unknown_argument}
 use Rattle.graphql_documents.specs.Directives.{ApplicationHolds, ApplicationsHold, IsRepeatable, RepetitionsHold, directive_definition, directive_in}
 use Rattle.graphql_documents.specs.Names.{SameName, same_name}
 use Rattle.graphql_documents.specs.Reports.{Reports}
@@ -15,18 +15,16 @@ use Rattle.graphql_documents.proofs.ReportLemmas.{All-append_left, All-append_ri
 use Rattle.graphql_documents.specs.declared.diagnostics.data.DiagnosticData.TheVariants as report
 use Rattle.graphql_documents.specs.declared.diagnostics.data.DiagnosticData.{DiagnosticData}
 use Rattle.graphql_documents.specs.declared.diagnostics.lists.DiagnosticEntry.{DiagnosticEntry}
-use Rattle.graphql_documents.specs.declared.documents.coordinates.SchemaCoordinate.TheVariants as coordinate
 use Rattle.graphql_documents.specs.declared.documents.definitions.DirectiveDefinition.{DirectiveDefinition}
 use Rattle.graphql_documents.specs.declared.documents.definitions.DirectiveLocation.{DirectiveLocation}
-use Rattle.graphql_documents.specs.declared.documents.definitions.InputValueDefinition.{InputValueDefinition}
 use Rattle.graphql_documents.specs.declared.documents.definitions.VariableDefinition.{VariableDefinition}
-use Rattle.graphql_documents.specs.declared.documents.directives.Argument.{Argument}
 use Rattle.graphql_documents.specs.declared.documents.directives.Directive.{Directive}
 use Rattle.graphql_documents.specs.declared.documents.nodes.Node.{Node}
 use Rattle.graphql_documents.specs.declared.documents.schemas.Schema.{Schema}
 use Rattle.graphql_documents.specs.declared.documents.spans.SourceSpan.{SourceSpan}
 use Rattle.graphql_values.specs.DirectiveSteps.{IsAppliedWell, RepetitionHolds}
-use Rattle.graphql_values.specs.GivenArguments.{GivenArgumentHolds, GivenArgumentReport, MissingArgumentReport, argument_coordinate_of, owner_coordinate}
+use Rattle.graphql_values.specs.GivenArguments.{AreOfDirective, GivenArgumentHolds, GivenArgumentReport, MissingArgumentReport}
+use Rattle.graphql_values.specs.GivenArguments as given
 use Rattle.graphql_values.specs.declared.argument.owners.GivenArguments.{GivenArguments}
 use Rattle.graphql_values.proofs.FirstPlaceLemmas.{find_none, found_at, pairs_more}
 
@@ -110,7 +108,7 @@ module _ (schema : Option Schema) where
       names_repetition d among =
           diagnostic_wider (RepetitionReport d.value.value.arguments.items) (DirectivesBreak schema variables location directives) wide where
             wide : (r : DiagnosticData) (at : Option SourceSpan) → RepetitionReport d.value.value.arguments.items r at → DirectivesBreak schema variables location directives r at
-            wide (report.UniqueArgument name original redefined) at said = (d, among, said)
+            wide (report.UniqueArgument name original redefined) at said = of_repeated_argument d among said
             wide r at said = absurd said
 
       -- one directive more was checked
@@ -134,12 +132,6 @@ module _ (schema : Option Schema) where
 -- the place of an application and its arguments were checked against the definition
 module _ (schema : Schema) (variables : List (Node VariableDefinition)) (location : DirectiveLocation) (d : Node Directive)
     (definition : Node DirectiveDefinition) (defined : directive_definition schema d.value.value.name ≡ Some definition) where
-  -- the value of an argument holds by the first of these definitions that has its name
-  abbrev value_by : List (Node InputValueDefinition) → Node Argument → Type 0
-  value_by definitions a =
-      (p : Node InputValueDefinition) → definition_named a.value.value.name definitions ≡ Some p →
-      ArgumentValueHolds schema variables p.value.value a.value.value.value.value.value
-
   given_each : (other : Node DirectiveDefinition) → other ≡ definition →
       ArgumentNamesHold other.value.value.arguments.items d.value.value.arguments.items →
       ArgumentValuesHold schema variables other.value.value.arguments.items d.value.value.arguments.items →
@@ -149,7 +141,7 @@ module _ (schema : Schema) (variables : List (Node VariableDefinition)) (locatio
       subst (λ (x : Node DirectiveDefinition). All (GivenArgumentHolds schema variables x.value.value.arguments.items) given) same
       (each_standing (GivenArgumentHolds schema variables other.value.value.arguments.items) given (λ a among. record {
         defined = All-contains (IsDefined other.value.value.arguments.items) given a names.defined among;
-        value_holds = All-contains (value_by other.value.value.arguments.items) given a values among;
+        value_holds = All-contains (ValueHoldsBy schema variables other.value.value.arguments.items) given a values among;
       }))
 
   pub applied_well :
@@ -170,7 +162,7 @@ module _ (schema : Schema) (variables : List (Node VariableDefinition)) (locatio
             defined = All-weaker (GivenArgumentHolds schema variables definitions) (IsDefined definitions) (λ a h. h.defined) given p.1;
             required = p.2;
           };
-          values = All-weaker (GivenArgumentHolds schema variables definitions) (value_by definitions) (λ a h. h.value_holds) given p.1;
+          values = All-weaker (GivenArgumentHolds schema variables definitions) (ValueHoldsBy schema variables definitions) (λ a h. h.value_holds) given p.1;
         },
         λ h.
             let same_schema : h.against ≡ schema = sym (same_Some schema h.against h.has_schema) in
@@ -184,67 +176,41 @@ module _ (schema : Schema) (variables : List (Node VariableDefinition)) (locatio
             ),
       )
 
-  module _ (directives : List (Node Directive)) (among : Contains directives d) where
+  module _ (directives : List (Node Directive)) (among : Contains directives d) (arguments : GivenArguments) (are : AreOfDirective d definition arguments) where
     is_applied : IsApplied (Some schema) directives schema d definition
     is_applied = record { applied = among; has_schema = refl; defined = defined }
 
-    breaks : (r : DiagnosticData) (at : Option SourceSpan) → ApplicationBreaks schema variables d definition r at →
-        (against : Schema) × (d : Node Directive) × (definition : Node DirectiveDefinition) ×
-        IsApplied (Some schema) directives against d definition × ApplicationBreaks against variables d definition r at
-    breaks r at said = (schema, d, definition, is_applied, said)
+    of_given : (r : DiagnosticData) (at : Option SourceSpan) → GivenArgumentReport schema variables arguments r at →
+        DirectivesBreak (Some schema) variables location directives r at
+    of_given r at (given.of_unknown_argument lacks) =
+        of_application is_applied (of_unknown_argument (rw (are.given_is, are.definitions_are, are.coordinate_is, are.definition_location_is) at lacks))
+    of_given r at (given.of_argument_values break) = of_application is_applied (of_argument_values (rw (are.given_is, are.definitions_are) at break))
 
-    module _ (arguments : GivenArguments) (given_is : arguments.given.now ≡ d.value.value.arguments.items)
-        (definitions_is : arguments.definitions.now ≡ definition.value.value.arguments.items) where
-      -- a report on the given arguments is one on the directives
-      pub names_given : owner_coordinate arguments.owner ≡ coordinate.Directive (record { directive = d.value.value.name }) →
-          arguments.definition_location ≡ definition.location →
-          (e : DiagnosticEntry) → IsDiagnostic (GivenArgumentReport schema variables arguments) e →
-          IsDiagnostic (DirectivesBreak (Some schema) variables location directives) e
-      names_given coordinate_is place_is =
-          diagnostic_wider (GivenArgumentReport schema variables arguments) (DirectivesBreak (Some schema) variables location directives) wide where
-            wide : (r : DiagnosticData) (at : Option SourceSpan) → GivenArgumentReport schema variables arguments r at →
-                DirectivesBreak (Some schema) variables location directives r at
-            wide (report.UniqueArgument name original redefined) at said = absurd said.broken.broken
-            wide (report.UndefinedDirective name) at said = absurd said.broken.broken
-            wide (report.UniqueDirective name original) at said = absurd said.broken.broken
-            wide (report.UnsupportedLocation name reported valid definition_location) at said = absurd said.broken.broken
-            wide (report.RequiredArgument name owner expected definition_location) at said = absurd said.broken.broken
-            wide (report.UndefinedArgument name owner definition_location) at said =
-                breaks (report.UndefinedArgument name owner definition_location) at (rw (given_is, definitions_is, coordinate_is, place_is) at said)
-            wide (report.DisallowedVariableUsage variable variable_type argument argument_type variable_location argument_location) at said =
-                breaks (report.DisallowedVariableUsage variable variable_type argument argument_type variable_location argument_location) at
-                (rw (given_is, definitions_is) at said)
-            wide r at said = breaks r at (rw (given_is, definitions_is) at said)
+    of_missing : (r : DiagnosticData) (at : Option SourceSpan) → MissingArgumentReport arguments r at →
+        DirectivesBreak (Some schema) variables location directives r at
+    of_missing r at (given.of_missing_argument misses) =
+        of_application is_applied (of_missing_argument (rw (are.given_is, are.definitions_are, are.argument_coordinate_is, are.location_is) at misses))
 
-      -- a report on the arguments that are not given is one on the directives
-      pub names_missing : argument_coordinate_of arguments.owner ≡
-          (λ argument. coordinate.DirectiveArgument (record { directive = definition.value.value.name; argument = argument })) →
-          arguments.location ≡ d.location →
-          (e : DiagnosticEntry) → IsDiagnostic (MissingArgumentReport arguments) e →
-          IsDiagnostic (DirectivesBreak (Some schema) variables location directives) e
-      names_missing coordinate_is place_is =
-          diagnostic_wider (MissingArgumentReport arguments) (DirectivesBreak (Some schema) variables location directives) wide where
-            wide : (r : DiagnosticData) (at : Option SourceSpan) → MissingArgumentReport arguments r at →
-                DirectivesBreak (Some schema) variables location directives r at
-            wide (report.RequiredArgument name owner expected definition_location) at said =
-                breaks (report.RequiredArgument name owner expected definition_location) at (rw (given_is, definitions_is, coordinate_is, place_is) at said)
-            wide r at said = absurd said
+    -- a report on the given arguments, or on one that is not given, is one on the directives
+    pub names_given : (e : DiagnosticEntry) → IsDiagnostic (GivenArgumentReport schema variables arguments) e →
+        IsDiagnostic (DirectivesBreak (Some schema) variables location directives) e
+    names_given = diagnostic_wider (GivenArgumentReport schema variables arguments) (DirectivesBreak (Some schema) variables location directives) of_given
 
-      -- the arguments were checked against the definition
-      pub arguments_checked : {T E : Type 0} (r : Result T E) (old mid new : List DiagnosticEntry) →
-          owner_coordinate arguments.owner ≡ coordinate.Directive (record { directive = d.value.value.name }) →
-          argument_coordinate_of arguments.owner ≡
-          (λ argument. coordinate.DirectiveArgument (record { directive = definition.value.value.name; argument = argument })) →
-          arguments.location ≡ d.location → arguments.definition_location ≡ definition.location →
-          Reports (All (GivenArgumentHolds schema variables arguments.definitions.now) arguments.given.now)
-          (IsDiagnostic (GivenArgumentReport schema variables arguments)) old mid →
-          ChecksList r (All (IsGivenIfRequired arguments.given.now) arguments.definitions.now) (IsDiagnostic (MissingArgumentReport arguments)) mid new →
-          ChecksList r (All (GivenArgumentHolds schema variables definition.value.value.arguments.items) d.value.value.arguments.items ×
-          All (IsGivenIfRequired d.value.value.arguments.items) definition.value.value.arguments.items)
-          (IsDiagnostic (DirectivesBreak (Some schema) variables location directives)) old new
-      arguments_checked r old mid new owner_is coordinate_is place_is definition_place_is given required =
-          let Q = IsDiagnostic (DirectivesBreak (Some schema) variables location directives) in
-          rw (sym given_is, sym definitions_is)
-          (checks_after r _ _ Q old mid new
-          (wider _ (IsDiagnostic (GivenArgumentReport schema variables arguments)) Q old mid (names_given owner_is definition_place_is) given)
-          (checks_words r _ _ (IsDiagnostic (MissingArgumentReport arguments)) Q mid new (λ h. h, λ h. h) (names_missing coordinate_is place_is) required))
+    pub names_missing : (e : DiagnosticEntry) → IsDiagnostic (MissingArgumentReport arguments) e →
+        IsDiagnostic (DirectivesBreak (Some schema) variables location directives) e
+    names_missing = diagnostic_wider (MissingArgumentReport arguments) (DirectivesBreak (Some schema) variables location directives) of_missing
+
+    -- the arguments were checked against the definition
+    pub arguments_checked : {T E : Type 0} (r : Result T E) (old mid new : List DiagnosticEntry) →
+        Reports (All (GivenArgumentHolds schema variables arguments.definitions.now) arguments.given.now)
+        (IsDiagnostic (GivenArgumentReport schema variables arguments)) old mid →
+        ChecksList r (All (IsGivenIfRequired arguments.given.now) arguments.definitions.now) (IsDiagnostic (MissingArgumentReport arguments)) mid new →
+        ChecksList r (All (GivenArgumentHolds schema variables definition.value.value.arguments.items) d.value.value.arguments.items ×
+        All (IsGivenIfRequired d.value.value.arguments.items) definition.value.value.arguments.items)
+        (IsDiagnostic (DirectivesBreak (Some schema) variables location directives)) old new
+    arguments_checked r old mid new given required =
+        let Q = IsDiagnostic (DirectivesBreak (Some schema) variables location directives) in
+        rw (sym are.given_is, sym are.definitions_are)
+        (checks_after r _ _ Q old mid new
+        (wider _ (IsDiagnostic (GivenArgumentReport schema variables arguments)) Q old mid names_given given)
+        (checks_words r _ _ (IsDiagnostic (MissingArgumentReport arguments)) Q mid new (λ h. h, λ h. h) names_missing required))

@@ -4,8 +4,9 @@ use Rattle.std.specs.Prelude.{Option, is_some}
 use Rattle.std.proofs.lemmas.Option.{same_Some}
 use Rattle.graphql_documents.specs.Arguments.{ArgumentValueHolds, definition_named}
 use Rattle.graphql_documents.specs.Diagnostics.{IsDiagnostic}
-use Rattle.graphql_documents.specs.DirectiveReports.{UsageReport}
+use Rattle.graphql_documents.specs.DirectiveReports.{UsageReport, of_usage, of_value}
 use Rattle.graphql_documents.specs.InputCoercion.{Accepts}
+use Rattle.graphql_documents.specs.TypeReferences.{reference_of}
 use Rattle.graphql_documents.specs.ValueReports.{ValueReport}
 use Rattle.graphql_documents.specs.VariableUsage.{UsageHolds}
 use Rattle.graphql_documents.proofs.DiagnosticLemmas.{diagnostic_wider}
@@ -18,21 +19,15 @@ use Rattle.graphql_documents.specs.declared.documents.directives.Argument.{Argum
 use Rattle.graphql_documents.specs.declared.documents.nodes.Node.{Node}
 use Rattle.graphql_documents.specs.declared.documents.schemas.Schema.{Schema}
 use Rattle.graphql_documents.specs.declared.documents.spans.SourceSpan.{SourceSpan}
-use Rattle.graphql_values.specs.GivenArguments.{GivenArgumentHolds, GivenArgumentReport}
+use Rattle.graphql_values.specs.GivenArguments.{GivenArgumentHolds, GivenArgumentReport, of_argument_values}
 use Rattle.graphql_values.specs.declared.argument.owners.GivenArguments.{GivenArguments}
 
 module _ (schema : Schema) (variables : List (Node VariableDefinition)) (arguments : GivenArguments) (a : Node Argument) (d : Node InputValueDefinition)
     (in' : Contains arguments.given.now a) (found : definition_named a.value.value.name arguments.definitions.now ≡ Some d) where
   misuse : (r : DiagnosticData) (at : Option SourceSpan) → UsageReport variables d a r at → GivenArgumentReport schema variables arguments r at
   misuse (report.DisallowedVariableUsage variable variable_type argument argument_type variable_location argument_location) at said =
-      record { a = a; definition = d; is_given = in'; defined = found; misuse = said }
+      of_argument_values (of_usage (record { a = a; definition = d; is_given = in'; defined = found; misuse = said }))
   misuse r at said = absurd said
-
-  wrong_value : (r : DiagnosticData) (at : Option SourceSpan) → ValueReport schema variables d.value.value.ty.value.value a.value.value.value r at →
-      GivenArgumentReport schema variables arguments r at
-  wrong_value (report.UndefinedArgument name coordinate definition_location) at said = absurd said.broken
-  wrong_value (report.DisallowedVariableUsage variable variable_type argument argument_type variable_location argument_location) at said = absurd said.broken
-  wrong_value r at said = record { a = a; definition = d; is_given = in'; defined = found; broken = said }
 
   -- a report on a variable that may not stand there
   pub names_misuse : (e : DiagnosticEntry) → IsDiagnostic (UsageReport variables d a) e → IsDiagnostic (GivenArgumentReport schema variables arguments) e
@@ -44,11 +39,12 @@ module _ (schema : Schema) (variables : List (Node VariableDefinition)) (argumen
 
   module _ (input : InputValueDefinition) (same : input ≡ d.value.value) where
     -- a report on its value
-    pub names_wrong_value : (e : DiagnosticEntry) → IsDiagnostic (ValueReport schema variables input.ty.value.value a.value.value.value) e →
+    pub names_wrong_value : (e : DiagnosticEntry) → IsDiagnostic (ValueReport schema variables (reference_of input.ty) a.value.value.value) e →
         IsDiagnostic (GivenArgumentReport schema variables arguments) e
     names_wrong_value e said =
-        diagnostic_wider (ValueReport schema variables d.value.value.ty.value.value a.value.value.value) (GivenArgumentReport schema variables arguments) wrong_value e
-        (subst (λ x. IsDiagnostic (ValueReport schema variables x.ty.value.value a.value.value.value) e) same said)
+        diagnostic_wider (ValueReport schema variables (reference_of d.value.value.ty) a.value.value.value) (GivenArgumentReport schema variables arguments)
+        (λ r at broken. of_argument_values (of_value (record { a = a; definition = d; is_given = in'; defined = found; broken = broken }))) e
+        (subst (λ x. IsDiagnostic (ValueReport schema variables (reference_of x.ty) a.value.value.value) e) same said)
 
     -- the argument holds where its variable may stand there and its value is accepted
     pub given_decides : (UsageHolds variables d.value.value a.value.value.value.value.value × Accepts schema variables input.ty.value.value a.value.value.value.value.value) ↔

@@ -7,21 +7,18 @@ use Rattle.graphql_documents.specs.DirectiveReports.{DirectivesBreak}
 use Rattle.graphql_documents.specs.Directives.{ApplicationsHold}
 use Rattle.graphql_documents.specs.Reports.{Reports}
 use Rattle.graphql_documents.specs.Schemas.{is_input_type, type_definition}
-use Rattle.graphql_documents.specs.TypeReferences.{inner_named_type}
+use Rattle.graphql_documents.specs.TypeReferences.{inner_named_type, reference_of}
 use Rattle.graphql_documents.specs.ValueReports.{ValueReport}
-use Rattle.graphql_documents.specs.VariableReports.{VariableBreaks, VariablesReport, of_variable, of_variable_directives}
+use Rattle.graphql_documents.specs.VariableReports.{VariablesReport, of_default, of_variable, of_variable_directives}
 use Rattle.graphql_documents.specs.Variables.{DefaultHolds, HasInputType, VariableDefinitionHolds, VariableDefinitionsHold}
 use Rattle.graphql_documents.proofs.DiagnosticLemmas.{diagnostic_wider}
 use Rattle.graphql_documents.proofs.ReportLemmas.{All-append_left, All-append_right, both, in_words}
-use Rattle.graphql_documents.specs.declared.diagnostics.data.DiagnosticData.TheVariants as report
-use Rattle.graphql_documents.specs.declared.diagnostics.data.DiagnosticData.{DiagnosticData}
 use Rattle.graphql_documents.specs.declared.diagnostics.lists.DiagnosticEntry.{DiagnosticEntry}
 use Rattle.graphql_documents.specs.declared.documents.definitions.DirectiveLocation.TheVariants as allowed_at
 use Rattle.graphql_documents.specs.declared.documents.definitions.VariableDefinition.{VariableDefinition}
 use Rattle.graphql_documents.specs.declared.documents.nodes.Node.{Node}
 use Rattle.graphql_documents.specs.declared.documents.schemas.ExtendedType.{ExtendedType}
 use Rattle.graphql_documents.specs.declared.documents.schemas.Schema.{Schema}
-use Rattle.graphql_documents.specs.declared.documents.spans.SourceSpan.{SourceSpan}
 use Rattle.graphql_documents.specs.declared.documents.values.Value.{Value}
 use Rattle.graphql_values.specs.VariableSteps.{IsNewName, TypeHolds, variable_name, variable_place}
 use Rattle.graphql_values.proofs.FirstPlaceLemmas.{distinct_names_more}
@@ -103,11 +100,7 @@ module _ (schema : Option Schema) where
 
     -- a report on the default of a variable is one on the variables
     pub names_default : (against : Schema) (value : Node Value) → schema ≡ Some against → v.value.value.default_value ≡ Some value → (e : DiagnosticEntry) →
-        IsDiagnostic (ValueReport against [] v.value.value.ty.value.value value) e → IsDiagnostic (VariablesReport schema variables) e
+        IsDiagnostic (ValueReport against [] (reference_of v.value.value.ty) value) e → IsDiagnostic (VariablesReport schema variables) e
     names_default against value has_schema is_default =
-        diagnostic_wider (ValueReport against [] v.value.value.ty.value.value value) (VariablesReport schema variables)
-        (λ r at said. of_variable among (wide r at said)) where
-          wide : (r : DiagnosticData) (at : Option SourceSpan) → ValueReport against [] v.value.value.ty.value.value value r at → VariableBreaks schema v r at
-          wide (report.VariableInputType name ty describe) at said = absurd said.broken
-          wide (report.UndefinedDefinition name) at said = absurd said.broken
-          wide r at said = record { against = against; value = value; has_schema = has_schema; is_default = is_default; broken = said }
+        diagnostic_wider (ValueReport against [] (reference_of v.value.value.ty) value) (VariablesReport schema variables)
+        (λ r at said. of_variable among (of_default (record { against = against; value = value; has_schema = has_schema; is_default = is_default; broken = said })))

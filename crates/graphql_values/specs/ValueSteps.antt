@@ -6,7 +6,7 @@ use Rattle.graphql_documents.specs.InputCoercion.{Accepts, IsFieldGiven, is_buil
 use Rattle.graphql_documents.specs.Names.{NameText}
 use Rattle.graphql_documents.specs.Reports.{Checks}
 use Rattle.graphql_documents.specs.Schemas.{type_definition}
-use Rattle.graphql_documents.specs.TypeReferences.{inner_named_type}
+use Rattle.graphql_documents.specs.TypeReferences.{TypeReference, inner_named_type, reference_of}
 use Rattle.graphql_documents.specs.ValueReports.{ValueReport}
 use Rattle.graphql_documents.specs.Values.{entry_named}
 use Rattle.graphql_documents.specs.declared.diagnostics.data.DiagnosticData.{DiagnosticData}
@@ -22,24 +22,34 @@ use Rattle.graphql_documents.specs.declared.documents.type_references.Type.{«Ty
 use Rattle.graphql_documents.specs.declared.documents.values.Value.TheVariants as literal
 use Rattle.graphql_documents.specs.declared.documents.values.Value.{Value}
 
+-- a type that is written there
+abbrev pub written_at : «Type» → Option SourceSpan → TypeReference
+written_at ty location = record { ty = ty; location = location }
+
 -- a call that checks a value against a type
-abbrev pub ChecksValue : {T E : Type 0} → Result T E → Schema → List (Node VariableDefinition) → «Type» → Node Value → DiagnosticList → DiagnosticList → Type 0
+abbrev pub ChecksValue : {T E : Type 0} → Result T E → Schema → List (Node VariableDefinition) → TypeReference → Node Value → DiagnosticList → DiagnosticList → Type 0
 ChecksValue result schema variables ty value old new =
-    Checks result (Accepts schema variables ty value.value.value) (IsDiagnostic (ValueReport schema variables ty value)) old new
+    Checks result (Accepts schema variables ty.ty value.value.value) (IsDiagnostic (ValueReport schema variables ty value)) old new
 
 -- the same, wherever the type has this definition
-abbrev pub ChecksDefined : {T E : Type 0} → Result T E → ExtendedType → «Type» → Node Value → DiagnosticList → DiagnosticList → Type 0
+abbrev pub ChecksDefined : {T E : Type 0} → Result T E → ExtendedType → TypeReference → Node Value → DiagnosticList → DiagnosticList → Type 0
 ChecksDefined result definition ty value old new =
     (schema : Schema) (variables : List (Node VariableDefinition)) →
-    type_definition schema (inner_named_type ty) ≡ Some definition →
+    type_definition schema (inner_named_type ty.ty) ≡ Some definition →
     ChecksValue result schema variables ty value old new
+
+-- the value is a list of these items
+pub record HasItems (value : Value) (given : List (Node Value)) : Type 0 where
+  pub items : Vec (Node Value) Global
+  pub is_list : value ≡ literal.List items
+  pub given_is : given ≡ items.items
 
 -- the item is accepted for the type of the items
 abbrev pub AcceptsItem : Schema → List (Node VariableDefinition) → «Type» → Node Value → Type 0
 AcceptsItem schema variables item_type item = Accepts schema variables item_type item.value.value
 
 -- the report names what is wrong with one of the items
-pub record ItemReport (schema : Schema) (variables : List (Node VariableDefinition)) (item_type : «Type») (items : List (Node Value)) (r : DiagnosticData) (at : Option SourceSpan) : Type 0 where
+pub record ItemReport (schema : Schema) (variables : List (Node VariableDefinition)) (item_type : TypeReference) (items : List (Node Value)) (r : DiagnosticData) (at : Option SourceSpan) : Type 0 where
   pub item : Node Value
   pub stands : Contains items item
   pub says : ValueReport schema variables item_type item r at
@@ -60,7 +70,7 @@ AcceptsEntry schema variables entries field =
 pub record EntryReport (schema : Schema) (variables : List (Node VariableDefinition)) (entries : List (NameText × Node Value)) (field : NameText × Component InputValueDefinition) (r : DiagnosticData) (at : Option SourceSpan) : Type 0 where
   pub value : Node Value
   pub is_first : entry_named field.0 entries ≡ Some value
-  pub says : ValueReport schema variables field.1.node.value.value.ty.value.value value r at
+  pub says : ValueReport schema variables (reference_of field.1.node.value.value.ty) value r at
 
 -- the field is given if it is required, and its first entry is accepted
 abbrev pub AcceptsField : Schema → List (Node VariableDefinition) → List (NameText × Node Value) → NameText × Component InputValueDefinition → Type 0

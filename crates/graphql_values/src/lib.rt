@@ -3,7 +3,6 @@
 #![tactic(auto)]
 
 pub mod argument;
-mod copies;
 pub mod directive;
 mod first_places;
 pub mod value;

@@ -1,17 +1,17 @@
-ghost use Rattle.std.specs.Prelude.{◌≡◌, Some, All, Contains};
-ghost use Rattle.std.specs.Option.{option_copied};
-ghost use Rattle.graphql_documents.specs.Arguments.{IsDefined, definition_named};
+ghost use Rattle.std.specs.Prelude.{All, Contains, List};
+ghost use Rattle.graphql_documents.specs.Arguments.{IsDefined};
 ghost use Rattle.graphql_documents.specs.Diagnostics.{IsDiagnostic};
 ghost use Rattle.graphql_documents.specs.Reports.{Checks};
-ghost use Rattle.graphql_values.specs.GivenArguments.{GivenArgumentHolds, GivenArgumentReport, ReportsGivenArgument};
+ghost use Rattle.graphql_documents.specs.declared.documents.definitions.VariableDefinition.{VariableDefinition};
+ghost use Rattle.graphql_documents.specs.declared.documents.nodes.Node.{Node};
+ghost use Rattle.graphql_documents.specs.declared.documents.schemas.Schema.{Schema};
+ghost use Rattle.graphql_values.specs.GivenArguments.{GivenArgumentHolds, GivenArgumentReport};
 
 use super::owners::GivenArguments;
 use crate::value::validate_values;
 use crate::variable::validate_variable_usage;
 use graphql_documents::diagnostics::{Details, DiagnosticData, DiagnosticList, ValidationError};
-use graphql_documents::documents::{
-    Argument, InputValueDefinition, Name, Node, Schema, VariableDefinition,
-};
+use graphql_documents::documents::{Argument, Node, Schema, VariableDefinition, definition_named};
 
 /// Reports for each argument, in order, that no definition has its name, or that it is a variable
 /// that may not stand there, or else what its value breaks. The only error is want of memory.
@@ -46,11 +46,17 @@ fn validate_given_argument(
         (GivenArgumentHolds schema.now variables.now arguments.now.definitions.now argument.now)
         (IsDiagnostic (GivenArgumentReport schema.now variables.now arguments.now)) diagnostics.old diagnostics.new }
 {
-    let Some(place) = definition_named(arguments.definitions, &argument.value.name) else {
+    let Some(definition) = definition_named(arguments.definitions, &argument.value.name) else {
         return report_undefined_argument(diagnostics, arguments, argument);
     };
-    if validate_variable_usage(diagnostics, place, variables, argument)? {
-        validate_values(diagnostics, schema, &place.value.ty, argument, variables)?;
+    if validate_variable_usage(diagnostics, definition, variables, argument)? {
+        validate_values(
+            diagnostics,
+            schema,
+            &definition.value.ty,
+            argument,
+            variables,
+        )?;
     }
     Ok(())
 }
@@ -62,7 +68,8 @@ fn report_undefined_argument(
 ) -> Result<(), ValidationError>
     requires given { Contains arguments.now.given.now argument.now }
     requires undefined { ¬ IsDefined arguments.now.definitions.now argument.now }
-    ensures { Checks result ⊥ (ReportsGivenArgument arguments.now) diagnostics.old diagnostics.new }
+    ensures { (schema : Schema) (variables : List (Node VariableDefinition)) →
+        Checks result ⊥ (IsDiagnostic (GivenArgumentReport schema variables arguments.now)) diagnostics.old diagnostics.new }
 {
     let coordinate = arguments.owner.coordinate()?;
     let name = argument.value.name.clone()?;
@@ -74,14 +81,4 @@ fn report_undefined_argument(
             definition_location: arguments.definition_location,
         }),
     )
-}
-
-/// The first definition with this name.
-fn definition_named<'a>(
-    definitions: &'a [Node<InputValueDefinition>],
-    name: &Name,
-) -> Option<&'a Node<InputValueDefinition>>
-    ensures { option_copied result ≡ definition_named name.now definitions.now }
-{
-    definitions.iter().find(|d| d.value.name == *name)
 }

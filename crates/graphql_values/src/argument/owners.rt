@@ -1,5 +1,5 @@
 ghost use Rattle.std.specs.Prelude.{◌≡◌, IfOk};
-ghost use Rattle.graphql_values.specs.GivenArguments.{argument_coordinate_of, owner_coordinate};
+ghost use Rattle.graphql_values.specs.GivenArguments.{AreOfDirective, AreOfField, argument_coordinate_of, owner_coordinate};
 
 use graphql_documents::diagnostics::ValidationError;
 use graphql_documents::documents::{
@@ -39,15 +39,12 @@ impl ArgumentOwner<'_> {
     {
         match *self {
             ArgumentOwner::Field { parent, field } => {
-                Ok(SchemaCoordinate::TypeAttribute(TypeAttributeCoordinate {
-                    ty: parent.clone()?,
-                    attribute: field.clone()?,
-                }))
+                let coordinate = TypeAttributeCoordinate::new(parent, field)?;
+                Ok(SchemaCoordinate::TypeAttribute(coordinate))
             }
             ArgumentOwner::Directive { application, .. } => {
-                Ok(SchemaCoordinate::Directive(DirectiveCoordinate {
-                    directive: application.clone()?,
-                }))
+                let coordinate = DirectiveCoordinate::new(application)?;
+                Ok(SchemaCoordinate::Directive(coordinate))
             }
         }
     }
@@ -58,37 +55,25 @@ impl ArgumentOwner<'_> {
     {
         match *self {
             ArgumentOwner::Field { parent, field } => {
-                Ok(SchemaCoordinate::FieldArgument(FieldArgumentCoordinate {
-                    ty: parent.clone()?,
-                    field: field.clone()?,
-                    argument: argument.clone()?,
-                }))
+                let coordinate = FieldArgumentCoordinate::new(parent, field, argument)?;
+                Ok(SchemaCoordinate::FieldArgument(coordinate))
             }
-            ArgumentOwner::Directive { definition, .. } => Ok(SchemaCoordinate::DirectiveArgument(
-                DirectiveArgumentCoordinate {
-                    directive: definition.clone()?,
-                    argument: argument.clone()?,
-                },
-            )),
+            ArgumentOwner::Directive { definition, .. } => {
+                let coordinate = DirectiveArgumentCoordinate::new(definition, argument)?;
+                Ok(SchemaCoordinate::DirectiveArgument(coordinate))
+            }
         }
     }
 }
 
 impl<'a> GivenArguments<'a> {
-    ghost use Rattle.graphql_documents.specs.declared.documents.coordinates.SchemaCoordinate.TheVariants as coordinate;
-
     /// The arguments of a field that stands on this type.
     pub fn of_field(
         parent: &'a NamedType,
         field: &'a Node<Field>,
         definition: &'a Component<FieldDefinition>,
     ) -> GivenArguments<'a>
-        ensures coordinate { owner_coordinate result.owner ≡ coordinate.TypeAttribute (record { ty = parent.now; attribute = field.now.value.value.name }) }
-        ensures argument_coordinate { argument_coordinate_of result.owner ≡ (λ argument. coordinate.FieldArgument (record { ty = parent.now; field = field.now.value.value.name; argument = argument })) }
-        ensures location { result.location ≡ field.now.location }
-        ensures given { result.given.now ≡ field.now.value.value.arguments.items }
-        ensures definitions { result.definitions.now ≡ definition.now.node.value.value.arguments.items }
-        ensures definition_location { result.definition_location ≡ definition.now.node.location }
+        ensures { AreOfField parent.now field.now definition.now result }
     {
         GivenArguments {
             owner: ArgumentOwner::Field {
@@ -107,12 +92,7 @@ impl<'a> GivenArguments<'a> {
         directive: &'a Node<Directive>,
         definition: &'a Node<DirectiveDefinition>,
     ) -> GivenArguments<'a>
-        ensures coordinate { owner_coordinate result.owner ≡ coordinate.Directive (record { directive = directive.now.value.value.name }) }
-        ensures argument_coordinate { argument_coordinate_of result.owner ≡ (λ argument. coordinate.DirectiveArgument (record { directive = definition.now.value.value.name; argument = argument })) }
-        ensures location { result.location ≡ directive.now.location }
-        ensures given { result.given.now ≡ directive.now.value.value.arguments.items }
-        ensures definitions { result.definitions.now ≡ definition.now.value.value.arguments.items }
-        ensures definition_location { result.definition_location ≡ definition.now.location }
+        ensures { AreOfDirective directive.now definition.now result }
     {
         GivenArguments {
             owner: ArgumentOwner::Directive {

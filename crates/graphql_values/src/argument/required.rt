@@ -1,13 +1,14 @@
-ghost use Rattle.std.specs.Prelude.{◌≡◌, ◌↔◌, IsTrue, All, Contains};
-ghost use Rattle.std.specs.Option.{option_copied};
-ghost use Rattle.graphql_documents.specs.Arguments.{IsGiven, IsGivenIfRequired, argument_named};
+ghost use Rattle.std.specs.Prelude.{◌↔◌, IsTrue, All, Contains};
+ghost use Rattle.graphql_documents.specs.Arguments.{IsGiven, IsGivenIfRequired};
 ghost use Rattle.graphql_documents.specs.Diagnostics.{IsDiagnostic};
 ghost use Rattle.graphql_documents.specs.Reports.{Checks};
 ghost use Rattle.graphql_values.specs.GivenArguments.{MissingArgumentReport};
 
 use super::owners::GivenArguments;
 use graphql_documents::diagnostics::{Details, DiagnosticData, DiagnosticList, ValidationError};
-use graphql_documents::documents::{Argument, InputValueDefinition, Name, Node, Value};
+use graphql_documents::documents::{
+    Argument, InputValueDefinition, Name, Node, Value, argument_named,
+};
 
 /// Reports each required argument that is not given or is literally null, in order of the
 /// definitions, at the field or directive. The only error is want of memory.
@@ -61,11 +62,4 @@ fn is_given(arguments: &[Node<Argument>], name: &Name) -> bool
         Some(argument) => !matches!(&*argument.value.value.value, Value::Null),
         None => false,
     }
-}
-
-/// The first argument with this name.
-fn argument_named<'a>(arguments: &'a [Node<Argument>], name: &Name) -> Option<&'a Node<Argument>>
-    ensures { option_copied result ≡ argument_named name.now arguments.now }
-{
-    arguments.iter().find(|a| a.value.name == *name)
 }

@@ -1,18 +1,16 @@
-ghost use Rattle.std.specs.Prelude.{◌≡◌, ◌↔◌, ◌||◌, List, Some, IsTrue};
-ghost use Rattle.std.specs.Option.{option_copied};
+ghost use Rattle.std.specs.Prelude.{◌≡◌, ◌↔◌, ◌||◌, Some, IsTrue};
 ghost use Rattle.graphql_documents.specs.InputCoercion.{is_built_in_scalar, is_custom_scalar};
 ghost use Rattle.graphql_documents.specs.Names.{SameName};
 ghost use Rattle.graphql_documents.specs.Schemas.{is_input_type, type_definition};
 ghost use Rattle.graphql_documents.specs.TypeReferences.{inner_named_type, is_list};
-ghost use Rattle.graphql_documents.specs.VariableUsage.{variable_named};
 ghost use Rattle.graphql_documents.specs.declared.documents.schemas.Schema.{Schema};
 ghost use Rattle.graphql_documents.specs.declared.documents.values.Value.TheVariants as literal;
-ghost use Rattle.graphql_values.specs.ValueSteps.{ChecksDefined, ChecksValue, is_plain_literal, takes_every_int, takes_plain};
+ghost use Rattle.graphql_values.specs.ValueSteps.{ChecksDefined, ChecksValue, is_plain_literal, takes_every_int, takes_plain, written_at};
 
 use super::reports::unsupported_type;
 use graphql_documents::diagnostics::{Details, DiagnosticData, DiagnosticList, ValidationError};
 use graphql_documents::documents::{
-    ExtendedType, IntValue, Name, Node, SourceSpan, Type, Value, VariableDefinition,
+    ExtendedType, IntValue, Name, Node, SourceSpan, Type, Value, VariableDefinition, variable_named,
 };
 
 /// Whether the type is a scalar that is not one of those that every schema has.
@@ -54,16 +52,16 @@ pub(super) fn check_null(
     diagnostics: &mut DiagnosticList,
     definition: &ExtendedType,
     ty: &Type,
-    place: Option<SourceSpan>,
+    location: Option<SourceSpan>,
     value: &Node<Value>,
 ) -> Result<(), ValidationError>
     requires { value.now.value.value ≡ literal.Null }
-    ensures { ChecksDefined result definition.now ty.now value.now diagnostics.old diagnostics.new }
+    ensures { ChecksDefined result definition.now (written_at ty.now location) value.now diagnostics.old diagnostics.new }
 {
     if !ty.is_non_null() {
         return Ok(());
     }
-    unsupported_type(diagnostics, definition, ty, place, value)
+    unsupported_type(diagnostics, ty, location, value)
 }
 
 /// Reports an enum value that is not one of the type.
@@ -73,18 +71,18 @@ pub(super) fn check_enum_value(
     diagnostics: &mut DiagnosticList,
     definition: &ExtendedType,
     ty: &Type,
-    place: Option<SourceSpan>,
+    location: Option<SourceSpan>,
     value: &Node<Value>,
     name: &Name,
 ) -> Result<(), ValidationError>
     requires { value.now.value.value ≡ literal.Enum name.now }
-    ensures { ChecksDefined result definition.now ty.now value.now diagnostics.old diagnostics.new }
+    ensures { ChecksDefined result definition.now (written_at ty.now location) value.now diagnostics.old diagnostics.new }
 {
     if is_custom_scalar(definition) {
         return Ok(());
     }
     let ExtendedType::Enum(enum_type) = definition else {
-        return unsupported_type(diagnostics, definition, ty, place, value);
+        return unsupported_type(diagnostics, ty, location, value);
     };
     if enum_type.value.values.contains_key(name) {
         return Ok(());
@@ -108,18 +106,18 @@ pub(super) fn check_int(
     diagnostics: &mut DiagnosticList,
     definition: &ExtendedType,
     ty: &Type,
-    place: Option<SourceSpan>,
+    location: Option<SourceSpan>,
     value: &Node<Value>,
     number: &IntValue,
 ) -> Result<(), ValidationError>
     requires { value.now.value.value ≡ literal.Int number.now }
-    ensures { ChecksDefined result definition.now ty.now value.now diagnostics.old diagnostics.new }
+    ensures { ChecksDefined result definition.now (written_at ty.now location) value.now diagnostics.old diagnostics.new }
 {
     if takes_every_int(definition) {
         return Ok(());
     }
     if !is_built_in_scalar(definition, "Int") {
-        return unsupported_type(diagnostics, definition, ty, place, value);
+        return unsupported_type(diagnostics, ty, location, value);
     }
     if number.try_to_i32().is_some() {
         return Ok(());
@@ -147,16 +145,16 @@ pub(super) fn check_plain(
     diagnostics: &mut DiagnosticList,
     definition: &ExtendedType,
     ty: &Type,
-    place: Option<SourceSpan>,
+    location: Option<SourceSpan>,
     value: &Node<Value>,
 ) -> Result<(), ValidationError>
     requires { IsTrue (is_plain_literal value.now.value.value) }
-    ensures { ChecksDefined result definition.now ty.now value.now diagnostics.old diagnostics.new }
+    ensures { ChecksDefined result definition.now (written_at ty.now location) value.now diagnostics.old diagnostics.new }
 {
     if takes_plain(definition, &value.value) {
         return Ok(());
     }
-    unsupported_type(diagnostics, definition, ty, place, value)
+    unsupported_type(diagnostics, ty, location, value)
 }
 
 /// Whether the type is a scalar that takes this string, float or boolean.
@@ -186,14 +184,14 @@ pub(super) fn check_variable(
     diagnostics: &mut DiagnosticList,
     definition: &ExtendedType,
     ty: &Type,
-    place: Option<SourceSpan>,
+    location: Option<SourceSpan>,
     value: &Node<Value>,
     name: &Name,
     variables: &[Node<VariableDefinition>],
 ) -> Result<(), ValidationError>
     requires { value.now.value.value ≡ literal.Variable name.now }
     ensures { (schema : Schema) → type_definition schema (inner_named_type ty.now) ≡ Some definition.now →
-        ChecksValue result schema variables.now ty.now value.now diagnostics.old diagnostics.new }
+        ChecksValue result schema variables.now (written_at ty.now location) value.now diagnostics.old diagnostics.new }
 {
     let Some(variable) = variable_named(variables, name) else {
         let name = name.clone()?;
@@ -205,7 +203,7 @@ pub(super) fn check_variable(
     if can_stand(definition, ty, &variable.value) {
         return Ok(());
     }
-    unsupported_type(diagnostics, definition, ty, place, value)
+    unsupported_type(diagnostics, ty, location, value)
 }
 
 /// Whether a variable can stand for a type: arguments may have it, and the innermost names are the same.
@@ -215,14 +213,4 @@ fn can_stand(definition: &ExtendedType, ty: &Type, variable: &VariableDefinition
         SameName (inner_named_type variable.now.ty.value.value) (inner_named_type ty.now)) }
 {
     definition.is_input_type() && variable.ty.value.inner_named_type() == ty.inner_named_type()
-}
-
-/// The first variable with this name.
-pub(crate) fn variable_named<'a>(
-    variables: &'a [Node<VariableDefinition>],
-    name: &Name,
-) -> Option<&'a Node<VariableDefinition>>
-    ensures { option_copied result ≡ variable_named name.now variables.now }
-{
-    variables.iter().find(|v| v.value.name == *name)
 }

@@ -1,17 +1,16 @@
-ghost use Rattle.std.specs.Prelude.{◌≡◌, ◌↔◌, List, All, Contains, IsSome, IsFalse, IsTrue, IfOk, find};
+ghost use Rattle.std.specs.Prelude.{◌≡◌, ◌↔◌, List, All, Contains, IsSome, IsFalse, IsTrue, find};
 ghost use Rattle.std.specs.Option.{option_copied};
 ghost use Rattle.graphql_documents.specs.Diagnostics.{IsDiagnostic};
 ghost use Rattle.graphql_documents.specs.InputCoercion.{HasNoNullEntry, IsFieldGiven, IsInputField};
 ghost use Rattle.graphql_documents.specs.Names.{same_name};
 ghost use Rattle.graphql_documents.specs.Reports.{Checks};
 ghost use Rattle.graphql_documents.specs.Schemas.{IsInputObject, is_required};
-ghost use Rattle.graphql_documents.specs.TypeReferences.{inner_named_type};
+ghost use Rattle.graphql_documents.specs.TypeReferences.{TypeReference, inner_named_type};
 ghost use Rattle.graphql_documents.specs.ValueReports.{ValueReport};
 ghost use Rattle.graphql_documents.specs.Values.{entry_named};
 ghost use Rattle.graphql_documents.specs.declared.documents.definitions.VariableDefinition.{VariableDefinition};
 ghost use Rattle.graphql_documents.specs.declared.documents.nodes.Node.{Node};
 ghost use Rattle.graphql_documents.specs.declared.documents.schemas.Schema.{Schema};
-ghost use Rattle.graphql_documents.specs.declared.documents.type_references.Type.{«Type»};
 ghost use Rattle.graphql_values.specs.ValueSteps.{HasEntries};
 
 use graphql_documents::diagnostics::{Details, DiagnosticData, DiagnosticList, ValidationError};
@@ -29,8 +28,8 @@ pub(super) fn check_known_entries(
     entries: &[(Name, Node<Value>)],
 ) -> Result<(), ValidationError>
     requires { HasEntries value.now.value.value entries.now }
-    ensures { (schema : Schema) (variables : List (Node VariableDefinition)) (ty : «Type») →
-        IsInputObject schema (inner_named_type ty) input_object.now →
+    ensures { (schema : Schema) (variables : List (Node VariableDefinition)) (ty : TypeReference) →
+        IsInputObject schema (inner_named_type ty.ty) input_object.now →
         Checks result (All (λ entry. IsInputField input_object.now.value.value entry.0) entries.now)
         (IsDiagnostic (ValueReport schema variables ty value.now)) diagnostics.old diagnostics.new }
 {
@@ -64,15 +63,15 @@ pub(super) fn check_required_field(
 ) -> Result<(), ValidationError>
     requires object { HasEntries value.now.value.value entries.now }
     requires stands { Contains input_object.now.value.value.fields.entries (name.now, field.now) }
-    ensures { (schema : Schema) (variables : List (Node VariableDefinition)) (ty : «Type») →
-        IsInputObject schema (inner_named_type ty) input_object.now →
+    ensures { (schema : Schema) (variables : List (Node VariableDefinition)) (ty : TypeReference) →
+        IsInputObject schema (inner_named_type ty.ty) input_object.now →
         Checks result (IsFieldGiven entries.now (name.now, field.now))
         (IsDiagnostic (ValueReport schema variables ty value.now)) diagnostics.old diagnostics.new }
 {
     if is_satisfied(&field.node.value, entries, name) {
         return Ok(());
     }
-    let coordinate = field_coordinate(&input_object.value, name)?;
+    let coordinate = TypeAttributeCoordinate::new(&input_object.value.name, name)?;
     let reported = name.clone()?;
     let expected_type = field.node.value.ty.clone()?;
     diagnostics.push(
@@ -84,19 +83,6 @@ pub(super) fn check_required_field(
             definition_location: field.node.location,
         }),
     )
-}
-
-/// The coordinate of a field of the input object.
-fn field_coordinate(
-    input_object: &InputObjectType,
-    name: &Name,
-) -> Result<TypeAttributeCoordinate, ValidationError>
-    ensures { IfOk result (λ c. c ≡ record { ty = input_object.now.name; attribute = name.now }) }
-{
-    Ok(TypeAttributeCoordinate {
-        ty: input_object.name.clone()?,
-        attribute: name.clone()?,
-    })
 }
 
 /// Whether the field is not required, or an entry has its name and none that does is null.

@@ -14,11 +14,11 @@ use Rattle.graphql_documents.specs.declared.documents.definitions.InputValueDefi
 use Rattle.graphql_documents.specs.declared.documents.nodes.Node.{Node}
 use Rattle.graphql_documents.specs.declared.documents.values.Value.{Value}
 use Rattle.graphql_documents.specs.Schemas.{IsInputObject, is_input_type, type_definition}
-use Rattle.graphql_documents.specs.TypeReferences.{inner_named_type, is_list}
+use Rattle.graphql_documents.specs.TypeReferences.{inner_named_type, is_list, reference_of}
 use Rattle.graphql_documents.specs.ValueReports.{CannotStandFor, ValueReport}
 use Rattle.graphql_documents.proofs.ReportLemmas.{both, checks-err, done_more, done_next, holds, kept_by, kept_then, kept_wider, stands_next, walked_all, walked_more, wider}
-use Rattle.graphql_values.proofs.WalkLemmas.{same_list, same_object, names_item, names_entry, entry_checked, find_first, find_later, no_list_cannot, no_input_cannot, custom_object_accepted, no_object_cannot, list_checked, object_checked}
-use Rattle.graphql_values.specs.ValueSteps.{AcceptsEntry, AcceptsField, AcceptsItem, EntryReport, ItemReport}
+use Rattle.graphql_values.proofs.WalkLemmas.{names_item, names_entry, entry_checked, find_first, find_later, no_list_cannot, no_input_cannot, custom_object_accepted, no_object_cannot, list_checked, object_checked}
+use Rattle.graphql_values.specs.ValueSteps.{AcceptsEntry, AcceptsField, AcceptsItem, EntryReport, HasEntries, HasItems, ItemReport, written_at}
 use Rattle.graphql_values.proofs.value.+value.Goals as goal
 
 pub check_value-returns-in_default : goal.check_value-returns-in_default
@@ -26,114 +26,115 @@ check_value-returns-in_default t c =
     let missing : type_definition c.args.schema.now (inner_named_type c.args.ty.now) ≡ None = search rules in
     holds _ _ _ (accepts_undefined missing)
 
+pub check_value-check_list-requires : goal.check_value-check_list-requires
+check_value-check_list-requires t c =
+    (search rules, (record { items = c.in-List.items; is_list = sym c.deref.ensures ∙ c.in-List.is; given_is = c.deref-in-List.ensures.value }, search rules))
+
+pub check_value-check_object-requires : goal.check_value-check_object-requires
+check_value-check_object-requires t c =
+    (search rules, (record { entries = c.in-Object.entries; is_object = sym c.deref.ensures ∙ c.in-Object.is; given_is = c.deref-in-Object.ensures.value }, search rules))
+
 pub check_list-returns-then-not-takes_lists : goal.check_list-returns-then-not-takes_lists
-check_list-returns-then-not-takes_lists t c = λ items is_list_value is.
+check_list-returns-then-not-takes_lists t c =
     let none : IsFalse (is_list c.args.ty.now || is_custom_scalar c.args.definition.now) = search rules in
-    c.unsupported_type.ensures c.args.schema.now c.args.variables.now c.args.ty.now is
-    (no_list_cannot c.args.schema.now c.args.variables.now c.args.ty.now c.args.definition.now c.args.value.now.value.value is items is_list_value none)
+    c.unsupported_type.ensures c.args.schema.now c.args.variables.now c.args.ty.now c.args.definition.now c.requires.defined
+    (no_list_cannot c.requires.list none)
 
 pub check_list-returns-then-not-is_input_type : goal.check_list-returns-then-not-is_input_type
-check_list-returns-then-not-is_input_type t c = λ items is_list_value is.
+check_list-returns-then-not-is_input_type t c =
     let takes : IsTrue (is_list c.args.ty.now || is_custom_scalar c.args.definition.now) = search rules in
     let none : IsFalse (is_input_type c.args.definition.now) = search rules in
-    c.unsupported_type-then-not-is_input_type.ensures c.args.schema.now c.args.variables.now c.args.ty.now is
+    c.unsupported_type-then-not-is_input_type.ensures c.args.schema.now c.args.variables.now c.args.ty.now c.args.definition.now c.requires.defined
     (subst (CannotStandFor c.args.variables.now c.args.ty.now c.args.definition.now c.args.value.now.value.value) (sym c.item_type-item_type.ensures)
-    (no_input_cannot c.args.schema.now c.args.variables.now c.args.ty.now c.args.definition.now c.args.value.now.value.value is items is_list_value takes none))
+    (no_input_cannot c.requires.list takes none))
 
 pub check_list-returns : goal.check_list-returns
-check_list-returns t c = λ items is_list_value is.
+check_list-returns t c =
     let takes : IsTrue (is_list c.args.ty.now || is_custom_scalar c.args.definition.now) = search rules in
     let input : IsTrue (is_input_type c.args.definition.now) = search rules in
-    list_checked c.args.schema.now c.args.variables.now c.args.ty.now _ c.args.definition.now c.args.value.now items c.item_type-item_type.result.now _ _ is (takes, input)
-    is_list_value c.item_type-item_type.ensures (c.check_items.ensures items is_list_value)
+    list_checked c.args.schema.now c.args.variables.now (written_at c.args.ty.now c.args.location) c.check_items.result c.args.value.now c.item_type-item_type.result.now _ _
+    c.requires.defined (takes, input) c.requires.list c.item_type-item_type.ensures c.check_items.ensures
 
 pub check_object-returns-then-is_custom_scalar : goal.check_object-returns-then-is_custom_scalar
-check_object-returns-then-is_custom_scalar t c = λ all is_object is.
+check_object-returns-then-is_custom_scalar t c =
     let custom : IsTrue (is_custom_scalar c.args.definition.now) = search rules in
-    holds _ _ _ (custom_object_accepted c.args.schema.now c.args.variables.now c.args.ty.now c.args.definition.now c.args.value.now.value.value is all is_object custom)
+    holds _ _ _ (custom_object_accepted c.requires.defined c.requires.object custom)
 
 pub check_object-returns-in_default : goal.check_object-returns-in_default
-check_object-returns-in_default t c = λ all is_object is.
+check_object-returns-in_default t c =
     let none : IsFalse (is_custom_scalar c.args.definition.now) = search rules in
-    c.unsupported_type.ensures c.args.schema.now c.args.variables.now c.args.ty.now is
-    (no_object_cannot c.args.schema.now c.args.variables.now c.args.ty.now c.args.definition.now c.args.value.now.value.value is all is_object none c.in_default.not-InputObject)
-
-pub check_object-check_known_entries-requires : goal.check_object-check_known_entries-requires
-check_object-check_known_entries-requires t c =
-    record { entries = c.in-Object.entries; is_object = sym c.deref.ensures ∙ c.in-Object.is; given_is = c.deref-2.ensures.value }
-
-pub check_object-check_fields-requires : goal.check_object-check_fields-requires
-check_object-check_fields-requires t c =
-    (search rules, record { entries = c.in-Object.entries; is_object = sym c.deref.ensures ∙ c.in-Object.is; given_is = c.deref-3.ensures.value })
+    c.unsupported_type.ensures c.args.schema.now c.args.variables.now c.args.ty.now c.args.definition.now c.requires.defined
+    (no_object_cannot c.requires.object none c.in_default.not-InputObject)
 
 pub check_object-returns : goal.check_object-returns
-check_object-returns t c = λ all is_object is'.
+check_object-returns t c =
     let o = c.in-InputObject.input_object in
-    let is : IsInputObject c.args.schema.now (inner_named_type c.args.ty.now) o = is' ∙ ap Some c.in-InputObject.is in
-    object_checked c.args.schema.now c.args.variables.now c.args.ty.now o c.args.value.now c.in-Object.entries is (sym c.deref.ensures ∙ c.in-Object.is)
-    _ c.deref-2.result.now c.deref-3.result.now _ _ _ c.deref-2.ensures.value c.deref-3.ensures.value
-    (c.in_ok-check_known_entries.ensures c.args.schema.now c.args.variables.now c.args.ty.now is)
-    (c.check_fields.ensures c.args.ty.now is)
+    let ty = written_at c.args.ty.now c.args.location in
+    let is : IsInputObject c.args.schema.now (inner_named_type c.args.ty.now) o = c.requires.defined ∙ ap Some c.in-InputObject.is in
+    object_checked c.args.schema.now c.args.variables.now ty o c.args.value.now c.args.entries.now is c.requires.object _ _ _ _
+    (c.in_ok-check_known_entries.ensures c.args.schema.now c.args.variables.now ty is)
+    (c.check_fields.ensures ty is)
+
+pub check_object-returns-in_err-check_known_entries : goal.check_object-returns-in_err-check_known_entries
+check_object-returns-in_err-check_known_entries t c =
+    let is : IsInputObject c.args.schema.now (inner_named_type c.args.ty.now) c.in-InputObject.input_object = c.requires.defined ∙ ap Some c.in-InputObject.is in
+    checks-err _ _ _ _ _ c.from_residual.ensures.0
+    (c.in_err-check_known_entries.ensures c.args.schema.now c.args.variables.now (written_at c.args.ty.now c.args.location) is)
 
 pub check_items-returns-in_err-check_value : goal.check_items-returns-in_err-check_value
-check_items-returns-in_err-check_value t c = λ items is.
-    let xs = c.deref-item-items.result.now in
+check_items-returns-in_err-check_value t c =
+    let xs = c.args.items.now in
     let x = c.item-item.result in
-    let same : xs ≡ items.items = c.deref-item-items.ensures.value ∙ ap (λ l. l.items) (same_list c.in-List.items items (sym c.in-List.is ∙ c.deref.ensures ∙ is)) in
     let among : Contains xs x = (c.loop-item.item-index, c.loop-item-test.true, sym c.item-item.is) in
     checks-err _ _ _ _ _ c.from_residual.ensures.0
-    (subst (λ l. KeepsReports (IsDiagnostic (ItemReport c.args.schema.now c.args.variables.now c.args.item_type.now l)) (entries c.args.diagnostics.now) (entries c.check_value.new.diagnostics)) same
     (kept_then _ _ _ _ (kept_by _ _ _ _ c.loop-item.invariant)
-    (kept_wider _ _ _ _ (names_item c.args.schema.now c.args.variables.now c.args.item_type.now xs x among) c.in_err-check_value.ensures)))
+    (kept_wider _ _ _ _ (names_item c.args.schema.now c.args.variables.now (written_at c.args.item_type.now c.args.location) xs x among) c.in_err-check_value.ensures))
 
 pub check_items-loop-item-preserved : goal.check_items-loop-item-preserved
 check_items-loop-item-preserved t c =
-    let xs = c.deref-item-items.result.now in
+    let xs = c.args.items.now in
     let x = c.item-item.result in
+    let ty = written_at c.args.item_type.now c.args.location in
     let among : Contains xs x = (c.loop-item.item-index, c.loop-item-test.true, sym c.item-item.is) in
     walked_more (AcceptsItem c.args.schema.now c.args.variables.now c.args.item_type.now)
-    (IsDiagnostic (ItemReport c.args.schema.now c.args.variables.now c.args.item_type.now xs)) xs c.loop-item.item-index x _ _ _
+    (IsDiagnostic (ItemReport c.args.schema.now c.args.variables.now ty xs)) xs c.loop-item.item-index x _ _ _
     c.loop-item-test.true c.item-item.is c.loop-item.invariant
-    (wider _ _ _ _ _ (names_item c.args.schema.now c.args.variables.now c.args.item_type.now xs x among) c.in_ok-check_value.ensures)
+    (wider _ _ _ _ _ (names_item c.args.schema.now c.args.variables.now ty xs x among) c.in_ok-check_value.ensures)
 
-pub check_items-returns-after-loop-item : goal.check_items-returns-after-loop-item
-check_items-returns-after-loop-item t c = λ items is.
-    let P = AcceptsItem c.args.schema.now c.args.variables.now c.args.item_type.now in
-    let xs = c.deref-item-items.result.now in
-    let same : xs ≡ items.items = c.deref-item-items.ensures.value ∙ ap (λ l. l.items) (same_list c.in-List.items items (sym c.in-List.is ∙ c.deref.ensures ∙ is)) in
-    subst (λ l. Reports (All P l) (IsDiagnostic (ItemReport c.args.schema.now c.args.variables.now c.args.item_type.now l)) (entries c.args.diagnostics.now) (entries c.loop-item.diagnostics)) same
-    (walked_all P (IsDiagnostic (ItemReport c.args.schema.now c.args.variables.now c.args.item_type.now xs)) xs c.loop-item.item-index xs _ _ refl
-    c.loop-item-test.false c.loop-item.invariant)
+pub check_items-returns : goal.check_items-returns
+check_items-returns t c =
+    let xs = c.args.items.now in
+    walked_all (AcceptsItem c.args.schema.now c.args.variables.now c.args.item_type.now)
+    (IsDiagnostic (ItemReport c.args.schema.now c.args.variables.now (written_at c.args.item_type.now c.args.location) xs)) xs c.loop-item.item-index xs _ _ refl
+    c.loop-item-test.false c.loop-item.invariant
 
 pub check_entry-returns-then-eq : goal.check_entry-returns-then-eq
-check_entry-returns-then-eq t c = λ all is.
-    let xs = c.deref-key-items.result.now in
+check_entry-returns-then-eq t c =
+    let xs = c.args.entries.now in
     let x = c.loop-key-item.result in
-    let same : xs ≡ all.items = c.deref-key-items.ensures.value ∙ ap (λ l. l.items) (same_object c.in-Object.entries all (sym c.in-Object.is ∙ c.deref-2.ensures ∙ is)) in
     let named : same_name x.0 c.args.name.now ≡ true = sym c.eq.ensures ∙ c.if-eq.true in
-    let found : entry_named c.args.name.now all.items ≡ Some x.1 =
-    ap (entry_named c.args.name.now) (sym same) ∙
+    let found : entry_named c.args.name.now xs ≡ Some x.1 =
     ap (option_map (λ (e : NameText × Node Value). e.1)) (find_first (λ e. same_name e.0 c.args.name.now) xs c.loop-key.key-index x c.loop-key-test.true c.loop-key-item.is c.loop-key.invariant.missed named) in
-    let ty_is : c.deref-then-eq.result.now ≡ c.args.field.now.node.value.value.ty.value.value = c.deref-then-eq.ensures ∙ ap (λ f. f.ty.value.value) c.deref.ensures in
-    entry_checked _ c.args.schema.now c.args.variables.now all.items (c.args.name.now, c.args.field.now) x.1 c.deref-then-eq.result.now _ _ _
+    let ty_is : written_at c.deref-then-eq.result.now c.deref.result.now.ty.location ≡ reference_of c.args.field.now.node.value.value.ty =
+    ap (λ t. written_at t c.deref.result.now.ty.location) c.deref-then-eq.ensures ∙ ap (λ (d : InputValueDefinition). reference_of d.ty) c.deref.ensures in
+    entry_checked _ c.args.schema.now c.args.variables.now xs (c.args.name.now, c.args.field.now) x.1 _ _ _ _
     found ty_is c.loop-key.invariant.unchanged c.check_value.ensures
 
 pub check_entry-loop-key-preserved : goal.check_entry-loop-key-preserved
 check_entry-loop-key-preserved t c = record {
   unchanged = c.loop-key.invariant.unchanged;
-  missed = find_later (λ (e : NameText × Node Value). same_name e.0 c.args.name.now) c.deref-key-items.result.now c.loop-key.key-index c.loop-key-item.result
+  missed = find_later (λ (e : NameText × Node Value). same_name e.0 c.args.name.now) c.args.entries.now c.loop-key.key-index c.loop-key-item.result
       c.loop-key-test.true c.loop-key-item.is c.loop-key.invariant.missed (sym c.eq.ensures ∙ c.if-eq.false);
 }
 
-pub check_entry-returns-after-loop-key : goal.check_entry-returns-after-loop-key
-check_entry-returns-after-loop-key t c = λ all is.
-    let xs = c.deref-key-items.result.now in
-    let same : xs ≡ all.items = c.deref-key-items.ensures.value ∙ ap (λ l. l.items) (same_object c.in-Object.entries all (sym c.in-Object.is ∙ c.deref-2.ensures ∙ is)) in
-    let missed : entry_named c.args.name.now all.items ≡ None =
-    ap (entry_named c.args.name.now) (sym same ∙ sym (take_all c.loop-key.key-index xs c.loop-key-test.false)) ∙
+pub check_entry-returns : goal.check_entry-returns
+check_entry-returns t c =
+    let xs = c.args.entries.now in
+    let missed : entry_named c.args.name.now xs ≡ None =
+    ap (entry_named c.args.name.now) (sym (take_all c.loop-key.key-index xs c.loop-key-test.false)) ∙
     ap (option_map (λ (e : NameText × Node Value). e.1)) c.loop-key.invariant.missed in
-    subst (λ l. Reports (AcceptsEntry c.args.schema.now c.args.variables.now all.items (c.args.name.now, c.args.field.now))
-    (IsDiagnostic (EntryReport c.args.schema.now c.args.variables.now all.items (c.args.name.now, c.args.field.now))) (entries c.args.diagnostics.now) l)
+    subst (λ l. Reports (AcceptsEntry c.args.schema.now c.args.variables.now xs (c.args.name.now, c.args.field.now))
+    (IsDiagnostic (EntryReport c.args.schema.now c.args.variables.now xs (c.args.name.now, c.args.field.now))) (entries c.args.diagnostics.now) l)
     (sym c.loop-key.invariant.unchanged)
     (holds _ _ _ (λ value found. absurd (none-some value (sym missed ∙ found))))
 
@@ -171,10 +172,8 @@ check_fields-loop-name-preserved t c =
           let Q = IsDiagnostic (ValueReport c.args.schema.now c.args.variables.now ty c.args.value.now) in
           let entry_holds : Reports (AcceptsEntry c.args.schema.now c.args.variables.now c.args.entries.now x) Q
           (entries c.check_required_field.new.diagnostics) (entries c.check_entry.new.diagnostics) =
-          subst (λ l. Reports (AcceptsEntry c.args.schema.now c.args.variables.now l x) Q (entries c.check_required_field.new.diagnostics) (entries c.check_entry.new.diagnostics))
-          (sym c.requires.given_is)
-          (wider _ _ _ _ _ (names_entry c.args.schema.now c.args.variables.now ty c.args.input_object.now c.args.value.now c.requires.entries is c.requires.is_object x among)
-          (c.in_ok-check_entry.ensures c.requires.entries c.requires.is_object)) in
+          wider _ _ _ _ _ (names_entry c.args.schema.now c.args.variables.now ty c.args.input_object.now c.args.value.now c.args.entries.now is c.requires x among)
+          c.in_ok-check_entry.ensures in
           done_more (AcceptsField c.args.schema.now c.args.variables.now c.args.entries.now) Q c.loop-name.invariant.done x _ _ _ (c.loop-name.invariant.checked ty is)
           (both _ _ _ _ _ _ (c.in_ok-check_required_field.ensures c.args.schema.now c.args.variables.now ty is) entry_holds);
     }
@@ -188,8 +187,8 @@ check_fields-returns-in_err-check_entry t c = λ ty is.
     checks-err _ _ _ _ _ c.from_residual-in_err-check_entry.ensures.0
     (kept_then _ _ _ _ (kept_by _ _ _ _ (both _ _ _ _ _ _ (c.loop-name.invariant.checked ty is)
     (c.in_ok-check_required_field.ensures c.args.schema.now c.args.variables.now ty is)))
-    (kept_wider _ _ _ _ (names_entry c.args.schema.now c.args.variables.now ty c.args.input_object.now c.args.value.now c.requires.entries is c.requires.is_object x among)
-    (c.in_err-check_entry.ensures c.requires.entries c.requires.is_object)))
+    (kept_wider _ _ _ _ (names_entry c.args.schema.now c.args.variables.now ty c.args.input_object.now c.args.value.now c.args.entries.now is c.requires x among)
+    c.in_err-check_entry.ensures))
 
 pub check_fields-returns : goal.check_fields-returns
 check_fields-returns t c = λ ty is.

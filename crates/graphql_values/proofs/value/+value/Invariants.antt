@@ -1,22 +1,40 @@
-use Rattle.std.proofs.Common.{◌≡◌, List, ◌++◌, None, All, find, take}
+use Rattle.std.proofs.Common.{◌≡◌, ◌+◌, ◌*◌, List, ◌++◌, None, All, find, take}
 use Rattle.graphql_documents.specs.Diagnostics.{IsDiagnostic, entries}
 use Rattle.graphql_documents.specs.Names.{NameText, same_name}
 use Rattle.graphql_documents.specs.Reports.{Reports}
 use Rattle.graphql_documents.specs.Schemas.{IsInputObject}
-use Rattle.graphql_documents.specs.TypeReferences.{inner_named_type}
+use Rattle.graphql_documents.specs.TypeReferences.{TypeReference, inner_named_type}
 use Rattle.graphql_documents.specs.ValueReports.{ValueReport}
 use Rattle.graphql_documents.specs.declared.documents.components.Component.{Component}
 use Rattle.graphql_documents.specs.declared.documents.definitions.InputValueDefinition.{InputValueDefinition}
 use Rattle.graphql_documents.specs.declared.documents.nodes.Node.{Node}
-use Rattle.graphql_documents.specs.declared.documents.type_references.Type.{«Type»}
 use Rattle.graphql_documents.specs.declared.documents.values.Value.{Value}
-use Rattle.graphql_values.specs.ValueSteps.{AcceptsField, AcceptsItem, ItemReport}
+use Rattle.graphql_values.specs.ValueSteps.{AcceptsField, AcceptsItem, ItemReport, written_at}
 use Rattle.graphql_values.proofs.value.+value.Given as goal
+
+-- the items and the entries of a value are less deep than it is
+abbrev pub decreases-check_value : goal.decreases-check_value
+decreases-check_value l = 4 * goal.size-check_value l + 3
+
+abbrev pub decreases-check_list : goal.decreases-check_list
+decreases-check_list l = 4 * goal.size-check_list l + 2
+
+abbrev pub decreases-check_object : goal.decreases-check_object
+decreases-check_object l = 4 * goal.size-check_object l + 2
+
+abbrev pub decreases-check_items : goal.decreases-check_items
+decreases-check_items l = 4 * goal.size-check_items l + 4
+
+abbrev pub decreases-check_fields : goal.decreases-check_fields
+decreases-check_fields l = 4 * goal.size-check_fields l + 1
+
+abbrev pub decreases-check_entry : goal.decreases-check_entry
+decreases-check_entry l = 4 * goal.size-check_entry l + 4
 
 abbrev pub invariant-check_entry-loop-key : goal.invariant-check_entry-loop-key
 invariant-check_entry-loop-key l = record {
   unchanged : entries l.diagnostics ≡ entries l.initial.diagnostics;
-  missed : find (λ (entry : NameText × Node Value). same_name entry.0 l.fn.name) (take l.key-index l.key-items) ≡ None;
+  missed : find (λ (entry : NameText × Node Value). same_name entry.0 l.fn.name) (take l.key-index l.entries) ≡ None;
 }
 
 abbrev pub invariant-check_fields-loop-name : goal.invariant-check_fields-loop-name
@@ -25,12 +43,12 @@ invariant-check_fields-loop-name l = record {
   is_finite : (goal.iterator-check_fields-loop-name).is_finite l.name-iterator;
   done : List (NameText × Component InputValueDefinition);
   all : l.input_object.value.value.fields.entries ≡ done ++ l.name-iterator;
-  checked : (ty : «Type») → IsInputObject l.schema (inner_named_type ty) l.input_object →
+  checked : (ty : TypeReference) → IsInputObject l.schema (inner_named_type ty.ty) l.input_object →
       Reports (All (AcceptsField l.schema l.variables l.entries) done)
       (IsDiagnostic (ValueReport l.schema l.variables ty l.value)) (entries l.initial.diagnostics) (entries l.diagnostics);
 }
 
 abbrev pub invariant-check_items-loop-item : goal.invariant-check_items-loop-item
 invariant-check_items-loop-item l =
-    Reports (All (AcceptsItem l.schema l.variables l.item_type) (take l.item-index l.item-items))
-    (IsDiagnostic (ItemReport l.schema l.variables l.item_type l.item-items)) (entries l.initial.diagnostics) (entries l.diagnostics)
+    Reports (All (AcceptsItem l.schema l.variables l.item_type) (take l.item-index l.items))
+    (IsDiagnostic (ItemReport l.schema l.variables (written_at l.item_type l.location) l.items)) (entries l.initial.diagnostics) (entries l.diagnostics)

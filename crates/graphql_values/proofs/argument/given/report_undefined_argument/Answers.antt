@@ -1,11 +1,12 @@
 use Rattle.std.proofs.Common.{refl, rules}
 use Rattle.graphql_documents.proofs.ReportLemmas.{checks-push}
+use Rattle.graphql_values.specs.GivenArguments.{of_unknown_argument}
 use Rattle.graphql_values.proofs.argument.given.report_undefined_argument.Goals as goal
 
 pub returns : goal.returns
-returns c =
+returns c = λ schema variables.
     checks-push _ _ _ _ _ _ c.push.ensures.ok c.push.ensures.err (λ x. x)
-    (λ schema variables. record {
+    (of_unknown_argument (record {
       argument = c.args.argument.now;
       is_given = c.requires.given;
       undefined = c.requires.undefined;
@@ -13,4 +14,4 @@ returns c =
       coordinate_is = search rules;
       definition_location_is = refl;
       at_is = refl;
-    })
+    }))

@@ -10,13 +10,13 @@ pub returns-in_default : goal.returns-in_default
 returns-in_default c =
     let undefined : ¬ IsDefined c.args.arguments.now.definitions.now c.args.argument.now = search rules in
     checks_words c.report_undefined_argument.result _ _ _ _ _ _ (λ x. absurd x, λ h. absurd (undefined h.defined))
-    (λ e said. said c.args.schema.now c.args.variables.now) c.report_undefined_argument.ensures
+    (λ e said. said) (c.report_undefined_argument.ensures c.args.schema.now c.args.variables.now)
 
 pub returns-in_err-validate_variable_usage : goal.returns-in_err-validate_variable_usage
 returns-in_err-validate_variable_usage c =
-    let found : definition_named c.args.argument.now.value.value.name c.args.arguments.now.definitions.now ≡ Some c.in-Some.place.now = search rules in
+    let found : definition_named c.args.argument.now.value.value.name c.args.arguments.now.definitions.now ≡ Some c.in-Some.definition.now = search rules in
     checks-err _ _ _ _ _ c.from_residual.ensures.0
-    (kept_wider _ _ _ _ (names_misuse c.args.schema.now c.args.variables.now c.args.arguments.now c.args.argument.now c.in-Some.place.now c.requires found)
+    (kept_wider _ _ _ _ (names_misuse c.args.schema.now c.args.variables.now c.args.arguments.now c.args.argument.now c.in-Some.definition.now c.requires found)
     c.in_err-validate_variable_usage.ensures.checks)
 
 pub returns-in_err-validate_values : goal.returns-in_err-validate_values
@@ -25,7 +25,7 @@ returns-in_err-validate_values c =
     let variables = c.args.variables.now in
     let arguments = c.args.arguments.now in
     let a = c.args.argument.now in
-    let d = c.in-Some.place.now in
+    let d = c.in-Some.definition.now in
     let found : definition_named a.value.value.name arguments.definitions.now ≡ Some d = search rules in
     checks-err _ _ _ _ _ c.from_residual-in_err-validate_values.ensures.0
     (kept_then _ _ _ _
@@ -38,7 +38,7 @@ returns-in_ok-validate_values c =
     let variables = c.args.variables.now in
     let arguments = c.args.arguments.now in
     let a = c.args.argument.now in
-    let d = c.in-Some.place.now in
+    let d = c.in-Some.definition.now in
     let found : definition_named a.value.value.name arguments.definitions.now ≡ Some d = search rules in
     in_words _ _ _ _ _ (given_decides schema variables arguments a d c.requires found _ c.deref-then-branch.ensures)
     (both _ _ _ _ _ _
@@ -51,7 +51,7 @@ returns-else-branch c =
     let variables = c.args.variables.now in
     let arguments = c.args.arguments.now in
     let a = c.args.argument.now in
-    let d = c.in-Some.place.now in
+    let d = c.in-Some.definition.now in
     let found : definition_named a.value.value.name arguments.definitions.now ≡ Some d = search rules in
     let disallowed : ¬ UsageHolds variables d.value.value a.value.value.value.value.value = search rules in
     in_words _ _ _ _ _ (λ allowed. absurd (disallowed allowed), usage_needed schema variables arguments a d c.requires found)

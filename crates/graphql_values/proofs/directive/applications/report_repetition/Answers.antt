@@ -1,5 +1,6 @@
 use Rattle.std.proofs.Common.{refl, rules}
 use Rattle.graphql_documents.proofs.ReportLemmas.{checks-err, checks-push, kept}
+use Rattle.graphql_documents.specs.DirectiveReports.{of_repeated_directive}
 use Rattle.graphql_values.proofs.directive.applications.report_repetition.Goals as goal
 
 pub returns-in_err-name : goal.returns-in_err-name
@@ -9,7 +10,7 @@ returns-in_err-name c = λ schema before first found place not_repeatable after 
 pub returns : goal.returns
 returns c = λ schema before first found place not_repeatable after variables location.
     checks-push _ _ _ _ _ _ c.push.ensures.ok c.push.ensures.err (λ holds. not_repeatable (holds first found))
-    (record {
+    (of_repeated_directive (record {
       before = before;
       first = first;
       again = c.args.directive.now;
@@ -20,4 +21,4 @@ returns c = λ schema before first found place not_repeatable after variables lo
       name_is = search rules;
       original_is = place;
       at_is = search rules;
-    })
+    }))

@@ -14,19 +14,17 @@ returns-in_err-check_location c = λ directives among.
 pub returns-in_err-validate_given_arguments : goal.returns-in_err-validate_given_arguments
 returns-in_err-validate_given_arguments c = λ directives among.
     let arguments = c.of_directive-arguments.result in
-    let is = c.of_directive-arguments.ensures in
     let Q = IsDiagnostic (DirectivesBreak (Some c.args.schema.now) c.args.variables.now c.args.location directives) in
     checks-err _ _ _ _ _ c.from_residual-in_err-validate_given_arguments.ensures.0
     (kept_then _ _ _ _ (kept_by _ _ _ _ (c.in_ok-check_location.ensures c.args.schema.now c.args.variables.now c.requires directives among))
     (kept_wider (IsDiagnostic (GivenArgumentReport c.args.schema.now c.args.variables.now arguments)) Q _ _
     (names_given c.args.schema.now c.args.variables.now c.args.location c.args.directive.now c.args.definition.now c.requires directives among
-    arguments is.given is.definitions is.coordinate is.definition_location)
+    arguments c.of_directive-arguments.ensures)
     c.in_err-validate_given_arguments.ensures))
 
 pub returns : goal.returns
 returns c = λ directives among.
     let arguments = c.of_directive-arguments.result in
-    let is = c.of_directive-arguments.ensures in
     let given = c.args.directive.now.value.value.arguments.items in
     let definitions = c.args.definition.now.value.value.arguments.items in
     let Q = IsDiagnostic (DirectivesBreak (Some c.args.schema.now) c.args.variables.now c.args.location directives) in
@@ -36,5 +34,5 @@ returns c = λ directives among.
     checks_words _ (L × (G × R)) (L × G × R) Q Q _ _ (λ p. (p.0, p.1.0, p.1.1), λ p. (p.0, (p.1, p.2))) (λ e q. q)
     (checks_after _ L (G × R) Q _ _ _ (c.in_ok-check_location.ensures c.args.schema.now c.args.variables.now c.requires directives among)
     (arguments_checked c.args.schema.now c.args.variables.now c.args.location c.args.directive.now c.args.definition.now c.requires directives among
-    arguments is.given is.definitions _ _ _ _ is.coordinate is.argument_coordinate is.location is.definition_location
+    arguments c.of_directive-arguments.ensures _ _ _ _
     c.in_ok-validate_given_arguments.ensures c.validate_required_arguments.ensures))

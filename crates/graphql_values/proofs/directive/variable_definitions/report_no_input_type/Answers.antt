@@ -1,12 +1,12 @@
 use Rattle.std.proofs.Common.{refl, rules}
-use Rattle.graphql_documents.specs.VariableReports.{of_variable}
+use Rattle.graphql_documents.specs.VariableReports.{of_no_input_type, of_variable}
 use Rattle.graphql_documents.proofs.ReportLemmas.{checks-push}
 use Rattle.graphql_values.proofs.directive.variable_definitions.report_no_input_type.Goals as goal
 
 pub returns : goal.returns
 returns c = λ schema defined variables among.
     checks-push _ _ _ _ _ _ c.push.ensures.ok c.push.ensures.err (λ no. no)
-    (of_variable among (record {
+    (of_variable among (of_no_input_type (record {
       against = schema;
       definition = c.args.definition.now;
       has_schema = refl;
@@ -16,4 +16,4 @@ returns c = λ schema defined variables among.
       type_is = record { same_value = search rules; same_location = search rules };
       describe_is = search rules;
       at_is = search rules;
-    }))
+    })))

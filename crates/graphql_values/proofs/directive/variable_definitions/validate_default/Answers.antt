@@ -2,6 +2,7 @@ use Rattle.std.proofs.Common.{◌≡◌, [], Some, None, refl, rules, ap, sym, �
 use Rattle.std.proofs.lemmas.Option.{none-some, same_Some}
 use Rattle.graphql_documents.specs.Diagnostics.{IsDiagnostic}
 use Rattle.graphql_documents.specs.InputCoercion.{Accepts}
+use Rattle.graphql_documents.specs.TypeReferences.{reference_of}
 use Rattle.graphql_documents.specs.ValueReports.{ValueReport}
 use Rattle.graphql_documents.specs.VariableReports.{VariablesReport}
 use Rattle.graphql_documents.specs.Variables.{DefaultHolds}
@@ -16,7 +17,7 @@ returns-in-Some c = λ variables among.
     let schema = c.args.schema.now in
     let is_default : v.value.value.default_value ≡ Some value = sym (ap (λ x. x.default_value) c.deref.ensures) ∙ c.in-Some.is in
     checks_words c.value_of_correct_type.result (Accepts schema [] v.value.value.ty.value.value value.value.value) (DefaultHolds schema v.value.value)
-    (IsDiagnostic (ValueReport schema [] v.value.value.ty.value.value value)) (IsDiagnostic (VariablesReport (Some schema) variables)) _ _ (
+    (IsDiagnostic (ValueReport schema [] (reference_of v.value.value.ty) value)) (IsDiagnostic (VariablesReport (Some schema) variables)) _ _ (
       λ h other is. subst (λ x. Accepts schema [] v.value.value.ty.value.value x.value.value) (same_Some value other (sym is_default ∙ is)) h,
       λ h. h value is_default,
     )

@@ -4,6 +4,7 @@ use Rattle.graphql_documents.proofs.ReportLemmas.{holds, checks-push}
 use Rattle.graphql_documents.specs.Names.{same_name}
 use Rattle.graphql_documents.specs.ValueReports.{within_itself}
 use Rattle.graphql_values.proofs.LeafLemmas.{custom_enum_accepted, enum_cannot, known_enum_accepted, unknown_enum_refused}
+use Rattle.graphql_values.specs.ValueSteps.{written_at}
 use Rattle.graphql_values.proofs.value.leaves.check_enum_value.Goals as goal
 
 pub returns-then-is_custom_scalar : goal.returns-then-is_custom_scalar
@@ -12,7 +13,7 @@ returns-then-is_custom_scalar c = λ schema variables is.
 
 pub returns-in_default : goal.returns-in_default
 returns-in_default c = λ schema variables is.
-    c.unsupported_type.ensures schema variables c.args.ty.now is
+    c.unsupported_type.ensures schema variables c.args.ty.now c.args.definition.now is
     (enum_cannot schema variables c.args.ty.now c.args.definition.now _ is c.args.name.now c.requires (search rules) c.in_default.not-Enum)
 
 pub returns-then-contains_key : goal.returns-then-contains_key
@@ -27,7 +28,7 @@ returns c = λ schema variables is.
     checks-push _ _ _ _ _ _ c.push.ensures.ok c.push.ensures.err
     (unknown_enum_refused schema variables c.args.ty.now c.args.definition.now _ is c.args.name.now t c.requires c.in-Enum.is unknown)
     (record {
-      inner_ty = c.args.ty.now;
+      inner_ty = written_at c.args.ty.now c.args.location;
       inner = c.args.value.now;
       lies = within_itself;
       broken = record {

@@ -4,7 +4,7 @@ use Rattle.graphql_documents.specs.InputCoercion.{is_built_in_scalar}
 use Rattle.graphql_documents.specs.Numbers.{FitsInt, integer_value}
 use Rattle.graphql_documents.specs.ValueReports.{within_itself}
 use Rattle.graphql_values.proofs.LeafLemmas.{every_int_accepted, int_cannot, small_int_accepted, large_int_refused}
-use Rattle.graphql_values.specs.ValueSteps.{takes_every_int}
+use Rattle.graphql_values.specs.ValueSteps.{takes_every_int, written_at}
 use Rattle.graphql_values.proofs.value.leaves.check_int.Goals as goal
 
 pub returns-then-takes_every_int : goal.returns-then-takes_every_int
@@ -15,7 +15,7 @@ pub returns-then-not-is_built_in_scalar : goal.returns-then-not-is_built_in_scal
 returns-then-not-is_built_in_scalar c = λ schema variables is.
     let other : IsFalse (is_built_in_scalar (codes "Int") c.args.definition.now) = search rules in
     let some : IsFalse (takes_every_int c.args.definition.now) = search rules in
-    c.unsupported_type.ensures schema variables c.args.ty.now is
+    c.unsupported_type.ensures schema variables c.args.ty.now c.args.definition.now is
     (int_cannot schema variables c.args.ty.now c.args.definition.now _ is c.args.number.now c.requires some other)
 
 pub returns-then-is_some : goal.returns-then-is_some
@@ -33,7 +33,7 @@ returns c = λ schema variables is.
     checks-push _ _ _ _ _ _ c.push.ensures.ok c.push.ensures.err
     (large_int_refused schema variables c.args.ty.now c.args.definition.now _ is c.args.number.now c.requires some large)
     (record {
-      inner_ty = c.args.ty.now;
+      inner_ty = written_at c.args.ty.now c.args.location;
       inner = c.args.value.now;
       lies = within_itself;
       broken = record {

@@ -9,5 +9,5 @@ returns-then-not-is_non_null c = λ schema variables is.
 
 pub returns : goal.returns
 returns c = λ schema variables is.
-    c.unsupported_type.ensures schema variables c.args.ty.now is
+    c.unsupported_type.ensures schema variables c.args.ty.now c.args.definition.now is
     (null_cannot schema variables c.args.ty.now c.args.definition.now _ is c.requires (search rules))

@@ -8,6 +8,7 @@ use Rattle.graphql_documents.specs.ValueReports.{within_itself}
 use Rattle.graphql_documents.specs.VariableUsage.{variable_named}
 use Rattle.graphql_values.proofs.AcceptsLemmas.{variable_refused}
 use Rattle.graphql_values.proofs.LeafLemmas.{variable_accepted, variable_cannot}
+use Rattle.graphql_values.specs.ValueSteps.{written_at}
 use Rattle.graphql_values.proofs.value.leaves.check_variable.Goals as goal
 
 pub returns-in_default : goal.returns-in_default
@@ -17,7 +18,7 @@ returns-in_default c = λ schema is.
     (λ h. variable_refused schema c.args.variables.now c.args.ty.now c.args.definition.now is c.args.name.now missing
     (subst (Accepts schema c.args.variables.now c.args.ty.now) c.requires h))
     (record {
-      inner_ty = c.args.ty.now;
+      inner_ty = written_at c.args.ty.now c.args.location;
       inner = c.args.value.now;
       lies = within_itself;
       broken = record {
@@ -43,5 +44,5 @@ returns c = λ schema is.
     let named : variable_named c.args.name.now c.args.variables.now ≡ Some w = search rules in
     let other : ¬ (IsTrue (is_input_type c.args.definition.now) × SameName (inner_named_type w.value.value.ty.value.value) (inner_named_type c.args.ty.now)) =
     search rules in
-    c.unsupported_type.ensures schema c.args.variables.now c.args.ty.now is
+    c.unsupported_type.ensures schema c.args.variables.now c.args.ty.now c.args.definition.now is
     (variable_cannot schema c.args.variables.now c.args.ty.now c.args.definition.now _ is c.args.name.now w c.requires named other)

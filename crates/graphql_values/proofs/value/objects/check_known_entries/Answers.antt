@@ -21,7 +21,7 @@ returns-then-not-contains_key c = λ schema variables ty is.
       inner_ty = ty;
       inner = c.args.value.now;
       lies = within_itself;
-      broken = unknown_entry o given i entry c.loop-name-test.true c.loop-name-item.is unknown schema ty c.args.value.now is c.requires
+      broken = unknown_entry o given i entry c.loop-name-test.true c.loop-name-item.is unknown schema ty.ty c.args.value.now is c.requires
           c.loop-name.invariant.known _ _ (search rules) (search rules);
     })
 

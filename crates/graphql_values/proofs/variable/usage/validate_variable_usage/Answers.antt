@@ -14,7 +14,7 @@ pub returns-in_ok-report_usage-in-Some-clause-checks : goal.returns-in_ok-report
 returns-in_ok-report_usage-in-Some-clause-checks c =
     let is : IsVariable c.args.variables.now c.args.argument.now.value.value.value.value.value c.in-Some.variable.now =
     (c.in-Variable.name, search rules, search rules) in
-    let disallowed : ¬ IsUsageAllowed c.in-Some.variable.now.value.value c.args.place.now.value.value = search rules in
+    let disallowed : ¬ IsUsageAllowed c.in-Some.variable.now.value.value c.args.definition.now.value.value = search rules in
     in_words _ _ _ _ _ (λ no. absurd no, λ h. disallowed (h c.in-Some.variable.now is))
     (c.in_ok-report_usage-in-Some.ensures c.args.variables.now is)
 
@@ -22,5 +22,5 @@ pub returns-in_default-variable_named-clause-checks : goal.returns-in_default-va
 returns-in_default-variable_named-clause-checks c =
     let is : IsVariable c.args.variables.now c.args.argument.now.value.value.value.value.value c.in-Some.variable.now =
     (c.in-Variable.name, search rules, search rules) in
-    let allowed : IsUsageAllowed c.in-Some.variable.now.value.value c.args.place.now.value.value = search rules in
-    holds _ _ _ (only_variable c.args.variables.now c.args.argument.now.value.value.value.value.value c.in-Some.variable.now is c.args.place.now.value.value allowed)
+    let allowed : IsUsageAllowed c.in-Some.variable.now.value.value c.args.definition.now.value.value = search rules in
+    holds _ _ _ (only_variable c.args.variables.now c.args.argument.now.value.value.value.value.value c.in-Some.variable.now is c.args.definition.now.value.value allowed)
