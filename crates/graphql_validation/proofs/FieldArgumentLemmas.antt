@@ -2,49 +2,32 @@
 use Rattle.std.proofs.Common.{◌≡◌, ◌↔◌, List, [], Some, Result, refl, All}
 use Rattle.std.specs.Prelude.{Option}
 use mathlib.Core.Logic.{inl, inr}
-use Rattle.graphql_documents.specs.ArgumentReports.{LacksArgument, MissesArgument}
 use Rattle.graphql_documents.specs.Arguments.{IsGivenIfRequired}
 use Rattle.graphql_documents.specs.Diagnostics.{IsDiagnostic}
-use Rattle.graphql_documents.specs.DirectiveReports.{ArgumentValuesBreak}
 use Rattle.graphql_documents.specs.Names.{NameText}
 use Rattle.graphql_documents.specs.Reports.{Reports}
 use Rattle.graphql_documents.specs.Selections.{definition_at}
 use Rattle.graphql_documents.proofs.DiagnosticLemmas.{diagnostic_wider}
 use Rattle.graphql_documents.proofs.ReportLemmas.{checks_after, checks_words, ChecksList, wider}
-use Rattle.graphql_documents.specs.declared.diagnostics.data.DiagnosticData.TheVariants as report
 use Rattle.graphql_documents.specs.declared.diagnostics.data.DiagnosticData.{DiagnosticData}
 use Rattle.graphql_documents.specs.declared.diagnostics.lists.DiagnosticEntry.{DiagnosticEntry}
 use Rattle.graphql_documents.specs.declared.documents.components.Component.{Component}
-use Rattle.graphql_documents.specs.declared.documents.coordinates.SchemaCoordinate.TheVariants as coordinate
 use Rattle.graphql_documents.specs.declared.documents.definitions.FieldDefinition.{FieldDefinition}
 use Rattle.graphql_documents.specs.declared.documents.executables.Field.{Field}
 use Rattle.graphql_documents.specs.declared.documents.nodes.Node.{Node}
 use Rattle.graphql_documents.specs.declared.documents.schemas.Schema.{Schema}
 use Rattle.graphql_documents.specs.declared.documents.spans.SourceSpan.{SourceSpan}
-use Rattle.graphql_values.specs.GivenArguments.{GivenArgumentHolds, GivenArgumentReport, MissingArgumentReport, argument_coordinate_of, owner_coordinate}
+use Rattle.graphql_values.specs.GivenArguments.{AreOfField, GivenArgumentHolds, GivenArgumentReport, MissingArgumentReport, of_argument_values, of_missing_argument, of_unknown_argument}
 use Rattle.graphql_values.specs.declared.argument.owners.GivenArguments.{GivenArguments}
 use Rattle.graphql_validation.specs.FieldWalk.{BareFieldBreaks, FieldArgumentsHold, ReportsDefinedField}
-
--- these are the arguments of a field that stands on this type, with this definition
-pub record AreOfField (parent : NameText) (f : Node Field) (d : Component FieldDefinition) (arguments : GivenArguments) : Type 0 where
-  pub coordinate_is : owner_coordinate arguments.owner ≡ coordinate.TypeAttribute (record { ty = parent; attribute = f.value.value.name })
-  pub argument_coordinate_is : argument_coordinate_of arguments.owner ≡
-      (λ argument. coordinate.FieldArgument (record { ty = parent; field = f.value.value.name; argument = argument }))
-  pub location_is : arguments.location ≡ f.location
-  pub given_is : arguments.given.now ≡ f.value.value.arguments.items
-  pub definitions_are : arguments.definitions.now ≡ d.node.value.value.arguments.items
-  pub definition_location_is : arguments.definition_location ≡ d.node.location
 
 module _ (schema : Schema) (parent : NameText) (f : Node Field) (d : Component FieldDefinition) (arguments : GivenArguments)
     (are : AreOfField parent f d arguments) where
   module _ (is : definition_at (Some schema) (Some parent) f.value.value.name ≡ Some d) where
     of_given : (r : DiagnosticData) (at : Option SourceSpan) → GivenArgumentReport schema [] arguments r at → BareFieldBreaks schema parent f r at
-    of_given (report.UndefinedArgument name reported definition_location) at said =
-        let lacks : LacksArgument arguments.definitions.now arguments.given.now (owner_coordinate arguments.owner) arguments.definition_location
-        name reported definition_location at = said in
+    of_given r at (of_unknown_argument lacks) =
         inl (parent, d, record { parent_is = refl; definition_is = is }, rw (are.definitions_are, are.given_is, are.coordinate_is, are.definition_location_is) at lacks)
-    of_given r at said =
-        let breaks : ArgumentValuesBreak schema [] arguments.definitions.now arguments.given.now r at = said in
+    of_given r at (of_argument_values breaks) =
         inr (record {
           against = schema;
           definition = d;
@@ -54,11 +37,8 @@ module _ (schema : Schema) (parent : NameText) (f : Node Field) (d : Component F
         })
 
     of_missing : (r : DiagnosticData) (at : Option SourceSpan) → MissingArgumentReport arguments r at → BareFieldBreaks schema parent f r at
-    of_missing (report.RequiredArgument name reported expected definition_location) at said =
-        let misses : MissesArgument arguments.definitions.now arguments.given.now (argument_coordinate_of arguments.owner) arguments.location
-        name reported expected definition_location at = said in
+    of_missing r at (of_missing_argument misses) =
         inl (parent, d, record { parent_is = refl; definition_is = is }, rw (are.definitions_are, are.given_is, are.argument_coordinate_is, are.location_is) at misses)
-    of_missing r at said = absurd said
 
   -- a report on a given argument, or on one that is missing
   pub names_given : (e : DiagnosticEntry) → IsDiagnostic (GivenArgumentReport schema [] arguments) e → ReportsDefinedField schema parent f d e

@@ -8,7 +8,7 @@ use Rattle.graphql_documents.specs.Names.{NameText}
 use Rattle.graphql_documents.specs.TypeReferences.{inner_named_type}
 use Rattle.graphql_documents.specs.Schemas.{type_field}
 use Rattle.graphql_documents.specs.Selections.{selections_of, definition_at, no_fragments, TypeBelow, standing_at, placed_in_field, below_known}
-use Rattle.graphql_documents.specs.Arguments.{HasDistinctNames, ArgumentNamesHold, ArgumentValueHolds, ArgumentValuesHold, definition_named, IsDefined}
+use Rattle.graphql_documents.specs.Arguments.{HasDistinctNames, ArgumentNamesHold, ArgumentValuesHold, IsDefined, ValueHoldsBy}
 use Rattle.graphql_documents.specs.Fields.{AgreesWithDefinition, HasNeededSelection}
 use Rattle.graphql_documents.specs.ArgumentReports.{RepeatsArgument, RepetitionReport}
 use Rattle.graphql_documents.specs.FieldReports.{FieldBreaks, ReportsField}
@@ -73,19 +73,19 @@ none_reached schema parent set e =
     reached_hold schema parent set (subst (All (SelectionHolds schema parent)) (sym e) (All-nil (SelectionHolds schema parent)))
 
 -- a report on what is reached from the set of a field is one on what is reached from its own set
-below_set : {schema : Option Schema} {place below : Option NameText} {selections : List Selection} {f : Node Field} {r : DiagnosticData} {at : Option SourceSpan} →
+below_set : {schema : Option Schema} {place below : Option NameText} {selections : List Selection} (f : Node Field) {r : DiagnosticData} {at : Option SourceSpan} →
     Contains selections (kind.Field f) → TypeBelow schema place f.value.value.name below →
     SelectionReport schema no_fragments [] below (selections_of f.value.value.selection_set) r at →
     SelectionReport schema no_fragments [] place selections r at
-below_set {f = h} in' is (of_field_directives g p b) = of_field_directives g (placed_in_field h in' is p) b
-below_set {f = h} in' is (of_field_form g p b) = of_field_form g (placed_in_field h in' is p) b
-below_set {f = h} in' is (of_field_values g p b) = of_field_values g (placed_in_field h in' is p) b
-below_set {f = h} in' is (of_inline_fragment_directives i p b) = of_inline_fragment_directives i (placed_in_field h in' is p) b
-below_set {f = h} in' is (of_inline_fragment i p b) = of_inline_fragment i (placed_in_field h in' is p) b
-below_set {f = h} in' is (of_spread_directives s p b) = of_spread_directives s (placed_in_field h in' is p) b
-below_set {f = h} in' is (of_spread s p b) = of_spread s (placed_in_field h in' is p) b
-below_set {f = h} in' is (of_fragment_directives s p found b) = of_fragment_directives s (placed_in_field h in' is p) found b
-below_set {f = h} in' is (of_fragment s p found b) = of_fragment s (placed_in_field h in' is p) found b
+below_set h in' is (of_field_directives g p b) = of_field_directives g (placed_in_field h in' is p) b
+below_set h in' is (of_field_form g p b) = of_field_form g (placed_in_field h in' is p) b
+below_set h in' is (of_field_values g p b) = of_field_values g (placed_in_field h in' is p) b
+below_set h in' is (of_inline_fragment_directives i p b) = of_inline_fragment_directives i (placed_in_field h in' is p) b
+below_set h in' is (of_inline_fragment i p b) = of_inline_fragment i (placed_in_field h in' is p) b
+below_set h in' is (of_spread_directives s p b) = of_spread_directives s (placed_in_field h in' is p) b
+below_set h in' is (of_spread s p b) = of_spread s (placed_in_field h in' is p) b
+below_set h in' is (of_fragment_directives s p found b) = of_fragment_directives s (placed_in_field h in' is p) found b
+below_set h in' is (of_fragment s p found b) = of_fragment s (placed_in_field h in' is p) found b
 
 module _ (schema : Schema) (parent : NameText) (set : SelectionSet) (f : Node Field) (in' : Contains (selections_of set) (kind.Field f)) where
   -- a report on a field of the set
@@ -126,7 +126,7 @@ module _ (schema : Schema) (parent : NameText) (set : SelectionSet) (f : Node Fi
     pub names_below : (e : DiagnosticEntry) →
         NamesBrokenSelection schema (inner_named_type d.node.value.value.ty) f.value.value.selection_set e →
         NamesBrokenSelection schema parent set e
-    names_below e r = diagnostic_wider _ _ (λ said at broken. below_set in' (below_known (ap result_ok is)) broken) e r
+    names_below e r = diagnostic_wider _ _ (λ said at broken. below_set f in' (below_known (ap result_ok is)) broken) e r
 
     -- the checks of its arguments, one after another
     pub arguments_in_set : (given : List (Node Argument)) (old distinct new : List DiagnosticEntry) → given ≡ f.value.value.arguments.items →
@@ -175,12 +175,6 @@ holds_undefined schema parent f e is = (
   λ h. h.itself.form.distinct,
 )
 
--- the value of an argument holds, by the first definition with its name
-abbrev ValueHolds : Schema → List (Node InputValueDefinition) → Node Argument → Type 0
-ValueHolds schema definitions a =
-    (d : Node InputValueDefinition) → definition_named a.value.value.name definitions ≡ Some d →
-    ArgumentValueHolds schema [] d.value.value a.value.value.value.value.value
-
 -- the arguments hold exactly where they agree with the definitions by name and by value
 module _ (schema : Schema) (f : Field) (d : FieldDefinition) where
   names_hold : FieldArgumentsHold schema f d → ArgumentNamesHold d.arguments.items f.arguments.items
@@ -191,7 +185,7 @@ module _ (schema : Schema) (f : Field) (d : FieldDefinition) where
 
   values_hold : FieldArgumentsHold schema f d → ArgumentValuesHold schema [] d.arguments.items f.arguments.items
   values_hold h =
-      All-weaker (GivenArgumentHolds schema [] d.arguments.items) (ValueHolds schema d.arguments.items) (λ a h. h.value_holds) f.arguments.items h.given
+      All-weaker (GivenArgumentHolds schema [] d.arguments.items) (ValueHoldsBy schema [] d.arguments.items) (λ a h. h.value_holds) f.arguments.items h.given
 
   arguments_hold : ArgumentNamesHold d.arguments.items f.arguments.items → ArgumentValuesHold schema [] d.arguments.items f.arguments.items →
       FieldArgumentsHold schema f d
@@ -200,7 +194,7 @@ module _ (schema : Schema) (f : Field) (d : FieldDefinition) where
         All-weaker (Contains f.arguments.items) (GivenArgumentHolds schema [] d.arguments.items)
         (λ a in'. record {
           defined = All-contains (IsDefined d.arguments.items) f.arguments.items a names.defined in';
-          value_holds = All-contains (ValueHolds schema d.arguments.items) f.arguments.items a values in';
+          value_holds = All-contains (ValueHoldsBy schema [] d.arguments.items) f.arguments.items a values in';
         }) f.arguments.items (All-contains_itself f.arguments.items);
     required = names.required;
   }

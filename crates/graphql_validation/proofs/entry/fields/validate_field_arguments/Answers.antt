@@ -1,30 +1,14 @@
 use Rattle.graphql_documents.proofs.ReportLemmas.{checks-err, kept_wider}
-use Rattle.graphql_validation.proofs.FieldArgumentLemmas.{AreOfField, arguments_checked, names_given}
+use Rattle.graphql_validation.proofs.FieldArgumentLemmas.{arguments_checked, names_given}
 use Rattle.graphql_validation.proofs.entry.fields.validate_field_arguments.Goals as goal
 
 pub returns-in_err-validate_given_arguments : goal.returns-in_err-validate_given_arguments
 returns-in_err-validate_given_arguments c =
-    let are : AreOfField c.args.parent.now c.args.field.now c.args.definition.now c.of_field-arguments.result = record {
-      coordinate_is = c.of_field-arguments.ensures.coordinate;
-      argument_coordinate_is = c.of_field-arguments.ensures.argument_coordinate;
-      location_is = c.of_field-arguments.ensures.location;
-      given_is = c.of_field-arguments.ensures.given;
-      definitions_are = c.of_field-arguments.ensures.definitions;
-      definition_location_is = c.of_field-arguments.ensures.definition_location;
-    } in
     checks-err _ _ _ _ _ c.from_residual.ensures.0
-    (kept_wider _ _ _ _ (names_given c.args.schema.now c.args.parent.now c.args.field.now c.args.definition.now c.of_field-arguments.result are)
+    (kept_wider _ _ _ _ (names_given c.args.schema.now c.args.parent.now c.args.field.now c.args.definition.now c.of_field-arguments.result c.of_field-arguments.ensures)
     c.in_err-validate_given_arguments.ensures)
 
 pub returns : goal.returns
 returns c =
-    let are : AreOfField c.args.parent.now c.args.field.now c.args.definition.now c.of_field-arguments.result = record {
-      coordinate_is = c.of_field-arguments.ensures.coordinate;
-      argument_coordinate_is = c.of_field-arguments.ensures.argument_coordinate;
-      location_is = c.of_field-arguments.ensures.location;
-      given_is = c.of_field-arguments.ensures.given;
-      definitions_are = c.of_field-arguments.ensures.definitions;
-      definition_location_is = c.of_field-arguments.ensures.definition_location;
-    } in
-    arguments_checked c.args.schema.now c.args.parent.now c.args.field.now c.args.definition.now c.of_field-arguments.result are
+    arguments_checked c.args.schema.now c.args.parent.now c.args.field.now c.args.definition.now c.of_field-arguments.result c.of_field-arguments.ensures
     _ _ _ _ c.in_ok-validate_given_arguments.ensures c.validate_required_arguments.ensures
