@@ -27,7 +27,7 @@ no_arguments : (n : NameText) → ¬ StandsInArguments n []
 no_arguments n (k, x, within, is, p) = omega (arith, within)
 
 -- what a field uses, what an inline fragment does, and what a spread does
-module _ (fragments : Fragments) (s : Selection) where
+module _ {fragments : Fragments} {s : Selection} where
   pub used_at_field : (f : Node Field) → s ≡ kind.Field f → (n : NameText) →
       (StandsInDirectives n f.value.value.directives.items ⊎ StandsInArguments n f.value.value.arguments.items) ↔ UsedAt fragments s n
   used_at_field f is n = (forth, back) where

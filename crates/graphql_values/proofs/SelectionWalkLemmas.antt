@@ -144,40 +144,40 @@ was_entered name old new is_new e names listed is =
       flipped true h = sym h
       flipped false h = refl
 
-pub entered_grows : (name : NameText) (old new : Met) → Entered name old new → (x : Stop) → IsMet old x → IsMet new x
-entered_grows name old new e (at_selection s) h = subst (λ l. Contains l s) (sym e.listed) h
-entered_grows name old new e (at_name other) h = subst (λ l. IsTrue (stands_on l other)) (sym e.names) (stands_before (entered_names old) name other h)
+pub entered_grows : {name : NameText} {old new : Met} → Entered name old new → (x : Stop) → IsMet old x → IsMet new x
+entered_grows {name = name} {old = old} e (at_selection s) h = subst (λ l. Contains l s) (sym e.listed) h
+entered_grows {name = name} {old = old} e (at_name other) h = subst (λ l. IsTrue (stands_on l other)) (sym e.names) (stands_before (entered_names old) name other h)
 
-pub entered_is_met : (name : NameText) (old new : Met) → Entered name old new → (x : Stop) → IsName name x → IsMet new x
-entered_is_met name old new e (at_selection s) h = absurd h
-entered_is_met name old new e (at_name other) h =
+pub entered_is_met : {name : NameText} {old new : Met} → Entered name old new → (x : Stop) → IsName name x → IsMet new x
+entered_is_met {name = name} {old = old} e (at_selection s) h = absurd h
+entered_is_met {name = name} {old = old} e (at_name other) h =
     subst (λ l. IsTrue (stands_on l other)) (sym e.names) (stands_last (entered_names old) name other (same_name_back name other h))
 
-pub entered_only : (name : NameText) (old new : Met) → Entered name old new → (x : Stop) → IsMet new x → IsMet old x ⊎ IsName name x
-entered_only name old new e (at_selection s) h = inl (subst (λ l. Contains l s) e.listed h)
-entered_only name old new e (at_name other) h =
+pub entered_only : {name : NameText} {old new : Met} → Entered name old new → (x : Stop) → IsMet new x → IsMet old x ⊎ IsName name x
+entered_only {name = name} {old = old} e (at_selection s) h = inl (subst (λ l. Contains l s) e.listed h)
+entered_only {name = name} {old = old} e (at_name other) h =
     elim (stands_either (entered_names old) name other (subst (λ l. IsTrue (stands_on l other)) e.names h)) [
       | inl before ↦ inl before
       | inr same ↦ inr (same_name_back other name same)
     ]
 
-pub listed_grows : (s : Selection) (old new : Met) → Listed s old new → (x : Stop) → IsMet old x → IsMet new x
-listed_grows s old new e (at_selection t) h = subst (λ l. Contains l t) (sym e.listed) (Contains-append_left (listed_of old) (s ∷ []) t h)
-listed_grows s old new e (at_name other) h = subst (λ l. IsTrue (stands_on l other)) (sym e.names) h
+pub listed_grows : {s : Selection} {old new : Met} → Listed s old new → (x : Stop) → IsMet old x → IsMet new x
+listed_grows {s = s} {old = old} e (at_selection t) h = subst (λ l. Contains l t) (sym e.listed) (Contains-append_left (listed_of old) (s ∷ []) t h)
+listed_grows {s = s} {old = old} e (at_name other) h = subst (λ l. IsTrue (stands_on l other)) (sym e.names) h
 
-pub listed_is_met : (s : Selection) (old new : Met) → Listed s old new → (x : Stop) → x ≡ at_selection s → IsMet new x
-listed_is_met s old new e (at_selection t) h =
+pub listed_is_met : {s : Selection} {old new : Met} → Listed s old new → (x : Stop) → x ≡ at_selection s → IsMet new x
+listed_is_met {s = s} {old = old} e (at_selection t) h =
     let same : s ≡ t = sym (same_selection t s h) in
     subst (λ l. Contains l t) (sym e.listed) (Contains-append_right (listed_of old) (s ∷ []) t (subst (Contains (s ∷ [])) same (stands_first s [])))
-listed_is_met s old new e (at_name other) h = absurd (selection_no_name s other h)
+listed_is_met {s = s} {old = old} e (at_name other) h = absurd (selection_no_name s other h)
 
-pub listed_only : (s : Selection) (old new : Met) → Listed s old new → (x : Stop) → IsMet new x → IsMet old x ⊎ (x ≡ at_selection s)
-listed_only s old new e (at_selection t) h =
+pub listed_only : {s : Selection} {old new : Met} → Listed s old new → (x : Stop) → IsMet new x → IsMet old x ⊎ (x ≡ at_selection s)
+listed_only {s = s} {old = old} e (at_selection t) h =
     elim (Contains-append_cases (listed_of old) (s ∷ []) t (subst (λ l. Contains l t) e.listed h)) [
       | inl before ↦ inl before
       | inr last ↦ inr (ap at_selection (only_one s t last))
     ]
-listed_only s old new e (at_name other) h = inl (subst (λ l. IsTrue (stands_on l other)) e.names h)
+listed_only {s = s} {old = old} e (at_name other) h = inl (subst (λ l. IsTrue (stands_on l other)) e.names h)
 
 -- a set of references to names holds the names
 module _ {R : Type 0} (name_at : R → NameText) where
@@ -212,9 +212,9 @@ fresh_before old new grows name other =
     not_true (stands_on (entered_names old) name) (λ h. both_not (stands_on (entered_names new) name) (grows (at_name name) h) other)
 
 -- so a descent that enters none of more names enters none of fewer
-pub passes_before : (walk : SelectionWalk) (old new : Met) (limit depth : ℕ) (set : SelectionSet) → ((x : Stop) → IsMet old x → IsMet new x) →
+pub passes_before : {walk : SelectionWalk} {old new : Met} {limit depth : ℕ} {set : SelectionSet} → ((x : Stop) → IsMet old x → IsMet new x) →
     PassesFrom walk new limit depth set → PassesFrom walk old limit depth set
-passes_before walk old new limit depth set grows p = record {
+passes_before {old = old} {new = new} grows p = record {
   steps = p.steps;
   names = p.names;
   descent = p.descent;
@@ -224,8 +224,8 @@ passes_before walk old new limit depth set grows p = record {
 }
 
 -- a walk that stands at its limit passes it with one step more
-pub passes_here : (walk : SelectionWalk) (met : Met) (limit depth : ℕ) (set : SelectionSet) → limit ≤ depth → PassesFrom walk met limit (depth + 1) set
-passes_here walk met limit depth set deep = record {
+pub passes_here : {walk : SelectionWalk} (met : Met) (limit depth : ℕ) {set : SelectionSet} → limit ≤ depth → PassesFrom walk met limit (depth + 1) set
+passes_here met limit depth deep = record {
   steps = 0;
   names = [];
   descent = descent_ends;
@@ -234,7 +234,7 @@ passes_here walk met limit depth set deep = record {
   passes = omega arith;
 }
 
-module _ (walk : SelectionWalk) (met : Met) (limit depth : ℕ) (set : SelectionSet) where
+module _ {walk : SelectionWalk} {met : Met} {limit depth : ℕ} {set : SelectionSet} where
   -- a descent from one step deeper, with that step
   pub passes_by_field : (f : Node Field) → IsTrue walk.into_fields → Contains (selections_of set) (kind.Field f) →
       PassesFrom walk met limit (depth + 1) f.value.value.selection_set → PassesFrom walk met limit depth set
@@ -258,11 +258,11 @@ module _ (walk : SelectionWalk) (met : Met) (limit depth : ℕ) (set : Selection
     passes = omega (arith, p.passes);
   }
 
-  pub passes_by_spread : (p : Node FragmentSpread) (d : Node Fragment) (after : Met) → Contains (selections_of set) (kind.FragmentSpread p) →
+  pub passes_by_spread : (p : Node FragmentSpread) (d : Node Fragment) {after : Met} → Contains (selections_of set) (kind.FragmentSpread p) →
       fragments_of walk.document.now p.value.value.fragment_name ≡ Some d →
       Entered p.value.value.fragment_name met after →
       PassesFrom walk after limit (depth + 1) d.value.value.selection_set → PassesFrom walk met limit depth set
-  passes_by_spread p d after stands found e passing =
+  passes_by_spread p d {after = after} stands found e passing =
       let name : NameText = p.value.value.fragment_name in
       record {
         steps = suc passing.steps;
@@ -270,11 +270,11 @@ module _ (walk : SelectionWalk) (met : Met) (limit depth : ℕ) (set : Selection
         descent = descent_into_fragment refl stands refl found passing.descent;
         once = AllPairs-cons DifferentNames name passing.names
             (All-weaker (λ n. IsFalse (stands_on (entered_names after) n)) (DifferentNames name) (λ n fresh.
-            not_true (same_name name n) (λ same. both_not (stands_on (entered_names after) n) (entered_is_met name met after e (at_name n) same) fresh)) passing.names passing.fresh)
+            not_true (same_name name n) (λ same. both_not (stands_on (entered_names after) n) (entered_is_met e (at_name n) same) fresh)) passing.names passing.fresh)
             passing.once;
         fresh = All-cons (λ n. IsFalse (stands_on (entered_names met) n)) name passing.names e.unmet
             (All-weaker (λ n. IsFalse (stands_on (entered_names after) n)) (λ n. IsFalse (stands_on (entered_names met) n))
-            (fresh_before met after (entered_grows name met after e)) passing.names passing.fresh);
+            (fresh_before met after (entered_grows e)) passing.names passing.fresh);
         passes = omega (arith, passing.passes);
       }
 
@@ -282,50 +282,65 @@ module _ (walk : SelectionWalk) (met : Met) (limit depth : ℕ) (set : Selection
 abbrev pub PassesBelow : SelectionWalk → Met → ℕ → ℕ → Selection → Type 0
 PassesBelow walk met limit depth s = (set : SelectionSet) → Contains (selections_of set) s → PassesFrom walk met limit depth set
 
-module _ (walk : SelectionWalk) where
+module _ (walk : SelectionWalk) (p : Node FragmentSpread) where
+  -- a step from a name in the set that it finds
+  next_of : (d : Node Fragment) → fragments_of walk.document.now p.value.value.fragment_name ≡ Some d →
+      (x y : Stop) → IsName p.value.value.fragment_name x → StepOf walk x y → IsInSet d.value.value.selection_set y
+  next_of d found (at_selection s) y named step = absurd named
+  next_of d found (at_name name) y named step =
+      let there = from_name step name refl in
+      let same : there.0 ≡ d = same_Some there.0 d (sym there.1 ∙ sym (one_fragment_found walk.document.now p.value.value.fragment_name name named) ∙ found) in
+      subst (λ (e : Node Fragment). IsInSet e.value.value.selection_set y) same there.2
+
+  nothing_next : fragments_of walk.document.now p.value.value.fragment_name ≡ None →
+      (x y : Stop) → IsName p.value.value.fragment_name x → StepOf walk x y → ⊥
+  nothing_next none (at_selection s) y named step = named
+  nothing_next none (at_name name) y named step =
+      let there = from_name step name refl in
+      none-some there.0 (sym none ∙ one_fragment_found walk.document.now p.value.value.fragment_name name named ∙ there.1)
+
+module _ {walk : SelectionWalk} where
   -- the walk is at its limit
   pub walked_to_limit : (set : SelectionSet) (limit depth : ℕ) (met : Met) → limit ≤ depth →
       HasWalked walk (IsInSet set) (PassesFrom walk met limit (depth + 1) set) met met false
   walked_to_limit set limit depth met deep = record {
-    finds = finds_nothing (StepOf walk) (IsInSet set) (IsMet met);
+    finds = finds_nothing;
     searched = λ h. absurd (both_not false h refl);
-    bound = λ h. passes_here walk met limit depth set deep;
+    bound = λ h. passes_here met limit depth deep;
   }
 
   -- the same walk in other words
-  pub walked_words : (begins begins' : Stop → Type 0) (Passes Passes' : Type 0) (old new : Met) (complete : Bool) →
+  pub walked_words : {begins begins' : Stop → Type 0} {Passes Passes' : Type 0} {old new : Met} {complete : Bool} →
       ((x : Stop) → begins x → begins' x) → ((x : Stop) → begins' x → begins x) → (Passes → Passes') →
       HasWalked walk begins Passes old new complete → HasWalked walk begins' Passes' old new complete
-  walked_words begins begins' Passes Passes' old new complete there back passes w = record {
-    finds = finds_from_more (StepOf walk) begins begins' (IsMet old) (IsMet new) there w.finds;
-    searched = λ h. searched_words (StepOf walk) begins begins' (IsMet old) (IsMet new) there back (w.searched h);
+  walked_words there back passes w = record {
+    finds = finds_from_more there w.finds;
+    searched = λ h. searched_words there back (w.searched h);
     bound = λ h. passes (w.bound h);
   }
 
   -- below a field that is gone into, and below an inline fragment
-  pub walked_field : (s : Selection) (f : Node Field) (limit depth : ℕ) (old new : Met) (complete : Bool) → s ≡ kind.Field f → IsTrue walk.into_fields →
+  pub walked_field : {s : Selection} (f : Node Field) {limit depth : ℕ} {old new : Met} {complete : Bool} → s ≡ kind.Field f → IsTrue walk.into_fields →
       HasWalked walk (IsInSet f.value.value.selection_set) (PassesFrom walk old limit (depth + 1) f.value.value.selection_set) old new complete →
       HasWalked walk (StepOf walk (at_selection s)) (PassesBelow walk old limit depth s) old new complete
-  walked_field s f limit depth old new complete is into w =
-      walked_words (IsInSet f.value.value.selection_set) (StepOf walk (at_selection s))
-      (PassesFrom walk old limit (depth + 1) f.value.value.selection_set) (PassesBelow walk old limit depth s) old new complete
+  walked_field f {limit = limit} {depth = depth} {old = old} is into w =
+      walked_words
       (λ x stands. subst (λ t. StepOf walk (at_selection t) x) (sym is) (into_field f into stands))
       (λ x step. (from_field step f (ap at_selection is)).1)
-      (λ passes set stands. passes_by_field walk old limit depth set f into (subst (Contains (selections_of set)) is stands) passes)
+      (λ passes set stands. passes_by_field f into (subst (Contains (selections_of set)) is stands) passes)
       w
 
-  pub walked_inline_fragment : (s : Selection) (i : Node InlineFragment) (limit depth : ℕ) (old new : Met) (complete : Bool) → s ≡ kind.InlineFragment i →
+  pub walked_inline_fragment : {s : Selection} (i : Node InlineFragment) {limit depth : ℕ} {old new : Met} {complete : Bool} → s ≡ kind.InlineFragment i →
       HasWalked walk (IsInSet i.value.value.selection_set) (PassesFrom walk old limit (depth + 1) i.value.value.selection_set) old new complete →
       HasWalked walk (StepOf walk (at_selection s)) (PassesBelow walk old limit depth s) old new complete
-  walked_inline_fragment s i limit depth old new complete is w =
-      walked_words (IsInSet i.value.value.selection_set) (StepOf walk (at_selection s))
-      (PassesFrom walk old limit (depth + 1) i.value.value.selection_set) (PassesBelow walk old limit depth s) old new complete
+  walked_inline_fragment i {limit = limit} {depth = depth} {old = old} is w =
+      walked_words
       (λ x stands. subst (λ t. StepOf walk (at_selection t) x) (sym is) (into_inline_fragment i stands))
       (λ x step. from_inline_fragment step i (ap at_selection is))
-      (λ passes set stands. passes_by_inline_fragment walk old limit depth set i (subst (Contains (selections_of set)) is stands) passes)
+      (λ passes set stands. passes_by_inline_fragment i (subst (Contains (selections_of set)) is stands) passes)
       w
 
-  module _ (p : Node FragmentSpread) (limit depth : ℕ) where
+  module _ (p : Node FragmentSpread) {limit depth : ℕ} where
     -- a spread whose name was entered before
     pub walked_entered : (old new : Met) → entered_names new ≡ entered_names old → listed_of new ≡ listed_of old →
         IsTrue (stands_on (entered_names old) p.value.value.fragment_name) →
@@ -346,67 +361,44 @@ module _ (walk : SelectionWalk) where
           bound = λ h. absurd (both_not true refl h);
         }
 
-    -- a step from a name in the set that it finds
-    next_of : (d : Node Fragment) → fragments_of walk.document.now p.value.value.fragment_name ≡ Some d →
-        (x y : Stop) → IsName p.value.value.fragment_name x → StepOf walk x y → IsInSet d.value.value.selection_set y
-    next_of d found (at_selection s) y named step = absurd named
-    next_of d found (at_name name) y named step =
-        let there = from_name step name refl in
-        let same : there.0 ≡ d = same_Some there.0 d (sym there.1 ∙ sym (one_fragment_found walk.document.now p.value.value.fragment_name name named) ∙ found) in
-        subst (λ (e : Node Fragment). IsInSet e.value.value.selection_set y) same there.2
-
-    nothing_next : fragments_of walk.document.now p.value.value.fragment_name ≡ None →
-        (x y : Stop) → IsName p.value.value.fragment_name x → StepOf walk x y → ⊥
-    nothing_next none (at_selection s) y named step = named
-    nothing_next none (at_name name) y named step =
-        let there = from_name step name refl in
-        none-some there.0 (sym none ∙ one_fragment_found walk.document.now p.value.value.fragment_name name named ∙ there.1)
-
     -- a spread of a fragment that is gone into
-    pub walked_fragment : (d : Node Fragment) (old mid new : Met) (complete : Bool) → Entered p.value.value.fragment_name old mid →
+    pub walked_fragment : (d : Node Fragment) {old mid new : Met} {complete : Bool} → Entered p.value.value.fragment_name old mid →
         fragments_of walk.document.now p.value.value.fragment_name ≡ Some d →
         HasWalked walk (IsInSet d.value.value.selection_set) (PassesFrom walk mid limit (depth + 1) d.value.value.selection_set) mid new complete →
         HasWalked walk (StepOf walk (at_selection (kind.FragmentSpread p))) (PassesBelow walk old limit depth (kind.FragmentSpread p)) old new complete
-    walked_fragment d old mid new complete e found w =
+    walked_fragment d {old = old} {mid = mid} e found w =
         let name : NameText = p.value.value.fragment_name in
         let from : (y : Stop) → IsInSet d.value.value.selection_set y → (x : Stop) × IsName name x × StepOf walk x y =
         λ y stands. (at_name name, same_name_itself name, into_fragment found stands) in
-        walked_words (IsName name) (StepOf walk (at_selection (kind.FragmentSpread p)))
-        (PassesFrom walk mid limit (depth + 1) d.value.value.selection_set) (PassesBelow walk old limit depth (kind.FragmentSpread p)) old new complete
+        walked_words
         (λ x named. to_name p named)
         (λ x step. from_spread step p refl)
-        (λ passes set stands. passes_by_spread walk old limit depth set p d mid stands found e passes)
+        (λ passes set stands. passes_by_spread p d stands found e passes)
         (record {
-          finds = finds_below (StepOf walk) (IsName name) (IsInSet d.value.value.selection_set) (IsMet old) (IsMet mid) (IsMet new)
-              (entered_grows name old mid e) (entered_only name old mid e) from w.finds;
-          searched = λ h. searched_below (StepOf walk) (IsName name) (IsInSet d.value.value.selection_set) (IsMet old) (IsMet mid) (IsMet new)
-              (entered_grows name old mid e) (entered_is_met name old mid e) (entered_only name old mid e) from (next_of d found) (w.searched h);
+          finds = finds_below (entered_grows e) (entered_only e) from w.finds;
+          searched = λ h. searched_below (entered_grows e) (entered_is_met e) (entered_only e) from (next_of walk p d found) (w.searched h);
           bound = w.bound;
         })
 
     -- a spread of one that is not defined
-    pub walked_undefined : (old new : Met) → Entered p.value.value.fragment_name old new →
+    pub walked_undefined : {old new : Met} → Entered p.value.value.fragment_name old new →
         fragments_of walk.document.now p.value.value.fragment_name ≡ None →
         HasWalked walk (StepOf walk (at_selection (kind.FragmentSpread p))) (PassesBelow walk old limit depth (kind.FragmentSpread p)) old new true
-    walked_undefined old new e none =
-        let name : NameText = p.value.value.fragment_name in
+    walked_undefined e none =
         let nothing : Stop → Type 0 = λ x. ⊥ in
-        walked_words (IsName name) (StepOf walk (at_selection (kind.FragmentSpread p)))
-        (PassesBelow walk old limit depth (kind.FragmentSpread p)) (PassesBelow walk old limit depth (kind.FragmentSpread p)) old new true
+        walked_words
         (λ x named. to_name p named)
         (λ x step. from_spread step p refl)
         (λ passes. passes)
         (record {
-          finds = finds_below (StepOf walk) (IsName name) nothing (IsMet old) (IsMet new) (IsMet new)
-              (entered_grows name old new e) (entered_only name old new e) (λ y h. absurd h) (finds_nothing (StepOf walk) nothing (IsMet new));
-          searched = λ h. searched_below (StepOf walk) (IsName name) nothing (IsMet old) (IsMet new) (IsMet new)
-              (entered_grows name old new e) (entered_is_met name old new e) (entered_only name old new e) (λ y h. absurd h)
-              (nothing_next none) (searched_before (StepOf walk) nothing (IsMet new) (λ x h. absurd h));
+          finds = finds_below {below = nothing} (entered_grows e) (entered_only e) (λ y h. absurd h) finds_nothing;
+          searched = λ h. searched_below {below = nothing} (entered_grows e) (entered_is_met e) (entered_only e) (λ y h. absurd h)
+              (nothing_next walk p none) (searched_before (λ x h. absurd h));
           bound = λ h. absurd (both_not true refl h);
         })
 
 -- a walk over the first selections of a set, and then over the next
-module _ (walk : SelectionWalk) (xs : List Selection) (i : ℕ) (s : Selection) (old mid pushed new : Met)
+module _ (walk : SelectionWalk) (xs : List Selection) (i : ℕ) (s : Selection) (old new : Met) {mid pushed : Met}
     (within : i < length xs) (item : s ≡ get_or xs i s) (e : Listed s mid pushed) where
   next_from : (y : Stop) → StepOf walk (at_selection s) y → (x : Stop) × (x ≡ at_selection s) × StepOf walk x y
   next_from y step = (at_selection s, refl, step)
@@ -447,33 +439,33 @@ module _ (walk : SelectionWalk) (xs : List Selection) (i : ℕ) (s : Selection) 
       Searched (StepOf walk) (IsAmong (take (i + 1) xs)) (IsMet old) (IsMet new)
   searched_next a b =
       let is : Stop → Type 0 = λ x. x ≡ at_selection s in
-      searched_words (StepOf walk) (λ x. IsAmong (take i xs) x ⊎ is x) (IsAmong (take (i + 1) xs)) (IsMet old) (IsMet new) among_more among_either
-      (searched_then (StepOf walk) (IsAmong (take i xs)) is (IsMet old) (IsMet mid) (IsMet new) a
-      (searched_below (StepOf walk) is (StepOf walk (at_selection s)) (IsMet mid) (IsMet pushed) (IsMet new)
-      (listed_grows s mid pushed e) (listed_is_met s mid pushed e) (listed_only s mid pushed e) next_from is_next b))
+      searched_words among_more among_either
+      (searched_then a
+      (searched_below {begins = is}
+      (listed_grows e) (listed_is_met e) (listed_only e) next_from is_next b))
 
   -- the walk stops below it
-  pub walked_part : (set : SelectionSet) (limit depth : ℕ) → xs ≡ selections_of set →
+  pub walked_part : {set : SelectionSet} {limit depth : ℕ} → xs ≡ selections_of set →
       Searched (StepOf walk) (IsAmong (take i xs)) (IsMet old) (IsMet mid) →
       HasWalked walk (StepOf walk (at_selection s)) (PassesBelow walk pushed limit depth s) pushed new false →
       HasWalked walk (IsInSet set) (PassesFrom walk old limit depth set) old new false
-  walked_part set limit depth same a w =
+  walked_part {set = set} same a w =
       let is : Stop → Type 0 = λ x. x ≡ at_selection s in
       record {
-        finds = finds_from_more (StepOf walk) (λ x. IsAmong (take i xs) x ⊎ is x) (IsInSet set) (IsMet old) (IsMet new)
+        finds = finds_from_more
             (λ x h. subst (λ l. IsAmong l x) same (among_all x h))
-            (finds_then (StepOf walk) (IsAmong (take i xs)) is (IsMet old) (IsMet mid) (IsMet new) a.finds
-            (finds_below (StepOf walk) is (StepOf walk (at_selection s)) (IsMet mid) (IsMet pushed) (IsMet new)
-            (listed_grows s mid pushed e) (listed_only s mid pushed e) next_from w.finds));
+            (finds_then a.finds
+            (finds_below {begins = is}
+            (listed_grows e) (listed_only e) next_from w.finds));
         searched = λ h. absurd (both_not false h refl);
-        bound = λ h. passes_before walk old pushed limit depth set (λ x before. listed_grows s mid pushed e x (a.finds.grows x before))
+        bound = λ h. passes_before (λ x before. listed_grows e x (a.finds.grows x before))
             (w.bound refl set (subst (λ l. Contains l s) same stands_at));
       }
 
 -- the walk has come to the end of a set
-pub walked_whole : (walk : SelectionWalk) (set : SelectionSet) (Passes : Type 0) (xs : List Selection) (i : ℕ) (old new : Met) → length xs ≤ i → xs ≡ selections_of set →
-    Searched (StepOf walk) (IsAmong (take i xs)) (IsMet old) (IsMet new) → HasWalked walk (IsInSet set) Passes old new true
-walked_whole walk set Passes xs i old new past same a =
-    let whole : Searched (StepOf walk) (IsInSet set) (IsMet old) (IsMet new) =
+pub walked_whole : (walk : SelectionWalk) {Passes : Type 0} {xs ys : List Selection} (i : ℕ) (old new : Met) → length xs ≤ i → xs ≡ ys →
+    Searched (StepOf walk) (IsAmong (take i xs)) (IsMet old) (IsMet new) → HasWalked walk (IsAmong ys) Passes old new true
+walked_whole walk {xs = xs} {ys = ys} i old new past same a =
+    let whole : Searched (StepOf walk) (IsAmong ys) (IsMet old) (IsMet new) =
     subst (λ l. Searched (StepOf walk) (IsAmong l) (IsMet old) (IsMet new)) (take_all i xs past ∙ same) a in
     record { finds = whole.finds; searched = λ h. whole; bound = λ h. absurd (both_not true refl h) }

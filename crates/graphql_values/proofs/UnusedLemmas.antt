@@ -109,11 +109,11 @@ module _ (variables : List (Node VariableDefinition)) (i : ℕ) (x : Node Variab
       (last_inserted (take i variables) x k v named is entries distinct all)
 
 -- reports of unused variables after others
-pub reports_then : (fragments : Fragments) (o : Operation) {names : List NameText} {reports : List DiagnosticEntry} → AreUnusedReports fragments o names reports →
+pub reports_then : {fragments : Fragments} {o : Operation} {names : List NameText} {reports : List DiagnosticEntry} → AreUnusedReports fragments o names reports →
     {more : List NameText} {others : List DiagnosticEntry} → AreUnusedReports fragments o more others → AreUnusedReports fragments o (names ++ more) (reports ++ others)
-reports_then fragments o no_name rest = rest
-reports_then fragments o (used_name used others) rest = used_name used (reports_then fragments o others rest)
-reports_then fragments o (unused_name says others) rest = unused_name says (reports_then fragments o others rest)
+reports_then no_name rest = rest
+reports_then (used_name used others) rest = used_name used (reports_then others rest)
+reports_then (unused_name says others) rest = unused_name says (reports_then others rest)
 
 -- each of them is a true report
 says_unused : (fragments : Fragments) (o : Operation) (name : NameText) (e : DiagnosticEntry) → IsDiagnostic (IsUnusedReport fragments o name) e → IsDiagnostic (UsesReport fragments o) e
@@ -122,24 +122,24 @@ says_unused fragments o name e says = diagnostic_wider (IsUnusedReport fragments
   wide (report.UnusedVariable reported) at h = h.1
   wide r at h = absurd h
 
-pub each_says_unused : (fragments : Fragments) (o : Operation) {names : List NameText} {reports : List DiagnosticEntry} → AreUnusedReports fragments o names reports →
+pub each_says_unused : {fragments : Fragments} {o : Operation} {names : List NameText} {reports : List DiagnosticEntry} → AreUnusedReports fragments o names reports →
     All (IsDiagnostic (UsesReport fragments o)) reports
-each_says_unused fragments o no_name = All-nil (IsDiagnostic (UsesReport fragments o))
-each_says_unused fragments o (used_name used others) = each_says_unused fragments o others
-each_says_unused fragments o (unused_name {name = name} {entry = e} {reports = reports} says others) =
-    All-cons (IsDiagnostic (UsesReport fragments o)) e reports (says_unused fragments o name e says) (each_says_unused fragments o others)
+each_says_unused {fragments = fragments} {o = o} no_name = All-nil (IsDiagnostic (UsesReport fragments o))
+each_says_unused (used_name used others) = each_says_unused others
+each_says_unused {fragments = fragments} {o = o} (unused_name {name = name} {entry = e} {reports = reports} says others) =
+    All-cons (IsDiagnostic (UsesReport fragments o)) e reports (says_unused fragments o name e says) (each_says_unused others)
 
 -- a variable of this name is used, and the last one is reported where it is not
-pub used_report : (fragments : Fragments) (o : Operation) (name : NameText) (v : Node VariableDefinition) → IsLastDefinition o.variables.items name v →
+pub used_report : {fragments : Fragments} {o : Operation} {name : NameText} {v : Node VariableDefinition} → IsLastDefinition o.variables.items name v →
     UsesVariable fragments o v.value.value.name → AreUnusedReports fragments o (name ∷ []) []
-used_report fragments o name v last used =
+used_report {fragments = fragments} {o = o} {name = name} {v = v} last used =
     used_name (uses_same fragments o v.value.value.name name (same_name_back name v.value.value.name last.same) used) no_name
 
-pub unused_report : (fragments : Fragments) (o : Operation) (name reported : NameText) (v : Node VariableDefinition) (place : Option SourceSpan) →
+pub unused_report : {fragments : Fragments} {o : Operation} {name reported : NameText} {v : Node VariableDefinition} {place : Option SourceSpan} →
     IsLastDefinition o.variables.items name v → ¬ UsesVariable fragments o v.value.value.name → reported ≡ v.value.value.name →
     place ≡ recompose v.location v.value.value.name.location →
     IsUnusedReport fragments o name (report.UnusedVariable reported) place
-unused_report fragments o name reported v place last unused is at = (
+unused_report {name = name} {v = v} last unused is at = (
   subst (λ n. SameName n name) (sym is) (same_name_back name v.value.value.name last.same),
   record {
     before = last.before;
@@ -154,23 +154,23 @@ unused_report fragments o name reported v place last unused is at = (
 )
 
 -- reports of more names behind those of others
-pub appends_then : (fragments : Fragments) (o : Operation) (names more : List NameText) (old mid new : List DiagnosticEntry) →
+pub appends_then : {fragments : Fragments} {o : Operation} {names more : List NameText} {old mid new : List DiagnosticEntry} →
     Appends (AreUnusedReports fragments o names) old mid → Appends (AreUnusedReports fragments o more) mid new →
     Appends (AreUnusedReports fragments o (names ++ more)) old new
-appends_then fragments o names more old mid new a b = record {
+appends_then {old = old} {mid = mid} {new = new} a b = record {
   added = a.added ++ b.added;
   appended = appended_then old mid new a.added b.added a.appended b.appended;
-  are = reports_then fragments o a.are b.are;
+  are = reports_then a.are b.are;
 }
 
-pub appends_kept : (fragments : Fragments) (o : Operation) (names : List NameText) (old new : List DiagnosticEntry) →
+pub appends_kept : {fragments : Fragments} {o : Operation} {names : List NameText} {old new : List DiagnosticEntry} →
     Appends (AreUnusedReports fragments o names) old new → KeepsReports (IsDiagnostic (UsesReport fragments o)) old new
-appends_kept fragments o names old new a = record { added = a.added; appended = a.appended; each = each_says_unused fragments o a.are }
+appends_kept a = record { added = a.added; appended = a.appended; each = each_says_unused a.are }
 
 -- a walk that came to its end lists what it is to meet
-pub lists_all : (IsMet : Selection → Type 0) (Passes : Type 0) (listed : List Selection) (complete : Bool) → HasListed IsMet Passes listed complete →
+pub lists_all : {IsMet : Selection → Type 0} {Passes : Type 0} {listed : List Selection} {complete : Bool} → HasListed IsMet Passes listed complete →
     complete ≡ true → (s : Selection) → Contains listed s ↔ IsMet s
-lists_all IsMet Passes listed complete h is s = (λ there. All-contains IsMet listed s h.each there, h.all is s)
+lists_all {IsMet = IsMet} {listed = listed} h is s = (λ there. All-contains IsMet listed s h.each there, h.all is s)
 
 -- the report of the bound
 pub bound_reported : {T E : Type 0} (r : Result T E) (fragments : Fragments) (o : Operation) (old new : List DiagnosticEntry) (e : DiagnosticEntry) →
@@ -188,5 +188,5 @@ uses_reported (Err x) fragments o old new h = tt
 pub uses_kept : {T E : Type 0} (r : Result T E) (fragments : Fragments) (o : Operation) (old new : List DiagnosticEntry) →
     MatchResult r (λ _. Appends (AreUnusedReports fragments o (defined_names o)) old new) (λ _. KeepsReports (IsDiagnostic (UsesReport fragments o)) old new) →
     KeepsReports (IsDiagnostic (UsesReport fragments o)) old new
-uses_kept (Ok x) fragments o old new h = appends_kept fragments o (defined_names o) old new h
+uses_kept (Ok x) fragments o old new h = appends_kept h
 uses_kept (Err x) fragments o old new h = h

@@ -82,34 +82,34 @@ has_no_variables v no_variable no_list no_object = by_open (out-Value v) refl wh
   by_open (Open.Object a) e = absurd (no_object a (is _ e ∙ literal.rolls-Object a))
 
 -- nothing is added, and one name is
-pub adds_none : (Are : List NameText → Type 0) (old : List (Bor NameText)) → Are [] → AddsNames Are old old
-adds_none Are old are = record { added = []; appended = sym (append-nil old); are = are }
+pub adds_none : {Are : List NameText → Type 0} {old : List (Bor NameText)} → Are [] → AddsNames Are old old
+adds_none {old = old} are = record { added = []; appended = sym (append-nil old); are = are }
 
-pub adds_one : (Are : List NameText → Type 0) (old new : List (Bor NameText)) (name : Bor NameText) → new ≡ old ++ name ∷ [] → Are (name.now ∷ []) → AddsNames Are old new
-adds_one Are old new name is are = record { added = name ∷ []; appended = is; are = are }
+pub adds_one : {Are : List NameText → Type 0} {old new : List (Bor NameText)} (name : Bor NameText) → new ≡ old ++ name ∷ [] → Are (name.now ∷ []) → AddsNames Are old new
+adds_one name is are = record { added = name ∷ []; appended = is; are = are }
 
 -- names are added after others
-pub adds_then : (P Q R : List NameText → Type 0) (old mid new : List (Bor NameText)) →
+pub adds_then : {P Q R : List NameText → Type 0} {old mid new : List (Bor NameText)} →
     ((a b : List NameText) → P a → Q b → R (a ++ b)) → AddsNames P old mid → AddsNames Q mid new → AddsNames R old new
-adds_then P Q R old mid new join a b = record {
+adds_then {R = R} {old = old} join a b = record {
   added = a.added ++ b.added;
   appended = b.appended ∙ ap (λ l. l ++ b.added) a.appended ∙ append_assoc old a.added b.added;
   are = subst R (sym (map-append (λ (n : Bor NameText). n.now) a.added b.added)) (join (names_of a.added) (names_of b.added) a.are b.are);
 }
 
-pub adds_in_words : (P R : List NameText → Type 0) (old new : List (Bor NameText)) → ((a : List NameText) → P a → R a) → AddsNames P old new → AddsNames R old new
-adds_in_words P R old new w a = record { added = a.added; appended = a.appended; are = w (names_of a.added) a.are }
+pub adds_in_words : {P R : List NameText → Type 0} {old new : List (Bor NameText)} → ((a : List NameText) → P a → R a) → AddsNames P old new → AddsNames R old new
+adds_in_words w a = record { added = a.added; appended = a.appended; are = w (names_of a.added) a.are }
 
 -- one item or entry of a list more
-pub adds_item : (items : List (Node Value)) (i : ℕ) (x : Node Value) (old mid new : List (Bor NameText)) → i < length items → x ≡ get_or items i x →
+pub adds_item : (items : List (Node Value)) (i : ℕ) (x : Node Value) {old mid new : List (Bor NameText)} → i < length items → x ≡ get_or items i x →
     AddsNames (VariablesInItems (take i items)) old mid → AddsNames (VariablesIn x.value.value) mid new → AddsNames (VariablesInItems (take (i + 1) items)) old new
-adds_item items i x old mid new within item a b =
-    adds_then _ _ _ old mid new (λ c d before here. subst (λ l. VariablesInItems l (c ++ d)) (sym (more_is items i x within item)) (items_more before x d here)) a b
+adds_item items i x within item a b =
+    adds_then (λ c d before here. subst (λ l. VariablesInItems l (c ++ d)) (sym (more_is items i x within item)) (items_more before x d here)) a b
 
-pub adds_entry : (entries : List (NameText × Node Value)) (i : ℕ) (x : NameText × Node Value) (old mid new : List (Bor NameText)) → i < length entries → x ≡ get_or entries i x →
+pub adds_entry : (entries : List (NameText × Node Value)) (i : ℕ) (x : NameText × Node Value) {old mid new : List (Bor NameText)} → i < length entries → x ≡ get_or entries i x →
     AddsNames (VariablesInEntries (take i entries)) old mid → AddsNames (VariablesIn x.1.value.value) mid new → AddsNames (VariablesInEntries (take (i + 1) entries)) old new
-adds_entry entries i x old mid new within item a b =
-    adds_then _ _ _ old mid new (λ c d before here. subst (λ l. VariablesInEntries l (c ++ d)) (sym (more_is entries i x within item)) (entries_more before x d here)) a b
+adds_entry entries i x within item a b =
+    adds_then (λ c d before here. subst (λ l. VariablesInEntries l (c ++ d)) (sym (more_is entries i x within item)) (entries_more before x d here)) a b
 
 -- the same names in other words, none, and some after others
 pub also_in_words : (Used Named : NameText → Type 0) (old new : List (Bor NameText)) → ((n : NameText) → Used n ↔ Named n) → NamesAlso Used old new → NamesAlso Named old new
@@ -147,8 +147,8 @@ also_then P Q old mid new a b n = (λ there. forth ((b n).0 there), λ some. (b 
   back (inr (inr q)) = inr q
 
 -- the variables of a value are the names that stand in it
-pub also_in_value : (v : Value) (old new : List (Bor NameText)) → AddsNames (VariablesIn v) old new → NamesAlso (λ n. StandsIn n v) old new
-also_in_value v old new a n = (forth, back) where
+pub also_in_value : {v : Value} {old new : List (Bor NameText)} → AddsNames (VariablesIn v) old new → NamesAlso (λ n. StandsIn n v) old new
+also_in_value {v = v} {old = old} {new = new} a n = (forth, back) where
   added : List NameText
   added = names_of a.added
 

@@ -43,13 +43,13 @@ no_spread_field : (p : Node FragmentSpread) → fields_among (kind.FragmentSprea
 no_spread_field p = ap (λ o. cons_option (opened_field o) []) (kind.outs-FragmentSpread p)
 
 -- a name that was entered last stands first
-last_first : (name : NameText) (old new : Met) → Entered name old new → reverse (entered_names new) ≡ name ∷ reverse (entered_names old)
-last_first name old new e = ap reverse e.names ∙ reverse-append (entered_names old) (name ∷ [])
+last_first : {name : NameText} {old new : Met} → Entered name old new → reverse (entered_names new) ≡ name ∷ reverse (entered_names old)
+last_first {name = name} {old = old} e = ap reverse e.names ∙ reverse-append (entered_names old) (name ∷ [])
 
 stands_among : (names : List NameText) (name : NameText) → stands_on names name ≡ list_any (same_name name) (reverse names)
 stands_among names name = list_any-IsPermutation (same_name name) names (reverse names) (IsPermutation-reverse names)
 
-module _ (fragments : Fragments) where
+module _ {fragments : Fragments} where
   -- one walk after another
   walked_then : {seen between : List NameText} {xs : List Selection} {fields : List (Node Field)} → WalkedFields fragments seen xs fields between →
       {met : List NameText} {ys : List Selection} {more : List (Node Field)} → WalkedFields fragments between ys more met →
@@ -66,8 +66,8 @@ module _ (fragments : Fragments) where
       (walked_spread p (rest ++ ys) new found w (walked_then next after))
 
   -- below a field that is not gone into, and below an inline fragment
-  pub ordered_field : (s : Selection) (f : Node Field) (met : Met) → s ≡ kind.Field f → ListsInOrder fragments (s ∷ []) (fields_among (s ∷ [])) met met
-  ordered_field s f met is =
+  pub ordered_field : {s : Selection} (f : Node Field) {met : Met} → s ≡ kind.Field f → ListsInOrder fragments (s ∷ []) (fields_among (s ∷ [])) met met
+  ordered_field f {met = met} is =
       let seen : List NameText = reverse (entered_names met) in
       subst (λ t. ListsInOrder fragments (t ∷ []) (fields_among (t ∷ [])) met met) (sym is) (record {
         fields = [];
@@ -76,9 +76,9 @@ module _ (fragments : Fragments) where
             (walked_field f [] walked_none);
       })
 
-  pub ordered_inline_fragment : (s : Selection) (i : Node InlineFragment) (old new : Met) → s ≡ kind.InlineFragment i →
+  pub ordered_inline_fragment : {s : Selection} (i : Node InlineFragment) {old new : Met} → s ≡ kind.InlineFragment i →
       ListsInOrder fragments (selections_of i.value.value.selection_set) [] old new → ListsInOrder fragments (s ∷ []) (fields_among (s ∷ [])) old new
-  ordered_inline_fragment s i old new is o =
+  ordered_inline_fragment i {old = old} {new = new} is o =
       subst (λ t. ListsInOrder fragments (t ∷ []) (fields_among (t ∷ [])) old new) (sym is) (record {
         fields = o.fields;
         listed = o.listed;
@@ -87,12 +87,12 @@ module _ (fragments : Fragments) where
             (walked_inline_fragment i [] o.walked walked_none);
       })
 
-  module _ (p : Node FragmentSpread) (old new : Met) where
+  module _ (p : Node FragmentSpread) where
     -- a spread whose name was entered before
-    pub ordered_entered : entered_names new ≡ entered_names old → listed_of new ≡ listed_of old →
+    pub ordered_entered : (old new : Met) → entered_names new ≡ entered_names old → listed_of new ≡ listed_of old →
         IsTrue (stands_on (entered_names old) p.value.value.fragment_name) →
         ListsInOrder fragments (kind.FragmentSpread p ∷ []) (fields_among (kind.FragmentSpread p ∷ [])) old new
-    ordered_entered names listed entered =
+    ordered_entered old new names listed entered =
         let seen : List NameText = reverse (entered_names old) in
         record {
           fields = [];
@@ -103,23 +103,23 @@ module _ (fragments : Fragments) where
         }
 
     -- a spread of a fragment that is not defined
-    pub ordered_undefined : Entered p.value.value.fragment_name old new → fragments p.value.value.fragment_name ≡ None →
+    pub ordered_undefined : {old new : Met} → Entered p.value.value.fragment_name old new → fragments p.value.value.fragment_name ≡ None →
         ListsInOrder fragments (kind.FragmentSpread p ∷ []) (fields_among (kind.FragmentSpread p ∷ [])) old new
-    ordered_undefined e none =
+    ordered_undefined {old = old} {new = new} e none =
         let seen : List NameText = reverse (entered_names old) in
         record {
           fields = [];
           listed = ap fields_among e.listed ∙ sym (append-nil (fields_among (listed_of old)));
           walked = subst (λ l. WalkedFields fragments seen (kind.FragmentSpread p ∷ []) l (reverse (entered_names new))) (sym (ap (λ l. l ++ []) (no_spread_field p)))
-              (subst (WalkedFields fragments seen (kind.FragmentSpread p ∷ []) []) (sym (last_first p.value.value.fragment_name old new e))
+              (subst (WalkedFields fragments seen (kind.FragmentSpread p ∷ []) []) (sym (last_first e))
               (walked_undefined_spread p [] none walked_none));
         }
 
     -- a spread of one that is gone into
-    pub ordered_fragment : (d : Node Fragment) (mid : Met) → Entered p.value.value.fragment_name old mid → fragments p.value.value.fragment_name ≡ Some d →
+    pub ordered_fragment : (d : Node Fragment) {old mid new : Met} → Entered p.value.value.fragment_name old mid → fragments p.value.value.fragment_name ≡ Some d →
         ListsInOrder fragments (selections_of d.value.value.selection_set) [] mid new →
         ListsInOrder fragments (kind.FragmentSpread p ∷ []) (fields_among (kind.FragmentSpread p ∷ [])) old new
-    ordered_fragment d mid e found o =
+    ordered_fragment d {old = old} {new = new} e found o =
         let name : NameText = p.value.value.fragment_name in
         let seen : List NameText = reverse (entered_names old) in
         let met : List NameText = reverse (entered_names new) in
@@ -129,18 +129,18 @@ module _ (fragments : Fragments) where
           walked = subst (λ l. WalkedFields fragments seen (kind.FragmentSpread p ∷ []) l met)
               (append-nil o.fields ∙ sym (ap (λ l. l ++ o.fields) (no_spread_field p)))
               (walked_spread p [] (subst IsFalse (stands_among (entered_names old) name) e.unmet) found
-              (subst (λ l. WalkedFields fragments l (selections_of d.value.value.selection_set) o.fields met) (last_first name old mid e) o.walked)
+              (subst (λ l. WalkedFields fragments l (selections_of d.value.value.selection_set) o.fields met) (last_first e) o.walked)
               walked_none);
         }
 
   -- no selection yet, the next selection of a set, and all of them
-  pub ordered_none : (met : Met) → ListsInOrder fragments [] [] met met
-  ordered_none met = record { fields = []; listed = sym (append-nil (fields_among (listed_of met))); walked = walked_none }
+  pub ordered_none : {met : Met} → ListsInOrder fragments [] [] met met
+  ordered_none {met = met} = record { fields = []; listed = sym (append-nil (fields_among (listed_of met))); walked = walked_none }
 
-  pub ordered_next : (xs : List Selection) (i : ℕ) (s : Selection) (old mid pushed new : Met) → i < length xs → s ≡ get_or xs i s → Listed s mid pushed →
+  pub ordered_next : (xs : List Selection) (i : ℕ) (s : Selection) {old mid pushed new : Met} → i < length xs → s ≡ get_or xs i s → Listed s mid pushed →
       ListsInOrder fragments (take i xs) [] old mid → ListsInOrder fragments (s ∷ []) (fields_among (s ∷ [])) pushed new →
       ListsInOrder fragments (take (i + 1) xs) [] old new
-  ordered_next xs i s old mid pushed new within item e a b =
+  ordered_next xs i s {old = old} {mid = mid} {pushed = pushed} {new = new} within item e a b =
       let before = fields_among (listed_of old) in
       let here = fields_among (s ∷ []) in
       let pushed_is : fields_among (listed_of pushed) ≡ (before ++ a.fields) ++ here =
@@ -154,14 +154,14 @@ module _ (fragments : Fragments) where
             (subst (λ l. WalkedFields fragments (reverse l) (s ∷ []) (here ++ b.fields) (reverse (entered_names new))) e.names b.walked));
       }
 
-  pub ordered_whole : (set : SelectionSet) (xs : List Selection) (i : ℕ) (old new : Met) → length xs ≤ i → xs ≡ selections_of set →
-      ListsInOrder fragments (take i xs) [] old new → ListsInOrder fragments (selections_of set) [] old new
-  ordered_whole set xs i old new past same o = subst (λ l. ListsInOrder fragments l [] old new) (take_all i xs past ∙ same) o
+  pub ordered_whole : {xs ys : List Selection} (i : ℕ) {old new : Met} → length xs ≤ i → xs ≡ ys →
+      ListsInOrder fragments (take i xs) [] old new → ListsInOrder fragments ys [] old new
+  ordered_whole {xs = xs} i {old = old} {new = new} past same o = subst (λ l. ListsInOrder fragments l [] old new) (take_all i xs past ∙ same) o
 
   -- what a walk from nothing has listed
-  pub ordered_from_nothing : (xs : List Selection) (old new : Met) → entered_names old ≡ [] → listed_of old ≡ [] →
+  pub ordered_from_nothing : {xs : List Selection} {old new : Met} → entered_names old ≡ [] → listed_of old ≡ [] →
       ListsInOrder fragments xs [] old new → (met : List NameText) × WalkedFields fragments [] xs (fields_among (listed_of new)) met
-  ordered_from_nothing xs old new names listed o =
+  ordered_from_nothing {xs = xs} {new = new} names listed o =
       let met : List NameText = reverse (entered_names new) in (
         met,
         subst (λ l. WalkedFields fragments [] xs l met) (sym (o.listed ∙ ap (λ l. fields_among l ++ o.fields) listed))

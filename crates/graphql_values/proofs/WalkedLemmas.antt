@@ -22,21 +22,21 @@ use Rattle.graphql_values.specs.declared.variable.walks.Met.{Met}
 use Rattle.graphql_values.specs.declared.variable.walks.SelectionWalk.{SelectionWalk}
 
 -- the same list in other words
-pub listed_words : (P Q : Selection → Type 0) (Passes : Type 0) (listed : List Selection) (complete : Bool) →
+pub listed_words : {P Q : Selection → Type 0} {Passes : Type 0} {listed : List Selection} {complete : Bool} →
     ((s : Selection) → P s ↔ Q s) → HasListed P Passes listed complete → HasListed Q Passes listed complete
-listed_words P Q Passes listed complete same h = record {
+listed_words {P = P} {Q = Q} {listed = listed} same h = record {
   each = each_standing Q listed (λ s in'. (same s).0 (All-contains P listed s h.each in'));
   all = λ done s met. h.all done s ((same s).1 met);
   bound = h.bound;
 }
 
 -- what a walk from nothing has listed
-pub walk_has_listed : (walk : SelectionWalk) (set : SelectionSet) (Passes : Type 0) (old new : Met) (complete : Bool) →
+pub walk_has_listed : {walk : SelectionWalk} (set : SelectionSet) {Passes : Type 0} {old new : Met} {complete : Bool} →
     entered_names old ≡ [] → listed_of old ≡ [] → HasWalked walk (IsInSet set) Passes old new complete →
     HasListed (MetFrom (fragments_of walk.document.now) walk.into_fields set) Passes (listed_of new) complete
-walk_has_listed walk set Passes old new complete names listed w = record {
+walk_has_listed {walk = walk} set {old = old} {new = new} names listed w = record {
   each = each_standing (MetFrom (fragments_of walk.document.now) walk.into_fields set) (listed_of new) (λ s in'. from_start s in');
-  all = λ done s met. all_seen (StepOf walk) (IsInSet set) (IsMet old) (IsMet new) nothing (w.searched done) (at_selection met.0) (at_selection s) met.1 met.2;
+  all = λ done s met. all_seen nothing (w.searched done) (at_selection met.0) (at_selection s) met.1 met.2;
   bound = w.bound;
 } where
   nothing : (x : Stop) → ¬ IsMet old x
@@ -50,13 +50,13 @@ walk_has_listed walk set Passes old new complete names listed w = record {
 
   from_start : (s : Selection) → Contains (listed_of new) s → MetFrom (fragments_of walk.document.now) walk.into_fields set s
   from_start s in' =
-      let found = only_found (StepOf walk) (IsInSet set) (IsMet old) (IsMet new) nothing w.finds (at_selection s) in' in
+      let found = only_found nothing w.finds (at_selection s) in' in
       start_is s found.0 found.1 found.2
 
 -- a descent that passes the bound of a walk from nothing
-pub passes_bound : (walk : SelectionWalk) (met : Met) (set : SelectionSet) → PassesFrom walk met 500 0 set →
+pub passes_bound : {walk : SelectionWalk} {met : Met} {set : SelectionSet} → PassesFrom walk met 500 0 set →
     PassesDepth (fragments_of walk.document.now) (walk_into walk.into_fields) set
-passes_bound walk met set p = record {
+passes_bound p = record {
   depth = p.steps;
   entered = p.names;
   descent = p.descent;

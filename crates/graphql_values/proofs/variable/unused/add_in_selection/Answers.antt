@@ -23,7 +23,7 @@ returns-in_ok-add_in_directives-in-Field c =
     (c.deref-in-Field.ensures.value ∙ ap (λ (f : Field). f.directives.items) c.deref.ensures) c.in_ok-add_in_directives-in-Field.ensures in
     let same = c.deref-in-Field-3.ensures.value ∙ ap (λ (f : Field). f.arguments.items) c.deref-in-Field-2.ensures in
     on_ok c.add_in_arguments.result _ _
-    (λ arguments. also_in_words _ _ old new (used_at_field (fragments_of c.args.document.now) c.args.selection.now c.in-Field.field c.in-Field.is)
+    (λ arguments. also_in_words _ _ old new (used_at_field c.in-Field.field c.in-Field.is)
     (also_then _ _ old mid new directives (subst (λ (l : List (Node Argument)). NamesAlso (λ n. StandsInArguments n l) mid new) same arguments)))
     c.add_in_arguments.ensures
 
@@ -39,7 +39,7 @@ returns-in-Some c =
     let found = ap (λ (p : FragmentSpread). fragments_of c.args.document.now p.fragment_name) (sym c.deref-in-FragmentSpread-3.ensures) ∙ sym c.in-Some.ensures.value in
     on_ok c.add_in_directives-in-Some.result _ _
     (λ there. also_in_words _ _ old new
-    (used_at_defined (fragments_of c.args.document.now) c.args.selection.now c.in-FragmentSpread.spread c.in-Some.fragment.now c.in-FragmentSpread.is found)
+    (used_at_defined c.in-FragmentSpread.spread c.in-Some.fragment.now c.in-FragmentSpread.is found)
     (also_then _ _ old mid new own (subst (λ (l : List (Node Directive)). NamesAlso (λ n. StandsInDirectives n l) mid new) same there)))
     c.add_in_directives-in-Some.ensures
 
@@ -51,7 +51,7 @@ returns-in-None c =
     (c.deref-in-FragmentSpread-2.ensures.value ∙ ap (λ (p : FragmentSpread). p.directives.items) c.deref-in-FragmentSpread.ensures)
     c.in_ok-add_in_directives-in-FragmentSpread.ensures in
     let missing = ap (λ (p : FragmentSpread). fragments_of c.args.document.now p.fragment_name) (sym c.deref-in-FragmentSpread-3.ensures) ∙ sym c.in-None.ensures.value in
-    also_in_words _ _ old mid (used_at_undefined (fragments_of c.args.document.now) c.args.selection.now c.in-FragmentSpread.spread c.in-FragmentSpread.is missing) own
+    also_in_words _ _ old mid (used_at_undefined c.in-FragmentSpread.spread c.in-FragmentSpread.is missing) own
 
 pub returns-in-InlineFragment : goal.returns-in-InlineFragment
 returns-in-InlineFragment c =
@@ -59,6 +59,6 @@ returns-in-InlineFragment c =
     let new = c.add_in_directives-in-InlineFragment.new.names.items in
     let same = c.deref-in-InlineFragment-2.ensures.value ∙ ap (λ (i : InlineFragment). i.directives.items) c.deref-in-InlineFragment.ensures in
     on_ok c.add_in_directives-in-InlineFragment.result _ _
-    (λ own. also_in_words _ _ old new (used_at_inline (fragments_of c.args.document.now) c.args.selection.now c.in-InlineFragment.fragment c.in-InlineFragment.is)
+    (λ own. also_in_words _ _ old new (used_at_inline c.in-InlineFragment.fragment c.in-InlineFragment.is)
     (subst (λ (l : List (Node Directive)). NamesAlso (λ n. StandsInDirectives n l) old new) same own))
     c.add_in_directives-in-InlineFragment.ensures

@@ -16,7 +16,7 @@ returns-then-contains c = λ fragments o name used last.
     let key : Bor NameText = record { ref_ptr = c.deref.result.ref_ptr; now = c.deref.result.now.name } in
     let known = has_name c.args.used.now.keys key (sym (c.if-contains.ensures)) in
     let uses = subst (λ (v : VariableDefinition). UsesVariable fragments o v.name) c.deref.ensures ((used key.now).0 known) in
-    record { added = []; appended = sym (append-nil _); are = used_report fragments o name c.args.variable.now last uses }
+    record { added = []; appended = sym (append-nil _); are = used_report last uses }
 
 pub returns : goal.returns
 returns c = λ fragments o name used last.
@@ -26,4 +26,4 @@ returns c = λ fragments o name used last.
     let named = ap (λ (v : VariableDefinition). v.name) c.deref.ensures in
     let place = c.recompose-place.ensures ∙ ap (recompose c.args.variable.now.location) (c.location.ensures ∙ ap (λ (n : NameText). n.location) named) in
     appends_on_ok _ _ _ _ c.push.ensures.ok c.push.ensures.err
-    (unused_name (unused_report fragments o name c.in_ok-name.name c.args.variable.now _ last unused (c.in_ok-name.ensures.cases ∙ named) place) no_name)
+    (unused_name (unused_report last unused (c.in_ok-name.ensures.cases ∙ named) place) no_name)

@@ -33,7 +33,7 @@ loop-variable-preserved c =
       reported = λ fragments o used last.
           subst (λ names. Appends (AreUnusedReports fragments o names) (entries c.args.diagnostics.now) (entries c.check_use.new.diagnostics))
           (sym (map-append (λ (e : LastEntry). e.0.now) done (x ∷ [])))
-          (appends_then fragments o (entry_names done) (x.0.now ∷ []) _ _ _ (c.loop-variable.invariant.reported fragments o used last)
+          (appends_then (c.loop-variable.invariant.reported fragments o used last)
           (c.in_ok-check_use.ensures fragments o x.0.now used (All-contains (IsLast o.variables.items) c.args.variables.now.entries x last among)));
     }
 
@@ -44,7 +44,7 @@ returns-in_err-check_use c = λ fragments o used last.
     let next : c.loop-variable.variable-iterator ≡ x ∷ c.next.new.self = c.in-Some.ensures.steps in
     let among : Contains c.args.variables.now.entries x = stands_next _ done c.loop-variable.variable-iterator c.next.new.self x c.loop-variable.invariant.all next in
     let is_last = All-contains (IsLast o.variables.items) c.args.variables.now.entries x last among in
-    let kept = appends_kept fragments o (entry_names done) _ _ (c.loop-variable.invariant.reported fragments o used last) in
+    let kept = appends_kept (c.loop-variable.invariant.reported fragments o used last) in
     MatchResult-from_err c.from_residual.result _ _ c.from_residual.ensures.0
     (λ e. subst (KeepsReports (IsDiagnostic (UsesReport fragments o)) (entries c.args.diagnostics.now)) (sym (c.in_err-check_use.ensures fragments o x.0.now used is_last)) kept)
 

@@ -25,7 +25,7 @@ reported : (c : goal.After-drop-walked-2) →
 reported c =
     let fragments = fragments_of c.args.document.now in
     let o = c.args.operation.now in
-    let reach = lists_all _ _ _ _ c.in_ok-walked.ensures c.if-not-walked.false in
+    let reach = lists_all c.in_ok-walked.ensures c.if-not-walked.false in
     let used = c.in_ok-used.ensures
     (subst (λ (l : List (Bor Selection)). (s : Selection) → Contains (map (λ (b : Bor Selection). b.now) l) s ↔ Reached fragments o.selection_set s)
     (sym c.deref.ensures.value) reach) in

@@ -18,7 +18,7 @@ pub loop-argument-preserved : goal.loop-argument-preserved
 loop-argument-preserved c =
     also_more In c.args.arguments.now c.loop-argument.argument-index c.argument-item.result _ _ _ c.loop-argument-test.true c.argument-item.is
     c.loop-argument.invariant
-    (also_in_value c.argument-item.result.value.value.value.value.value _ _
+    (also_in_value
     (subst (λ v. AddsNames (VariablesIn v) c.loop-argument.names.items c.add_variables.new.names.items)
     (c.deref-in-loop-argument.ensures ∙ ap (λ (a : Argument). a.value.value.value) c.deref.ensures) c.in_ok-add_variables.ensures))
 

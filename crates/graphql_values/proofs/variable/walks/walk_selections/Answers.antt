@@ -13,7 +13,7 @@ pub returns-clause-listed : goal.returns-clause-listed
 returns-clause-listed c =
     let fragments = fragments_of c.args.document.now in
     let set = c.args.selection_set.now in
-    IfOk-weaker _ _ _ (λ walked. listed_words (MetFrom fragments false set) (Inside fragments set) _ _ _
+    IfOk-weaker _ _ _ (λ walked. listed_words {P = MetFrom fragments false set} {Q = Inside fragments set}
     (met_inside fragments (one_fragment_found c.args.document.now) set)) c.over.ensures.listed
 
 pub returns-clause-ordered : goal.returns-clause-ordered

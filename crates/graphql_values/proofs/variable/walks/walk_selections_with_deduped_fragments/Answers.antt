@@ -10,5 +10,5 @@ pub returns : goal.returns
 returns c =
     let fragments = fragments_of c.args.document.now in
     let set = c.args.selection_set.now in
-    IfOk-weaker _ _ _ (λ walked. listed_words (MetFrom fragments true set) (Reached fragments set) _ _ _
+    IfOk-weaker _ _ _ (λ walked. listed_words {P = MetFrom fragments true set} {Q = Reached fragments set}
     (met_reached fragments (one_fragment_found c.args.document.now) set)) c.over.ensures.listed

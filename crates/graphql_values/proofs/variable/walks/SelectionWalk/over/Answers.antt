@@ -1,12 +1,10 @@
 -- What the walk from nothing has listed, with its limit.
 use Rattle.std.proofs.Common.{ℕ, ◌∙◌, map, ap, subst}
 use Rattle.graphql_documents.specs.Guards.{depth_limit}
-use Rattle.graphql_documents.specs.Selections.{fragments_of, selections_of}
-use Rattle.graphql_documents.specs.Walks.{PassesDepth}
 use Rattle.graphql_values.proofs.SelectionWalkLemmas.{walked_words}
 use Rattle.graphql_values.proofs.WalkOrderLemmas.{ordered_from_nothing}
 use Rattle.graphql_values.proofs.WalkedLemmas.{walk_has_listed, passes_bound}
-use Rattle.graphql_values.specs.WalkSteps.{HasWalked, PassesFrom, IsInSet, walk_into}
+use Rattle.graphql_values.specs.WalkSteps.{HasWalked, PassesFrom, IsInSet}
 use Rattle.graphql_values.specs.declared.variable.walks.Met.{Met}
 use Rattle.graphql_values.proofs.variable.walks.SelectionWalk.over.Goals as goal
 
@@ -19,14 +17,11 @@ returns-clause-listed c =
     let from_nothing : Bounded 500 0 =
     subst (λ limit. Bounded limit 0) c.with_limit-depth.ensures.limit
     (subst (Bounded (depth_limit c.with_limit-depth.result)) (c.with_limit-depth.ensures.depth ∙ c.new-3.ensures.depth) c.in_ok-complete.ensures.walks) in
-    walk_has_listed walk set (PassesDepth (fragments_of walk.document.now) (walk_into walk.into_fields) set) begun c.walk_set.new.met c.in_ok-complete.complete
+    walk_has_listed set
     (ap (map (λ r. r.now)) c.new.ensures.empty) (ap (map (λ r. r.now)) c.new-2.ensures.items)
-    (walked_words walk (IsInSet set) (IsInSet set) (PassesFrom walk begun 500 0 set) (PassesDepth (fragments_of walk.document.now) (walk_into walk.into_fields) set)
-    begun c.walk_set.new.met c.in_ok-complete.complete (λ x h. h) (λ x h. h) (passes_bound walk begun set) from_nothing)
+    (walked_words (λ x h. h) (λ x h. h) passes_bound from_nothing)
 
 pub returns-clause-ordered : goal.returns-clause-ordered
 returns-clause-ordered c = λ done kept.
-    let begun : Met = record { entered = c.new.result; selections = c.new-2.result } in
-    ordered_from_nothing (fragments_of c.args.self.now.document.now) (selections_of c.args.set.now) begun c.walk_set.new.met
-    (ap (map (λ r. r.now)) c.new.ensures.empty) (ap (map (λ r. r.now)) c.new-2.ensures.items)
+    ordered_from_nothing (ap (map (λ r. r.now)) c.new.ensures.empty) (ap (map (λ r. r.now)) c.new-2.ensures.items)
     (c.in_ok-complete.ensures.order done kept)
