@@ -2,6 +2,7 @@ pub mod ExpandedListLaws
 pub mod ExpansionLaws
 pub mod FragmentLaws
 pub mod GroupLaws
+pub mod MergedListLaws
 pub mod MergingLaws
 pub mod ReportLaws
 pub mod SchemaLaws

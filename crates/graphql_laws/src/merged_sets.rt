@@ -3,9 +3,11 @@
 ghost use Rattle.std.specs.Prelude.{◌≡◌, ◌↔◌, List, Contains};
 ghost use Rattle.graphql_documents.specs.Names.{NameText, SameName};
 ghost use Rattle.graphql_documents.specs.Selections.{Fragments};
-ghost use Rattle.graphql_documents.specs.Merging.{FieldSelection, FieldInside, SameKey, ParentsMayOverlap, set_of};
-ghost use Rattle.graphql_documents.specs.Expansion.{Expansion, IsGroup, shape_pass, field_pass, nested_sets};
+ghost use Rattle.graphql_documents.specs.Merging.{FieldSelection, FieldInside, SameKey, ParentsMayOverlap, set_of, type_of, SameShape, SameNameAndArguments, Together, OverlapThroughout, Merges};
+ghost use Rattle.graphql_documents.specs.Expansion.{Expansion, IsGroup, shape_pass, field_pass, nested_sets, MergedSet};
+ghost use Rattle.graphql_documents.specs.declared.documents.executables.Operation.{Operation};
 ghost use Rattle.graphql_documents.specs.declared.documents.executables.SelectionSet.{SelectionSet};
+ghost use Rattle.graphql_documents.specs.declared.documents.nodes.Node.{Node};
 ghost use Rattle.graphql_documents.specs.declared.documents.schemas.Schema.{Schema};
 
 /// The expansion of a list of sets lists a field exactly where it is inside one of the sets, if names that
@@ -45,4 +47,48 @@ pub fn fields_with_one_key_and_overlapping_parents_are_in_one_group()
     ensures { (schema : Schema) (fields : List FieldSelection) (x y : FieldSelection) →
         ((group : List FieldSelection) × IsGroup schema fields field_pass group × Contains group x × Contains group y) ↔
         (Contains fields x × Contains fields y × SameKey x y × ParentsMayOverlap schema x y) }
+{}
+
+/// Two fields of a list that is merged for shapes come together in an operation, if they have one key and
+/// names that are the same find the same fragment.
+///
+/// Specification: 5.3.2 Field Selection Merging, SameResponseShape.
+pub fn fields_of_a_merged_list_come_together()
+    ensures { (schema : Schema) (fragments : Fragments) → ((a b : NameText) → SameName a b → fragments a ≡ fragments b) →
+        (operations : List (Node Operation)) (fields : List FieldSelection) (x y : FieldSelection) →
+        MergedSet schema fragments operations shape_pass fields → Contains fields x → Contains fields y → SameKey x y →
+        (o : Node Operation) × (xs : List FieldSelection) × (ys : List FieldSelection) × Contains operations o ×
+        Together fragments o.value.value.selection_set xs ys x y }
+{}
+
+/// Two fields of a list that is merged for names and arguments come together in an operation where the
+/// parents overlap throughout, if they have one key, their parents may overlap, and names that are the same
+/// find the same fragment.
+///
+/// Specification: 5.3.2 Field Selection Merging, FieldsInSetCanMerge.
+pub fn fields_of_a_merged_list_whose_parents_may_overlap_come_together()
+    ensures { (schema : Schema) (fragments : Fragments) → ((a b : NameText) → SameName a b → fragments a ≡ fragments b) →
+        (operations : List (Node Operation)) (fields : List FieldSelection) (x y : FieldSelection) →
+        MergedSet schema fragments operations field_pass fields → Contains fields x → Contains fields y → SameKey x y →
+        ParentsMayOverlap schema x y →
+        (o : Node Operation) × (xs : List FieldSelection) × (ys : List FieldSelection) × Contains operations o ×
+        Together fragments o.value.value.selection_set xs ys x y × OverlapThroughout schema xs ys x y }
+{}
+
+/// All operations merge exactly where the fields of each merged list agree: two with one key have one
+/// shape, and are one field with the same arguments if their parents may overlap. Names that are the same
+/// find the same fragment here, and each list of sets has an expansion.
+///
+/// Specification: 5.3.2 Field Selection Merging.
+pub fn operations_merge_where_the_fields_of_merged_lists_agree()
+    ensures { (schema : Schema) (fragments : Fragments) → ((a b : NameText) → SameName a b → fragments a ≡ fragments b) →
+        (operations : List (Node Operation)) →
+        ((sets : List SelectionSet) → (fields : List FieldSelection) × Expansion fragments sets fields) →
+        ((o : Node Operation) → Contains operations o → Merges schema fragments o.value.value.selection_set) ↔
+        (((fields : List FieldSelection) → MergedSet schema fragments operations shape_pass fields →
+        (x y : FieldSelection) → Contains fields x → Contains fields y → SameKey x y →
+        SameShape schema (type_of x) (type_of y)) ×
+        ((fields : List FieldSelection) → MergedSet schema fragments operations field_pass fields →
+        (x y : FieldSelection) → Contains fields x → Contains fields y → SameKey x y → ParentsMayOverlap schema x y →
+        SameNameAndArguments x.field.value.value y.field.value.value)) }
 {}
