@@ -22,7 +22,7 @@ use Rattle.graphql_documents.specs.declared.documents.directives.Directive.{Dire
 use Rattle.graphql_documents.specs.declared.documents.nodes.Node.{Node}
 use Rattle.graphql_documents.specs.declared.documents.schemas.Schema.{Schema}
 use Rattle.graphql_documents.specs.declared.documents.spans.SourceSpan.{SourceSpan}
-use Rattle.graphql_values.specs.DirectiveSteps.{IsAppliedWell, RepetitionHolds}
+use Rattle.graphql_values.specs.DirectiveSteps.{FollowsWell, IsAppliedWell, RepetitionHolds}
 use Rattle.graphql_values.specs.GivenArguments.{AreOfDirective, GivenArgumentHolds, GivenArgumentReport, MissingArgumentReport}
 use Rattle.graphql_values.specs.GivenArguments as given
 use Rattle.graphql_values.specs.declared.argument.owners.GivenArguments.{GivenArguments}
@@ -84,11 +84,9 @@ module _ (schema : Option Schema) where
         let found : directive_in schema d.value.value.name ≡ Some h.definition = rw h.has_schema h.defined in
         none-some h.definition (sym undefined ∙ found)
 
-    -- applications hold exactly where those before the last hold, and the last does
+    -- applications hold exactly where those before the last hold, and it may follow them
     applications_more : (xs : List (Node Directive)) (x : Node Directive) →
-        (ApplicationsHold schema variables location xs ×
-        (HasDistinctNames x.value.value.arguments.items × (RepetitionHolds schema xs x × IsAppliedWell schema variables location x.value.value))) ↔
-        ApplicationsHold schema variables location (xs ++ x ∷ [])
+        (ApplicationsHold schema variables location xs × FollowsWell schema variables location xs x) ↔ ApplicationsHold schema variables location (xs ++ x ∷ [])
     applications_more xs x =
         let P = λ (d : Node Directive). ApplicationHolds schema variables location d.value.value in (
           λ p. record {
@@ -112,22 +110,16 @@ module _ (schema : Option Schema) where
             wide r at said = absurd said
 
       -- one directive more was checked
-      pub application_checked : (before : List (Node Directive)) (x : Node Directive) (old a b c new : List DiagnosticEntry) → Contains directives x →
-          Reports (ApplicationsHold schema variables location before) (IsDiagnostic (DirectivesBreak schema variables location directives)) old a →
-          Reports (HasDistinctNames x.value.value.arguments.items) (IsDiagnostic (RepetitionReport x.value.value.arguments.items)) a b →
-          Reports (RepetitionHolds schema before x) (IsDiagnostic (DirectivesBreak schema variables location directives)) b c →
-          Reports (IsAppliedWell schema variables location x.value.value) (IsDiagnostic (DirectivesBreak schema variables location directives)) c new →
+      pub application_checked : (before : List (Node Directive)) (x : Node Directive) (old mid new : List DiagnosticEntry) →
+          Reports (ApplicationsHold schema variables location before) (IsDiagnostic (DirectivesBreak schema variables location directives)) old mid →
+          Reports (FollowsWell schema variables location before x) (IsDiagnostic (DirectivesBreak schema variables location directives)) mid new →
           Reports (ApplicationsHold schema variables location (before ++ x ∷ [])) (IsDiagnostic (DirectivesBreak schema variables location directives)) old new
-      application_checked before x old a b c new among done distinct repetition applied =
+      application_checked before x old mid new done follows =
           let Q = IsDiagnostic (DirectivesBreak schema variables location directives) in
-          let D = HasDistinctNames x.value.value.arguments.items in
-          let R = RepetitionHolds schema before x in
-          let A = IsAppliedWell schema variables location x.value.value in
           let H = ApplicationsHold schema variables location before in
-          in_words Q (H × (D × (R × A))) (ApplicationsHold schema variables location (before ++ x ∷ [])) old new (applications_more before x)
-          (both Q H (D × (R × A)) old a new done
-          (both Q D (R × A) a b new (wider D (IsDiagnostic (RepetitionReport x.value.value.arguments.items)) Q a b (names_repetition x among) distinct)
-          (both Q R A b c new repetition applied)))
+          let F = FollowsWell schema variables location before x in
+          in_words Q (H × F) (ApplicationsHold schema variables location (before ++ x ∷ [])) old new (applications_more before x)
+          (both Q H F old mid new done follows)
 
 -- the place of an application and its arguments were checked against the definition
 module _ (schema : Schema) (variables : List (Node VariableDefinition)) (location : DirectiveLocation) (d : Node Directive)

@@ -1,13 +1,18 @@
 -- The first of each name, and lists of things whose names are distinct.
-use Rattle.std.proofs.Common.{◌≡◌, ◌↔◌, ℕ, zero, suc, ◌+◌, ◌<◌, List, [], ◌∷◌, ◌++◌, length, get_or, map, Bool, true, false, cond, Option, Some, None, refl, sym, ◌∙◌, ap, subst, find, AllPairs, arith}
+use Rattle.std.proofs.Common.{◌≡◌, ◌↔◌, ℕ, zero, suc, ◌+◌, ◌<◌, List, [], ◌∷◌, ◌++◌, length, get_or, map, Bool, true, false, cond, Option, Some, None, refl, sym, ◌∙◌, ap, subst, find, take, drop, Bor, Contains, AllPairs, arith}
+use Rattle.std.specs.Prelude.{Result, Ok, Err, OnOk}
+use Rattle.std.specs.HashMap.{HashMap, get_by}
 use Rattle.std.specs.Option.{option_or, option_map}
+use Rattle.std.proofs.lemmas.List.Elements.{Contains-append_right}
+use Rattle.graphql_documents.proofs.ListLemmas.{stands_first}
 use Rattle.std.proofs.lemmas.Option.{same_Some}
 use Rattle.std.proofs.lemmas.List.{get_or_append_left, get_or_push, length-append, map-append}
 use Rattle.std.proofs.lemmas.List.Folds.{find-append}
 use Rattle.std.proofs.lemmas.List.Quantifiers.{all_pairs_push}
 use Rattle.graphql_documents.specs.Names.{NameText, AreDistinct, DifferentNames, same_name}
 use Rattle.graphql_documents.specs.declared.documents.spans.SourceSpan.{SourceSpan}
-use Rattle.graphql_values.specs.FirstPlaces.{Remembers, place_in}
+use Rattle.graphql_values.specs.FirstPlaces.{IsNext, Remembers, place_in}
+use Rattle.graphql_values.proofs.ObjectLemmas.{split_at}
 
 -- a first choice that is none was not taken
 cond_none : {X : Type 0} (b : Bool) (x : X) (o : Option X) → cond b (Some x) o ≡ None → (b ≡ false) × (o ≡ None)
@@ -84,54 +89,80 @@ distinct_more {X} name_of xs x =
       λ all. ((pairs.1 all).0, none_found has_name xs (λ k d h. (pairs.1 all).1 k d h)),
     )
 
-module _ {X : Type 0} (name_of : X → NameText) (place_of : X → Option SourceSpan) where
-  find_mapped : (xs : List X) (name : NameText) →
-      find (λ n. same_name n name) (map name_of xs) ≡ option_map name_of (find (λ x. same_name (name_of x) name) xs)
-  find_mapped [] name = refl
-  find_mapped (x ∷ xs) name = by (same_name (name_of x) name) (find_mapped xs name) where
-    by : (b : Bool) →
-        find (λ n. same_name n name) (map name_of xs) ≡ option_map name_of (find (λ x. same_name (name_of x) name) xs) →
-        cond b (Some (name_of x)) (find (λ n. same_name n name) (map name_of xs)) ≡
-        option_map name_of (cond b (Some x) (find (λ x. same_name (name_of x) name) xs))
-    by true behind = refl
-    by false behind = behind
+-- what is found among what a map makes
+find_mapped : {X Y : Type 0} (f : X → Y) (p : Y → Bool) (xs : List X) → find p (map f xs) ≡ option_map f (find (λ x. p (f x)) xs)
+find_mapped f p [] = refl
+find_mapped {X} {Y} f p (x ∷ xs) = by (p (f x)) (find_mapped f p xs) where
+  by : (b : Bool) → find p (map f xs) ≡ option_map f (find (λ x. p (f x)) xs) →
+      cond b (Some (f x)) (find p (map f xs)) ≡ option_map f (cond b (Some x) (find (λ x. p (f x)) xs))
+  by true behind = refl
+  by false behind = behind
 
-  none_mapped : {Y : Type 0} (f : X → Y) (o : Option X) → option_map f o ≡ None → o ≡ None
-  none_mapped f None e = refl
-  none_mapped f (Some x) e = absurd (let h : ⊥ = cc in h)
+pub none_mapped : {X Y : Type 0} (f : X → Y) (o : Option X) → option_map f o ≡ None → o ≡ None
+none_mapped f None e = refl
+none_mapped f (Some x) e = absurd (let h : ⊥ = cc in h)
 
-  -- the names of a list stay distinct exactly where that of the next is new
-  pub distinct_names_more : (xs : List X) (x : X) →
-      (AreDistinct (map name_of xs) × (find (λ y. same_name (name_of y) (name_of x)) xs ≡ None)) ↔ AreDistinct (map name_of (xs ++ x ∷ []))
-  distinct_names_more xs x =
-      let mapped = map-append name_of xs (x ∷ []) in
-      let names = distinct_more (λ n. n) (map name_of xs) (name_of x) in (
-        λ p. subst AreDistinct (sym mapped) (names.0 (p.0, find_mapped xs (name_of x) ∙ ap (option_map name_of) p.1)),
-        λ all.
-            let parts = names.1 (subst AreDistinct mapped all) in
-            (parts.0, none_mapped name_of (find (λ y. same_name (name_of y) (name_of x)) xs) (sym (find_mapped xs (name_of x)) ∙ parts.1)),
-      )
+pub first_found : {X Y : Type 0} (f : X → Y) (o : Option X) (y : Y) → option_map f o ≡ Some y → (first : X) × (o ≡ Some first) × (y ≡ f first)
+first_found f None y e = absurd (let h : ⊥ = cc in h)
+first_found f (Some first) y e = (first, refl, sym (same_Some (f first) y e))
 
-  -- what was found is the place of the first, and where nothing was, the name is new
-  pub first_found : (xs : List X) (name : NameText) (w : Option SourceSpan) → place_in name_of place_of xs name ≡ Some w →
-      (first : X) × (find (λ x. same_name (name_of x) name) xs ≡ Some first) × (w ≡ place_of first)
-  first_found xs name w e = by (find (λ x. same_name (name_of x) name) xs) e where
-    by : (o : Option X) → option_map place_of o ≡ Some w → (first : X) × (o ≡ Some first) × (w ≡ place_of first)
-    by None e = absurd (let h : ⊥ = cc in h)
-    by (Some first) e = (first, refl, sym (same_Some (place_of first) w e))
+-- the names of a list stay distinct exactly where that of the next is new
+pub distinct_names_more : {X : Type 0} (name_of : X → NameText) (xs : List X) (x : X) →
+    (AreDistinct (map name_of xs) × (find (λ y. same_name (name_of y) (name_of x)) xs ≡ None)) ↔ AreDistinct (map name_of (xs ++ x ∷ []))
+distinct_names_more {X} name_of xs x =
+    let mapped = map-append name_of xs (x ∷ []) in
+    let found = find_mapped name_of (λ n. same_name n (name_of x)) xs in
+    let names = distinct_more (λ n. n) (map name_of xs) (name_of x) in (
+      λ p. subst AreDistinct (sym mapped) (names.0 (p.0, found ∙ ap (option_map name_of) p.1)),
+      λ all.
+          let parts = names.1 (subst AreDistinct mapped all) in
+          (parts.0, none_mapped name_of (find (λ (y : X). same_name (name_of y) (name_of x)) xs) (sym found ∙ parts.1)),
+    )
 
-  pub none_found_before : (xs : List X) (name : NameText) → place_in name_of place_of xs name ≡ None →
-      find (λ x. same_name (name_of x) name) xs ≡ None
-  none_found_before xs name e = none_mapped place_of (find (λ x. same_name (name_of x) name) xs) e
+twice_mapped : {X Y Z : Type 0} (f : X → Y) (g : Y → Z) (o : Option X) → option_map g (option_map f o) ≡ option_map (λ x. g (f x)) o
+twice_mapped f g None = refl
+twice_mapped f g (Some x) = refl
 
-  -- one more is remembered
-  pub remembers_more : (look new : NameText → Option (Option SourceSpan)) (met : List X) (x : X) →
-      ((other : NameText) → new other ≡ option_or (look other) (cond (same_name (name_of x) other) (Some (place_of x)) None)) →
-      Remembers name_of place_of look met → Remembers name_of place_of new (met ++ x ∷ [])
-  remembers_more look new met x more before name =
-      let p = λ (y : X). same_name (name_of y) name in
-      more name ∙
-      ap (λ o. option_or o (cond (same_name (name_of x) name) (Some (place_of x)) None)) (before name) ∙
-      ap (option_or (place_in name_of place_of met name)) (sym (map_choice place_of (same_name (name_of x) name) x)) ∙
-      sym (map_or place_of (find p met) (find p (x ∷ []))) ∙
-      ap (option_map place_of) (sym (find-append p met (x ∷ [])))
+-- the location of the first, where the names are those of a list
+pub place_of_first : {X : Type 0} (met : X → NameText × Option SourceSpan) (xs : List X) (name : NameText) →
+    place_in (map met xs) name ≡ option_map (λ x. (met x).1) (find (λ x. same_name (met x).0 name) xs)
+place_of_first {X} met xs name =
+    ap (option_map (λ (m : NameText × Option SourceSpan). m.1)) (find_mapped met (λ m. same_name m.0 name) xs) ∙
+    twice_mapped met (λ m. m.1) (find (λ (x : X). same_name (met x).0 name) xs)
+
+place_more : (met : List (NameText × Option SourceSpan)) (m : NameText × Option SourceSpan) (other : NameText) →
+    place_in (met ++ m ∷ []) other ≡ option_or (place_in met other) (cond (same_name m.0 other) (Some m.1) None)
+place_more met m other =
+    let P = λ (n : NameText × Option SourceSpan). same_name n.0 other in
+    ap (option_map (λ (n : NameText × Option SourceSpan). n.1)) (find-append P met (m ∷ [])) ∙
+    map_or (λ (n : NameText × Option SourceSpan). n.1) (find P met) (find P (m ∷ [])) ∙
+    ap (option_or (place_in met other)) (map_choice (λ (n : NameText × Option SourceSpan). n.1) (same_name m.0 other) m)
+
+-- one more is remembered
+pub remembers_more : {S : Type 0} {seen new : HashMap (Bor NameText) (Option SourceSpan) S} {met : List (NameText × Option SourceSpan)}
+    (name : NameText) (location : Option SourceSpan) →
+    ((other : NameText) → get_by (λ b. same_name other b.now) new ≡ option_or (get_by (λ b. same_name other b.now) seen) (cond (same_name name other) (Some location) None)) →
+    Remembers seen met → Remembers new (met ++ (name, location) ∷ [])
+remembers_more {met} name location more r = record {
+  look_up = λ other.
+      more other ∙ ap (λ o. option_or o (cond (same_name name other) (Some location) None)) (r.look_up other) ∙
+      sym (place_more met (name, location) other);
+}
+
+-- the same of a list
+pub remembers_next : {S X : Type 0} {seen : HashMap (Bor NameText) (Option SourceSpan) S} (met : X → NameText × Option SourceSpan) (xs : List X) (x : X) →
+    Remembers seen (map met xs ++ met x ∷ []) → Remembers seen (map met (xs ++ x ∷ []))
+remembers_next {seen} met xs x r = subst (Remembers seen) (sym (map-append met xs (x ∷ []))) r
+
+-- what stands behind others stands in the list
+pub next_stands : {X : Type 0} {all before : List X} {x : X} → IsNext all before x → Contains all x
+next_stands {all} {before} {x} next =
+    subst (λ l. Contains l x) (sym next.split) (Contains-append_right before (x ∷ next.after) x (stands_first x next.after))
+
+pub next_at : {X : Type 0} (xs : List X) (i : ℕ) (x : X) → i < length xs → x ≡ get_or xs i x → IsNext xs (take i xs) x
+next_at xs i x within item = record { after = drop (i + 1) xs; split = split_at xs i x within item }
+
+-- what holds in any case holds where a call answers
+pub holds_on_ok : {T E : Type 0} (r : Result T E) (A : Type 0) → A → OnOk r A
+holds_on_ok (Ok x) A a = a
+holds_on_ok (Err x) A a = tt

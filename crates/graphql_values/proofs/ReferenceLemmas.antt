@@ -1,14 +1,9 @@
 -- Lists of references, and what they refer to.
-use Rattle.std.proofs.Common.{◌≡◌, ℕ, ◌+◌, ◌<◌, List, [], ◌∷◌, ◌++◌, Bor, length, get_or, map, take, drop, Contains, sym, ◌∙◌, ap, subst}
+use Rattle.std.proofs.Common.{◌≡◌, ℕ, ◌+◌, ◌<◌, List, [], ◌∷◌, ◌++◌, Bor, length, get_or, map, take, drop, ◌∙◌, ap}
 use Rattle.std.proofs.lemmas.List.{map-append}
-use Rattle.std.proofs.lemmas.List.Elements.{Contains-append_right}
-use Rattle.graphql_documents.proofs.ListLemmas.{stands_first}
 use Rattle.graphql_documents.proofs.ReportLemmas.{more_is}
+use Rattle.graphql_values.specs.FirstPlaces.{IsNext}
 use Rattle.graphql_values.proofs.ObjectLemmas.{split_at}
-
--- an element of a list that is split at it stands in the list
-pub stands_at_split : {X : Type 0} (all before after : List X) (x : X) → all ≡ before ++ x ∷ after → Contains all x
-stands_at_split all before after x split = subst (λ l. Contains l x) (sym split) (Contains-append_right before (x ∷ after) x (stands_first x after))
 
 -- what references refer to
 abbrev pub referred : {X : Type 0} → List (Bor X) → List X
@@ -20,5 +15,8 @@ module _ {X : Type 0} (xs : List (Bor X)) (i : ℕ) (x : Bor X) (within : i < le
   referred_more = ap (λ (l : List (Bor X)). referred l) (more_is xs i x within item) ∙ map-append (λ y. y.now) (take i xs) (x ∷ [])
 
   -- what stands before it and behind it
-  pub referred_split : referred xs ≡ referred (take i xs) ++ x.now ∷ referred (drop (i + 1) xs)
-  referred_split = ap (λ (l : List (Bor X)). referred l) (split_at xs i x within item) ∙ map-append (λ y. y.now) (take i xs) (x ∷ drop (i + 1) xs)
+  pub referred_next : IsNext (referred xs) (referred (take i xs)) x.now
+  referred_next = record {
+    after = referred (drop (i + 1) xs);
+    split = ap (λ (l : List (Bor X)). referred l) (split_at xs i x within item) ∙ map-append (λ y. y.now) (take i xs) (x ∷ drop (i + 1) xs);
+  }

@@ -20,7 +20,7 @@ use Rattle.graphql_documents.specs.declared.documents.nodes.Node.{Node}
 use Rattle.graphql_documents.specs.declared.documents.schemas.ExtendedType.{ExtendedType}
 use Rattle.graphql_documents.specs.declared.documents.schemas.Schema.{Schema}
 use Rattle.graphql_documents.specs.declared.documents.values.Value.{Value}
-use Rattle.graphql_values.specs.VariableSteps.{IsNewName, TypeHolds, variable_name, variable_place}
+use Rattle.graphql_values.specs.VariableSteps.{FollowsWell, TypeHolds, variable_name}
 use Rattle.graphql_values.proofs.FirstPlaceLemmas.{distinct_names_more}
 
 -- the type and the default were checked against the schema
@@ -53,14 +53,12 @@ pub no_type : (schema : Schema) (v : Node VariableDefinition) →
 no_type schema v undefined h = none-some h.0 (sym undefined ∙ h.1)
 
 module _ (schema : Option Schema) where
-  -- variables hold exactly where those before the last hold, and the last does
+  -- variables hold exactly where those before the last hold, and it may follow them
   variables_more : (xs : List (Node VariableDefinition)) (x : Node VariableDefinition) →
-      (VariableDefinitionsHold schema xs ×
-      (ApplicationsHold schema [] allowed_at.VariableDefinition x.value.value.directives.items × (TypeHolds schema x.value.value × IsNewName xs x))) ↔
-      VariableDefinitionsHold schema (xs ++ x ∷ [])
+      (VariableDefinitionsHold schema xs × FollowsWell schema xs x) ↔ VariableDefinitionsHold schema (xs ++ x ∷ [])
   variables_more xs x =
       let P = λ (v : Node VariableDefinition). VariableDefinitionHolds schema v.value.value in
-      let names = distinct_names_more variable_name variable_place xs x in (
+      let names = distinct_names_more variable_name xs x in (
         λ p. record {
           each = All-append P xs (x ∷ []) p.0.each (All-cons P x []
               (record { directives = p.1.0; type_holds = p.1.1.0.type_holds; default_holds = p.1.1.0.default_holds }) (All-nil P));
@@ -75,21 +73,15 @@ module _ (schema : Option Schema) where
       )
 
   -- one variable more was checked
-  pub variable_checked : (variables before : List (Node VariableDefinition)) (x : Node VariableDefinition) (old a b c new : List DiagnosticEntry) →
-      Reports (VariableDefinitionsHold schema before) (IsDiagnostic (VariablesReport schema variables)) old a →
-      Reports (ApplicationsHold schema [] allowed_at.VariableDefinition x.value.value.directives.items) (IsDiagnostic (VariablesReport schema variables)) a b →
-      Reports (TypeHolds schema x.value.value) (IsDiagnostic (VariablesReport schema variables)) b c →
-      Reports (IsNewName before x) (IsDiagnostic (VariablesReport schema variables)) c new →
+  pub variable_checked : (variables before : List (Node VariableDefinition)) (x : Node VariableDefinition) (old mid new : List DiagnosticEntry) →
+      Reports (VariableDefinitionsHold schema before) (IsDiagnostic (VariablesReport schema variables)) old mid →
+      Reports (FollowsWell schema before x) (IsDiagnostic (VariablesReport schema variables)) mid new →
       Reports (VariableDefinitionsHold schema (before ++ x ∷ [])) (IsDiagnostic (VariablesReport schema variables)) old new
-  variable_checked variables before x old a b c new done directives type_holds is_new =
+  variable_checked variables before x old mid new done follows =
       let Q = IsDiagnostic (VariablesReport schema variables) in
       let H = VariableDefinitionsHold schema before in
-      let D = ApplicationsHold schema [] allowed_at.VariableDefinition x.value.value.directives.items in
-      let T = TypeHolds schema x.value.value in
-      in_words Q (H × (D × (T × IsNewName before x))) (VariableDefinitionsHold schema (before ++ x ∷ [])) old new (variables_more before x)
-      (both Q H (D × (T × IsNewName before x)) old a new done
-      (both Q D (T × IsNewName before x) a b new directives
-      (both Q T (IsNewName before x) b c new type_holds is_new)))
+      let F = FollowsWell schema before x in
+      in_words Q (H × F) (VariableDefinitionsHold schema (before ++ x ∷ [])) old new (variables_more before x) (both Q H F old mid new done follows)
 
   module _ (variables : List (Node VariableDefinition)) (v : Node VariableDefinition) (among : Contains variables v) where
     -- a report on the directives of a variable is one on the variables

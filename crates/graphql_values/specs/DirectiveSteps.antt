@@ -1,6 +1,7 @@
 -- The steps of the checks of applied directives, for the contracts of their private functions.
-use Rattle.std.specs.Prelude.{◌≡◌, List, ◌∷◌, ◌++◌, Option, Some, Contains, Result, find}
-use Rattle.graphql_documents.specs.Arguments.{ArgumentNamesHold, ArgumentValuesHold}
+use Rattle.std.specs.Prelude.{◌≡◌, List, Option, Some, Contains, Result, find}
+use Rattle.std.specs.Option.{option_map}
+use Rattle.graphql_documents.specs.Arguments.{ArgumentNamesHold, ArgumentValuesHold, HasDistinctNames}
 use Rattle.graphql_documents.specs.Diagnostics.{IsDiagnostic}
 use Rattle.graphql_documents.specs.DirectiveReports.{DirectivesBreak}
 use Rattle.graphql_documents.specs.Directives.{IsRepeatable, directive_definition}
@@ -15,15 +16,15 @@ use Rattle.graphql_documents.specs.declared.documents.directives.Directive.{Dire
 use Rattle.graphql_documents.specs.declared.documents.nodes.Node.{Node}
 use Rattle.graphql_documents.specs.declared.documents.schemas.Schema.{Schema}
 use Rattle.graphql_documents.specs.declared.documents.spans.SourceSpan.{SourceSpan}
-use Rattle.graphql_values.specs.FirstPlaces.{place_in}
-
--- the name of an application
-abbrev pub applied_name : Node Directive → NameText
-applied_name d = d.value.value.name
+use Rattle.graphql_values.specs.FirstPlaces.{IsNext}
 
 -- the head of an application: up to the end of its name
 abbrev pub head_place : Node Directive → Option SourceSpan
 head_place d = recompose d.location d.value.value.name.location
+
+-- the name of an application beside its head
+abbrev pub met_directive : Node Directive → NameText × Option SourceSpan
+met_directive d = (d.value.value.name, head_place d)
 
 -- the first application of the directive with this name
 abbrev pub directive_named : NameText → List (Node Directive) → Option (Node Directive)
@@ -31,7 +32,7 @@ directive_named name directives = find (λ d. same_name d.value.value.name name)
 
 -- the head of the first application of the directive with this name
 abbrev pub head_in : List (Node Directive) → NameText → Option (Option SourceSpan)
-head_in directives name = place_in applied_name head_place directives name
+head_in directives name = option_map head_place (directive_named name directives)
 
 -- a directive has the name of one of these only if it is repeatable
 abbrev pub RepetitionHolds : Option Schema → List (Node Directive) → Node Directive → Type 0
@@ -54,9 +55,19 @@ ChecksApplication result Holds schema variables location d old new =
     (directives : List (Node Directive)) → Contains directives d →
     Checks result Holds (IsDiagnostic (DirectivesBreak schema variables location directives)) old new
 
+-- a call that checks a rule for one of the directives applied at a place, behind these
+abbrev pub ChecksNext : {T E : Type 0} → Result T E → Type 0 → Option Schema → List (Node VariableDefinition) → DirectiveLocation → List (Node Directive) → Node Directive → DiagnosticList → DiagnosticList → Type 0
+ChecksNext result Holds schema variables location before d old new =
+    (directives : List (Node Directive)) → IsNext directives before d →
+    Checks result Holds (IsDiagnostic (DirectivesBreak schema variables location directives)) old new
+
 -- a call that checks whether a directive repeats one that is applied before it
 abbrev pub ChecksRepetition : {T E : Type 0} → Result T E → Option Schema → List (Node Directive) → Node Directive → DiagnosticList → DiagnosticList → Type 0
 ChecksRepetition result schema before d old new =
-    (after : List (Node Directive)) (variables : List (Node VariableDefinition)) (location : DirectiveLocation) →
-    Checks result (RepetitionHolds schema before d)
-    (IsDiagnostic (DirectivesBreak schema variables location (before ++ d ∷ after))) old new
+    (variables : List (Node VariableDefinition)) (location : DirectiveLocation) →
+    ChecksNext result (RepetitionHolds schema before d) schema variables location before d old new
+
+-- a directive may stand behind these, and is applied as its definition asks
+abbrev pub FollowsWell : Option Schema → List (Node VariableDefinition) → DirectiveLocation → List (Node Directive) → Node Directive → Type 0
+FollowsWell schema variables location before d =
+    HasDistinctNames d.value.value.arguments.items × (RepetitionHolds schema before d × IsAppliedWell schema variables location d.value.value)

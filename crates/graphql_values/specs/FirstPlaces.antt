@@ -1,14 +1,20 @@
--- The place of the first of each name, for walks that report repetitions.
-use Rattle.std.specs.Prelude.{◌≡◌, List, Option, find}
+-- The location of the first of each name, for walks that report repetitions.
+use Rattle.std.specs.Prelude.{◌≡◌, List, ◌∷◌, ◌++◌, Option, find}
+use Rattle.std.specs.Borrow.{Bor}
+use Rattle.std.specs.HashMap.{HashMap, get_by}
 use Rattle.std.specs.Option.{option_map}
 use Rattle.graphql_documents.specs.Names.{NameText, same_name}
 use Rattle.graphql_documents.specs.declared.documents.spans.SourceSpan.{SourceSpan}
 
-module _ {X : Type 0} (name_of : X → NameText) (place_of : X → Option SourceSpan) where
-  -- the place of the first that has the name
-  abbrev pub place_in : List X → NameText → Option (Option SourceSpan)
-  place_in met name = option_map place_of (find (λ x. same_name (name_of x) name) met)
+-- the location beside the first of the names that is this one
+abbrev pub place_in : List (NameText × Option SourceSpan) → NameText → Option (Option SourceSpan)
+place_in met name = option_map (λ m. m.1) (find (λ m. same_name m.0 name) met)
 
-  -- a look-up finds for each name the place of the first that has it
-  abbrev pub Remembers : (NameText → Option (Option SourceSpan)) → List X → Type 0
-  Remembers look met = (name : NameText) → look name ≡ place_in met name
+-- the map has for each name the location of the first
+pub record Remembers {S : Type 0} (seen : HashMap (Bor NameText) (Option SourceSpan) S) (met : List (NameText × Option SourceSpan)) : Type 0 where
+  pub look_up : (name : NameText) → get_by (λ b. same_name name b.now) seen ≡ place_in met name
+
+-- an element of a list, behind these
+pub record IsNext {X : Type 0} (all before : List X) (x : X) : Type 0 where
+  pub after : List X
+  pub split : all ≡ before ++ x ∷ after

@@ -1,29 +1,32 @@
 -- The steps of the checks of the definitions of variables, for the contracts of their private functions.
-use Rattle.std.specs.Prelude.{◌≡◌, List, ◌∷◌, ◌++◌, Option, None, Some, Contains, Result}
+use Rattle.std.specs.Prelude.{◌≡◌, List, [], Option, None, Some, Contains, Result}
+use Rattle.std.specs.Option.{option_map}
 use Rattle.graphql_documents.specs.Diagnostics.{IsDiagnostic}
+use Rattle.graphql_documents.specs.Directives.{ApplicationsHold}
 use Rattle.graphql_documents.specs.Names.{NameText}
 use Rattle.graphql_documents.specs.Reports.{Checks}
 use Rattle.graphql_documents.specs.VariableReports.{VariablesReport}
 use Rattle.graphql_documents.specs.VariableUsage.{variable_named}
 use Rattle.graphql_documents.specs.Variables.{DefaultHolds, HasInputType}
 use Rattle.graphql_documents.specs.declared.diagnostics.lists.DiagnosticList.{DiagnosticList}
+use Rattle.graphql_documents.specs.declared.documents.definitions.DirectiveLocation.TheVariants as at
 use Rattle.graphql_documents.specs.declared.documents.definitions.VariableDefinition.{VariableDefinition}
 use Rattle.graphql_documents.specs.declared.documents.nodes.Node.{Node}
 use Rattle.graphql_documents.specs.declared.documents.schemas.Schema.{Schema}
 use Rattle.graphql_documents.specs.declared.documents.spans.SourceSpan.{SourceSpan}
-use Rattle.graphql_values.specs.FirstPlaces.{place_in}
+use Rattle.graphql_values.specs.FirstPlaces.{IsNext}
 
 -- the name of a variable
 abbrev pub variable_name : Node VariableDefinition → NameText
 variable_name v = v.value.value.name
 
--- the place of a variable
-abbrev pub variable_place : Node VariableDefinition → Option SourceSpan
-variable_place v = v.location
+-- the name of a variable beside its location
+abbrev pub met_variable : Node VariableDefinition → NameText × Option SourceSpan
+met_variable v = (v.value.value.name, v.location)
 
--- the place of the first variable with this name
+-- the location of the first variable with this name
 abbrev pub variable_place_in : List (Node VariableDefinition) → NameText → Option (Option SourceSpan)
-variable_place_in variables name = place_in variable_name variable_place variables name
+variable_place_in variables name = option_map (λ v. v.location) (variable_named name variables)
 
 -- with a schema, the type of a variable and its default hold
 pub record TypeHolds (schema : Option Schema) (v : VariableDefinition) : Type 0 where
@@ -36,12 +39,17 @@ ChecksVariable result Holds schema v old new =
     (variables : List (Node VariableDefinition)) → Contains variables v →
     Checks result Holds (IsDiagnostic (VariablesReport schema variables)) old new
 
--- a call that checks whether a variable has the name of one before it
-abbrev pub ChecksName : {T E : Type 0} → Result T E → Type 0 → Option Schema → List (Node VariableDefinition) → Node VariableDefinition → DiagnosticList → DiagnosticList → Type 0
-ChecksName result Holds schema before v old new =
-    (after : List (Node VariableDefinition)) →
-    Checks result Holds (IsDiagnostic (VariablesReport schema (before ++ v ∷ after))) old new
+-- a call that checks a rule for one of the variables, behind these
+abbrev pub ChecksNext : {T E : Type 0} → Result T E → Type 0 → Option Schema → List (Node VariableDefinition) → Node VariableDefinition → DiagnosticList → DiagnosticList → Type 0
+ChecksNext result Holds schema before v old new =
+    (variables : List (Node VariableDefinition)) → IsNext variables before v →
+    Checks result Holds (IsDiagnostic (VariablesReport schema variables)) old new
 
 -- no variable before it has the name of this one
 abbrev pub IsNewName : List (Node VariableDefinition) → Node VariableDefinition → Type 0
 IsNewName before v = variable_named v.value.value.name before ≡ None
+
+-- the definition of a variable holds behind these
+abbrev pub FollowsWell : Option Schema → List (Node VariableDefinition) → Node VariableDefinition → Type 0
+FollowsWell schema before v =
+    ApplicationsHold schema [] at.VariableDefinition v.value.value.directives.items × (TypeHolds schema v.value.value × IsNewName before v)

@@ -4,12 +4,16 @@
 mod applications;
 mod variable_definitions;
 
-ghost use Rattle.std.specs.Prelude.{map};
+ghost use Rattle.std.specs.Prelude.{◌∷◌, ◌++◌, [], List, OnOk, map};
 ghost use Rattle.std.specs.Option.{option_copied};
 ghost use Rattle.graphql_documents.specs.Diagnostics.{IsDiagnostic};
 ghost use Rattle.graphql_documents.specs.DirectiveReports.{DirectivesBreak};
 ghost use Rattle.graphql_documents.specs.Directives.{ApplicationsHold};
 ghost use Rattle.graphql_documents.specs.Reports.{Checks};
+ghost use Rattle.graphql_documents.specs.declared.documents.directives.Directive.{Directive};
+ghost use Rattle.graphql_documents.specs.declared.documents.nodes.Node.{Node};
+ghost use Rattle.graphql_values.specs.DirectiveSteps.{ChecksNext, FollowsWell, met_directive};
+ghost use Rattle.graphql_values.specs.FirstPlaces.{Remembers};
 
 use crate::argument::validate_arguments;
 use crate::first_places::first_place;
@@ -43,12 +47,37 @@ pub fn validate_directives(
 {
     let mut seen: HashMap<&Name, Option<SourceSpan>> = HashMap::new(diagnostics.allocator());
     for directive in directives {
-        let name = &directive.value.name;
-        let head = SourceSpan::recompose(directive.location, name.location());
-        validate_arguments(diagnostics, &directive.value.arguments)?;
-        let first = first_place(&mut seen, name, head)?;
-        check_repetition(diagnostics, schema, directive, first)?;
-        validate_application(diagnostics, schema, directive, location, variables)?;
+        validate_directive(
+            diagnostics,
+            schema,
+            directive,
+            &mut seen,
+            location,
+            variables,
+        )?;
     }
     Ok(())
+}
+
+/// Validates one of the directives applied at one place, behind those that were met.
+fn validate_directive<'a>(
+    diagnostics: &mut DiagnosticList,
+    schema: Option<&Schema>,
+    directive: &'a Node<Directive>,
+    seen: &mut HashMap<&'a Name, Option<SourceSpan>>,
+    location: DirectiveLocation,
+    variables: &[Node<VariableDefinition>],
+) -> Result<(), ValidationError>
+    ensures checks { (before : List (Node Directive)) → Remembers seen.old (map met_directive before) →
+        ChecksNext result (FollowsWell (option_copied schema.entry) variables.now location before directive.now)
+        (option_copied schema.entry) variables.now location before directive.now diagnostics.old diagnostics.new }
+    ensures remembers { OnOk result ((before : List (Node Directive)) → Remembers seen.old (map met_directive before) →
+        Remembers seen.new (map met_directive (before ++ directive.now ∷ []))) }
+{
+    let name = &directive.value.name;
+    let head = SourceSpan::recompose(directive.location, name.location());
+    validate_arguments(diagnostics, &directive.value.arguments)?;
+    let first = first_place(seen, name, head)?;
+    check_repetition(diagnostics, schema, directive, first)?;
+    validate_application(diagnostics, schema, directive, location, variables)
 }

@@ -4,6 +4,6 @@
 
 pub mod argument;
 pub mod directive;
-mod first_places;
+pub mod first_places;
 pub mod value;
 pub mod variable;

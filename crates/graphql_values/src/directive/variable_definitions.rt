@@ -1,5 +1,5 @@
 ghost use Rattle.std.specs.Option.{option_copied};
-ghost use Rattle.std.specs.Prelude.{◌≡◌, [], IfOk, IsFalse, List, None, Some, map};
+ghost use Rattle.std.specs.Prelude.{◌≡◌, ◌∷◌, ◌++◌, [], IfOk, IsFalse, List, None, OnOk, Some, map};
 ghost use Rattle.graphql_documents.specs.Diagnostics.{IsDiagnostic};
 ghost use Rattle.graphql_documents.specs.Directives.{ApplicationsHold};
 ghost use Rattle.graphql_documents.specs.Reports.{Checks};
@@ -12,7 +12,8 @@ ghost use Rattle.graphql_documents.specs.declared.documents.definitions.Directiv
 ghost use Rattle.graphql_documents.specs.declared.documents.definitions.VariableDefinition.{VariableDefinition};
 ghost use Rattle.graphql_documents.specs.declared.documents.nodes.Node.{Node};
 ghost use Rattle.graphql_documents.specs.declared.documents.schemas.Schema.{Schema};
-ghost use Rattle.graphql_values.specs.VariableSteps.{ChecksName, ChecksVariable, IsNewName, TypeHolds, variable_place_in};
+ghost use Rattle.graphql_values.specs.FirstPlaces.{Remembers};
+ghost use Rattle.graphql_values.specs.VariableSteps.{ChecksNext, ChecksVariable, FollowsWell, IsNewName, TypeHolds, met_variable, variable_place_in};
 
 use super::validate_directives;
 use crate::first_places::first_place;
@@ -43,12 +44,28 @@ pub fn validate_variable_definitions(
 {
     let mut seen: HashMap<&Name, Option<SourceSpan>> = HashMap::new(diagnostics.allocator());
     for variable in variables {
-        validate_variable_directives(diagnostics, schema, variable)?;
-        validate_variable_type(diagnostics, schema, variable)?;
-        let first = first_place(&mut seen, &variable.value.name, variable.location)?;
-        check_name(diagnostics, variable, first)?;
+        validate_variable_definition(diagnostics, schema, variable, &mut seen)?;
     }
     Ok(())
+}
+
+/// Validates the definition of one of the variables, behind those that were met.
+fn validate_variable_definition<'a>(
+    diagnostics: &mut DiagnosticList,
+    schema: Option<&Schema>,
+    variable: &'a Node<VariableDefinition>,
+    seen: &mut HashMap<&'a Name, Option<SourceSpan>>,
+) -> Result<(), ValidationError>
+    ensures checks { (before : List (Node VariableDefinition)) → Remembers seen.old (map met_variable before) →
+        ChecksNext result (FollowsWell (option_copied schema.entry) before variable.now)
+        (option_copied schema.entry) before variable.now diagnostics.old diagnostics.new }
+    ensures remembers { OnOk result ((before : List (Node VariableDefinition)) → Remembers seen.old (map met_variable before) →
+        Remembers seen.new (map met_variable (before ++ variable.now ∷ []))) }
+{
+    validate_variable_directives(diagnostics, schema, variable)?;
+    validate_variable_type(diagnostics, schema, variable)?;
+    let first = first_place(seen, &variable.value.name, variable.location)?;
+    check_name(diagnostics, variable, first)
 }
 
 /// Validates the directives of a variable, where no variables are known.
@@ -178,7 +195,7 @@ fn check_name(
     first: Option<Option<SourceSpan>>,
 ) -> Result<(), ValidationError>
     ensures { (schema : _) (before : List (Node VariableDefinition)) → first ≡ variable_place_in before variable.now.value.value.name →
-        ChecksName result (IsNewName before variable.now) schema before variable.now diagnostics.old diagnostics.new }
+        ChecksNext result (IsNewName before variable.now) schema before variable.now diagnostics.old diagnostics.new }
 {
     match first {
         Some(original) => report_repetition(diagnostics, variable, original),
@@ -193,7 +210,7 @@ fn report_repetition(
 ) -> Result<(), ValidationError>
     ensures { (schema : _) (before : List (Node VariableDefinition)) (first : Node VariableDefinition) →
         variable_named variable.now.value.value.name before ≡ Some first → original ≡ first.location →
-        ChecksName result ⊥ schema before variable.now diagnostics.old diagnostics.new }
+        ChecksNext result ⊥ schema before variable.now diagnostics.old diagnostics.new }
 {
     let name = variable.value.name.clone()?;
     diagnostics.push(

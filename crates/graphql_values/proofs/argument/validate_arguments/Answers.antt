@@ -8,8 +8,8 @@ use Rattle.graphql_documents.specs.Diagnostics.{IsDiagnostic, entries}
 use Rattle.graphql_documents.specs.Names.{same_name}
 use Rattle.graphql_documents.specs.Reports.{Appends, KeepsReports, Reports}
 use Rattle.graphql_documents.proofs.ReportLemmas.{both, checks-err, holds, in_words, kept_by, more_is}
-use Rattle.graphql_values.specs.Repetitions.{argument_name, argument_place, argument_place_in}
-use Rattle.graphql_values.proofs.FirstPlaceLemmas.{remembers_more}
+use Rattle.graphql_values.specs.Repetitions.{argument_name, argument_place_in, met_argument}
+use Rattle.graphql_values.proofs.FirstPlaceLemmas.{place_of_first, remembers_next}
 use Rattle.graphql_values.proofs.RepetitionLemmas.{appends_more, appends_none, distinct_at, reports_more}
 use Rattle.graphql_values.proofs.argument.validate_arguments.Goals as goal
 
@@ -17,7 +17,7 @@ pub loop-argument-init : goal.loop-argument-init
 loop-argument-init c = record {
   appended = appends_none _ _ tt;
   reported = holds _ _ _ (λ i j d lt h. absurd (let none : ⊥ = omega arith in none));
-  remembered = λ name. search rules;
+  remembered = record { look_up = λ name. search rules };
 }
 
 pub returns-in_err-first-clause-checks : goal.returns-in_err-first-clause-checks
@@ -30,8 +30,8 @@ returns-in_err-check_repetition-clause-checks c =
     let before = take c.loop-argument.argument-index xs in
     let x = c.argument-item.result in
     let first_is : c.in_ok-first.first ≡ argument_place_in before (argument_name x) =
-    subst (λ a. c.in_ok-first.first ≡ argument_place_in before a.name) c.deref.ensures
-    (c.in_ok-first.ensures.found ∙ c.loop-argument.invariant.remembered c.deref.result.now.name) in
+    c.in_ok-first.ensures.found _ c.loop-argument.invariant.remembered ∙ place_of_first met_argument before c.deref.result.now.name ∙
+    ap (λ a. argument_place_in before a.name) c.deref.ensures in
     checks-err _ _ _ _ _ c.from_residual-in_err-check_repetition.ensures.0
     (subst (KeepsReports (IsDiagnostic (RepetitionReport xs)) (entries c.args.diagnostics.now)) (sym (c.in_err-check_repetition.ensures before first_is))
     (kept_by _ _ _ _ c.loop-argument.invariant.reported))
@@ -51,18 +51,15 @@ loop-argument-preserved c =
     let new = entries c.check_repetition.new.diagnostics in
     let name_is : c.deref.result.now.name ≡ argument_name x = ap (λ a. a.name) c.deref.ensures in
     let first_is : c.in_ok-first.first ≡ argument_place_in before (argument_name x) =
-    subst (λ a. c.in_ok-first.first ≡ argument_place_in before a.name) c.deref.ensures
-    (c.in_ok-first.ensures.found ∙ c.loop-argument.invariant.remembered c.deref.result.now.name) in
+    c.in_ok-first.ensures.found _ c.loop-argument.invariant.remembered ∙ place_of_first met_argument before c.deref.result.now.name ∙
+    ap (λ a. argument_place_in before a.name) c.deref.ensures in
     let report = c.in_ok-check_repetition.ensures before first_is in
     record {
       appended = appends_more xs i x within item old mid new c.loop-argument.invariant.appended report;
       reported = in_words Q _ _ old new (distinct_at xs i x within item)
           (both Q _ is_new old mid new c.loop-argument.invariant.reported (reports_more xs i x within item mid new report));
       remembered = rw (more_is xs i x within item)
-          (remembers_more argument_name argument_place
-          (λ name. get_by (λ b. same_name name b.now) c.loop-argument.seen) (λ name. get_by (λ b. same_name name b.now) c.first_place.new.seen) before x
-          (λ other. rw name_is at (c.in_ok-first.ensures.remembered other))
-          c.loop-argument.invariant.remembered);
+          (remembers_next met_argument before x (rw name_is at (c.in_ok-first.ensures.remembered _ c.loop-argument.invariant.remembered)));
     }
 
 pub returns-clause-exact : goal.returns-clause-exact

@@ -1,11 +1,10 @@
-use Rattle.std.proofs.Common.{◌≡◌, take}
-use Rattle.std.specs.HashMap.{get_by}
+use Rattle.std.proofs.Common.{map, ◌≡◌, take}
 use Rattle.graphql_documents.specs.ArgumentReports.{AreRepetitionReports, RepetitionReport}
 use Rattle.graphql_documents.specs.Arguments.{HasDistinctNames}
 use Rattle.graphql_documents.specs.Diagnostics.{IsDiagnostic, entries}
-use Rattle.graphql_documents.specs.Names.{NameText, same_name}
 use Rattle.graphql_documents.specs.Reports.{Appends, Reports}
-use Rattle.graphql_values.specs.Repetitions.{argument_place_in}
+use Rattle.graphql_values.specs.FirstPlaces.{Remembers}
+use Rattle.graphql_values.specs.Repetitions.{met_argument}
 use Rattle.graphql_values.proofs.argument.validate_arguments.Given as goal
 
 -- the repetitions so far are reported, and `seen` has the place of the first argument of each name so far
@@ -14,5 +13,5 @@ invariant-loop-argument l = record {
   appended : Appends (AreRepetitionReports (take l.argument-index l.arguments)) (entries l.initial.diagnostics) (entries l.diagnostics);
   reported : Reports (HasDistinctNames (take l.argument-index l.arguments)) (IsDiagnostic (RepetitionReport l.arguments))
       (entries l.initial.diagnostics) (entries l.diagnostics);
-  remembered : (name : NameText) → get_by (λ b. same_name name b.now) l.seen ≡ argument_place_in (take l.argument-index l.arguments) name;
+  remembered : Remembers l.seen (map met_argument (take l.argument-index l.arguments));
 }

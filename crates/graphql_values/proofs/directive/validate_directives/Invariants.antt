@@ -1,12 +1,11 @@
 use Rattle.std.proofs.Common.{◌≡◌, map, take}
-use Rattle.std.specs.HashMap.{get_by}
 use Rattle.std.specs.Option.{option_copied}
 use Rattle.graphql_documents.specs.Diagnostics.{IsDiagnostic, entries}
 use Rattle.graphql_documents.specs.DirectiveReports.{DirectivesBreak}
 use Rattle.graphql_documents.specs.Directives.{ApplicationsHold}
-use Rattle.graphql_documents.specs.Names.{NameText, same_name}
 use Rattle.graphql_documents.specs.Reports.{Reports}
-use Rattle.graphql_values.specs.DirectiveSteps.{head_in}
+use Rattle.graphql_values.specs.DirectiveSteps.{met_directive}
+use Rattle.graphql_values.specs.FirstPlaces.{Remembers}
 use Rattle.graphql_values.proofs.directive.validate_directives.Given as goal
 
 -- what is wrong with the directives so far is reported, and `seen` has the head of the first of each name so far
@@ -15,5 +14,5 @@ invariant-loop-directive l = record {
   reported : Reports (ApplicationsHold (option_copied l.schema) l.variables l.location (map (λ d. d.now) (take l.directive-index l.directives)))
       (IsDiagnostic (DirectivesBreak (option_copied l.schema) l.variables l.location (map (λ d. d.now) l.directives)))
       (entries l.initial.diagnostics) (entries l.diagnostics);
-  remembered : (name : NameText) → get_by (λ b. same_name name b.now) l.seen ≡ head_in (map (λ d. d.now) (take l.directive-index l.directives)) name;
+  remembered : Remembers l.seen (map met_directive (map (λ d. d.now) (take l.directive-index l.directives)));
 }

@@ -4,18 +4,18 @@ use Rattle.graphql_documents.specs.DirectiveReports.{of_repeated_directive}
 use Rattle.graphql_values.proofs.directive.applications.report_repetition.Goals as goal
 
 pub returns-in_err-name : goal.returns-in_err-name
-returns-in_err-name c = λ schema before first found place not_repeatable after variables location.
+returns-in_err-name c = λ schema before first found place not_repeatable variables location directives next.
     checks-err _ _ _ _ _ c.from_residual.ensures.0 (kept _ _)
 
 pub returns : goal.returns
-returns c = λ schema before first found place not_repeatable after variables location.
+returns c = λ schema before first found place not_repeatable variables location directives next.
     checks-push _ _ _ _ _ _ c.push.ensures.ok c.push.ensures.err (λ holds. not_repeatable (holds first found))
     (of_repeated_directive (record {
       before = before;
       first = first;
       again = c.args.directive.now;
-      after = after;
-      split = refl;
+      after = next.after;
+      split = next.split;
       first_is = found;
       not_repeatable = not_repeatable;
       name_is = search rules;

@@ -1,12 +1,11 @@
-use Rattle.std.proofs.Common.{◌≡◌, take}
-use Rattle.std.specs.HashMap.{get_by}
+use Rattle.std.proofs.Common.{map, take}
 use Rattle.std.specs.Option.{option_copied}
 use Rattle.graphql_documents.specs.Diagnostics.{IsDiagnostic, entries}
-use Rattle.graphql_documents.specs.Names.{NameText, same_name}
 use Rattle.graphql_documents.specs.Reports.{Reports}
 use Rattle.graphql_documents.specs.VariableReports.{VariablesReport}
 use Rattle.graphql_documents.specs.Variables.{VariableDefinitionsHold}
-use Rattle.graphql_values.specs.VariableSteps.{variable_place_in}
+use Rattle.graphql_values.specs.FirstPlaces.{Remembers}
+use Rattle.graphql_values.specs.VariableSteps.{met_variable}
 use Rattle.graphql_values.proofs.directive.variable_definitions.validate_variable_definitions.Given as goal
 
 -- what is wrong with the variables so far is reported, and `seen` has the place of the first of each name so far
@@ -14,5 +13,5 @@ abbrev pub invariant-loop-variable : goal.invariant-loop-variable
 invariant-loop-variable l = record {
   reported : Reports (VariableDefinitionsHold (option_copied l.schema) (take l.variable-index l.variables))
       (IsDiagnostic (VariablesReport (option_copied l.schema) l.variables)) (entries l.initial.diagnostics) (entries l.diagnostics);
-  remembered : (name : NameText) → get_by (λ b. same_name name b.now) l.seen ≡ variable_place_in (take l.variable-index l.variables) name;
+  remembered : Remembers l.seen (map met_variable (take l.variable-index l.variables));
 }
