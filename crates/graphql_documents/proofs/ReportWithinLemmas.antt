@@ -33,8 +33,7 @@ module _ {Entry : Type 0} (IsOfLimit : Entry → Type 0) where
     appended = appended_then old mid new a.added b.added a.appended b.appended;
     silent = λ none.
         let first = a.silent (All-append_left (λ e. ¬ IsOfLimit e) a.added b.added none) in
-        let second = b.silent (All-append_right (λ e. ¬ IsOfLimit e) a.added b.added none) in
-        (
+        let second = b.silent (All-append_right (λ e. ¬ IsOfLimit e) a.added b.added none) in (
           λ e. let s = (both_nil a.added b.added).0 e in (first.0 s.0, second.0 s.1),
           λ p. (both_nil a.added b.added).1 (first.1 p.0, second.1 p.1),
         );

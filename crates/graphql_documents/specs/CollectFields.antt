@@ -1,9 +1,9 @@
 -- The fields that an object answers, by response key. Specification: 6.3.2 Field Collection, without
 -- `@skip` and `@include`.
 use Rattle.std.specs.Prelude.{◌≡◌, ◌⊎◌, List, [], ◌∷◌, ◌++◌, None, Some, Any, Contains, IfSome, IsFalse, IsTrue}
-use Rattle.graphql_documents.specs.Names.{NameText, SameName}
+use Rattle.graphql_documents.specs.Names.{NameText, SameName, stands_on}
 use Rattle.graphql_documents.specs.Schemas.{type_definition, IsListed}
-use Rattle.graphql_documents.specs.Selections.{Fragments, is_entered, response_key, selections_of}
+use Rattle.graphql_documents.specs.Selections.{Fragments, response_key, selections_of}
 use Rattle.graphql_documents.specs.Merging.{FieldSelection, set_of}
 use Rattle.graphql_documents.specs.declared.documents.nodes.Node.{Node}
 use Rattle.graphql_documents.specs.declared.documents.schemas.Schema.{Schema}
@@ -66,11 +66,11 @@ mutual
         CollectsAmong schema fragments object parent seen rest fields met →
         CollectsAmong schema fragments object parent seen (kind.InlineFragment i ∷ rest) fields met
     collects_past_spread : {parent : NameText} {seen met : List NameText} {rest : List Selection} {fields : List FieldSelection} (p : Node FragmentSpread) →
-        IsTrue (is_entered seen p.value.value.fragment_name) ⊎ (fragments p.value.value.fragment_name ≡ None) →
+        IsTrue (stands_on seen p.value.value.fragment_name) ⊎ (fragments p.value.value.fragment_name ≡ None) →
         CollectsAmong schema fragments object parent seen rest fields met →
         CollectsAmong schema fragments object parent seen (kind.FragmentSpread p ∷ rest) fields met
     collects_spread : {parent : NameText} {seen between met : List NameText} {rest : List Selection} {within fields : List FieldSelection} (p : Node FragmentSpread) (d : Node Fragment) →
-        IsFalse (is_entered seen p.value.value.fragment_name) → fragments p.value.value.fragment_name ≡ Some d →
+        IsFalse (stands_on seen p.value.value.fragment_name) → fragments p.value.value.fragment_name ≡ Some d →
         CollectsIn schema fragments object (seen ++ p.value.value.fragment_name ∷ []) d.value.value.selection_set within between →
         CollectsAmong schema fragments object parent between rest fields met →
         CollectsAmong schema fragments object parent seen (kind.FragmentSpread p ∷ rest) (within ++ fields) met

@@ -1,8 +1,8 @@
 -- Fragments, where they may be spread, and cycles of spreads. Specification: 5.5 Fragments.
 use Rattle.std.specs.Prelude.{◌≡◌, ◌⊎◌, ℕ, List, Option, None, Some, IsFalse, ⊤}
-use Rattle.graphql_documents.specs.Names.{NameText, SameName}
+use Rattle.graphql_documents.specs.Names.{NameText, SameName, stands_on}
 use Rattle.graphql_documents.specs.Schemas.{type_definition, is_composite, IsPossibleType, NamesKind}
-use Rattle.graphql_documents.specs.Selections.{Fragments, Written, is_entered}
+use Rattle.graphql_documents.specs.Selections.{Fragments, Written}
 use Rattle.graphql_documents.specs.Directives.{ApplicationsHold}
 use Rattle.graphql_documents.specs.Paths.{IsCycle, HasNoCycle, HasLongPath}
 use Rattle.graphql_documents.specs.declared.documents.nodes.Node.{Node}
@@ -85,4 +85,4 @@ pub record SpreadHolds (schema : Option Schema) (entered : List NameText) (fragm
   pub definition : Node Fragment
   pub defined : fragments p.fragment_name ≡ Some definition
   pub possible : IsPossibleIn schema definition.value.value.selection_set.ty parent
-  pub holds : IsFalse (is_entered entered p.fragment_name) → FragmentHolds schema fragments variables definition
+  pub holds : IsFalse (stands_on entered p.fragment_name) → FragmentHolds schema fragments variables definition

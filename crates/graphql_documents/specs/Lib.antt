@@ -19,8 +19,6 @@ pub mod FieldReports
 pub mod FieldSets
 pub mod Fields
 pub mod FragmentSpreads
-pub mod GuardLoans
-pub mod Guards
 pub mod ImplementationReports
 pub mod Implementations
 pub mod InputCoercion

@@ -39,9 +39,13 @@ DifferentNames a b = IsFalse (same_name a b)
 abbrev pub AreDistinct : List NameText → Type 0
 AreDistinct names = AllPairs DifferentNames names
 
+-- a name with this text is among them
+abbrev pub stands_on : List NameText → NameText → Bool
+stands_on names name = list_any (same_name name) names
+
 -- with the name behind them, unless one of its text is there
 abbrev pub with_name : List NameText → NameText → List NameText
-with_name known name = if list_any (same_name name) known then known else known ++ name ∷ []
+with_name known name = if stands_on known name then known else known ++ name ∷ []
 
 -- the different names of a list, each where it first stands
 abbrev pub different_names : List NameText → List NameText

@@ -242,7 +242,10 @@ pub record ImplementerNames : Type 0 where
 -- each interface that some type lists, with what implements it. Specification: 3.7 Interfaces
 abbrev pub implementers_map : Schema → List (NameText × ImplementerNames)
 implementers_map schema =
-    map (λ interface. (interface, record {
-      objects = implementers_of_kind schema is_object_type interface;
-      interfaces = implementers_of_kind schema is_interface_type interface;
-    })) (listed_interfaces schema)
+    map (λ interface. (
+      interface,
+      record {
+        objects = implementers_of_kind schema is_object_type interface;
+        interfaces = implementers_of_kind schema is_interface_type interface;
+      },
+    )) (listed_interfaces schema)

@@ -1,10 +1,9 @@
 -- Selections and the places where they stand. Specification: 2.4 Selection Sets to 2.8 Fragments.
-use Rattle.std.specs.Prelude.{◌≡◌, Bool, List, [], Option, None, Some, Contains, unwrap_or, if◌then◌else◌}
-use Rattle.std.specs.List.{list_any}
+use Rattle.std.specs.Prelude.{◌≡◌, List, [], Option, None, Some, Contains, unwrap_or, if◌then◌else◌}
 use Rattle.std.specs.Option.{option_and_then}
 use Rattle.std.specs.Result.{result_ok}
 use Rattle.indexmap.specs.IndexMap.{get}
-use Rattle.graphql_documents.specs.Names.{NameText, same_name}
+use Rattle.graphql_documents.specs.Names.{NameText, same_name, stands_on}
 use Rattle.graphql_documents.specs.TypeReferences.{inner_named_type}
 use Rattle.graphql_documents.specs.Schemas.{type_field}
 use Rattle.graphql_documents.specs.declared.documents.nodes.Node.{Node}
@@ -71,14 +70,10 @@ no_fragments name = None
 abbrev pub fragments_of : ExecutableDocument → Fragments
 fragments_of document name = get same_name document.fragments name
 
--- the fragment of this name is one of those that were gone into
-abbrev pub is_entered : List NameText → NameText → Bool
-is_entered entered name = list_any (same_name name) entered
-
 -- the fragments without those that were gone into: what is placed among these is reached without going
 -- through the others
 abbrev pub without : List NameText → Fragments → Fragments
-without entered fragments name = if is_entered entered name then None else fragments name
+without entered fragments name = if stands_on entered name then None else fragments name
 
 -- a set, and the sets of the inline fragments and spread fragments in it, at any depth but not below
 -- a field

@@ -4,4 +4,3 @@
 
 pub mod diagnostics;
 pub mod documents;
-pub mod guards;

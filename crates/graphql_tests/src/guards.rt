@@ -1,10 +1,11 @@
 ghost use Rattle.std.specs.Prelude.{◌≡◌, ◌≤◌, false};
-ghost use Rattle.graphql_documents.specs.Guards.{path_of, stands_on};
+ghost use Rattle.graphql_guards.specs.Guards.{path_of};
+ghost use Rattle.graphql_documents.specs.Names.{stands_on};
 
 use super::fixtures::name;
 use graphql_documents::diagnostics::RecursionLimitError;
 use graphql_documents::documents::{Name, Type};
-use graphql_documents::guards::{
+use graphql_guards::{
     CycleError, DEFAULT_RECURSION_LIMIT, DepthCounter, LimitCounter, RecursionGuard, RecursionStack,
 };
 

@@ -12,8 +12,7 @@ use Rattle.graphql_documents.proofs.SelectionLemmas.{one_fragment_found, not_inl
 use Rattle.graphql_documents.proofs.ListLemmas.{stands_first, only_one}
 use Rattle.graphql_documents.proofs.NameLemmas.{same_name_back, same_name_itself, same_text}
 use Rattle.graphql_documents.proofs.ReportLemmas.{more_is}
-use Rattle.graphql_documents.specs.Guards.{stands_on}
-use Rattle.graphql_documents.specs.Names.{DifferentNames, NameText, SameName, same_name, with_name}
+use Rattle.graphql_documents.specs.Names.{DifferentNames, NameText, SameName, same_name, stands_on, with_name}
 use Rattle.graphql_documents.specs.Selections.{Fragments, fragments_of, selections_of}
 use Rattle.graphql_documents.specs.Walks.{descent_ends, descent_into_field, descent_into_fragment, descent_into_inline_fragment}
 use Rattle.graphql_documents.specs.declared.documents.executables.Field.{Field}

@@ -7,8 +7,7 @@ use Rattle.std.proofs.lemmas.List.{append-nil, reverse-append, take_all}
 use Rattle.std.proofs.lemmas.List.Elements.{filter_map-append}
 use Rattle.std.proofs.lemmas.List.Sorted.{IsPermutation-reverse, list_any-IsPermutation}
 use Rattle.graphql_documents.proofs.ReportLemmas.{more_is}
-use Rattle.graphql_documents.specs.Guards.{stands_on}
-use Rattle.graphql_documents.specs.Names.{NameText, same_name}
+use Rattle.graphql_documents.specs.Names.{NameText, same_name, stands_on}
 use Rattle.graphql_documents.specs.Selections.{Fragments, selections_of}
 use Rattle.graphql_documents.specs.Subscriptions.{WalkedFields, fields_among, field_of, walked_field, walked_inline_fragment, walked_known_spread, walked_none, walked_spread, walked_undefined_spread}
 use Rattle.graphql_documents.specs.declared.documents.executables.Field.{Field}

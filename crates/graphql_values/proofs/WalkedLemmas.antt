@@ -2,9 +2,8 @@
 -- reached from it.
 use Rattle.std.proofs.Common.{◌≡◌, ◌↔◌, Bool, true, false, List, [], Some, IsTrue, refl, sym, ◌∙◌, subst, Contains, arith}
 use Rattle.std.proofs.lemmas.List.Elements.{All-contains}
-use Rattle.graphql_documents.specs.Guards.{stands_on}
+use Rattle.graphql_documents.specs.Names.{NameText, SameName, stands_on}
 use Rattle.graphql_documents.proofs.ListLemmas.{each_standing, none_stands}
-use Rattle.graphql_documents.specs.Names.{NameText, SameName}
 use Rattle.graphql_documents.specs.Selections.{Fragments, fragments_of, selections_of, Includes, includes_itself, includes_inline_fragment, includes_spread, Inside, Reached, reached_inside, reached_below}
 use Rattle.graphql_documents.specs.Walks.{HasListed, PassesDepth}
 use Rattle.graphql_documents.specs.declared.documents.executables.Fragment.{Fragment}

@@ -1,8 +1,8 @@
 //! Walks over the selections of an operation.
 
 ghost use Rattle.std.specs.Prelude.{◌≡◌, ◌+◌, List, [], map, not, IfOk, IsFalse, IsTrue, OnOk};
-ghost use Rattle.graphql_documents.specs.Guards.{depth_limit, depth_of, stands_on};
-ghost use Rattle.graphql_documents.specs.Names.{NameText, with_name};
+ghost use Rattle.graphql_guards.specs.Guards.{depth_limit, depth_of};
+ghost use Rattle.graphql_documents.specs.Names.{NameText, stands_on, with_name};
 ghost use Rattle.graphql_documents.specs.Selections.{Inside, Reached, fragments_of, selections_of};
 ghost use Rattle.graphql_documents.specs.Subscriptions.{WalkedFields, fields_among};
 ghost use Rattle.graphql_documents.specs.Walks.{HasListed, PassesDepth, full_walk, root_walk};
@@ -13,7 +13,7 @@ use graphql_documents::diagnostics::ValidationError;
 use graphql_documents::documents::{
     ExecutableDocument, FragmentSpread, Name, Node, Selection, SelectionSet,
 };
-use graphql_documents::guards::DepthCounter;
+use graphql_guards::DepthCounter;
 use indexmap::IndexSet;
 use std::alloc::Global;
 

@@ -1,7 +1,7 @@
 -- The walk goes on while it is below its limit, has searched what it has passed, and has listed its
 -- fields in order.
 use Rattle.std.proofs.Common.{◌≡◌, ◌+◌, ◌-◌, ◌*◌, [], IsFalse, take}
-use Rattle.graphql_documents.specs.Guards.{depth_limit, depth_of}
+use Rattle.graphql_guards.specs.Guards.{depth_limit, depth_of}
 use Rattle.graphql_documents.specs.Selections.{fragments_of}
 use Rattle.graphql_values.specs.Searches.{Searched}
 use Rattle.graphql_values.specs.WalkSteps.{IsAmong, IsMet, ListsInOrder, StepOf}

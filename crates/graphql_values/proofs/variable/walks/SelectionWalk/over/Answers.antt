@@ -1,6 +1,6 @@
 -- What the walk from nothing has listed, with its limit.
 use Rattle.std.proofs.Common.{ℕ, ◌∙◌, map, ap, subst}
-use Rattle.graphql_documents.specs.Guards.{depth_limit}
+use Rattle.graphql_guards.specs.Guards.{depth_limit}
 use Rattle.graphql_values.proofs.SelectionWalkLemmas.{walked_words}
 use Rattle.graphql_values.proofs.WalkOrderLemmas.{ordered_from_nothing}
 use Rattle.graphql_values.proofs.WalkedLemmas.{walk_has_listed, passes_bound}

@@ -12,7 +12,7 @@ pub struct LimitCounter {
 
 impl LimitCounter {
     ghost use Rattle.std.specs.Prelude.{◌≡◌, ◌+◌, ◌<◌, ◌↔◌, IsTrue, max, if◌then◌else◌};
-    ghost use Rattle.graphql_documents.specs.Guards.{count_of, count_limit, highest_of};
+    ghost use Rattle.graphql_guards.specs.Guards.{count_of, count_limit, highest_of};
 
     /// A count of nothing, up to this limit.
     pub fn new(limit: usize) -> LimitCounter

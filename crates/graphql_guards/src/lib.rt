@@ -1,4 +1,5 @@
 //! How far a walk has come: the names on its path, its depth, and counts up to a limit.
+#![tactic(auto)]
 
 pub mod depth;
 pub mod limits;

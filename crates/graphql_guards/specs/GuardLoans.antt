@@ -2,17 +2,17 @@
 use Rattle.std.specs.Prelude.{◌≡◌, Result, []}
 use Rattle.std.specs.Borrow.{MutBor, Fml, Lends, RestsIfErr}
 use mir.Syntax.{named}
-use Rattle.graphql_documents.specs.Guards.{path_of, path_limit}
+use Rattle.graphql_guards.specs.Guards.{path_of, path_limit}
 use Rattle.graphql_documents.specs.declared.diagnostics.errors.RecursionLimitError.{RecursionLimitError}
-use Rattle.graphql_documents.specs.declared.guards.depth.DepthCounter.{DepthCounter}
-use Rattle.graphql_documents.specs.declared.guards.depth.DepthGuard.{DepthGuard}
-use Rattle.graphql_documents.specs.declared.guards.recursion.CycleError.{CycleError}
-use Rattle.graphql_documents.specs.declared.guards.recursion.RecursionStack.{RecursionStack}
-use Rattle.graphql_documents.specs.declared.guards.recursion.RecursionGuard.{RecursionGuard}
-use Rattle.graphql_documents.specs.contracts.guards.depth.DepthCounter as counter
-use Rattle.graphql_documents.specs.contracts.guards.depth.DepthGuard as depth_guard
-use Rattle.graphql_documents.specs.contracts.guards.recursion.RecursionStack as stack
-use Rattle.graphql_documents.specs.contracts.guards.recursion.RecursionGuard as recursion_guard
+use Rattle.graphql_guards.specs.declared.depth.DepthCounter.{DepthCounter}
+use Rattle.graphql_guards.specs.declared.depth.DepthGuard.{DepthGuard}
+use Rattle.graphql_guards.specs.declared.recursion.CycleError.{CycleError}
+use Rattle.graphql_guards.specs.declared.recursion.RecursionStack.{RecursionStack}
+use Rattle.graphql_guards.specs.declared.recursion.RecursionGuard.{RecursionGuard}
+use Rattle.graphql_guards.specs.contracts.depth.DepthCounter as counter
+use Rattle.graphql_guards.specs.contracts.depth.DepthGuard as depth_guard
+use Rattle.graphql_guards.specs.contracts.recursion.RecursionStack as stack
+use Rattle.graphql_guards.specs.contracts.recursion.RecursionGuard as recursion_guard
 
 -- the guard over another counter
 abbrev pub over_counter : DepthGuard → DepthCounter → DepthGuard

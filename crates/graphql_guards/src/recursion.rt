@@ -1,7 +1,6 @@
-use super::DEFAULT_RECURSION_LIMIT;
-use crate::diagnostics::errors::ValidationError;
-use crate::documents::names::Name;
-use crate::documents::nodes::Node;
+use crate::DEFAULT_RECURSION_LIMIT;
+use graphql_documents::diagnostics::ValidationError;
+use graphql_documents::documents::{Name, Node};
 use indexmap::IndexSet;
 use std::alloc::Global;
 use std::ops::{Deref, DerefMut};
@@ -36,8 +35,9 @@ pub enum CycleError<T> {
 impl RecursionStack {
     ghost use Rattle.std.specs.Prelude.{◌≡◌, ◌<◌, ◌∷◌, ◌++◌, [], false, true, length, slice_get, option_copied, IfOk, OnOk, OnErr, MatchResult};
     ghost use Rattle.std.specs.Borrow.{sem};
-    ghost use Rattle.graphql_documents.specs.GuardLoans.{StackRestsIfErr};
-    ghost use Rattle.graphql_documents.specs.Guards.{path_of, path_limit, stands_on, without_last, HasRoom, Refuses};
+    ghost use Rattle.graphql_guards.specs.GuardLoans.{StackRestsIfErr};
+    ghost use Rattle.graphql_guards.specs.Guards.{path_of, path_limit, without_last, HasRoom, Refuses};
+    ghost use Rattle.graphql_documents.specs.Names.{stands_on};
 
     /// An empty path.
     pub fn new(alloc: Global) -> RecursionStack
@@ -160,7 +160,7 @@ impl Deref for RecursionGuard<'_> {
 impl DerefMut for RecursionGuard<'_> {
     ghost use Rattle.std.specs.Prelude.{◌≡◌};
     ghost use Rattle.std.specs.Borrow.{sem};
-    ghost use Rattle.graphql_documents.specs.GuardLoans.{LendsStack};
+    ghost use Rattle.graphql_guards.specs.GuardLoans.{LendsStack};
 
     ghost deref_mut_gives = { λ guard stack. stack ≡ guard.stack.now };
 
@@ -174,7 +174,7 @@ impl DerefMut for RecursionGuard<'_> {
 
 impl Drop for RecursionGuard<'_> {
     ghost use Rattle.std.specs.Prelude.{◌≡◌, if◌then◌else◌};
-    ghost use Rattle.graphql_documents.specs.Guards.{path_of, path_limit, without_last};
+    ghost use Rattle.graphql_guards.specs.Guards.{path_of, path_limit, without_last};
 
     fn drop(self)
         ensures path { path_of self.exit.0.now ≡ (if self.entry.pushed then without_last (path_of self.entry.stack.now) else path_of self.entry.stack.now) }

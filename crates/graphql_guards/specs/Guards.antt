@@ -1,12 +1,11 @@
 -- Paths, depths and counts of walks.
 use Rattle.std.specs.Prelude.{ℕ, ◌-◌, ◌<◌, ◌≤◌, Bool, List, length, take}
-use Rattle.std.specs.List.{list_any}
-use Rattle.graphql_documents.specs.Names.{NameText, same_name}
-use Rattle.graphql_documents.specs.declared.guards.limits.LimitCounter.{LimitCounter}
-use Rattle.graphql_documents.specs.declared.guards.depth.DepthCounter.{DepthCounter}
-use Rattle.graphql_documents.specs.declared.guards.recursion.RecursionStack.{RecursionStack}
-use Rattle.graphql_documents.specs.declared.guards.recursion.CycleError.{CycleError}
-use Rattle.graphql_documents.specs.declared.guards.recursion.CycleError.TheVariants.{Recursed, Limit, Memory}
+use Rattle.graphql_documents.specs.Names.{NameText}
+use Rattle.graphql_guards.specs.declared.limits.LimitCounter.{LimitCounter}
+use Rattle.graphql_guards.specs.declared.depth.DepthCounter.{DepthCounter}
+use Rattle.graphql_guards.specs.declared.recursion.RecursionStack.{RecursionStack}
+use Rattle.graphql_guards.specs.declared.recursion.CycleError.{CycleError}
+use Rattle.graphql_guards.specs.declared.recursion.CycleError.TheVariants.{Recursed, Limit, Memory}
 
 -- the names of a path, from the first that was entered
 abbrev pub path_of : RecursionStack → List NameText
@@ -15,10 +14,6 @@ path_of stack = stack.names.keys
 -- how many names a path may hold
 abbrev pub path_limit : RecursionStack → ℕ
 path_limit stack = stack.limit
-
--- a name with this text is on the path
-abbrev pub stands_on : List NameText → NameText → Bool
-stands_on path name = list_any (same_name name) path
 
 -- the path but its last name
 abbrev pub without_last : List NameText → List NameText

@@ -1,5 +1,5 @@
-use super::DEFAULT_RECURSION_LIMIT;
-use crate::diagnostics::errors::RecursionLimitError;
+use crate::DEFAULT_RECURSION_LIMIT;
+use graphql_documents::diagnostics::RecursionLimitError;
 use std::ops::{Deref, DerefMut};
 
 /// How deep a walk stands, and how deep it may go.
@@ -20,8 +20,8 @@ pub struct DepthGuard<'a> {
 impl DepthCounter {
     ghost use Rattle.std.specs.Prelude.{◌≡◌, ◌+◌, ◌<◌, ◌≤◌, false, true, IfOk, MatchResult};
     ghost use Rattle.std.specs.Borrow.{sem};
-    ghost use Rattle.graphql_documents.specs.Guards.{depth_of, depth_limit};
-    ghost use Rattle.graphql_documents.specs.GuardLoans.{CounterRestsIfErr};
+    ghost use Rattle.graphql_guards.specs.Guards.{depth_of, depth_limit};
+    ghost use Rattle.graphql_guards.specs.GuardLoans.{CounterRestsIfErr};
 
     /// A depth of nothing.
     pub fn new() -> DepthCounter
@@ -93,7 +93,7 @@ impl Deref for DepthGuard<'_> {
 impl DerefMut for DepthGuard<'_> {
     ghost use Rattle.std.specs.Prelude.{◌≡◌};
     ghost use Rattle.std.specs.Borrow.{sem};
-    ghost use Rattle.graphql_documents.specs.GuardLoans.{LendsCounter};
+    ghost use Rattle.graphql_guards.specs.GuardLoans.{LendsCounter};
 
     ghost deref_mut_gives = { λ guard counter. counter ≡ guard.counter.now };
 
@@ -107,7 +107,7 @@ impl DerefMut for DepthGuard<'_> {
 
 impl Drop for DepthGuard<'_> {
     ghost use Rattle.std.specs.Prelude.{◌≡◌, ◌-◌, if◌then◌else◌};
-    ghost use Rattle.graphql_documents.specs.Guards.{depth_of, depth_limit};
+    ghost use Rattle.graphql_guards.specs.Guards.{depth_of, depth_limit};
 
     fn drop(self)
         ensures depth { depth_of self.exit.0.now ≡ (if self.entry.raised then depth_of self.entry.counter.now - 1 else depth_of self.entry.counter.now) }

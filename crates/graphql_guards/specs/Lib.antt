@@ -1,0 +1,2 @@
+pub mod GuardLoans
+pub mod Guards
