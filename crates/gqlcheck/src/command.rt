@@ -1,7 +1,7 @@
 use crate::faults::{Fault, fault_of_output, fault_of_words};
-use crate::reports::report_case;
+use crate::reports::{report_case, runs};
 use crate::statuses::Status;
-use graphql_rows::IDS;
+use graphql_rows::{Row, TABLES};
 use std::alloc::Global;
 use std::io;
 use std::io::Write;
@@ -60,11 +60,18 @@ fn answer_row<O: Write>(alloc: Global, id: &str, output: &mut O) -> Result<Statu
 }
 
 fn answer_rows<O: Write>(alloc: Global, output: &mut O) -> Result<Status, Fault> {
-    for id in IDS {
-        writeln!(output, "row {id}").map_err(fault_of_output)?;
-        report_case(alloc, id, output)?;
+    for rows in TABLES {
+        answer_table(alloc, rows, output)?;
     }
     Ok(Status::Accepted)
+}
+
+fn answer_table<O: Write>(alloc: Global, rows: &[Row], output: &mut O) -> Result<(), Fault> {
+    for row in rows.iter().filter(|row| runs(row)) {
+        writeln!(output, "row {}", row.id).map_err(fault_of_output)?;
+        report_case(alloc, row.id, output)?;
+    }
+    Ok(())
 }
 
 #[cfg(test)]

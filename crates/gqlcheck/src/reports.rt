@@ -1,27 +1,42 @@
 use crate::faults::{Fault, fault_of_output};
 use crate::places::Place;
-use graphql_documents::diagnostics::{DiagnosticEntry, DiagnosticList, ValidationError};
-use graphql_rows::{Subject, build_case};
+use graphql_documents::diagnostics::{DiagnosticEntry, DiagnosticList};
+use graphql_rows::{CaseData, Row, Subject, TABLES, build_case};
 use graphql_validation::entry::validate_field_set;
 use std::alloc::Global;
 use std::io::Write;
 
+/// Whether the call is there that validates such an example.
+pub fn runs(row: &Row) -> bool {
+    matches!(row.subject, Subject::FieldSet(_))
+}
+
 /// Validates the case of this name, and prints a line for each report. Whether there was one.
 pub fn report_case<O: Write>(alloc: Global, id: &str, output: &mut O) -> Result<bool, Fault> {
-    let case = build_case(alloc, id)?.ok_or(Fault::BadArguments)?;
+    for rows in TABLES {
+        if let Some(case) = build_case(alloc, rows, id)? {
+            return report_data(alloc, &case.data, output);
+        }
+    }
+    Err(Fault::BadArguments)
+}
+
+fn report_data<O: Write>(alloc: Global, data: &CaseData, output: &mut O) -> Result<bool, Fault> {
     let mut diagnostics = DiagnosticList::new(alloc);
-    validate(&mut diagnostics, &case.subject)?;
+    validate(&mut diagnostics, data)?;
     for entry in diagnostics.iter() {
         print_entry(entry, output)?;
     }
     Ok(!diagnostics.is_empty())
 }
 
-fn validate(diagnostics: &mut DiagnosticList, subject: &Subject) -> Result<(), ValidationError> {
-    match subject {
-        Subject::FieldSet { schema, field_set } => {
-            validate_field_set(diagnostics, schema, field_set)
+/// Validates the example, if the call is there that does.
+fn validate(diagnostics: &mut DiagnosticList, data: &CaseData) -> Result<(), Fault> {
+    match data {
+        CaseData::FieldSet { schema, field_set } => {
+            Ok(validate_field_set(diagnostics, schema, field_set)?)
         }
+        _ => Err(Fault::BadArguments),
     }
 }
 

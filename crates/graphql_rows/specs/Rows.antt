@@ -1,10 +1,7 @@
-use Rattle.std.specs.Prelude.{ℕ, Bool, List, codes, ◌||◌}
+use Rattle.std.specs.Prelude.{ℕ, List, Option, find}
 use Rattle.std.specs.Str.{bytes_eq}
+use Rattle.graphql_rows.specs.declared.rows.Row.{Row}
 
--- the names of the field sets
-abbrev pub is_field_set_row : List ℕ → Bool
-is_field_set_row id = bytes_eq id (codes "1a") || bytes_eq id (codes "1b") || bytes_eq id (codes "1c")
-
--- the names of all worked examples
-abbrev pub is_row : List ℕ → Bool
-is_row id = is_field_set_row id
+-- the first row of the table with this name
+abbrev pub row_named : List ℕ → List Row → Option Row
+row_named id rows = find (λ row. bytes_eq row.id.now id) rows

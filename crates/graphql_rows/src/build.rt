@@ -1,16 +1,30 @@
-//! Schemas, documents and selections as data, from their notation.
+//! Schemas, documents and their parts as data, from GraphQL text.
+//!
+//! The text is that of the specification, without comments, descriptions and escapes in strings, and
+//! with these additions:
+//! - `<first-last: text>` stands for the text once for each number; in it `%` is the number and `%+`
+//!   the next one.
+//! - In a schema, `without Name` takes a type away that was defined before; `builtin` before a
+//!   definition has it stand in the file of the built-in ones; `key Name` before a definition puts it
+//!   under that name, in place of what stands there.
+//! - Extensions of a type or of the schema stand behind its definition.
+//! - In a document, `key Name` before a fragment puts it under that name.
+//!
+//! Data stands nowhere, but for what is built in and for texts that are read as a file.
 
-mod base;
+mod applications;
 mod definitions;
 mod documents;
-mod field_sets;
 mod literals;
-mod names;
+mod reader;
+mod repetitions;
 mod schemas;
 mod selections;
+mod type_references;
+mod types;
 
+pub use applications::{arguments, directives};
 pub use definitions::inputs;
-pub use documents::{document, operation, variables};
-pub use field_sets::field_set;
-pub use literals::{arguments, directives};
+pub use documents::{document, document_in_file, variables};
 pub use schemas::schema;
+pub use selections::field_set;

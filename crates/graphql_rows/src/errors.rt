@@ -10,12 +10,24 @@ pub enum RowError {
     OutOfMemory,
     #[error("a text of the notation is no name")]
     NotAName,
-    #[error("a text of the notation is no integer")]
-    NotAnInteger,
+    #[error("a text of the notation is no number")]
+    NotANumber,
     #[error("a text of the notation is no type reference")]
     NotATypeReference,
+    #[error("a text of the notation is no repetition")]
+    NotARepetition,
+    #[error("a text of the notation is no location of directives")]
+    NotALocation,
+    #[error("a text of the notation lacks a sign or a word")]
+    NotInNotation,
+    #[error("a list of the notation is too long")]
+    TooLong,
+    #[error("a text of the notation is nested too deep")]
+    TooDeep,
     #[error("two definitions of one list have the same name")]
     RepeatedName,
+    #[error("the schema lacks the root of an operation")]
+    NoSuchRoot,
     #[error("a field is selected from a type that the schema lacks")]
     NoSuchType,
     #[error("a field is selected that its type lacks")]

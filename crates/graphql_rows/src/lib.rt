@@ -1,11 +1,12 @@
-//! Worked examples of GraphQL schemas and documents as data, and the notation that they are written in.
+//! Worked examples of GraphQL schemas and documents: the texts that they are written as, and what is
+//! built from these.
 #![tactic(auto)]
 
 pub mod build;
 pub mod cases;
 pub mod errors;
-pub mod notation;
-mod rows;
+pub mod rows;
 
-pub use cases::{Case, IDS, Subject, build_case};
+pub use cases::{Case, CaseData, build_case};
 pub use errors::RowError;
+pub use rows::{Row, Subject, TABLES, find_row};

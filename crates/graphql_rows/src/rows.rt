@@ -1,1 +1,55 @@
-pub mod field_sets;
+//! The worked examples, as texts.
+ghost use Rattle.std.specs.Prelude.{◌≡◌, IfSome};
+ghost use Rattle.std.specs.Option.{option_copied};
+ghost use Rattle.graphql_rows.specs.Rows.{row_named};
+
+pub mod up_to_12;
+pub mod up_to_19;
+pub mod up_to_26;
+
+/// All examples, in order of their names.
+pub const TABLES: [&[Row]; 3] = [up_to_12::ROWS, up_to_19::ROWS, up_to_26::ROWS];
+
+/// A worked example: what is validated, and the lines that it brings.
+#[derive(Clone, Copy)]
+pub struct Row {
+    pub id: &'static str,
+    /// The schema, as `build::schema` reads it.
+    pub schema: &'static str,
+    pub subject: Subject,
+    /// Each report with its place, and the types where they are shown, each on a line.
+    pub lines: &'static str,
+}
+
+/// What is validated, and by which call.
+#[derive(Clone, Copy)]
+pub enum Subject {
+    /// A field set on `Query`, by `validate_field_set`.
+    FieldSet(&'static str),
+    /// A document against the schema, by `validate_executable_document`.
+    Document(&'static str),
+    /// The same, where the text is file 1.
+    DocumentInFile(&'static str),
+    /// The same, where another schema gave the document's fields their definitions.
+    DocumentBuiltBy {
+        text: &'static str,
+        builder: &'static str,
+    },
+    /// A document alone, by `validate_standalone_executable`. The schema only gave its fields their
+    /// definitions.
+    Standalone(&'static str),
+    /// The schema, by `validate_schema`.
+    Schema,
+    /// The same, and the types afterwards are shown.
+    SettledTypes,
+    /// The same for a schema that was validated before.
+    TypesSettledAgain,
+}
+
+/// The first row of the table with this name.
+pub fn find_row<'a>(rows: &'a [Row], id: &str) -> Option<&'a Row>
+    ensures found { option_copied result ≡ row_named id.now rows.now }
+    ensures named { IfSome result (λ row. row.now.id.now ≡ id.now) }
+{
+    rows.iter().find(|row| row.id == id)
+}

@@ -1,7 +1,6 @@
 use super::fixtures::{name, query_of_itself, reports};
 use graphql_documents::diagnostics::DiagnosticList;
 use graphql_rows::build::{arguments, inputs};
-use graphql_rows::notation::{ArgumentNotation, Literal, argument, input};
 use graphql_values::argument::{
     ArgumentOwner, GivenArguments, validate_arguments, validate_given_arguments,
     validate_required_arguments,
@@ -13,19 +12,10 @@ const GIVEN_AGAIN: &str = "the argument `if` is provided multiple times\n\
 const UNKNOWN_AND_MISSING: &str = "the argument `x` is not supported by `@d`\n\
     the required argument `@d(n:)` is not provided\n";
 
-/// `if: null`
-const NULL: ArgumentNotation<'static> = ArgumentNotation {
-    name: "if",
-    value: Literal::Null,
-};
-
-/// `if: null, if: null, if: null`
-const THREE_TIMES: &[ArgumentNotation<'static>] = &[NULL, NULL, NULL];
-
 #[test]
 fn each_repeated_argument_is_reported(rt: HostRuntime) {
     let alloc = rt.alloc();
-    let built = arguments(alloc, THREE_TIMES).expect(&rt, "arguments");
+    let built = arguments(alloc, "(if: null, if: null, if: null)").expect(&rt, "arguments");
     let mut diagnostics = DiagnosticList::new(alloc);
     validate_arguments(&mut diagnostics, &built).expect(&rt, "memory for reports");
     reports(&rt, alloc, &diagnostics, GIVEN_AGAIN);
@@ -36,8 +26,8 @@ fn unknown_and_missing_arguments_are_reported(rt: HostRuntime) {
     let alloc = rt.alloc();
     let schema = query_of_itself(&rt, alloc);
     let directive = name(&rt, alloc, "d");
-    let given = arguments(alloc, &[argument("x", Literal::Int("1"))]).expect(&rt, "an argument");
-    let definitions = inputs(alloc, &[input("n", "Int!")], None).expect(&rt, "a definition");
+    let given = arguments(alloc, "(x: 1)").expect(&rt, "an argument");
+    let definitions = inputs(alloc, "(n: Int!)").expect(&rt, "a definition");
     let compared = GivenArguments {
         owner: ArgumentOwner::Directive {
             application: &directive,

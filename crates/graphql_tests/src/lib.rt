@@ -10,6 +10,8 @@ mod directives;
 #[cfg(test)]
 mod documents;
 #[cfg(test)]
+mod examples;
+#[cfg(test)]
 mod executables;
 #[cfg(test)]
 mod field_sets;
@@ -21,6 +23,8 @@ mod guards;
 mod input_objects;
 #[cfg(test)]
 mod messages;
+#[cfg(test)]
+mod notation;
 #[cfg(test)]
 mod numbers;
 #[cfg(test)]

@@ -1,17 +1,8 @@
 use super::fixtures::argument_definition;
-use graphql_documents::documents::{InputValueDefinition, Node};
-use graphql_rows::notation::{Literal, input, input_or};
-use std::alloc::Global;
-use std::process::Abort;
-
-/// An argument whose type is written so.
-fn of_type(rt: &impl Abort, alloc: Global, written: &str) -> Node<InputValueDefinition> {
-    argument_definition(rt, alloc, input("n", written))
-}
 
 #[test]
 fn lists_and_names_are_told_apart(rt: HostRuntime) {
-    let argument = of_type(&rt, rt.alloc(), "[Int!]");
+    let argument = argument_definition(&rt, rt.alloc(), "(n: [Int!])");
     let ty = &argument.value.ty.value;
     assert!(rt; ty.is_list());
     assert!(rt; !ty.is_named());
@@ -25,8 +16,8 @@ fn lists_and_names_are_told_apart(rt: HostRuntime) {
 
 #[test]
 fn a_stricter_type_stands_for_a_looser_one(rt: HostRuntime) {
-    let strict = of_type(&rt, rt.alloc(), "[Int!]");
-    let loose = of_type(&rt, rt.alloc(), "[Int]");
+    let strict = argument_definition(&rt, rt.alloc(), "(n: [Int!])");
+    let loose = argument_definition(&rt, rt.alloc(), "(n: [Int])");
     assert!(rt;
         strict
             .value
@@ -47,18 +38,17 @@ fn a_stricter_type_stands_for_a_looser_one(rt: HostRuntime) {
 fn a_default_makes_an_argument_optional(rt: HostRuntime) {
     let alloc = rt.alloc();
     assert!(rt;
-        argument_definition(&rt, alloc, input("n", "Int!"))
+        argument_definition(&rt, alloc, "(n: Int!)")
             .value
             .is_required()
     );
     assert!(rt;
-        !argument_definition(&rt, alloc, input("n", "Int"))
+        !argument_definition(&rt, alloc, "(n: Int)")
             .value
             .is_required()
     );
-    let with_default = input_or("n", "Int!", Literal::Int("1"));
     assert!(rt;
-        !argument_definition(&rt, alloc, with_default)
+        !argument_definition(&rt, alloc, "(n: Int! = 1)")
             .value
             .is_required()
     );

@@ -3,20 +3,31 @@ use crate::places::Place;
 use graphql_documents::documents::{FileId, SourceSpan};
 use graphql_rows::RowError;
 use std::io::ErrorKind;
+use std::process::Abort;
 use std::test::Fail;
 
 const USAGE: &str = "usage: gqlcheck row ID | rows\n";
 
-const ROW_1B: &str = "- interface, union and object types must have a subselection set\n";
+/// The examples whose call is there.
+const RUNNING: [&str; 3] = ["1a", "1b", "1c"];
 
-const ROW_1C: &str = "- the argument `arg` is not supported by `Query.id`\n";
+fn is_running(row: &Row) -> bool {
+    RUNNING.iter().any(|id| *id == row.id)
+}
 
-const ALL_ROWS: &str = "row 1a
-row 1b
-- interface, union and object types must have a subselection set
-row 1c
-- the argument `arg` is not supported by `Query.id`
-";
+/// What all of them print, by the tables.
+fn all_lines(rt: &impl Abort, alloc: Global) -> String {
+    let mut text = String::new(alloc);
+    for rows in TABLES {
+        for row in rows.iter().filter(|row| is_running(row)) {
+            let printed = format!(in alloc; "row {}\n{}", row.id, row.lines);
+            let printed = printed.expect(rt, "memory for lines");
+            text.push_str(printed.as_str())
+                .expect(rt, "memory for lines");
+        }
+    }
+    text
+}
 
 /// A writer that keeps what it takes, and refuses each write after so many.
 #[derive(Drop)]
@@ -57,28 +68,46 @@ fn words_of(alloc: Global, texts: &[&str]) -> io::Result<Vec<String>> {
     Ok(words)
 }
 
-#[test]
-fn prints_reports(rt: HostRuntime) -> Result<(), Fail> {
-    let runs: [(&[&str], u8, &str); 4] = [
-        (&["row", "1a"], 0, ""),
-        (&["row", "1b"], 1, ROW_1B),
-        (&["row", "1c"], 1, ROW_1C),
-        (&["rows"], 0, ALL_ROWS),
-    ];
-    for (texts, status, text) in runs {
-        let mut output = Vec::new(rt.alloc());
-        let mut faults = Vec::new(rt.alloc());
-        let words = words_of(rt.alloc(), texts);
-        let ended = run(rt.alloc(), words, &mut output, &mut faults);
-        assert_eq!(rt; ended.number(), status, "{texts:?}");
-        assert_eq!(rt; output.as_slice(), text.as_bytes(), "{texts:?}");
-        assert!(rt; faults.is_empty(), "{texts:?}");
+/// These words end with this status, print this on standard output, and this on standard error.
+fn answers(rt: &impl Abort, alloc: Global, texts: &[&str], status: u8, printed: &str, said: &str) {
+    let mut output = Vec::new(alloc);
+    let mut faults = Vec::new(alloc);
+    let ended = run(alloc, words_of(alloc, texts), &mut output, &mut faults);
+    assert_eq!(rt; ended.number(), status, "{texts:?}");
+    assert_eq!(rt; output.as_slice(), printed.as_bytes(), "{texts:?}");
+    assert_eq!(rt; faults.as_slice(), said.as_bytes(), "{texts:?}");
+}
+
+/// Whether the example runs or not, its name is answered as it should be.
+fn answers_row(rt: &impl Abort, alloc: Global, row: &Row) {
+    let words = ["row", row.id];
+    if !is_running(row) {
+        answers(rt, alloc, &words, 2, "", USAGE);
+    } else if row.lines.is_empty() {
+        answers(rt, alloc, &words, 0, "", "");
+    } else {
+        answers(rt, alloc, &words, 1, row.lines, "");
     }
-    Ok(())
 }
 
 #[test]
-fn refuses_bad_arguments(rt: HostRuntime) -> Result<(), Fail> {
+fn each_example_that_runs_prints_its_lines(rt: HostRuntime) {
+    for rows in TABLES {
+        for row in rows {
+            answers_row(&rt, rt.alloc(), row);
+        }
+    }
+}
+
+#[test]
+fn all_examples_that_run_print_their_lines(rt: HostRuntime) {
+    let alloc = rt.alloc();
+    let printed = all_lines(&rt, alloc);
+    answers(&rt, alloc, &["rows"], 0, printed.as_str(), "");
+}
+
+#[test]
+fn refuses_bad_arguments(rt: HostRuntime) {
     let runs: [&[&str]; 9] = [
         &[],
         &["row", "1z"],
@@ -91,15 +120,8 @@ fn refuses_bad_arguments(rt: HostRuntime) -> Result<(), Fail> {
         &["rows "],
     ];
     for texts in runs {
-        let mut output = Vec::new(rt.alloc());
-        let mut faults = Vec::new(rt.alloc());
-        let words = words_of(rt.alloc(), texts);
-        let ended = run(rt.alloc(), words, &mut output, &mut faults);
-        assert_eq!(rt; ended.number(), 2, "{texts:?}");
-        assert!(rt; output.is_empty(), "{texts:?}");
-        assert_eq!(rt; faults.as_slice(), USAGE.as_bytes(), "{texts:?}");
+        answers(&rt, rt.alloc(), texts, 2, "", USAGE);
     }
-    Ok(())
 }
 
 #[test]
@@ -121,6 +143,8 @@ fn refuses_unreadable_words(rt: HostRuntime) {
 
 #[test]
 fn ends_at_the_first_failed_write(rt: HostRuntime) -> Result<(), Fail> {
+    let printed = all_lines(&rt, rt.alloc());
+    let all = printed.as_str().as_bytes();
     for allowed in 0..1000 {
         let mut output = Limited::new(rt.alloc(), allowed);
         let mut faults = Vec::new(rt.alloc());
@@ -128,16 +152,13 @@ fn ends_at_the_first_failed_write(rt: HostRuntime) -> Result<(), Fail> {
         let ended = run(rt.alloc(), words, &mut output, &mut faults);
         assert!(rt; faults.is_empty(), "{allowed}");
         if ended == Status::Accepted {
-            assert_eq!(rt; output.taken.as_slice(), ALL_ROWS.as_bytes());
+            assert_eq!(rt; output.taken.as_slice(), all);
             assert!(rt; allowed > 0);
             return Ok(());
         }
         assert_eq!(rt; ended.number(), 4, "{allowed}");
-        assert!(rt;
-            ALL_ROWS.as_bytes().starts_with(output.taken.as_slice()),
-            "{allowed}"
-        );
-        assert!(rt; output.taken.len() < ALL_ROWS.len(), "{allowed}");
+        assert!(rt; all.starts_with(output.taken.as_slice()), "{allowed}");
+        assert!(rt; output.taken.len() < all.len(), "{allowed}");
     }
     panic!(rt; "no run came to its end")
 }

@@ -1,165 +1,138 @@
+use super::applications::read_directives;
 use super::literals::value;
-use super::names::{component, component_name, name, node, type_reference};
+use super::reader::{LONGEST, Place, Reader};
+use super::type_references::type_reference;
 use crate::errors::RowError;
-use crate::notation::{
-    DirectiveDefinitionNotation, InputNotation, OutputNotation, TypeKind, TypeNotation,
-};
 use graphql_documents::documents::{
-    Component, ComponentName, DirectiveDefinition, ExtendedType, FieldDefinition,
-    InputValueDefinition, InterfaceType, Name, Node, ObjectType, ScalarType, SourceSpan, UnionType,
+    DirectiveDefinition, DirectiveLocation, EnumValueDefinition, FieldDefinition,
+    InputValueDefinition, Node, Type, Value,
 };
-use indexmap::{IndexMap, IndexSet};
 use std::alloc::Global;
 
-/// The definition of a type.
-pub(super) fn type_definition(
-    alloc: Global,
-    notation: &TypeNotation<'_>,
-) -> Result<ExtendedType, RowError> {
-    let location = notation.location;
-    let name = name(alloc, notation.name, location)?;
-    match notation.kind {
-        TypeKind::Scalar => {
-            let scalar = scalar_type(alloc, name);
-            Ok(ExtendedType::Scalar(node(alloc, scalar, location)?))
-        }
-        TypeKind::Object { interfaces, fields } => {
-            let object = object_type(alloc, name, interfaces, fields)?;
-            Ok(ExtendedType::Object(node(alloc, object, location)?))
-        }
-        TypeKind::Interface { interfaces, fields } => {
-            let interface = interface_type(alloc, name, interfaces, fields)?;
-            Ok(ExtendedType::Interface(node(alloc, interface, location)?))
-        }
-        TypeKind::Union { members } => {
-            let union = union_type(alloc, name, members)?;
-            Ok(ExtendedType::Union(node(alloc, union, location)?))
-        }
+/// The definitions of arguments that a text as `(a: Int = 1, b: [Int])` writes.
+pub fn inputs(alloc: Global, text: &str) -> Result<Vec<Node<InputValueDefinition>>, RowError> {
+    read_inputs(&mut Reader::new(alloc, text, Place::Nowhere))
+}
+
+/// Reads the definitions of arguments in parentheses, if there are any.
+fn read_inputs(reader: &mut Reader<'_>) -> Result<Vec<Node<InputValueDefinition>>, RowError> {
+    let mut inputs = Vec::new(reader.alloc);
+    if !reader.takes("(") {
+        return Ok(inputs);
     }
-}
-
-fn scalar_type(alloc: Global, name: Name) -> ScalarType {
-    ScalarType {
-        name,
-        directives: Vec::new(alloc),
+    for _ in 0..LONGEST {
+        if reader.takes(")") {
+            return Ok(inputs);
+        }
+        inputs.push(input(reader)?)?;
     }
+    Err(RowError::TooLong)
 }
 
-fn object_type(
-    alloc: Global,
-    name: Name,
-    interfaces: &[&str],
-    fields: &[OutputNotation<'_>],
-) -> Result<ObjectType, RowError> {
-    Ok(ObjectType {
+/// Reads the definition of an argument or of a field of an input object.
+pub(super) fn input(reader: &mut Reader<'_>) -> Result<Node<InputValueDefinition>, RowError> {
+    let start = reader.start();
+    let name = reader.name()?;
+    reader.expect(":")?;
+    let input = InputValueDefinition {
         name,
-        implements_interfaces: names(alloc, interfaces)?,
-        directives: Vec::new(alloc),
-        fields: fields_by_name(alloc, fields)?,
-    })
-}
-
-fn interface_type(
-    alloc: Global,
-    name: Name,
-    interfaces: &[&str],
-    fields: &[OutputNotation<'_>],
-) -> Result<InterfaceType, RowError> {
-    Ok(InterfaceType {
-        name,
-        implements_interfaces: names(alloc, interfaces)?,
-        directives: Vec::new(alloc),
-        fields: fields_by_name(alloc, fields)?,
-    })
-}
-
-fn union_type(alloc: Global, name: Name, members: &[&str]) -> Result<UnionType, RowError> {
-    Ok(UnionType {
-        name,
-        directives: Vec::new(alloc),
-        members: names(alloc, members)?,
-    })
-}
-
-/// The definition of a directive. Its arguments stand where it stands.
-pub(super) fn directive_definition(
-    alloc: Global,
-    notation: &DirectiveDefinitionNotation<'_>,
-) -> Result<Node<DirectiveDefinition>, RowError> {
-    let location = notation.location;
-    let definition = DirectiveDefinition {
-        name: name(alloc, notation.name, location)?,
-        arguments: inputs(alloc, notation.arguments, location)?,
-        repeatable: false,
-        locations: notation.locations.to_vec(alloc)?,
+        ty: typed(reader)?,
+        default_value: default_value(reader)?,
+        directives: read_directives(reader)?,
     };
-    node(alloc, definition, location)
+    reader.node(input, start)
 }
 
-fn names(alloc: Global, texts: &[&str]) -> Result<IndexSet<ComponentName>, RowError> {
-    let mut names = IndexSet::new(alloc);
-    for text in texts {
-        if !names.insert(component_name(alloc, text)?)? {
-            return Err(RowError::RepeatedName);
-        }
+/// Reads the type of a variable or of an input value.
+pub(super) fn typed(reader: &mut Reader<'_>) -> Result<Node<Type>, RowError> {
+    let start = reader.start();
+    let ty = type_reference(reader)?;
+    reader.node(ty, start)
+}
+
+/// Reads `= value`, if it comes next.
+pub(super) fn default_value(reader: &mut Reader<'_>) -> Result<Option<Node<Value>>, RowError> {
+    if reader.takes("=") {
+        Ok(Some(value(reader)?))
+    } else {
+        Ok(None)
     }
-    Ok(names)
 }
 
-fn fields_by_name(
-    alloc: Global,
-    notation: &[OutputNotation<'_>],
-) -> Result<IndexMap<Name, Component<FieldDefinition>>, RowError> {
-    let mut fields = IndexMap::new(alloc);
-    for field in notation {
-        let key = name(alloc, field.name, None)?;
-        let definition = field_definition(alloc, field)?;
-        if fields.insert(key, component(alloc, definition)?)?.is_some() {
-            return Err(RowError::RepeatedName);
-        }
-    }
-    Ok(fields)
-}
-
-fn field_definition(
-    alloc: Global,
-    notation: &OutputNotation<'_>,
-) -> Result<FieldDefinition, RowError> {
-    Ok(FieldDefinition {
-        name: name(alloc, notation.name, None)?,
-        arguments: inputs(alloc, notation.arguments, None)?,
-        ty: type_reference(alloc, notation.ty)?,
-        directives: Vec::new(alloc),
-    })
-}
-
-/// The definitions of arguments, or of the fields of an input object, in their order and at this place.
-pub fn inputs(
-    alloc: Global,
-    notation: &[InputNotation<'_>],
-    location: Option<SourceSpan>,
-) -> Result<Vec<Node<InputValueDefinition>>, RowError> {
-    let mut definitions = Vec::new(alloc);
-    for input in notation {
-        let definition = input_definition(alloc, input, location)?;
-        definitions.push(node(alloc, definition, location)?)?;
-    }
-    Ok(definitions)
-}
-
-fn input_definition(
-    alloc: Global,
-    notation: &InputNotation<'_>,
-    location: Option<SourceSpan>,
-) -> Result<InputValueDefinition, RowError> {
-    let default_value = match &notation.default {
-        Some(literal) => Some(node(alloc, value(alloc, literal)?, location)?),
-        None => None,
+/// Reads the definition of a field of an object or an interface.
+pub(super) fn field(reader: &mut Reader<'_>) -> Result<Node<FieldDefinition>, RowError> {
+    let start = reader.start();
+    let name = reader.name()?;
+    let arguments = read_inputs(reader)?;
+    reader.expect(":")?;
+    let field = FieldDefinition {
+        name,
+        arguments,
+        ty: type_reference(reader)?,
+        directives: read_directives(reader)?,
     };
-    Ok(InputValueDefinition {
-        name: name(alloc, notation.name, location)?,
-        ty: node(alloc, type_reference(alloc, notation.ty)?, location)?,
-        default_value,
-        directives: Vec::new(alloc),
+    reader.node(field, start)
+}
+
+/// Reads the definition of a value of an enum.
+pub(super) fn enum_value(reader: &mut Reader<'_>) -> Result<Node<EnumValueDefinition>, RowError> {
+    let start = reader.start();
+    let definition = EnumValueDefinition {
+        value: reader.name()?,
+        directives: read_directives(reader)?,
+    };
+    reader.node(definition, start)
+}
+
+/// Reads the definition of a directive, from its name on.
+pub(super) fn directive(reader: &mut Reader<'_>) -> Result<DirectiveDefinition, RowError> {
+    let name = reader.name()?;
+    let arguments = read_inputs(reader)?;
+    let repeatable = reader.takes_word("repeatable");
+    reader.expect_word("on")?;
+    Ok(DirectiveDefinition {
+        name,
+        arguments,
+        repeatable,
+        locations: locations(reader)?,
     })
+}
+
+fn locations(reader: &mut Reader<'_>) -> Result<Vec<DirectiveLocation>, RowError> {
+    let mut locations = Vec::new(reader.alloc);
+    for _ in 0..LONGEST {
+        locations.push(location(reader.word())?)?;
+        if !reader.takes("|") {
+            return Ok(locations);
+        }
+    }
+    Err(RowError::TooLong)
+}
+
+/// All places where a directive may be applied.
+const LOCATIONS: [DirectiveLocation; 19] = [
+    DirectiveLocation::Query,
+    DirectiveLocation::Mutation,
+    DirectiveLocation::Subscription,
+    DirectiveLocation::Field,
+    DirectiveLocation::FragmentDefinition,
+    DirectiveLocation::FragmentSpread,
+    DirectiveLocation::InlineFragment,
+    DirectiveLocation::VariableDefinition,
+    DirectiveLocation::Schema,
+    DirectiveLocation::Scalar,
+    DirectiveLocation::Object,
+    DirectiveLocation::FieldDefinition,
+    DirectiveLocation::ArgumentDefinition,
+    DirectiveLocation::Interface,
+    DirectiveLocation::Union,
+    DirectiveLocation::Enum,
+    DirectiveLocation::EnumValue,
+    DirectiveLocation::InputObject,
+    DirectiveLocation::InputFieldDefinition,
+];
+
+fn location(word: &str) -> Result<DirectiveLocation, RowError> {
+    let location = LOCATIONS.iter().find(|location| location.name() == word);
+    location.copied().ok_or(RowError::NotALocation)
 }

@@ -1,85 +1,99 @@
-use super::names::{name, node};
+use super::reader::{DEEPEST, LONGEST, Reader};
 use crate::errors::RowError;
-use crate::notation::{ArgumentNotation, DirectiveNotation, Literal};
-use graphql_documents::documents::{Argument, Directive, IntValue, Name, Node, Value};
-use std::alloc::Global;
+use graphql_documents::documents::{FloatValue, IntValue, Name, Node, Value};
 
-/// The value that a literal writes.
+/// Reads a value.
+pub(super) fn value(reader: &mut Reader<'_>) -> Result<Node<Value>, RowError> {
+    let start = reader.start();
+    let value = nested_value(reader, DEEPEST)?;
+    reader.node(value, start)
+}
+
 #[cycle(value)]
-pub(super) fn value(alloc: Global, literal: &Literal<'_>) -> Result<Value, RowError> {
-    match literal {
-        Literal::Null => Ok(Value::Null),
-        Literal::Boolean(boolean) => Ok(Value::Boolean(*boolean)),
-        Literal::Int(text) => {
-            let integer = IntValue::new(String::from_str(alloc, text)?);
-            Ok(Value::Int(integer.ok_or(RowError::NotAnInteger)?))
-        }
-        Literal::String(text) => Ok(Value::String(String::from_str(alloc, text)?)),
-        Literal::Enum(text) => Ok(Value::Enum(name(alloc, text, None)?)),
-        Literal::Variable(text) => Ok(Value::Variable(name(alloc, text, None)?)),
-        Literal::List(items) => Ok(Value::List(list_items(alloc, items)?)),
-        Literal::Object(entries) => Ok(Value::Object(object_fields(alloc, entries)?)),
+fn nested_value(reader: &mut Reader<'_>, depth: u32) -> Result<Value, RowError> {
+    if depth == 0 {
+        return Err(RowError::TooDeep);
+    }
+    if reader.takes("[") {
+        Ok(Value::List(list_items(reader, depth - 1)?))
+    } else if reader.takes("{") {
+        Ok(Value::Object(object_fields(reader, depth - 1)?))
+    } else {
+        plain_value(reader)
     }
 }
 
 #[cycle(value)]
-fn list_items(alloc: Global, items: &[Literal<'_>]) -> Result<Vec<Node<Value>>, RowError> {
-    let mut values = Vec::new(alloc);
-    for item in items {
-        values.push(node(alloc, value(alloc, item)?, None)?)?;
+fn list_items(reader: &mut Reader<'_>, depth: u32) -> Result<Vec<Node<Value>>, RowError> {
+    let mut items = Vec::new(reader.alloc);
+    for _ in 0..LONGEST {
+        if reader.takes("]") {
+            return Ok(items);
+        }
+        items.push(item(reader, depth)?)?;
     }
-    Ok(values)
+    Err(RowError::TooLong)
 }
 
 #[cycle(value)]
 fn object_fields(
-    alloc: Global,
-    entries: &[ArgumentNotation<'_>],
+    reader: &mut Reader<'_>,
+    depth: u32,
 ) -> Result<Vec<(Name, Node<Value>)>, RowError> {
-    let mut fields = Vec::new(alloc);
-    for entry in entries {
-        fields.push(object_field(alloc, entry)?)?;
+    let mut fields = Vec::new(reader.alloc);
+    for _ in 0..LONGEST {
+        if reader.takes("}") {
+            return Ok(fields);
+        }
+        fields.push(object_field(reader, depth)?)?;
     }
-    Ok(fields)
+    Err(RowError::TooLong)
 }
 
 #[cycle(value)]
-fn object_field(
-    alloc: Global,
-    entry: &ArgumentNotation<'_>,
-) -> Result<(Name, Node<Value>), RowError> {
-    let given = value(alloc, &entry.value)?;
-    Ok((name(alloc, entry.name, None)?, node(alloc, given, None)?))
+fn object_field(reader: &mut Reader<'_>, depth: u32) -> Result<(Name, Node<Value>), RowError> {
+    let name = reader.name()?;
+    reader.expect(":")?;
+    Ok((name, item(reader, depth)?))
 }
 
-/// The arguments, in their order.
-pub fn arguments(
-    alloc: Global,
-    notation: &[ArgumentNotation<'_>],
-) -> Result<Vec<Node<Argument>>, RowError> {
-    let mut arguments = Vec::new(alloc);
-    for entry in notation {
-        let argument = Argument {
-            name: name(alloc, entry.name, None)?,
-            value: node(alloc, value(alloc, &entry.value)?, None)?,
-        };
-        arguments.push(node(alloc, argument, None)?)?;
-    }
-    Ok(arguments)
+#[cycle(value)]
+fn item(reader: &mut Reader<'_>, depth: u32) -> Result<Node<Value>, RowError> {
+    let start = reader.start();
+    let value = nested_value(reader, depth)?;
+    reader.node(value, start)
 }
 
-/// The applications of directives, in their order.
-pub fn directives(
-    alloc: Global,
-    notation: &[DirectiveNotation<'_>],
-) -> Result<Vec<Node<Directive>>, RowError> {
-    let mut directives = Vec::new(alloc);
-    for application in notation {
-        let directive = Directive {
-            name: name(alloc, application.name, None)?,
-            arguments: arguments(alloc, application.arguments)?,
-        };
-        directives.push(node(alloc, directive, None)?)?;
+/// Reads a value that holds no other.
+fn plain_value(reader: &mut Reader<'_>) -> Result<Value, RowError> {
+    if reader.takes("$") {
+        return Ok(Value::Variable(reader.name()?));
     }
-    Ok(directives)
+    if let Some(text) = reader.string() {
+        return Ok(Value::String(String::from_str(reader.alloc, text)?));
+    }
+    match reader.number() {
+        Some(text) => number(reader, text),
+        None => word(reader),
+    }
+}
+
+fn number(reader: &Reader<'_>, text: &str) -> Result<Value, RowError> {
+    if let Some(integer) = IntValue::new(String::from_str(reader.alloc, text)?) {
+        return Ok(Value::Int(integer));
+    }
+    let float = FloatValue::new(String::from_str(reader.alloc, text)?);
+    Ok(Value::Float(float.ok_or(RowError::NotANumber)?))
+}
+
+fn word(reader: &mut Reader<'_>) -> Result<Value, RowError> {
+    if reader.takes_word("null") {
+        Ok(Value::Null)
+    } else if reader.takes_word("true") {
+        Ok(Value::Boolean(true))
+    } else if reader.takes_word("false") {
+        Ok(Value::Boolean(false))
+    } else {
+        Ok(Value::Enum(reader.name()?))
+    }
 }

@@ -1,86 +1,150 @@
-use super::literals::{arguments, directives};
-use super::names::{name, node, optional_name};
+use super::applications::{read_arguments, read_directives};
+use super::reader::{DEEPEST, LONGEST, Place, Reader};
+use super::repetitions::written_out;
 use crate::errors::RowError;
-use crate::notation::{FieldNotation, SelectionKind, SelectionNotation};
 use graphql_documents::documents::{
-    Directive, Field, FragmentSpread, InlineFragment, Name, Node, Schema, Selection, SelectionSet,
+    Field, FieldSet, FragmentSpread, InlineFragment, Name, Node, Schema, Selection, SelectionSet,
 };
 use std::alloc::Global;
 
-/// The set of these selections on a type. Each field has the definition that its type gives it in the
-/// schema.
-#[cycle(selection)]
-pub(super) fn selection_set(
+/// The field set that a text as `{ a b { c } }` selects from a type of the schema. Each field has the
+/// definition that its type gives it in the schema.
+pub fn field_set(
     alloc: Global,
     schema: &Schema,
+    type_name: &str,
+    text: &str,
+) -> Result<FieldSet, RowError> {
+    let written = written_out(alloc, text)?;
+    let ty = Reader::new(alloc, type_name, Place::Nowhere).name()?;
+    let mut reader = Reader::new(alloc, written.as_str(), Place::Nowhere);
+    Ok(FieldSet {
+        selection_set: selection_set(&mut reader, schema, &ty)?,
+    })
+}
+
+/// Reads selections in braces, from this type; none where no brace comes next.
+pub(super) fn selection_set(
+    reader: &mut Reader<'_>,
+    schema: &Schema,
     ty: &Name,
-    notation: &[SelectionNotation<'_>],
 ) -> Result<SelectionSet, RowError> {
-    let mut selections = Vec::new(alloc);
-    for entry in notation {
-        selections.push(selection(alloc, schema, ty, entry)?)?;
+    nested_set(reader, schema, ty, DEEPEST)
+}
+
+#[cycle(selection)]
+fn nested_set(
+    reader: &mut Reader<'_>,
+    schema: &Schema,
+    ty: &Name,
+    depth: u32,
+) -> Result<SelectionSet, RowError> {
+    if depth == 0 {
+        return Err(RowError::TooDeep);
     }
     Ok(SelectionSet {
         ty: ty.clone()?,
-        selections,
+        selections: selections(reader, schema, ty, depth - 1)?,
     })
+}
+
+#[cycle(selection)]
+fn selections(
+    reader: &mut Reader<'_>,
+    schema: &Schema,
+    ty: &Name,
+    depth: u32,
+) -> Result<Vec<Selection>, RowError> {
+    let mut selections = Vec::new(reader.alloc);
+    if !reader.takes("{") {
+        return Ok(selections);
+    }
+    for _ in 0..LONGEST {
+        if reader.takes("}") {
+            return Ok(selections);
+        }
+        selections.push(selection(reader, schema, ty, depth)?)?;
+    }
+    Err(RowError::TooLong)
 }
 
 #[cycle(selection)]
 fn selection(
-    alloc: Global,
+    reader: &mut Reader<'_>,
     schema: &Schema,
     ty: &Name,
-    notation: &SelectionNotation<'_>,
+    depth: u32,
 ) -> Result<Selection, RowError> {
-    let location = notation.location;
-    let directives = directives(alloc, notation.directives)?;
-    match notation.kind {
-        SelectionKind::Field(written) => {
-            let field = field(alloc, schema, ty, &written, directives)?;
-            Ok(Selection::Field(node(alloc, field, location)?))
-        }
-        SelectionKind::Spread { fragment } => {
-            let fragment_name = name(alloc, fragment, None)?;
-            let spread = FragmentSpread {
-                fragment_name,
-                directives,
-            };
-            Ok(Selection::FragmentSpread(node(alloc, spread, location)?))
-        }
-        SelectionKind::Inline {
-            condition,
-            selections,
-        } => {
-            let type_condition = optional_name(alloc, condition)?;
-            let inside = type_condition.as_ref().unwrap_or(ty);
-            let inline = InlineFragment {
-                selection_set: selection_set(alloc, schema, inside, selections)?,
-                type_condition,
-                directives,
-            };
-            Ok(Selection::InlineFragment(node(alloc, inline, location)?))
-        }
+    let start = reader.start();
+    if !reader.takes("...") {
+        let field = field(reader, schema, ty, depth)?;
+        return Ok(Selection::Field(reader.node(field, start)?));
     }
+    let word = reader.next_word();
+    if word.is_empty() || word == "on" {
+        let inline = inline_fragment(reader, schema, ty, depth)?;
+        Ok(Selection::InlineFragment(reader.node(inline, start)?))
+    } else {
+        let spread = fragment_spread(reader)?;
+        Ok(Selection::FragmentSpread(reader.node(spread, start)?))
+    }
+}
+
+fn fragment_spread(reader: &mut Reader<'_>) -> Result<FragmentSpread, RowError> {
+    Ok(FragmentSpread {
+        fragment_name: reader.name()?,
+        directives: read_directives(reader)?,
+    })
+}
+
+#[cycle(selection)]
+fn inline_fragment(
+    reader: &mut Reader<'_>,
+    schema: &Schema,
+    ty: &Name,
+    depth: u32,
+) -> Result<InlineFragment, RowError> {
+    let type_condition = if reader.takes_word("on") {
+        Some(reader.name()?)
+    } else {
+        None
+    };
+    let directives = read_directives(reader)?;
+    let inside = type_condition.as_ref().unwrap_or(ty);
+    Ok(InlineFragment {
+        selection_set: nested_set(reader, schema, inside, depth)?,
+        type_condition,
+        directives,
+    })
 }
 
 #[cycle(selection)]
 fn field(
-    alloc: Global,
+    reader: &mut Reader<'_>,
     schema: &Schema,
     ty: &Name,
-    notation: &FieldNotation<'_>,
-    directives: Vec<Node<Directive>>,
+    depth: u32,
 ) -> Result<Field, RowError> {
-    let name = name(alloc, notation.name, None)?;
+    let (alias, name) = alias_and_name(reader)?;
+    let arguments = read_arguments(reader)?;
+    let directives = read_directives(reader)?;
     let definition = schema.type_field(ty, &name)?.node.clone()?;
     let below = definition.value.ty.inner_named_type();
     Ok(Field {
-        alias: optional_name(alloc, notation.alias)?,
+        alias,
         name,
-        arguments: arguments(alloc, notation.arguments)?,
+        arguments,
         directives,
-        selection_set: selection_set(alloc, schema, below, notation.selections)?,
+        selection_set: nested_set(reader, schema, below, depth)?,
         definition,
     })
+}
+
+fn alias_and_name(reader: &mut Reader<'_>) -> Result<(Option<Name>, Name), RowError> {
+    let first = reader.name()?;
+    if reader.takes(":") {
+        Ok((Some(first), reader.name()?))
+    } else {
+        Ok((None, first))
+    }
 }
