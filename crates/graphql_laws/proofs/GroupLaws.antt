@@ -231,3 +231,9 @@ module _ (schema : Schema) where
       λ g. together g.1 refl x y g.2 g.3,
       λ both. by_types x y (how_overlapping both.3.first both.3.second both.3.overlap) both.3.first_is both.3.second_is both.0 both.1 both.2,
     )
+
+-- what is in a group is in its list
+pub in_list : (schema : Schema) (fields : List FieldSelection) {pass : Pass} {group : List FieldSelection} → IsGroup schema fields pass group →
+    (x : FieldSelection) → Contains group x → Contains fields x
+in_list schema fields {pass = shape_pass} {group = group} is x in_x = ((shape_groups schema fields x x).0 (group, is, in_x, in_x)).0
+in_list schema fields {pass = field_pass} {group = group} is x in_x = ((field_groups schema fields x x).0 (group, is, in_x, in_x)).0

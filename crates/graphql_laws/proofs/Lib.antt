@@ -1,5 +1,8 @@
+pub mod BuiltDocumentLaws
 pub mod ExpandedListLaws
+pub mod ExpansionExistsLaws
 pub mod ExpansionLaws
+pub mod FirstOfGroupLaws
 pub mod FragmentLaws
 pub mod GroupLaws
 pub mod MergedListLaws

@@ -1,10 +1,15 @@
 //! Laws of the lists of fields that are merged together, and of the groups in them.
 
-ghost use Rattle.std.specs.Prelude.{◌≡◌, ◌↔◌, List, Contains};
+ghost use Rattle.std.specs.Prelude.{◌≡◌, ◌↔◌, Bool, List, ◌∷◌, All, Contains};
 ghost use Rattle.graphql_documents.specs.Names.{NameText, SameName};
-ghost use Rattle.graphql_documents.specs.Selections.{Fragments};
+ghost use Rattle.graphql_documents.specs.TypeReferences.{inner_named_type};
+ghost use Rattle.graphql_documents.specs.Selections.{Fragments, fragments_of};
+ghost use Rattle.graphql_documents.specs.Built.{NamesOutputType, IsBuilt};
+ghost use Rattle.graphql_documents.specs.Defer.{operations_of};
 ghost use Rattle.graphql_documents.specs.Merging.{FieldSelection, FieldInside, SameKey, ParentsMayOverlap, set_of, type_of, SameShape, SameNameAndArguments, Together, OverlapThroughout, Merges};
 ghost use Rattle.graphql_documents.specs.Expansion.{Expansion, IsGroup, shape_pass, field_pass, nested_sets, MergedSet};
+ghost use Rattle.graphql_documents.specs.declared.documents.definitions.FieldDefinition.{FieldDefinition};
+ghost use Rattle.graphql_documents.specs.declared.documents.executables.ExecutableDocument.{ExecutableDocument};
 ghost use Rattle.graphql_documents.specs.declared.documents.executables.Operation.{Operation};
 ghost use Rattle.graphql_documents.specs.declared.documents.executables.SelectionSet.{SelectionSet};
 ghost use Rattle.graphql_documents.specs.declared.documents.nodes.Node.{Node};
@@ -18,6 +23,14 @@ pub fn expansion_of_sets_lists_what_is_inside_one_of_them()
     ensures { (fragments : Fragments) → ((a b : NameText) → SameName a b → fragments a ≡ fragments b) →
         (sets : List SelectionSet) (fields : List FieldSelection) → Expansion fragments sets fields → (x : FieldSelection) →
         Contains fields x ↔ ((set : SelectionSet) × Contains sets set × FieldInside fragments set x) }
+{}
+
+/// Each list of sets has an expansion.
+///
+/// Specification: 5.3.2 Field Selection Merging, "including visiting fragments and inline fragments".
+pub fn each_list_of_sets_has_an_expansion()
+    ensures { (document : ExecutableDocument) (sets : List SelectionSet) →
+        (fields : List FieldSelection) × Expansion (fragments_of document) sets fields }
 {}
 
 /// The list below a group has a field exactly where it is inside the set of one of the group's fields, if
@@ -75,20 +88,62 @@ pub fn fields_of_a_merged_list_whose_parents_may_overlap_come_together()
         Together fragments o.value.value.selection_set xs ys x y × OverlapThroughout schema xs ys x y }
 {}
 
-/// All operations merge exactly where the fields of each merged list agree: two with one key have one
-/// shape, and are one field with the same arguments if their parents may overlap. Names that are the same
-/// find the same fragment here, and each list of sets has an expansion.
+/// Operations merge exactly where the fields of each merged list agree: two with one key have one shape, and
+/// are one field with the same arguments if their parents may overlap.
 ///
 /// Specification: 5.3.2 Field Selection Merging.
 pub fn operations_merge_where_the_fields_of_merged_lists_agree()
-    ensures { (schema : Schema) (fragments : Fragments) → ((a b : NameText) → SameName a b → fragments a ≡ fragments b) →
-        (operations : List (Node Operation)) →
-        ((sets : List SelectionSet) → (fields : List FieldSelection) × Expansion fragments sets fields) →
-        ((o : Node Operation) → Contains operations o → Merges schema fragments o.value.value.selection_set) ↔
-        (((fields : List FieldSelection) → MergedSet schema fragments operations shape_pass fields →
+    ensures { (schema : Schema) (document : ExecutableDocument) (operations : List (Node Operation)) →
+        ((o : Node Operation) → Contains operations o → Merges schema (fragments_of document) o.value.value.selection_set) ↔
+        (((fields : List FieldSelection) → MergedSet schema (fragments_of document) operations shape_pass fields →
         (x y : FieldSelection) → Contains fields x → Contains fields y → SameKey x y →
         SameShape schema (type_of x) (type_of y)) ×
-        ((fields : List FieldSelection) → MergedSet schema fragments operations field_pass fields →
+        ((fields : List FieldSelection) → MergedSet schema (fragments_of document) operations field_pass fields →
         (x y : FieldSelection) → Contains fields x → Contains fields y → SameKey x y → ParentsMayOverlap schema x y →
         SameNameAndArguments x.field.value.value y.field.value.value)) }
+{}
+
+/// The fields of a list with one key have one shape exactly where the first of each group has the shape of
+/// the rest, if their types name output types that are defined.
+///
+/// Specification: 5.3.2 Field Selection Merging, SameResponseShape.
+pub fn first_of_each_group_decides_shapes()
+    ensures { (schema : Schema) (fields : List FieldSelection) →
+        ((x : FieldSelection) → Contains fields x → NamesOutputType schema (inner_named_type (type_of x))) →
+        ((group : List FieldSelection) (first : FieldSelection) (rest : List FieldSelection) →
+        IsGroup schema fields shape_pass group → group ≡ first ∷ rest →
+        All (λ z. SameShape schema (type_of first) (type_of z)) rest) ↔
+        ((x y : FieldSelection) → Contains fields x → Contains fields y → SameKey x y →
+        SameShape schema (type_of x) (type_of y)) }
+{}
+
+/// The fields of a list with one key whose parents may overlap are one field with the same arguments
+/// exactly where the first of each group is so with the rest.
+///
+/// Specification: 5.3.2 Field Selection Merging, FieldsInSetCanMerge.
+pub fn first_of_each_group_decides_names_and_arguments()
+    ensures { (schema : Schema) (fields : List FieldSelection) →
+        ((group : List FieldSelection) (first : FieldSelection) (rest : List FieldSelection) →
+        IsGroup schema fields field_pass group → group ≡ first ∷ rest →
+        All (λ z. SameNameAndArguments first.field.value.value z.field.value.value) rest) ↔
+        ((x y : FieldSelection) → Contains fields x → Contains fields y → SameKey x y → ParentsMayOverlap schema x y →
+        SameNameAndArguments x.field.value.value y.field.value.value) }
+{}
+
+/// The operations of a document that was built against its schema merge exactly where, in each group of each
+/// merged list, the first field agrees with the rest.
+///
+/// Specification: 5.3.2 Field Selection Merging.
+pub fn operations_merge_where_the_first_of_each_group_agrees_with_the_rest()
+    ensures { (same_definition : FieldDefinition → FieldDefinition → Bool) (schema : Schema) (document : ExecutableDocument) →
+        IsBuilt same_definition schema document →
+        ((o : Node Operation) → Contains (operations_of document) o → Merges schema (fragments_of document) o.value.value.selection_set) ↔
+        (((fields group : List FieldSelection) (first : FieldSelection) (rest : List FieldSelection) →
+        MergedSet schema (fragments_of document) (operations_of document) shape_pass fields →
+        IsGroup schema fields shape_pass group → group ≡ first ∷ rest →
+        All (λ z. SameShape schema (type_of first) (type_of z)) rest) ×
+        ((fields group : List FieldSelection) (first : FieldSelection) (rest : List FieldSelection) →
+        MergedSet schema (fragments_of document) (operations_of document) field_pass fields →
+        IsGroup schema fields field_pass group → group ≡ first ∷ rest →
+        All (λ z. SameNameAndArguments first.field.value.value z.field.value.value) rest)) }
 {}

@@ -1,5 +1,5 @@
-use Rattle.graphql_laws.proofs.MergedListLaws.{merging_by_lists}
+use Rattle.graphql_laws.proofs.BuiltDocumentLaws.{document_merging_by_lists}
 use Rattle.graphql_laws.proofs.merged_sets.operations_merge_where_the_fields_of_merged_lists_agree.Goals as goal
 
 pub returns : goal.returns
-returns c = merging_by_lists
+returns c = document_merging_by_lists
