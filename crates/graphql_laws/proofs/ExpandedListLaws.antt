@@ -1,6 +1,6 @@
 -- The expansion of a list of sets lists the fields inside one of them.
-use Rattle.std.proofs.Common.{◌≡◌, ◌↔◌, Bool, true, false, ◌||◌, List, [], ◌∷◌, Option, Some, None, ◌⊎◌, inl, inr, refl, sym, ◌∙◌, ap, subst, All, Contains, map}
-use Rattle.std.specs.Prelude.{IsTrue, filter, is_some, slice_get}
+use Rattle.std.proofs.Common.{◌≡◌, ◌↔◌, Bool, true, List, [], ◌∷◌, Option, Some, None, ◌⊎◌, inl, inr, refl, sym, ◌∙◌, ap, subst, All, Contains, map}
+use Rattle.std.specs.Prelude.{filter, is_some, slice_get}
 use Rattle.std.specs.List.{list_any}
 use Rattle.std.proofs.lemmas.List.Elements.{All-nil, All-cons, All-head, All-tail, All-weaker, All-contains, All-contains_itself, All-filter, Contains-append_left, Contains-append_right, Contains-append_cases}
 use Rattle.graphql_documents.specs.Names.{NameText, SameName, same_name}
@@ -16,9 +16,9 @@ use Rattle.graphql_documents.specs.declared.documents.executables.Field.{Field}
 use Rattle.graphql_documents.specs.declared.documents.executables.InlineFragment.{InlineFragment}
 use Rattle.graphql_documents.specs.declared.documents.executables.FragmentSpread.{FragmentSpread}
 use Rattle.graphql_documents.specs.declared.documents.executables.Fragment.{Fragment}
-use Rattle.graphql_documents.proofs.NameLemmas.{same_name_itself}
 use Rattle.graphql_documents.proofs.ListLemmas.{none_stands, only_one, stands_first, stands_behind, made_by, made_of, kept_by_map, kept_by_filter, stands_mapped}
 use Rattle.graphql_documents.proofs.SelectionLemmas.{not_inline, not_spread, same_inline, same_spread, spread_not_inline, includes_then}
+use Rattle.graphql_laws.proofs.MetNameLemmas.{Met, either_true, met_itself, met_behind}
 
 -- a selection as it opens, as a field
 abbrev Opened : Type 0
@@ -53,18 +53,6 @@ listed_standing set x stands parent =
     kept_by_map (as_field set.ty) (selections_of set) (kind.Field x.field) x stands
     (let standing : NameText → Option FieldSelection = λ ty. Some (record { parent = ty; field = x.field }) in
     ap (field_of set.ty) (kind.outs-Field x.field) ∙ ap standing (sym parent))
-
--- the name was met
-abbrev Met : List NameText → NameText → Type 0
-Met names name = IsTrue (list_any (same_name name) names)
-
-behind_true : (a b : Bool) → b ≡ true → (a || b) ≡ true
-behind_true true b e = refl
-behind_true false b e = e
-
-either_true : (a b : Bool) → (a || b) ≡ true → (a ≡ true) ⊎ (b ≡ true)
-either_true true b e = inl refl
-either_true false b e = inr e
 
 -- what stands in a list is its first, or stands behind it
 first_or_behind : {X : Type 0} (x : X) (xs : List X) (y : X) → Contains (x ∷ xs) y → (y ≡ x) ⊎ Contains xs y
@@ -148,9 +136,9 @@ module _ (fragments : Fragments) (respects : (a b : NameText) → SameName a b �
       let o = fragments named in
       let g = gathered more outer (All-tail (Contains (selections_of outer)) (kind.FragmentSpread p) rest stand) in
       let here = All-head (Contains (selections_of outer)) (kind.FragmentSpread p) rest stand in
-      let itself : Met (named ∷ seen) named = rw (same_name_itself named) refl in
+      let itself : Met (named ∷ seen) named = met_itself named seen in
       record {
-        grows = λ name h. g.grows name (behind_true (same_name name named) (list_any (same_name name) seen) h);
+        grows = λ name h. g.grows name (met_behind named seen name h);
         included = all_followed (Includes fragments outer) o sets (λ d found. includes_spread here found includes_itself) g.included;
         inlines = All-cons (HasSetIn (followed_by o sets)) (kind.FragmentSpread p) rest (λ i e. absurd (spread_not_inline i p e))
             (All-weaker (HasSetIn sets) (HasSetIn (followed_by o sets)) (λ s h j e. behind_followed o sets j.value.value.selection_set (h j e)) rest g.inlines);

@@ -7,10 +7,13 @@ pub mod FragmentLaws
 pub mod GroupLaws
 pub mod MergedListLaws
 pub mod MergingLaws
+pub mod MetNameLemmas
 pub mod ReportLaws
 pub mod SchemaLaws
 pub mod SelectionLaws
+pub mod SizeLemmas
 pub mod SubscriptionLaws
 pub mod TypeMapLaws
 pub mod ValueLaws
 pub mod VariableLaws
+pub mod WalkExistsLaws

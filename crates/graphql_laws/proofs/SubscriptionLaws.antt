@@ -1,8 +1,6 @@
 -- How many fields a walk over a set and its fragments meets.
-use Rattle.std.proofs.Common.{◌≡◌, ◌↔◌, ℕ, suc, ◌+◌, ◌≤◌, Bool, true, false, ◌||◌, List, [], ◌∷◌, ◌++◌, Some, None, inl, inr, refl, sym, ◌∙◌, ap, subst, All, AllPairs, Contains, length, sum_by, arith, length-append}
-use Rattle.std.specs.Prelude.{IsTrue, IsFalse}
+use Rattle.std.proofs.Common.{◌≡◌, ◌↔◌, ℕ, suc, ◌+◌, ◌≤◌, Bool, true, false, List, [], ◌∷◌, ◌++◌, Some, None, inl, inr, refl, sym, ◌∙◌, ap, subst, All, AllPairs, Contains, length, sum_by, arith, length-append}
 use Rattle.std.specs.List.{list_any}
-use Rattle.std.specs.Str.{bytes_eq}
 use Rattle.std.proofs.lemmas.List.Elements.{All-nil, All-cons, All-head, All-tail, All-append, All-weaker, All-contains, Contains-append_left, Contains-append_right, Contains-append_cases}
 use Rattle.std.proofs.lemmas.List.Kept.{AllPairs-cons}
 use Rattle.std.proofs.lemmas.List.Sums.{sum_by-cons, sum_by-append}
@@ -19,9 +17,10 @@ use Rattle.graphql_documents.specs.declared.documents.executables.Field.{Field}
 use Rattle.graphql_documents.specs.declared.documents.executables.InlineFragment.{InlineFragment}
 use Rattle.graphql_documents.specs.declared.documents.executables.FragmentSpread.{FragmentSpread}
 use Rattle.graphql_documents.specs.declared.documents.executables.Fragment.{Fragment}
-use Rattle.graphql_documents.proofs.NameLemmas.{same_text, same_name_itself, same_name_back, same_name_then, not_both}
+use Rattle.graphql_documents.proofs.NameLemmas.{same_name_itself, same_name_back, same_name_then, not_both}
 use Rattle.graphql_documents.proofs.ListLemmas.{none_stands, only_one, stands_first, stands_behind, each_standing}
 use Rattle.graphql_documents.proofs.SelectionLemmas.{not_inline, not_spread, same_inline, same_spread, spread_not_inline, includes_then, one_fragment_found}
+use Rattle.graphql_laws.proofs.MetNameLemmas.{Met, Unmet, met_itself, met_behind, differs, unmet_before}
 
 abbrev name_of : Node FragmentSpread → NameText
 name_of p = p.value.value.fragment_name
@@ -112,45 +111,6 @@ one_list (root_inline_fragment i {rest = rest} {within = within} {fields = field
     ap (λ l. l ++ fields) (one_list inner first.0 first.2) ∙ ap (λ l. first.0 ++ l) (one_list more first.1 first.3) ∙ sym first.4
 one_list (root_spread p {rest = rest} {fields = fields} more) others written =
     one_list more others (subst (λ o. FromFirst o rest others) (kind.outs-FragmentSpread p) (by_first written))
-
--- the name was met, or not
-abbrev Met : List NameText → NameText → Type 0
-Met names name = IsTrue (list_any (same_name name) names)
-
-abbrev Unmet : List NameText → NameText → Type 0
-Unmet names name = IsFalse (list_any (same_name name) names)
-
-behind_true : (a b : Bool) → b ≡ true → (a || b) ≡ true
-behind_true true b e = refl
-behind_true false b e = e
-
-both_false : (a b : Bool) → (a || b) ≡ false → (a ≡ false) × (b ≡ false)
-both_false true b e = absurd (let no : ⊥ = cc in no)
-both_false false b e = (refl, e)
-
-met_itself : (name : NameText) (names : List NameText) → Met (name ∷ names) name
-met_itself name names = rw (same_name_itself name) refl
-
-met_behind : (other : NameText) (names : List NameText) (name : NameText) → Met names name → Met (other ∷ names) name
-met_behind other names name h = behind_true (same_name name other) (list_any (same_name name) names) h
-
--- names of one text are met alike
-met_alike : (a b : NameText) → SameName a b → (names : List NameText) → list_any (same_name a) names ≡ list_any (same_name b) names
-met_alike a b same names = ap (λ (text : List ℕ). list_any (λ (key : NameText). bytes_eq text key.text) names) (same_text a b same)
-
--- a name that was met differs from one that was not
-differs : (names : List NameText) (a b : NameText) → Met names a → Unmet names b → DifferentNames a b
-differs names a b met unmet = decided (same_name a b) refl where
-  decided : (v : Bool) → same_name a b ≡ v → same_name a b ≡ false
-  decided true e = absurd (let same = met_alike a b e names in let no : ⊥ = cc in no)
-  decided false e = e
-
--- a name that is not met now was not met before
-unmet_before : (old new : List NameText) (name : NameText) → (Met old name → Met new name) → Unmet new name → Unmet old name
-unmet_before old new name still unmet = decided (list_any (same_name name) old) refl where
-  decided : (v : Bool) → list_any (same_name name) old ≡ v → list_any (same_name name) old ≡ false
-  decided true e = absurd (let now = still e in let no : ⊥ = cc in no)
-  decided false e = e
 
 -- each spread among the selections and in their inline fragments has a name that was met
 data Covered (met : List NameText) : List Selection → Type 0 where

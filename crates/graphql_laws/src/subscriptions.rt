@@ -22,6 +22,15 @@ pub fn number_of_walked_fields_decides_one_root_field()
         (length walked ≤ 1) ↔ HasOneRootField (fragments_of document) set }
 {}
 
+/// Each set of a document has such a walk.
+///
+/// Specification: 5.2.3.1 Single Root Field.
+pub fn each_set_is_walked()
+    ensures { (document : ExecutableDocument) (set : SelectionSet) →
+        (walked : List (Node Field)) × (met : List NameText) ×
+        WalkedFields (fragments_of document) [] (selections_of set) walked met }
+{}
+
 /// A set that spreads a fragment of one field twice, and has nothing else, has one root field.
 ///
 /// Specification: 5.2.3.1 Single Root Field.
