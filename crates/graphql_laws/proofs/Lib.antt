@@ -1,4 +1,5 @@
 pub mod BuiltDocumentLaws
+pub mod DescentLaws
 pub mod ExpandedListLaws
 pub mod ExpansionExistsLaws
 pub mod ExpansionLaws

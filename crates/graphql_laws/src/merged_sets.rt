@@ -1,13 +1,14 @@
 //! Laws of the lists of fields that are merged together, and of the groups in them.
 
-ghost use Rattle.std.specs.Prelude.{◌≡◌, ◌↔◌, Bool, List, ◌∷◌, All, Contains};
+ghost use Rattle.std.specs.Prelude.{◌≡◌, ◌≢◌, ◌↔◌, ◌+◌, Bool, List, [], ◌∷◌, ◌++◌, All, Contains, length};
 ghost use Rattle.graphql_documents.specs.Names.{NameText, SameName};
 ghost use Rattle.graphql_documents.specs.TypeReferences.{inner_named_type};
-ghost use Rattle.graphql_documents.specs.Selections.{Fragments, fragments_of};
+ghost use Rattle.graphql_documents.specs.Selections.{Fragments, fragments_of, selections_of};
 ghost use Rattle.graphql_documents.specs.Built.{NamesOutputType, IsBuilt};
 ghost use Rattle.graphql_documents.specs.Defer.{operations_of};
-ghost use Rattle.graphql_documents.specs.Merging.{FieldSelection, FieldInside, SameKey, ParentsMayOverlap, set_of, type_of, SameShape, SameNameAndArguments, Together, OverlapThroughout, Merges};
-ghost use Rattle.graphql_documents.specs.Expansion.{Expansion, IsGroup, shape_pass, field_pass, nested_sets, MergedSet};
+ghost use Rattle.graphql_documents.specs.Limits.{MergingDescent};
+ghost use Rattle.graphql_documents.specs.Merging.{FieldSelection, FieldInside, Chain, SameKey, ParentsMayOverlap, set_of, type_of, SameShape, SameNameAndArguments, Together, OverlapThroughout, Merges};
+ghost use Rattle.graphql_documents.specs.Expansion.{Expansion, Pass, IsGroup, shape_pass, field_pass, nested_sets, MergedSet};
 ghost use Rattle.graphql_documents.specs.declared.documents.definitions.FieldDefinition.{FieldDefinition};
 ghost use Rattle.graphql_documents.specs.declared.documents.executables.ExecutableDocument.{ExecutableDocument};
 ghost use Rattle.graphql_documents.specs.declared.documents.executables.Operation.{Operation};
@@ -146,4 +147,16 @@ pub fn operations_merge_where_the_first_of_each_group_agrees_with_the_rest()
         MergedSet schema (fragments_of document) (operations_of document) field_pass fields →
         IsGroup schema fields field_pass group → group ≡ first ∷ rest →
         All (λ z. SameNameAndArguments first.field.value.value z.field.value.value) rest)) }
+{}
+
+/// A descent through groups of merged lists has a chain of as many fields, of which the last selects
+/// something, if names that are the same find the same fragment.
+///
+/// Specification: 5.3.2 Field Selection Merging, the merged set of two fields.
+pub fn descent_has_a_chain_of_its_length()
+    ensures { (schema : Schema) (fragments : Fragments) → ((a b : NameText) → SameName a b → fragments a ≡ fragments b) →
+        (pass : Pass) (set : SelectionSet) (fields : List FieldSelection) (steps : List (List FieldSelection)) →
+        Expansion fragments (set ∷ []) fields → MergingDescent schema fragments pass fields steps → steps ≢ [] →
+        (chain : List FieldSelection) × (last : FieldSelection) × Chain fragments set (chain ++ last ∷ []) ×
+        (length chain + 1 ≡ length steps) × (selections_of (set_of last) ≢ []) }
 {}
