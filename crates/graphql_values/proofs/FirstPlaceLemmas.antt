@@ -42,6 +42,16 @@ pub chosen_or : {X : Type 0} (b : Bool) (x : X) (o : Option X) → (b ≡ true �
 chosen_or true x o none = rw (none refl) refl
 chosen_or false x o none = sym (option_or_none o)
 
+-- what is there already needs nothing behind it
+pub kept_or : {X : Type 0} (b : Bool) (x : X) (o : Option X) → (b ≡ true → ¬ (o ≡ None)) → o ≡ option_or o (cond b (Some x) None)
+kept_or b x (Some y) some = refl
+kept_or true x None some = absurd (some refl refl)
+kept_or false x None some = refl
+
+pub map_in_front : {X Y : Type 0} (f : X → Y) (b : Bool) (x : X) (o : Option X) → option_map f (cond b (Some x) o) ≡ cond b (Some (f x)) (option_map f o)
+map_in_front f true x o = refl
+map_in_front f false x o = refl
+
 map_or : {X Y : Type 0} (f : X → Y) (o p : Option X) → option_map f (option_or o p) ≡ option_or (option_map f o) (option_map f p)
 map_or f None p = refl
 map_or f (Some x) p = refl

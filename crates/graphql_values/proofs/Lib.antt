@@ -14,6 +14,7 @@ pub mod UnusedLemmas
 pub mod UsageLemmas
 pub mod UseLemmas
 pub mod VariableLemmas
+pub mod VariablesByNameLemmas
 pub mod WalkLemmas
 pub mod WalkOrderLemmas
 pub mod WalkedLemmas

@@ -6,4 +6,5 @@ pub mod Searches
 pub mod Uses
 pub mod ValueSteps
 pub mod VariableSteps
+pub mod VariablesByName
 pub mod WalkSteps

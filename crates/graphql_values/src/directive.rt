@@ -17,6 +17,7 @@ ghost use Rattle.graphql_values.specs.FirstPlaces.{Remembers};
 
 use crate::argument::validate_arguments;
 use crate::first_places::first_place;
+use crate::variable::VariablesByName;
 use applications::{check_repetition, validate_application};
 use graphql_documents::diagnostics::{DiagnosticList, ValidationError};
 use graphql_documents::documents::{
@@ -45,6 +46,25 @@ pub fn validate_directives(
         (IsDiagnostic (DirectivesBreak (option_copied schema.entry) variables.now location (map (λ d. d.now) directives.now)))
         diagnostics.old diagnostics.new }
 {
+    let variables = VariablesByName::new(diagnostics.allocator(), variables)?;
+    check_directives(diagnostics, schema, directives, location, &variables)
+}
+
+/// The same, where each variable is found by its name.
+///
+/// Specification: 5.7 Directives; 5.4 Arguments.
+pub fn check_directives(
+    diagnostics: &mut DiagnosticList,
+    schema: Option<&Schema>,
+    directives: &[&Node<Directive>],
+    location: DirectiveLocation,
+    variables: &VariablesByName,
+) -> Result<(), ValidationError>
+    ensures { Checks result
+        (ApplicationsHold (option_copied schema.entry) variables.now location (map (λ d. d.now) directives.now))
+        (IsDiagnostic (DirectivesBreak (option_copied schema.entry) variables.now location (map (λ d. d.now) directives.now)))
+        diagnostics.old diagnostics.new }
+{
     let mut seen: HashMap<&Name, Option<SourceSpan>> = HashMap::new(diagnostics.allocator());
     for directive in directives {
         validate_directive(
@@ -66,7 +86,7 @@ fn validate_directive<'a>(
     directive: &'a Node<Directive>,
     seen: &mut HashMap<&'a Name, Option<SourceSpan>>,
     location: DirectiveLocation,
-    variables: &[Node<VariableDefinition>],
+    variables: &VariablesByName,
 ) -> Result<(), ValidationError>
     ensures checks { (before : List (Node Directive)) → Remembers seen.old (map met_directive before) →
         ChecksNext result (FollowsWell (option_copied schema.entry) variables.now location before directive.now)

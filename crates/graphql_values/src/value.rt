@@ -13,6 +13,7 @@ ghost use Rattle.graphql_documents.specs.TypeReferences.{TypeReference, inner_na
 ghost use Rattle.graphql_documents.specs.ValueReports.{ValueReport};
 ghost use Rattle.graphql_values.specs.ValueSteps.{AcceptsEntry, AcceptsField, AcceptsItem, ChecksValue, EntryReport, HasEntries, HasItems, ItemReport, written_at};
 
+use crate::variable::VariablesByName;
 use graphql_documents::diagnostics::{DiagnosticList, ValidationError};
 use graphql_documents::documents::{
     Argument, Component, ExtendedType, InputObjectType, InputValueDefinition, Name, Node, Schema,
@@ -62,6 +63,26 @@ pub fn value_of_correct_type(
         (IsDiagnostic (ValueReport schema.now variables.now (reference_of ty.now) value.now))
         diagnostics.old diagnostics.new }
 {
+    let variables = VariablesByName::new(diagnostics.allocator(), variables)?;
+    check_value_of_type(diagnostics, schema, ty, value, &variables)
+}
+
+/// The same, where each variable is found by its name: a document is checked in time that does not grow
+/// with the number of its variables for each use of one.
+///
+/// Specification: 5.6 Values.
+pub fn check_value_of_type(
+    diagnostics: &mut DiagnosticList,
+    schema: &Schema,
+    ty: &Node<Type>,
+    value: &Node<Value>,
+    variables: &VariablesByName,
+) -> Result<(), ValidationError>
+    ensures { Checks result
+        (Accepts schema.now variables.now ty.now.value.value value.now.value.value)
+        (IsDiagnostic (ValueReport schema.now variables.now (reference_of ty.now) value.now))
+        diagnostics.old diagnostics.new }
+{
     check_value(
         diagnostics,
         schema,
@@ -80,7 +101,7 @@ fn check_value(
     value: &Node<Value>,
     ty: &Type,
     location: Option<SourceSpan>,
-    variables: &[Node<VariableDefinition>],
+    variables: &VariablesByName,
 ) -> Result<(), ValidationError>
     ensures { ChecksValue result schema.now variables.now (written_at ty.now location) value.now diagnostics.old diagnostics.new }
 {
@@ -144,7 +165,7 @@ fn check_list(
     definition: &ExtendedType,
     ty: &Type,
     location: Option<SourceSpan>,
-    variables: &[Node<VariableDefinition>],
+    variables: &VariablesByName,
 ) -> Result<(), ValidationError>
     requires list { HasItems value.now.value.value items.now }
     requires defined { type_definition schema.now (inner_named_type ty.now) ≡ Some definition.now }
@@ -172,7 +193,7 @@ fn check_object(
     definition: &ExtendedType,
     ty: &Type,
     location: Option<SourceSpan>,
-    variables: &[Node<VariableDefinition>],
+    variables: &VariablesByName,
 ) -> Result<(), ValidationError>
     requires object { HasEntries value.now.value.value entries.now }
     requires defined { type_definition schema.now (inner_named_type ty.now) ≡ Some definition.now }
@@ -196,7 +217,7 @@ fn check_items(
     items: &[Node<Value>],
     item_type: &Type,
     location: Option<SourceSpan>,
-    variables: &[Node<VariableDefinition>],
+    variables: &VariablesByName,
 ) -> Result<(), ValidationError>
     ensures { Checks result (All (AcceptsItem schema.now variables.now item_type.now) items.now)
         (IsDiagnostic (ItemReport schema.now variables.now (written_at item_type.now location) items.now))
@@ -216,7 +237,7 @@ fn check_fields(
     value: &Node<Value>,
     entries: &[(Name, Node<Value>)],
     input_object: &Node<InputObjectType>,
-    variables: &[Node<VariableDefinition>],
+    variables: &VariablesByName,
 ) -> Result<(), ValidationError>
     requires { HasEntries value.now.value.value entries.now }
     ensures { (ty : TypeReference) → IsInputObject schema.now (inner_named_type ty.ty) input_object.now →
@@ -238,7 +259,7 @@ fn check_entry(
     entries: &[(Name, Node<Value>)],
     name: &Name,
     field: &Component<InputValueDefinition>,
-    variables: &[Node<VariableDefinition>],
+    variables: &VariablesByName,
 ) -> Result<(), ValidationError>
     ensures { Checks result (AcceptsEntry schema.now variables.now entries.now (name.now, field.now))
         (IsDiagnostic (EntryReport schema.now variables.now entries.now (name.now, field.now)))

@@ -1,11 +1,13 @@
 //! Variables: where they may stand, and which of them are used.
 
+mod by_name;
 mod unused;
 mod usage;
 mod uses;
 mod walks;
 
+pub use by_name::VariablesByName;
 pub use unused::validate_unused_variables;
-pub use usage::{is_variable_usage_allowed, validate_variable_usage};
+pub use usage::{check_variable_usage, is_variable_usage_allowed, validate_variable_usage};
 pub use uses::variables_in_value;
 pub use walks::{Walked, walk_selections, walk_selections_with_deduped_fragments};

@@ -8,10 +8,10 @@ ghost use Rattle.graphql_documents.specs.declared.documents.schemas.Schema.{Sche
 ghost use Rattle.graphql_values.specs.GivenArguments.{GivenArgumentHolds, GivenArgumentReport};
 
 use super::owners::GivenArguments;
-use crate::value::validate_values;
-use crate::variable::validate_variable_usage;
+use crate::value::check_value_of_type;
+use crate::variable::{VariablesByName, check_variable_usage};
 use graphql_documents::diagnostics::{Details, DiagnosticData, DiagnosticList, ValidationError};
-use graphql_documents::documents::{Argument, Node, Schema, VariableDefinition, definition_named};
+use graphql_documents::documents::{Argument, Node, Schema, definition_named};
 
 /// Reports for each argument, in order, that no definition has its name, or that it is a variable
 /// that may not stand there, or else what its value breaks. The only error is want of memory.
@@ -22,7 +22,7 @@ pub fn validate_given_arguments(
     diagnostics: &mut DiagnosticList,
     schema: &Schema,
     arguments: &GivenArguments,
-    variables: &[Node<VariableDefinition>],
+    variables: &VariablesByName,
 ) -> Result<(), ValidationError>
     ensures { Checks result
         (All (GivenArgumentHolds schema.now variables.now arguments.now.definitions.now) arguments.now.given.now)
@@ -39,7 +39,7 @@ fn validate_given_argument(
     schema: &Schema,
     arguments: &GivenArguments,
     argument: &Node<Argument>,
-    variables: &[Node<VariableDefinition>],
+    variables: &VariablesByName,
 ) -> Result<(), ValidationError>
     requires { Contains arguments.now.given.now argument.now }
     ensures { Checks result
@@ -49,14 +49,9 @@ fn validate_given_argument(
     let Some(definition) = definition_named(arguments.definitions, &argument.value.name) else {
         return report_undefined_argument(diagnostics, arguments, argument);
     };
-    if validate_variable_usage(diagnostics, definition, variables, argument)? {
-        validate_values(
-            diagnostics,
-            schema,
-            &definition.value.ty,
-            argument,
-            variables,
-        )?;
+    if check_variable_usage(diagnostics, definition, variables, argument)? {
+        let ty = &definition.value.ty;
+        check_value_of_type(diagnostics, schema, ty, &argument.value.value, variables)?;
     }
     Ok(())
 }

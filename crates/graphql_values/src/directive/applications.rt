@@ -9,10 +9,10 @@ ghost use Rattle.graphql_values.specs.DirectiveSteps.{ChecksApplication, ChecksR
 ghost use Rattle.graphql_values.specs.GivenArguments.{GivenArgumentHolds};
 
 use crate::argument::{GivenArguments, validate_given_arguments, validate_required_arguments};
+use crate::variable::VariablesByName;
 use graphql_documents::diagnostics::{Details, DiagnosticData, DiagnosticList, ValidationError};
 use graphql_documents::documents::{
     Directive, DirectiveDefinition, DirectiveLocation, Name, Node, Schema, SourceSpan,
-    VariableDefinition,
 };
 
 /// Reports a directive that repeats one applied before it, if it is not repeatable; a directive that is
@@ -90,7 +90,7 @@ pub(super) fn validate_application(
     schema: Option<&Schema>,
     directive: &Node<Directive>,
     location: DirectiveLocation,
-    variables: &[Node<VariableDefinition>],
+    variables: &VariablesByName,
 ) -> Result<(), ValidationError>
     ensures { ChecksApplication result (IsAppliedWell (option_copied schema.entry) variables.now location directive.now.value.value)
         (option_copied schema.entry) variables.now location directive.now diagnostics.old diagnostics.new }
@@ -117,7 +117,7 @@ fn validate_known(
     definition: &Node<DirectiveDefinition>,
     directive: &Node<Directive>,
     location: DirectiveLocation,
-    variables: &[Node<VariableDefinition>],
+    variables: &VariablesByName,
 ) -> Result<(), ValidationError>
     requires { directive_definition schema.now directive.now.value.value.name ≡ Some definition.now }
     ensures { ChecksApplication result

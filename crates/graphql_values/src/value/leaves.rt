@@ -8,9 +8,10 @@ ghost use Rattle.graphql_documents.specs.declared.documents.values.Value.TheVari
 ghost use Rattle.graphql_values.specs.ValueSteps.{ChecksDefined, ChecksValue, is_plain_literal, takes_every_int, takes_plain, written_at};
 
 use super::reports::unsupported_type;
+use crate::variable::VariablesByName;
 use graphql_documents::diagnostics::{Details, DiagnosticData, DiagnosticList, ValidationError};
 use graphql_documents::documents::{
-    ExtendedType, IntValue, Name, Node, SourceSpan, Type, Value, VariableDefinition, variable_named,
+    ExtendedType, IntValue, Name, Node, SourceSpan, Type, Value, VariableDefinition,
 };
 
 /// Whether the type is a scalar that is not one of those that every schema has.
@@ -187,13 +188,13 @@ pub(super) fn check_variable(
     location: Option<SourceSpan>,
     value: &Node<Value>,
     name: &Name,
-    variables: &[Node<VariableDefinition>],
+    variables: &VariablesByName,
 ) -> Result<(), ValidationError>
     requires { value.now.value.value ≡ literal.Variable name.now }
     ensures { (schema : Schema) → type_definition schema (inner_named_type ty.now) ≡ Some definition.now →
         ChecksValue result schema variables.now (written_at ty.now location) value.now diagnostics.old diagnostics.new }
 {
-    let Some(variable) = variable_named(variables, name) else {
+    let Some(variable) = variables.find(name) else {
         let name = name.clone()?;
         return diagnostics.push(
             value.location,

@@ -7,9 +7,10 @@ ghost use Rattle.graphql_documents.specs.VariableUsage.{HasNonNullDefault, IsUsa
 ghost use Rattle.graphql_documents.specs.declared.documents.definitions.VariableDefinition.{VariableDefinition};
 ghost use Rattle.graphql_documents.specs.declared.documents.nodes.Node.{Node};
 
+use super::by_name::VariablesByName;
 use graphql_documents::diagnostics::{Details, DiagnosticData, DiagnosticList, ValidationError};
 use graphql_documents::documents::{
-    Argument, InputValueDefinition, Node, Type, Value, VariableDefinition, variable_named,
+    Argument, InputValueDefinition, Node, Type, Value, VariableDefinition,
 };
 
 /// Reports an argument that is a defined variable which may not stand there, by the definition of the
@@ -27,10 +28,28 @@ pub fn validate_variable_usage(
         (UsageHolds variables.now definition.now.value.value argument.now.value.value.value.value.value)
         (IsDiagnostic (UsageReport variables.now definition.now argument.now)) diagnostics.old diagnostics.new }
 {
+    let variables = VariablesByName::new(diagnostics.allocator(), variables)?;
+    check_variable_usage(diagnostics, definition, &variables, argument)
+}
+
+/// The same, where each variable is found by its name.
+///
+/// Specification: 5.8.5 All Variable Usages Are Allowed.
+pub fn check_variable_usage(
+    diagnostics: &mut DiagnosticList,
+    definition: &Node<InputValueDefinition>,
+    variables: &VariablesByName,
+    argument: &Node<Argument>,
+) -> Result<bool, ValidationError>
+    ensures answer { IfOk result (λ allowed. IsTrue allowed ↔ UsageHolds variables.now definition.now.value.value argument.now.value.value.value.value.value) }
+    ensures checks { Checks result
+        (UsageHolds variables.now definition.now.value.value argument.now.value.value.value.value.value)
+        (IsDiagnostic (UsageReport variables.now definition.now argument.now)) diagnostics.old diagnostics.new }
+{
     let Value::Variable(name) = &*argument.value.value.value else {
         return Ok(true);
     };
-    match variable_named(variables, name) {
+    match variables.find(name) {
         Some(variable) if !is_variable_usage_allowed(&variable.value, &definition.value) => {
             report_usage(diagnostics, variable, definition, argument)?;
             Ok(false)

@@ -12,28 +12,28 @@ returns-in_default c =
     checks_words c.report_undefined_argument.result _ _ _ _ _ _ (λ x. absurd x, λ h. absurd (undefined h.defined))
     (λ e said. said) (c.report_undefined_argument.ensures c.args.schema.now c.args.variables.now)
 
-pub returns-in_err-validate_variable_usage : goal.returns-in_err-validate_variable_usage
-returns-in_err-validate_variable_usage c =
+pub returns-in_err-check_variable_usage : goal.returns-in_err-check_variable_usage
+returns-in_err-check_variable_usage c =
     let found : definition_named c.args.argument.now.value.value.name c.args.arguments.now.definitions.now ≡ Some c.in-Some.definition.now = search rules in
     checks-err _ _ _ _ _ c.from_residual.ensures.0
     (kept_wider _ _ _ _ (names_misuse c.args.schema.now c.args.variables.now c.args.arguments.now c.args.argument.now c.in-Some.definition.now c.requires found)
-    c.in_err-validate_variable_usage.ensures.checks)
+    c.in_err-check_variable_usage.ensures.checks)
 
-pub returns-in_err-validate_values : goal.returns-in_err-validate_values
-returns-in_err-validate_values c =
+pub returns-in_err-check_value_of_type : goal.returns-in_err-check_value_of_type
+returns-in_err-check_value_of_type c =
     let schema = c.args.schema.now in
     let variables = c.args.variables.now in
     let arguments = c.args.arguments.now in
     let a = c.args.argument.now in
     let d = c.in-Some.definition.now in
     let found : definition_named a.value.value.name arguments.definitions.now ≡ Some d = search rules in
-    checks-err _ _ _ _ _ c.from_residual-in_err-validate_values.ensures.0
+    checks-err _ _ _ _ _ c.from_residual-in_err-check_value_of_type.ensures.0
     (kept_then _ _ _ _
-    (kept_by _ _ _ _ (wider _ _ _ _ _ (names_misuse schema variables arguments a d c.requires found) c.in_ok-validate_variable_usage.ensures.checks))
-    (kept_wider _ _ _ _ (names_wrong_value schema variables arguments a d c.requires found _ c.deref-then-branch.ensures) c.in_err-validate_values.ensures))
+    (kept_by _ _ _ _ (wider _ _ _ _ _ (names_misuse schema variables arguments a d c.requires found) c.in_ok-check_variable_usage.ensures.checks))
+    (kept_wider _ _ _ _ (names_wrong_value schema variables arguments a d c.requires found _ c.deref-then-branch.ensures) (rw c.deref-then-branch-2.ensures at c.in_err-check_value_of_type.ensures)))
 
-pub returns-in_ok-validate_values : goal.returns-in_ok-validate_values
-returns-in_ok-validate_values c =
+pub returns-in_ok-check_value_of_type : goal.returns-in_ok-check_value_of_type
+returns-in_ok-check_value_of_type c =
     let schema = c.args.schema.now in
     let variables = c.args.variables.now in
     let arguments = c.args.arguments.now in
@@ -42,8 +42,8 @@ returns-in_ok-validate_values c =
     let found : definition_named a.value.value.name arguments.definitions.now ≡ Some d = search rules in
     in_words _ _ _ _ _ (given_decides schema variables arguments a d c.requires found _ c.deref-then-branch.ensures)
     (both _ _ _ _ _ _
-    (wider _ _ _ _ _ (names_misuse schema variables arguments a d c.requires found) c.in_ok-validate_variable_usage.ensures.checks)
-    (wider _ _ _ _ _ (names_wrong_value schema variables arguments a d c.requires found _ c.deref-then-branch.ensures) c.in_ok-validate_values.ensures))
+    (wider _ _ _ _ _ (names_misuse schema variables arguments a d c.requires found) c.in_ok-check_variable_usage.ensures.checks)
+    (wider _ _ _ _ _ (names_wrong_value schema variables arguments a d c.requires found _ c.deref-then-branch.ensures) (rw c.deref-then-branch-2.ensures at c.in_ok-check_value_of_type.ensures)))
 
 pub returns-else-branch : goal.returns-else-branch
 returns-else-branch c =
@@ -55,4 +55,4 @@ returns-else-branch c =
     let found : definition_named a.value.value.name arguments.definitions.now ≡ Some d = search rules in
     let disallowed : ¬ UsageHolds variables d.value.value a.value.value.value.value.value = search rules in
     in_words _ _ _ _ _ (λ allowed. absurd (disallowed allowed), usage_needed schema variables arguments a d c.requires found)
-    (wider _ _ _ _ _ (names_misuse schema variables arguments a d c.requires found) c.in_ok-validate_variable_usage.ensures.checks)
+    (wider _ _ _ _ _ (names_misuse schema variables arguments a d c.requires found) c.in_ok-check_variable_usage.ensures.checks)

@@ -6,7 +6,7 @@ use Rattle.graphql_documents.specs.Directives.{ApplicationsHold}
 use Rattle.graphql_documents.specs.Reports.{Reports}
 use Rattle.graphql_values.specs.DirectiveSteps.{met_directive}
 use Rattle.graphql_values.specs.FirstPlaces.{Remembers}
-use Rattle.graphql_values.proofs.directive.validate_directives.Given as goal
+use Rattle.graphql_values.proofs.directive.check_directives.Given as goal
 
 -- what is wrong with the directives so far is reported, and `seen` has the head of the first of each name so far
 abbrev pub invariant-loop-directive : goal.invariant-loop-directive
