@@ -79,6 +79,10 @@ module _ (same : FieldDefinition → FieldDefinition → Bool) (schema : Schema)
       let from = (below_lists_what_is_inside (fragments_of document) (one_fragment_found document) step.group below step.expansion x).0 in_x in
       built_field (set_of from.0) x (built_merged above from.0 (in_list schema fields step.is_group from.0 from.1)).sets from.2
 
+  pub built_output : {pass : Pass} (fields : List FieldSelection) → MergedSet schema (fragments_of document) (operations_of document) pass fields →
+      (x : FieldSelection) → Contains fields x → NamesOutputType schema (inner_named_type (type_of x))
+  built_output fields merged x in_x = (built_merged merged x in_x).output
+
   pub document_merging_by_groups : ((o : Node Operation) → Contains (operations_of document) o → Merges schema (fragments_of document) o.value.value.selection_set) ↔ (
       ((fields group : List FieldSelection) (first : FieldSelection) (rest : List FieldSelection) → MergedSet schema (fragments_of document) (operations_of document) shape_pass fields →
       IsGroup schema fields shape_pass group → group ≡ first ∷ rest → All (λ z. SameShape schema (type_of first) (type_of z)) rest) ×

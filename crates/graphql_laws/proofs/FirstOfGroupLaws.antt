@@ -51,15 +51,20 @@ OneField x y = SameNameAndArguments x.field.value.value y.field.value.value
 one_field_itself : (x : FieldSelection) → OneField x x
 one_field_itself x = record { name = same_name_itself x.field.value.value.name; arguments = same_arguments_itself x.field.value.value.arguments.items }
 
-one_field_joined : (first x y : FieldSelection) → OneField first x → OneField first y → OneField x y
-one_field_joined first x y a b =
-    let f = first.field.value.value in
-    let g = x.field.value.value in
-    let h = y.field.value.value in
+pub one_field_back : (x y : FieldSelection) → OneField x y → OneField y x
+one_field_back x y a =
+    let f = x.field.value.value in
+    let g = y.field.value.value in
+    record { name = same_name_back f.name g.name a.name; arguments = same_arguments_back f.arguments.items g.arguments.items a.arguments }
+
+pub one_field_then : (x y z : FieldSelection) → OneField x y → OneField y z → OneField x z
+one_field_then x y z a b =
+    let f = x.field.value.value in
+    let g = y.field.value.value in
+    let h = z.field.value.value in
     record {
-      name = same_name_then g.name f.name h.name (same_name_back f.name g.name a.name) b.name;
-      arguments = same_arguments_then g.arguments.items f.arguments.items h.arguments.items
-          (same_arguments_back f.arguments.items g.arguments.items a.arguments) b.arguments;
+      name = same_name_then f.name g.name h.name a.name b.name;
+      arguments = same_arguments_then f.arguments.items g.arguments.items h.arguments.items a.arguments b.arguments;
     }
 
 module _ (schema : Schema) (fields : List FieldSelection) where
@@ -98,7 +103,7 @@ module _ (schema : Schema) (fields : List FieldSelection) where
   first_field_decides = (
     λ agree x y in_x in_y key parents.
         let g = (field_groups schema fields x y).1 (in_x, in_y, key, parents) in
-        all_agree OneField g.0 (λ z in_z. one_field_itself z) (λ first u v in_first. one_field_joined first u v)
+        all_agree OneField g.0 (λ z in_z. one_field_itself z) (λ first u v in_first c. one_field_then u first v (one_field_back first u c))
         (λ first rest. agree g.0 first rest g.1) x y g.2 g.3,
     λ agree group first rest is.
         first_agrees OneField group (λ x y in_x in_y.

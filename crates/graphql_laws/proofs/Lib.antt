@@ -11,6 +11,7 @@ pub mod MergingLaws
 pub mod MetNameLemmas
 pub mod ReportLaws
 pub mod SchemaLaws
+pub mod SeenListLaws
 pub mod SelectionLaws
 pub mod SizeLemmas
 pub mod SubscriptionLaws

@@ -42,7 +42,7 @@ chain_push [] u x chain here = chain_of_more (begins chain) (chain_of_one here)
 chain_push (w ∷ ws) u x chain here = chain_of_more (begins chain) (chain_push ws u x (after_first w ws u chain) here)
 
 -- what a pass asks of the parents of two fields, and of those along two chains
-abbrev ParentsIn : Schema → Pass → FieldSelection → FieldSelection → Type 0
+abbrev pub ParentsIn : Schema → Pass → FieldSelection → FieldSelection → Type 0
 ParentsIn schema shape_pass x y = Unit {0}
 ParentsIn schema field_pass x y = ParentsMayOverlap schema x y
 
@@ -65,13 +65,13 @@ throughout_first schema shape_pass u v xs ys all = (tt, tt)
 throughout_first schema field_pass u v xs ys all = (all.0, all.1)
 
 -- the fields of a group are those of its list that the pass puts together
-group_has : (schema : Schema) (pass : Pass) (fields group : List FieldSelection) (x y : FieldSelection) → IsGroup schema fields pass group →
+pub group_has : (schema : Schema) (pass : Pass) (fields group : List FieldSelection) (x y : FieldSelection) → IsGroup schema fields pass group →
     Contains group x → Contains group y → Contains fields x × Contains fields y × SameKey x y × ParentsIn schema pass x y
 group_has schema shape_pass fields group x y is in_x in_y =
     let both = (shape_groups schema fields x y).0 (group, is, in_x, in_y) in (both.0, both.1, both.2, tt)
 group_has schema field_pass fields group x y is in_x in_y = (field_groups schema fields x y).0 (group, is, in_x, in_y)
 
-has_group : (schema : Schema) (pass : Pass) (fields : List FieldSelection) (x y : FieldSelection) → Contains fields x → Contains fields y → SameKey x y →
+pub has_group : (schema : Schema) (pass : Pass) (fields : List FieldSelection) (x y : FieldSelection) → Contains fields x → Contains fields y → SameKey x y →
     ParentsIn schema pass x y → (group : List FieldSelection) × IsGroup schema fields pass group × Contains group x × Contains group y
 has_group schema shape_pass fields x y in_x in_y key parents = (shape_groups schema fields x y).1 (in_x, in_y, key)
 has_group schema field_pass fields x y in_x in_y key parents = (field_groups schema fields x y).1 (in_x, in_y, key, parents)

@@ -9,6 +9,7 @@ pub mod merged_sets;
 pub mod merging;
 pub mod reports;
 pub mod schemas;
+pub mod seen_lists;
 pub mod selections;
 pub mod subscriptions;
 pub mod type_maps;
