@@ -9,6 +9,7 @@ pub mod GroupLaws
 pub mod MergedListLaws
 pub mod MergingLaws
 pub mod MetNameLemmas
+pub mod OneExpansionLaws
 pub mod ReportLaws
 pub mod SchemaLaws
 pub mod SeenListLaws

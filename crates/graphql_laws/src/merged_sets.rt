@@ -34,6 +34,14 @@ pub fn each_list_of_sets_has_an_expansion()
         (fields : List FieldSelection) × Expansion (fragments_of document) sets fields }
 {}
 
+/// There is one such expansion only.
+///
+/// Specification: 5.3.2 Field Selection Merging, "including visiting fragments and inline fragments".
+pub fn no_list_of_sets_has_another_expansion()
+    ensures { (fragments : Fragments) (sets : List SelectionSet) (a b : List FieldSelection) →
+        Expansion fragments sets a → Expansion fragments sets b → a ≡ b }
+{}
+
 /// The list below a group has a field exactly where it is inside the set of one of the group's fields, if
 /// names that are the same find the same fragment.
 ///
