@@ -24,7 +24,7 @@ use Rattle.graphql_documents.specs.declared.documents.executables.SelectionSet.{
 use Rattle.graphql_documents.proofs.NameLemmas.{same_text, same_name_back, same_name_then}
 use Rattle.graphql_documents.proofs.ListLemmas.{none_stands, only_one, stands_first, stands_behind, each_standing}
 use Rattle.graphql_documents.proofs.SelectionLemmas.{one_fragment_found}
-use Rattle.graphql_laws.specs.SeenLists.{ComparesContents, ExpansionIsSeen, HasSeen, Agree, ListPasses}
+use Rattle.graphql_documents.specs.MergedFields.{ComparesContents, ExpansionIsSeen, HasSeen, Agree, ListPasses}
 use Rattle.graphql_laws.proofs.MergingLaws.{same_shape_back}
 use Rattle.graphql_laws.proofs.ExpandedListLaws.{lists_what_is_inside, below_lists_what_is_inside, nested_of_group}
 use Rattle.graphql_laws.proofs.MergedListLaws.{ParentsIn, group_has, has_group}

@@ -12,7 +12,7 @@ ghost use Rattle.graphql_documents.specs.declared.documents.executables.Field.{F
 ghost use Rattle.graphql_documents.specs.declared.documents.executables.Operation.{Operation};
 ghost use Rattle.graphql_documents.specs.declared.documents.nodes.Node.{Node};
 ghost use Rattle.graphql_documents.specs.declared.documents.schemas.Schema.{Schema};
-ghost use Rattle.graphql_laws.specs.SeenLists.{ComparesContents, HasSeen, ListPasses};
+ghost use Rattle.graphql_documents.specs.MergedFields.{ComparesContents, HasSeen, ListPasses};
 
 /// The operations of a document that was built against its schema merge exactly where, in each group of each
 /// list that two walks have seen, the first field agrees with the rest: one walk over the lists that are
