@@ -5,6 +5,7 @@ use graphql_values::argument::{
     ArgumentOwner, GivenArguments, validate_arguments, validate_given_arguments,
     validate_required_arguments,
 };
+use graphql_values::variable::VariablesByName;
 
 const GIVEN_AGAIN: &str = "the argument `if` is provided multiple times\n\
     the argument `if` is provided multiple times\n";
@@ -39,7 +40,8 @@ fn unknown_and_missing_arguments_are_reported(rt: HostRuntime) {
         definition_location: None,
     };
     let mut diagnostics = DiagnosticList::new(alloc);
-    validate_given_arguments(&mut diagnostics, &schema.0, &compared, &[]).expect(
+    let none = VariablesByName::new(alloc, &[]).expect(&rt, "no variables");
+    validate_given_arguments(&mut diagnostics, &schema.0, &compared, &none).expect(
         &rt,
         "memory for reports",
     );

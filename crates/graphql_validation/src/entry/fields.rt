@@ -14,6 +14,7 @@ use graphql_documents::documents::{
 use graphql_values::argument::{
     GivenArguments, validate_arguments, validate_given_arguments, validate_required_arguments,
 };
+use graphql_values::variable::VariablesByName;
 
 /// Validates each field of a set that stands on this type, with what is below it, in order.
 #[cycle(selection)]
@@ -71,7 +72,8 @@ fn validate_field_arguments(
         (ReportsDefinedField schema.now parent.now field.now definition.now) diagnostics.old diagnostics.new }
 {
     let arguments = GivenArguments::of_field(parent, field, definition);
-    validate_given_arguments(diagnostics, schema, &arguments, &[])?;
+    let variables = VariablesByName::new(diagnostics.allocator(), &[])?;
+    validate_given_arguments(diagnostics, schema, &arguments, &variables)?;
     validate_required_arguments(diagnostics, &arguments)
 }
 
