@@ -4,7 +4,8 @@ use Rattle.std.specs.Map.{lookup}
 use Rattle.std.proofs.lemmas.List.Elements.{All-contains}
 use Rattle.graphql_documents.specs.Names.{NameText, SameName, same_name}
 use Rattle.graphql_documents.specs.TypeReferences.{inner_named_type}
-use Rattle.graphql_documents.specs.Built.{NamesOutputType, SetsAreBuilt, OperationIsBuilt, IsBuilt}
+use Rattle.graphql_documents.specs.Built.{SetsAreBuilt, OperationIsBuilt, IsBuilt}
+use Rattle.graphql_documents.specs.Schemas.{NamesKind, is_output_type}
 use Rattle.graphql_documents.specs.Defer.{operations_of}
 use Rattle.graphql_documents.specs.Selections.{fragments_of, Includes, includes_itself, includes_inline_fragment, includes_spread, set_itself, set_in_field, set_in_inline_fragment}
 use Rattle.graphql_documents.specs.Merging.{FieldSelection, FieldInside, ParentsMayOverlap, Merges, set_of, type_of, SameKey, SameShape, SameNameAndArguments}
@@ -57,7 +58,7 @@ module _ (same : FieldDefinition → FieldDefinition → Bool) (schema : Schema)
 
   -- the field is of an output type, and its set is built
   record BuiltField (x : FieldSelection) : Type 0 where
-    output : NamesOutputType schema (inner_named_type (type_of x))
+    output : NamesKind schema is_output_type (inner_named_type (type_of x))
     sets : SetsAreBuilt same schema (set_of x)
 
   built_field : (set : SelectionSet) (x : FieldSelection) → SetsAreBuilt same schema set → FieldInside (fragments_of document) set x → BuiltField x
@@ -80,7 +81,7 @@ module _ (same : FieldDefinition → FieldDefinition → Bool) (schema : Schema)
       built_field (set_of from.0) x (built_merged above from.0 (in_list schema fields step.is_group from.0 from.1)).sets from.2
 
   pub built_output : {pass : Pass} (fields : List FieldSelection) → MergedSet schema (fragments_of document) (operations_of document) pass fields →
-      (x : FieldSelection) → Contains fields x → NamesOutputType schema (inner_named_type (type_of x))
+      (x : FieldSelection) → Contains fields x → NamesKind schema is_output_type (inner_named_type (type_of x))
   built_output fields merged x in_x = (built_merged merged x in_x).output
 
   pub document_merging_by_groups : ((o : Node Operation) → Contains (operations_of document) o → Merges schema (fragments_of document) o.value.value.selection_set) ↔ (

@@ -4,8 +4,7 @@ use Rattle.std.specs.Prelude.{IsTrue}
 use Rattle.std.proofs.lemmas.List.Elements.{All-contains, Contains-append_cases}
 use Rattle.graphql_documents.specs.Names.{NameText, SameName}
 use Rattle.graphql_documents.specs.TypeReferences.{inner_named_type}
-use Rattle.graphql_documents.specs.Schemas.{is_output_type}
-use Rattle.graphql_documents.specs.Built.{NamesOutputType}
+use Rattle.graphql_documents.specs.Schemas.{NamesKind, is_output_type}
 use Rattle.graphql_documents.specs.Selections.{Fragments}
 use Rattle.graphql_documents.specs.Merging.{FieldSelection, ParentsMayOverlap, Merges, type_of, SameKey, SameShape, SameNameAndArguments}
 use Rattle.graphql_documents.specs.Expansion.{Expansion, shape_pass, field_pass, IsGroup, MergedSet}
@@ -68,7 +67,7 @@ one_field_then x y z a b =
     }
 
 module _ (schema : Schema) (fields : List FieldSelection) where
-  module _ (output : (x : FieldSelection) → Contains fields x → NamesOutputType schema (inner_named_type (type_of x))) where
+  module _ (output : (x : FieldSelection) → Contains fields x → NamesKind schema is_output_type (inner_named_type (type_of x))) where
     has_its_shape : (x : FieldSelection) → Contains fields x → OneShape schema x x
     has_its_shape x in_x =
         let o = output x in_x in
@@ -113,7 +112,7 @@ module _ (schema : Schema) (fields : List FieldSelection) where
 
 module _ (schema : Schema) (fragments : Fragments) (respects : (a b : NameText) → SameName a b → fragments a ≡ fragments b) (operations : List (Node Operation))
     (expansions : (sets : List SelectionSet) → (fields : List FieldSelection) × Expansion fragments sets fields)
-    (output : (fields : List FieldSelection) → MergedSet schema fragments operations shape_pass fields → (x : FieldSelection) → Contains fields x → NamesOutputType schema (inner_named_type (type_of x))) where
+    (output : (fields : List FieldSelection) → MergedSet schema fragments operations shape_pass fields → (x : FieldSelection) → Contains fields x → NamesKind schema is_output_type (inner_named_type (type_of x))) where
   pub merging_by_groups : ((o : Node Operation) → Contains operations o → Merges schema fragments o.value.value.selection_set) ↔ (
       ((fields group : List FieldSelection) (first : FieldSelection) (rest : List FieldSelection) → MergedSet schema fragments operations shape_pass fields →
       IsGroup schema fields shape_pass group → group ≡ first ∷ rest → All (λ z. SameShape schema (type_of first) (type_of z)) rest) ×

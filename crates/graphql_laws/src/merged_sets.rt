@@ -4,7 +4,8 @@ ghost use Rattle.std.specs.Prelude.{◌≡◌, ◌≢◌, ◌↔◌, ◌+◌, Bo
 ghost use Rattle.graphql_documents.specs.Names.{NameText, SameName};
 ghost use Rattle.graphql_documents.specs.TypeReferences.{inner_named_type};
 ghost use Rattle.graphql_documents.specs.Selections.{Fragments, fragments_of, selections_of};
-ghost use Rattle.graphql_documents.specs.Built.{NamesOutputType, IsBuilt};
+ghost use Rattle.graphql_documents.specs.Built.{IsBuilt};
+ghost use Rattle.graphql_documents.specs.Schemas.{NamesKind, is_output_type};
 ghost use Rattle.graphql_documents.specs.Defer.{operations_of};
 ghost use Rattle.graphql_documents.specs.Limits.{MergingDescent};
 ghost use Rattle.graphql_documents.specs.Merging.{FieldSelection, FieldInside, Chain, SameKey, ParentsMayOverlap, set_of, type_of, SameShape, SameNameAndArguments, Together, OverlapThroughout, Merges};
@@ -118,7 +119,7 @@ pub fn operations_merge_where_the_fields_of_merged_lists_agree()
 /// Specification: 5.3.2 Field Selection Merging, SameResponseShape.
 pub fn first_of_each_group_decides_shapes()
     ensures { (schema : Schema) (fields : List FieldSelection) →
-        ((x : FieldSelection) → Contains fields x → NamesOutputType schema (inner_named_type (type_of x))) →
+        ((x : FieldSelection) → Contains fields x → NamesKind schema is_output_type (inner_named_type (type_of x))) →
         ((group : List FieldSelection) (first : FieldSelection) (rest : List FieldSelection) →
         IsGroup schema fields shape_pass group → group ≡ first ∷ rest →
         All (λ z. SameShape schema (type_of first) (type_of z)) rest) ↔
