@@ -1,4 +1,4 @@
-use Rattle.std.proofs.Common.{map, ◌≡◌, take}
+use Rattle.std.proofs.Common.{map, take}
 use Rattle.graphql_documents.specs.ArgumentReports.{AreRepetitionReports, RepetitionReport}
 use Rattle.graphql_documents.specs.Arguments.{HasDistinctNames}
 use Rattle.graphql_documents.specs.Diagnostics.{IsDiagnostic, entries}

@@ -1,4 +1,4 @@
-use Rattle.std.proofs.Common.{◌≡◌, map, take}
+use Rattle.std.proofs.Common.{map, take}
 use Rattle.std.specs.Option.{option_copied}
 use Rattle.graphql_documents.specs.Diagnostics.{IsDiagnostic, entries}
 use Rattle.graphql_documents.specs.DirectiveReports.{DirectivesBreak}

@@ -1,6 +1,5 @@
-use Rattle.std.proofs.Common.{◌≡◌, None, Some, Option, Bor, List, ℕ, cond, sym, ap, ◌∙◌, rules}
+use Rattle.std.proofs.Common.{◌≡◌, None, Some, Bor, List, ℕ, sym, ap, ◌∙◌, rules}
 use Rattle.std.specs.HashMap.{get_by}
-use Rattle.std.specs.Option.{option_or}
 use Rattle.std.specs.Str.{bytes_eq}
 use Rattle.graphql_documents.specs.Names.{NameText, SameName, same_name}
 use Rattle.graphql_documents.proofs.NameLemmas.{same_text}

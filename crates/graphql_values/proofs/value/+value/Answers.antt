@@ -7,7 +7,7 @@ use Rattle.std.proofs.lemmas.Option.{none-some}
 use Rattle.graphql_documents.specs.InputCoercion.{accepts_undefined, is_custom_scalar}
 use Rattle.graphql_documents.specs.Diagnostics.{IsDiagnostic, entries}
 use Rattle.graphql_documents.specs.Names.{NameText, same_name}
-use Rattle.graphql_documents.specs.Reports.{KeepsReports, Reports}
+use Rattle.graphql_documents.specs.Reports.{Reports}
 use Rattle.graphql_documents.specs.Values.{entry_named}
 use Rattle.graphql_documents.specs.declared.documents.components.Component.{Component}
 use Rattle.graphql_documents.specs.declared.documents.definitions.InputValueDefinition.{InputValueDefinition}
@@ -18,7 +18,7 @@ use Rattle.graphql_documents.specs.TypeReferences.{inner_named_type, is_list, re
 use Rattle.graphql_documents.specs.ValueReports.{CannotStandFor, ValueReport}
 use Rattle.graphql_documents.proofs.ReportLemmas.{both, checks-err, done_more, done_next, holds, kept_by, kept_then, kept_wider, stands_next, walked_all, walked_more, wider}
 use Rattle.graphql_values.proofs.WalkLemmas.{names_item, names_entry, entry_checked, find_first, find_later, no_list_cannot, no_input_cannot, custom_object_accepted, no_object_cannot, list_checked, object_checked}
-use Rattle.graphql_values.specs.ValueSteps.{AcceptsEntry, AcceptsField, AcceptsItem, EntryReport, HasEntries, HasItems, ItemReport, written_at}
+use Rattle.graphql_values.specs.ValueSteps.{AcceptsEntry, AcceptsField, AcceptsItem, EntryReport, ItemReport, written_at}
 use Rattle.graphql_values.proofs.value.+value.Goals as goal
 
 pub check_value-returns-in_default : goal.check_value-returns-in_default

@@ -1,4 +1,4 @@
-use Rattle.std.proofs.Common.{refl, rules}
+use Rattle.std.proofs.Common.{rules}
 use Rattle.graphql_documents.proofs.ReportLemmas.{checks-err, checks-push, kept}
 use Rattle.graphql_documents.specs.DirectiveReports.{of_repeated_directive}
 use Rattle.graphql_values.proofs.directive.applications.report_repetition.Goals as goal

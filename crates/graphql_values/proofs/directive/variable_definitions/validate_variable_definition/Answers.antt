@@ -1,5 +1,5 @@
 -- One check after another, each in words of the variables.
-use Rattle.std.proofs.Common.{◌≡◌, List, ap, ◌∙◌, subst}
+use Rattle.std.proofs.Common.{◌≡◌, ap, ◌∙◌}
 use Rattle.std.specs.Option.{option_copied}
 use Rattle.graphql_documents.proofs.ReportLemmas.{checks-err, checks_after, kept_by, kept_then}
 use Rattle.graphql_values.specs.VariableSteps.{met_variable, variable_place_in}
