@@ -30,7 +30,6 @@ use Rattle.graphql_documents.specs.declared.documents.executables.Selection.TheV
 use Rattle.graphql_documents.specs.declared.documents.executables.Field.{Field}
 use Rattle.graphql_documents.specs.declared.documents.executables.Selection.TheVariants as kind
 use mathlib.Core.Logic.{inl, inr}
-use Rattle.graphql_documents.specs.declared.documents.definitions.InputValueDefinition.{InputValueDefinition}
 use Rattle.graphql_documents.specs.declared.documents.spans.SourceSpan.{SourceSpan}
 use Rattle.graphql_documents.specs.declared.diagnostics.data.DiagnosticData.{DiagnosticData}
 use Rattle.graphql_documents.specs.declared.diagnostics.data.DiagnosticData.TheVariants as report
