@@ -1,5 +1,5 @@
 -- How what several checks report composes where some of them may push a limit.
-use Rattle.std.proofs.Common.{◌≡◌, ◌↔◌, ℕ, ◌+◌, ◌<◌, ◌≤◌, List, [], ◌∷◌, ◌++◌, length, get_or, take, refl, sym, ◌∙◌, ap, subst, All}
+use Rattle.std.proofs.Common.{◌≡◌, ◌↔◌, ℕ, ◌+◌, ◌<◌, ◌≤◌, List, [], ◌∷◌, ◌++◌, length, get_or, take, refl, sym, ◌∙◌, subst, All}
 use Rattle.std.proofs.lemmas.List.{append-nil, take_all}
 use Rattle.std.proofs.lemmas.List.Elements.{All-nil, All-append, All-cons, All-head, All-more, All-weaker}
 use Rattle.std.specs.Prelude.{Result, Ok, Err, IsErr, OnOk, OnErr, MatchResult}
@@ -102,7 +102,7 @@ module _ {Entry : Type 0} (IsOfLimit : Entry → Type 0) where
   pub checks_after_within : {T E : Type 0} (r : Result T E) (P R : Type 0) (Q : Entry → Type 0) (old mid new : List Entry) →
       ReportsWithin IsOfLimit P Q old mid → ChecksListWithin r R Q mid new → ChecksListWithin r (P × R) Q old new
   checks_after_within (Ok x) P R Q old mid new a b = both_within a b
-  checks_after_within (Err x) P R Q old mid new a b = kept_then Q old mid new (kept_within a) b
+  checks_after_within (Err x) P R Q old mid new a b = kept_then (kept_within a) b
 
   -- the same check in other words, which need only agree where it answered
   pub checks_words_within : {T E : Type 0} (r : Result T E) (P R : Type 0) (Q Q' : Entry → Type 0) (old new : List Entry) → OnOk r (P ↔ R) → ((e : Entry) → Q e → Q' e) →

@@ -38,5 +38,5 @@ origins_of (types.InputObject d) =
     map (λ c. c.origin) d.value.value.directives.items ++ map (λ e. e.1.origin) d.value.value.fields.entries
 
 -- the places of the extensions of a type definition
-abbrev pub extension_places : ExtendedType → List (Option SourceSpan)
-extension_places d = map (λ e. e.location) (extensions_in (origins_of d))
+abbrev pub extension_locations : ExtendedType → List (Option SourceSpan)
+extension_locations d = map (λ e. e.location) (extensions_in (origins_of d))

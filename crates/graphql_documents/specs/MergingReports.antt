@@ -1,5 +1,5 @@
 -- What a report says of two fields that cannot be merged. Specification: draft, 5.3.2 Field Selection Merging.
-use Rattle.std.specs.Prelude.{◌≡◌, List, is_some, IsSomeAnd, IsNone, Option, None, Some, IsTrue}
+use Rattle.std.specs.Prelude.{◌≡◌, List, is_some, IsSomeAnd, IsNone, Option, None, Some}
 use Rattle.graphql_documents.specs.Arguments.{argument_named}
 use Rattle.graphql_documents.specs.Merging.{FieldSelection, OverlapThroughout, SameShape, Together, type_of}
 use Rattle.graphql_documents.specs.Names.{DifferentNames, NameText, SameName}

@@ -62,10 +62,10 @@ begins_with_two_underscores (c ∷ (d ∷ cs)) = c == 95 && d == 95
 begins_with_two_underscores _ = false
 
 -- a place in the file of the definitions that every schema has
-abbrev pub is_built_in_place : Option SourceSpan → Bool
-is_built_in_place None = false
-is_built_in_place (Some span) = span.file_id.0 == 0
+abbrev pub is_built_in_location : Option SourceSpan → Bool
+is_built_in_location None = false
+is_built_in_location (Some span) = span.file_id.0 == 0
 
 -- names that begin with two underscores are kept for introspection. Specification: 2.1.9 Names, Reserved Names
 abbrev pub IsFreeName : NameText → Type 0
-IsFreeName name = IsTrue (begins_with_two_underscores name.text) → IsTrue (is_built_in_place name.location)
+IsFreeName name = IsTrue (begins_with_two_underscores name.text) → IsTrue (is_built_in_location name.location)

@@ -4,7 +4,7 @@ use Rattle.std.specs.List.{list_any}
 use Rattle.std.specs.Option.{option_and_then, option_map_or}
 use Rattle.std.specs.Str.{bytes_eq}
 use Rattle.indexmap.specs.IndexMap.{get}
-use Rattle.graphql_documents.specs.Names.{NameText, SameName, same_name, is_built_in_place, different_names}
+use Rattle.graphql_documents.specs.Names.{NameText, SameName, same_name, is_built_in_location, different_names}
 use Rattle.graphql_documents.specs.TypeReferences.{is_non_null}
 use Rattle.graphql_documents.specs.declared.documents.spans.SourceSpan.{SourceSpan}
 use Rattle.graphql_documents.specs.declared.documents.nodes.Node.{Node}
@@ -83,7 +83,7 @@ location_of (InputObject d) = d.location
 
 -- one of the definitions that every schema has
 abbrev pub is_built_in : ExtendedType → Bool
-is_built_in definition = is_built_in_place (location_of definition)
+is_built_in definition = is_built_in_location (location_of definition)
 
 -- the name that the definition itself has
 abbrev pub own_name : ExtendedType → NameText

@@ -66,15 +66,15 @@ missing_scalars schema = filter (λ text. uses_type schema text && not (has_type
 -- a built-in scalar of this name, without directives, at the very start of the built-in file
 pub record IsAddedScalar (text : List ℕ) (entry : NameText × ExtendedType) : Type 0 where
   pub scalar : Node ScalarType
-  pub place : SourceSpan
+  pub location : SourceSpan
   pub is_scalar : entry.1 ≡ Scalar scalar
   pub key : entry.0.text ≡ text
   pub name : scalar.value.value.name.text ≡ text
   pub no_directives : scalar.value.value.directives.items ≡ []
-  pub is_at : scalar.location ≡ Some place
-  pub in_built_in_file : place.file_id.0 ≡ 0
-  pub starts : place.start ≡ 0
-  pub ends : place.end ≡ 0
+  pub is_at : scalar.location ≡ Some location
+  pub in_built_in_file : location.file_id.0 ≡ 0
+  pub starts : location.start ≡ 0
+  pub ends : location.end ≡ 0
 
 -- these are the types of the schema once it is settled: without the unused built-in ones, and with the
 -- used built-in scalars that it lacked behind them

@@ -4,7 +4,7 @@ use Rattle.std.specs.Borrow.{Bor}
 use Rattle.std.specs.List.{AllZip}
 use Rattle.std.specs.declared.alloc.Global.{Global}
 use Rattle.graphql_documents.specs.DirectiveReports.{DirectivesBreak}
-use Rattle.graphql_documents.specs.Extensions.{extension_places}
+use Rattle.graphql_documents.specs.Extensions.{extension_locations}
 use Rattle.graphql_documents.specs.FieldDefinitionReports.{FieldDefinitionBreaks, FieldTypeBreaks, InputValueBreaks, IsOfOtherKind, IsReserved}
 use Rattle.graphql_documents.specs.ImplementationReports.{ImplementationBreaks}
 use Rattle.graphql_documents.specs.Names.{NameText, SameName}
@@ -33,7 +33,7 @@ use Rattle.graphql_documents.specs.declared.documents.spans.SourceSpan.{SourceSp
 -- what is said of a type that is empty: it is reported at the type, with the places of its extensions
 abbrev pub SaysEmpty : ExtendedType → NameText → Option SourceSpan → List (Option SourceSpan) → Option SourceSpan → Type 0
 SaysEmpty d name type_location extensions at =
-    (name ≡ own_name d) × (type_location ≡ location_of d) × (extensions ≡ extension_places d) × (at ≡ location_of d)
+    (name ≡ own_name d) × (type_location ≡ location_of d) × (extensions ≡ extension_locations d) × (at ≡ location_of d)
 
 -- a chain of required fields leads back to the input object: reported there, last field first
 pub record RequiresItself (schema : Schema) (d : Node InputObjectType) (name : NameText) (trace : List (Node InputValueDefinition)) (at : Option SourceSpan) : Type 0 where

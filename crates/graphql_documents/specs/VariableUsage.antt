@@ -18,14 +18,14 @@ HasNonNullDefault v = IsSomeAnd v.default_value (λ value. value.value.value ≢
 
 -- the place takes no null, but the variable may be null
 abbrev pub needs_default : VariableDefinition → InputValueDefinition → Bool
-needs_default v place = is_non_null place.ty.value.value && not (is_non_null v.ty.value.value)
+needs_default v definition = is_non_null definition.ty.value.value && not (is_non_null v.ty.value.value)
 
 -- the variable may stand at the place: its type can stand there; or the place is non-null, one of
 -- the two has a default, and the variable's type can stand where null is taken too
 abbrev pub IsUsageAllowed : VariableDefinition → InputValueDefinition → Type 0
-IsUsageAllowed v place = MatchBool (needs_default v place)
-    ((HasNonNullDefault v ⊎ IsSome place.default_value) × IsTrue (is_assignable v.ty.value.value (nullable place.ty.value.value)))
-    (IsTrue (is_assignable v.ty.value.value place.ty.value.value))
+IsUsageAllowed v definition = MatchBool (needs_default v definition)
+    ((HasNonNullDefault v ⊎ IsSome definition.default_value) × IsTrue (is_assignable v.ty.value.value (nullable definition.ty.value.value)))
+    (IsTrue (is_assignable v.ty.value.value definition.ty.value.value))
 
 -- the whole value is this variable, as it is first defined
 abbrev pub IsVariable : List (Node VariableDefinition) → Value → Node VariableDefinition → Type 0
@@ -34,5 +34,5 @@ IsVariable variables value v =
 
 -- a value that is a defined variable is allowed at the place
 abbrev pub UsageHolds : List (Node VariableDefinition) → InputValueDefinition → Value → Type 0
-UsageHolds variables place value =
-    (v : Node VariableDefinition) → IsVariable variables value v → IsUsageAllowed v.value.value place
+UsageHolds variables definition value =
+    (v : Node VariableDefinition) → IsVariable variables value v → IsUsageAllowed v.value.value definition

@@ -61,5 +61,5 @@ module _ (schema : Schema) (parent : NameText) (f : Node Field) (d : Component F
       let Given = All (GivenArgumentHolds schema [] arguments.definitions.now) arguments.given.now in
       let Required = All (IsGivenIfRequired arguments.given.now) arguments.definitions.now in
       checks_words r (Given × Required) (FieldArgumentsHold schema f.value.value d.node.value.value) Q Q old new arguments_decide (λ e q. q)
-      (checks_after r Given Required Q old mid new (wider Given (IsDiagnostic (GivenArgumentReport schema [] arguments)) Q old mid names_given given)
+      (checks_after r Given Required Q old mid new (wider names_given given)
       (checks_words r Required Required (IsDiagnostic (MissingArgumentReport arguments)) Q mid new (λ x. x, λ x. x) names_missing missing))

@@ -106,7 +106,7 @@ module _ (schema : Schema) (parent : NameText) (set : SelectionSet) (f : Node Fi
         Reports (HasDistinctNames f.value.value.arguments.items) (NamesBrokenSelection schema parent set) old new
     distinct_in_set given same r =
         subst (λ l. Reports (HasDistinctNames l) (NamesBrokenSelection schema parent set) old new) same
-        (wider _ _ _ old new (names_repetition given same) r)
+        (wider (names_repetition given same) r)
 
   -- a report on what its definition asks, or on what is below it
   module _ (d : Component FieldDefinition) (is : type_field schema parent f.value.value.name ≡ Ok d) where
@@ -134,7 +134,7 @@ module _ (schema : Schema) (parent : NameText) (set : SelectionSet) (f : Node Fi
         Reports (HasDistinctNames f.value.value.arguments.items × FieldArgumentsHold schema f.value.value d.node.value.value)
         (NamesBrokenSelection schema parent set) old new
     arguments_in_set given old distinct new same r s =
-        both _ _ _ _ _ _ (distinct_in_set old distinct given same r) (wider _ _ _ _ _ names_arguments s)
+        both (distinct_in_set old distinct given same r) (wider names_arguments s)
 
     -- and then whether it selects what it must
     pub checked_in_set : (given : List (Node Argument)) (old distinct known new : List DiagnosticEntry) → given ≡ f.value.value.arguments.items →
@@ -146,7 +146,7 @@ module _ (schema : Schema) (parent : NameText) (set : SelectionSet) (f : Node Fi
         HasNeededSelection (Some schema) f.value.value d.node.value.value.ty)
         (NamesBrokenSelection schema parent set) old new
     checked_in_set given old distinct known new same r s t =
-        both _ _ _ _ _ _ (arguments_in_set given old distinct known same r s) (wider _ _ _ _ _ names_checked t)
+        both (arguments_in_set given old distinct known same r s) (wider names_checked t)
 
     pub below_in_set : (ty : NameText) (inner : SelectionSet) (old new : List DiagnosticEntry) →
         ty ≡ inner_named_type d.node.value.value.ty → inner ≡ f.value.value.selection_set →
@@ -154,7 +154,7 @@ module _ (schema : Schema) (parent : NameText) (set : SelectionSet) (f : Node Fi
         Reports (ReachedFieldsHold schema (inner_named_type d.node.value.value.ty) f.value.value.selection_set)
         (NamesBrokenSelection schema parent set) old new
     below_in_set ty inner old new same_type same_set r =
-        wider _ _ _ old new names_below
+        wider names_below
         (subst (λ s. Reports (ReachedFieldsHold schema (inner_named_type d.node.value.value.ty) s)
         (NamesBrokenSelection schema (inner_named_type d.node.value.value.ty) s) old new) same_set
         (subst (λ t. Reports (ReachedFieldsHold schema t inner) (NamesBrokenSelection schema t inner) old new) same_type r))

@@ -118,8 +118,8 @@ module _ (schema : Option Schema) where
           let Q = IsDiagnostic (DirectivesBreak schema variables location directives) in
           let H = ApplicationsHold schema variables location before in
           let F = FollowsWell schema variables location before x in
-          in_words Q (H × F) (ApplicationsHold schema variables location (before ++ x ∷ [])) old new (applications_more before x)
-          (both Q H F old mid new done follows)
+          in_words (applications_more before x)
+          (both done follows)
 
 -- the place of an application and its arguments were checked against the definition
 module _ (schema : Schema) (variables : List (Node VariableDefinition)) (location : DirectiveLocation) (d : Node Directive)
@@ -204,5 +204,5 @@ module _ (schema : Schema) (variables : List (Node VariableDefinition)) (locatio
         let Q = IsDiagnostic (DirectivesBreak (Some schema) variables location directives) in
         rw (sym are.given_is, sym are.definitions_are)
         (checks_after r _ _ Q old mid new
-        (wider _ (IsDiagnostic (GivenArgumentReport schema variables arguments)) Q old mid names_given given)
+        (wider names_given given)
         (checks_words r _ _ (IsDiagnostic (MissingArgumentReport arguments)) Q mid new (λ h. h, λ h. h) names_missing required))

@@ -17,7 +17,7 @@ use Rattle.graphql_documents.specs.declared.documents.schemas.Schema.{Schema}
 use Rattle.graphql_documents.specs.declared.documents.type_references.Type.{«Type»}
 use Rattle.graphql_documents.specs.declared.documents.values.Value.{Value}
 use Rattle.graphql_documents.specs.declared.documents.values.Value.TheVariants as literal
-use Rattle.graphql_values.specs.ValueSteps.{is_plain_literal, takes_plain, takes_every_int}
+use Rattle.graphql_values.specs.ValueSteps.{is_other_scalar, takes_other_scalar, takes_every_int}
 use Rattle.graphql_values.proofs.AcceptsLemmas.{leaf_refused}
 
 -- what is false is not true
@@ -35,33 +35,33 @@ enum_elsewhere (types.Enum d) name never other = absurd (other d refl)
 enum_elsewhere (types.InputObject d) name never other = (λ h. elim h [ inl custom ↦ refuted never custom | inr known ↦ known ], λ h. h)
 
 -- a string, a float or a boolean is accepted by the scalars that take it
-plain_leaf : (d : ExtendedType) (v : Value) → IsTrue (is_plain_literal v) → IsTrue (takes_plain d v) → AcceptsLeaf d v
-plain_leaf d literal.Null plain t = absurd (refuted refl plain)
-plain_leaf d (literal.Enum name) plain t = absurd (refuted refl plain)
-plain_leaf d (literal.Variable name) plain t = absurd (refuted refl plain)
-plain_leaf d (literal.String text) plain t = t
-plain_leaf d (literal.Float number) plain t = t
-plain_leaf d (literal.Int number) plain t = absurd (refuted refl plain)
-plain_leaf d (literal.Boolean truth) plain t = t
-plain_leaf d (literal.List' shape items) plain t = absurd (refuted refl plain)
-plain_leaf d (literal.Object' shape entries) plain t = absurd (refuted refl plain)
+other_leaf : (d : ExtendedType) (v : Value) → IsTrue (is_other_scalar v) → IsTrue (takes_other_scalar d v) → AcceptsLeaf d v
+other_leaf d literal.Null other t = absurd (refuted refl other)
+other_leaf d (literal.Enum name) other t = absurd (refuted refl other)
+other_leaf d (literal.Variable name) other t = absurd (refuted refl other)
+other_leaf d (literal.String text) other t = t
+other_leaf d (literal.Float number) other t = t
+other_leaf d (literal.Int number) other t = absurd (refuted refl other)
+other_leaf d (literal.Boolean truth) other t = t
+other_leaf d (literal.List' shape items) other t = absurd (refuted refl other)
+other_leaf d (literal.Object' shape entries) other t = absurd (refuted refl other)
 
 -- by no others, and nothing else is said of it
-not_unknown : (d : ExtendedType) (v : Value) → IsTrue (is_plain_literal v) → ¬ IsUnknownEnumValue d v
-not_unknown (types.Scalar d) v plain h = h
-not_unknown (types.Object d) v plain h = h
-not_unknown (types.Interface d) v plain h = h
-not_unknown (types.Union d) v plain h = h
-not_unknown (types.InputObject d) v plain h = h
-not_unknown (types.Enum d) literal.Null plain h = h
-not_unknown (types.Enum d) (literal.Enum name) plain h = refuted refl plain
-not_unknown (types.Enum d) (literal.Variable name) plain h = h
-not_unknown (types.Enum d) (literal.String text) plain h = h
-not_unknown (types.Enum d) (literal.Float number) plain h = h
-not_unknown (types.Enum d) (literal.Int number) plain h = h
-not_unknown (types.Enum d) (literal.Boolean truth) plain h = h
-not_unknown (types.Enum d) (literal.List' shape items) plain h = h
-not_unknown (types.Enum d) (literal.Object' shape entries) plain h = h
+not_unknown : (d : ExtendedType) (v : Value) → IsTrue (is_other_scalar v) → ¬ IsUnknownEnumValue d v
+not_unknown (types.Scalar d) v other h = h
+not_unknown (types.Object d) v other h = h
+not_unknown (types.Interface d) v other h = h
+not_unknown (types.Union d) v other h = h
+not_unknown (types.InputObject d) v other h = h
+not_unknown (types.Enum d) literal.Null other h = h
+not_unknown (types.Enum d) (literal.Enum name) other h = refuted refl other
+not_unknown (types.Enum d) (literal.Variable name) other h = h
+not_unknown (types.Enum d) (literal.String text) other h = h
+not_unknown (types.Enum d) (literal.Float number) other h = h
+not_unknown (types.Enum d) (literal.Int number) other h = h
+not_unknown (types.Enum d) (literal.Boolean truth) other h = h
+not_unknown (types.Enum d) (literal.List' shape items) other h = h
+not_unknown (types.Enum d) (literal.Object' shape entries) other h = h
 
 int_not_unknown : (d : ExtendedType) (number : List ℕ) → ¬ IsUnknownEnumValue d (literal.Int number)
 int_not_unknown (types.Scalar d) number h = h
@@ -72,16 +72,16 @@ int_not_unknown (types.InputObject d) number h = h
 int_not_unknown (types.Enum d) number h = h
 
 plain_elsewhere : (variables : List (Node VariableDefinition)) (ty : «Type») (d : ExtendedType) (v : Value) →
-    IsTrue (is_plain_literal v) → IsFalse (takes_plain d v) → CannotStandFor variables ty d v ty
-plain_elsewhere variables ty d literal.Null plain never = absurd (refuted refl plain)
-plain_elsewhere variables ty d (literal.Enum name) plain never = absurd (refuted refl plain)
-plain_elsewhere variables ty d (literal.Variable name) plain never = absurd (refuted refl plain)
-plain_elsewhere variables ty d (literal.String text) plain never = leaf_of_other_type refl (refuted never) (λ h. h) (not_unknown d (literal.String text) refl)
-plain_elsewhere variables ty d (literal.Float number) plain never = leaf_of_other_type refl (refuted never) (λ h. h) (not_unknown d (literal.Float number) refl)
-plain_elsewhere variables ty d (literal.Int number) plain never = absurd (refuted refl plain)
-plain_elsewhere variables ty d (literal.Boolean truth) plain never = leaf_of_other_type refl (refuted never) (λ h. h) (not_unknown d (literal.Boolean truth) refl)
-plain_elsewhere variables ty d (literal.List' shape items) plain never = absurd (refuted refl plain)
-plain_elsewhere variables ty d (literal.Object' shape entries) plain never = absurd (refuted refl plain)
+    IsTrue (is_other_scalar v) → IsFalse (takes_other_scalar d v) → CannotStandFor variables ty d v ty
+plain_elsewhere variables ty d literal.Null other never = absurd (refuted refl other)
+plain_elsewhere variables ty d (literal.Enum name) other never = absurd (refuted refl other)
+plain_elsewhere variables ty d (literal.Variable name) other never = absurd (refuted refl other)
+plain_elsewhere variables ty d (literal.String text) other never = leaf_of_other_type refl (refuted never) (λ h. h) (not_unknown d (literal.String text) refl)
+plain_elsewhere variables ty d (literal.Float number) other never = leaf_of_other_type refl (refuted never) (λ h. h) (not_unknown d (literal.Float number) refl)
+plain_elsewhere variables ty d (literal.Int number) other never = absurd (refuted refl other)
+plain_elsewhere variables ty d (literal.Boolean truth) other never = leaf_of_other_type refl (refuted never) (λ h. h) (not_unknown d (literal.Boolean truth) refl)
+plain_elsewhere variables ty d (literal.List' shape items) other never = absurd (refuted refl other)
+plain_elsewhere variables ty d (literal.Object' shape entries) other never = absurd (refuted refl other)
 
 module _ (schema : Schema) (variables : List (Node VariableDefinition)) (ty : «Type») (d : ExtendedType) (v : Value) (is : type_definition schema (inner_named_type ty) ≡ Some d) where
   pub null_accepted : v ≡ literal.Null → IsFalse (is_non_null ty) → Accepts schema variables ty v
@@ -113,11 +113,11 @@ module _ (schema : Schema) (variables : List (Node VariableDefinition)) (ty : «
       elim there [ inl custom ↦ refuted refl custom | inr known ↦ unknown known ])
       (subst (Accepts schema variables ty) e h)
 
-  pub plain_accepted : IsTrue (is_plain_literal v) → IsTrue (takes_plain d v) → Accepts schema variables ty v
-  plain_accepted plain t = accepts_leaf is (plain_leaf d v plain t)
+  pub other_accepted : IsTrue (is_other_scalar v) → IsTrue (takes_other_scalar d v) → Accepts schema variables ty v
+  other_accepted other t = accepts_leaf is (other_leaf d v other t)
 
-  pub plain_cannot : IsTrue (is_plain_literal v) → IsFalse (takes_plain d v) → CannotStandFor variables ty d v ty
-  plain_cannot plain never = plain_elsewhere variables ty d v plain never
+  pub other_cannot : IsTrue (is_other_scalar v) → IsFalse (takes_other_scalar d v) → CannotStandFor variables ty d v ty
+  other_cannot other never = plain_elsewhere variables ty d v other never
 
   pub every_int_accepted : (number : List ℕ) → v ≡ literal.Int number → IsTrue (takes_every_int d) → Accepts schema variables ty v
   every_int_accepted number e t = subst (Accepts schema variables ty) (sym e) (accepts_leaf is (inl t))

@@ -104,5 +104,5 @@ module _ (xs : List (Node Argument)) (i : ℕ) (x : Node Argument) (within : i <
       each = All-nil (IsDiagnostic (RepetitionReport xs));
     }
     by (Some first) e are =
-        in_words (IsDiagnostic (RepetitionReport xs)) ⊥ (Some first ≡ None) mid new (λ no. absurd no, λ none. absurd (let no : ⊥ = cc in no))
+        in_words (λ no. absurd no, λ none. absurd (let no : ⊥ = cc in no))
         (reports_repetition xs first x (repetition_at first e) mid new (record { added = a.added; appended = a.appended; are = are }))

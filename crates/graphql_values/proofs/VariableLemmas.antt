@@ -80,7 +80,7 @@ module _ (schema : Option Schema) where
       let Q = IsDiagnostic (VariablesReport schema variables) in
       let H = VariableDefinitionsHold schema before in
       let F = FollowsWell schema before x in
-      in_words Q (H × F) (VariableDefinitionsHold schema (before ++ x ∷ [])) old new (variables_more before x) (both Q H F old mid new done follows)
+      in_words (variables_more before x) (both done follows)
 
   module _ (variables : List (Node VariableDefinition)) (v : Node VariableDefinition) (among : Contains variables v) where
     -- a report on the directives of a variable is one on the variables

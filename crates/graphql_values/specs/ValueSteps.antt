@@ -77,18 +77,18 @@ abbrev pub AcceptsField : Schema → List (Node VariableDefinition) → List (Na
 AcceptsField schema variables entries field = IsFieldGiven entries field × AcceptsEntry schema variables entries field
 
 -- a string, a float or a boolean
-abbrev pub is_plain_literal : Value → Bool
-is_plain_literal (literal.String text) = true
-is_plain_literal (literal.Float number) = true
-is_plain_literal (literal.Boolean truth) = true
-is_plain_literal _ = false
+abbrev pub is_other_scalar : Value → Bool
+is_other_scalar (literal.String text) = true
+is_other_scalar (literal.Float number) = true
+is_other_scalar (literal.Boolean truth) = true
+is_other_scalar _ = false
 
 -- a scalar that takes it
-abbrev pub takes_plain : ExtendedType → Value → Bool
-takes_plain d (literal.String text) = is_custom_scalar d || is_built_in_scalar (codes "String") d || is_built_in_scalar (codes "ID") d
-takes_plain d (literal.Float number) = is_custom_scalar d || is_built_in_scalar (codes "Float") d
-takes_plain d (literal.Boolean truth) = is_custom_scalar d || is_built_in_scalar (codes "Boolean") d
-takes_plain d _ = false
+abbrev pub takes_other_scalar : ExtendedType → Value → Bool
+takes_other_scalar d (literal.String text) = is_custom_scalar d || is_built_in_scalar (codes "String") d || is_built_in_scalar (codes "ID") d
+takes_other_scalar d (literal.Float number) = is_custom_scalar d || is_built_in_scalar (codes "Float") d
+takes_other_scalar d (literal.Boolean truth) = is_custom_scalar d || is_built_in_scalar (codes "Boolean") d
+takes_other_scalar d _ = false
 
 -- a scalar that takes each integer
 abbrev pub takes_every_int : ExtendedType → Bool

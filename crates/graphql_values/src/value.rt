@@ -20,7 +20,7 @@ use graphql_documents::documents::{
     SourceSpan, Type, Value, VariableDefinition,
 };
 use leaves::{
-    check_enum_value, check_int, check_null, check_plain, check_variable, is_custom_scalar,
+    check_enum_value, check_int, check_null, check_other_scalar, check_variable, is_custom_scalar,
     takes_lists,
 };
 use objects::{check_known_entries, check_required_field};
@@ -124,7 +124,7 @@ fn check_value(
         }
         Value::Int(number) => check_int(diagnostics, definition, ty, location, value, number),
         Value::String(_) | Value::Float(_) | Value::Boolean(_) => {
-            check_plain(diagnostics, definition, ty, location, value)
+            check_other_scalar(diagnostics, definition, ty, location, value)
         }
         Value::List(items) => {
             check_list(

@@ -5,7 +5,7 @@ ghost use Rattle.graphql_documents.specs.Schemas.{is_input_type, type_definition
 ghost use Rattle.graphql_documents.specs.TypeReferences.{inner_named_type, is_list};
 ghost use Rattle.graphql_documents.specs.declared.documents.schemas.Schema.{Schema};
 ghost use Rattle.graphql_documents.specs.declared.documents.values.Value.TheVariants as literal;
-ghost use Rattle.graphql_values.specs.ValueSteps.{ChecksDefined, ChecksValue, is_plain_literal, takes_every_int, takes_plain, written_at};
+ghost use Rattle.graphql_values.specs.ValueSteps.{ChecksDefined, ChecksValue, is_other_scalar, takes_every_int, takes_other_scalar, written_at};
 
 use super::reports::unsupported_type;
 use crate::variable::VariablesByName;
@@ -142,25 +142,25 @@ fn takes_every_int(definition: &ExtendedType) -> bool
 /// Reports a string, a float or a boolean for a type that takes none.
 ///
 /// Specification: 3.5.2 Float, 3.5.3 String, 3.5.4 Boolean and 3.5.5 ID, Input Coercion.
-pub(super) fn check_plain(
+pub(super) fn check_other_scalar(
     diagnostics: &mut DiagnosticList,
     definition: &ExtendedType,
     ty: &Type,
     location: Option<SourceSpan>,
     value: &Node<Value>,
 ) -> Result<(), ValidationError>
-    requires { IsTrue (is_plain_literal value.now.value.value) }
+    requires { IsTrue (is_other_scalar value.now.value.value) }
     ensures { ChecksDefined result definition.now (written_at ty.now location) value.now diagnostics.old diagnostics.new }
 {
-    if takes_plain(definition, &value.value) {
+    if takes_other_scalar(definition, &value.value) {
         return Ok(());
     }
     unsupported_type(diagnostics, ty, location, value)
 }
 
 /// Whether the type is a scalar that takes this string, float or boolean.
-fn takes_plain(definition: &ExtendedType, value: &Value) -> bool
-    ensures { result ≡ takes_plain definition.now value.now }
+fn takes_other_scalar(definition: &ExtendedType, value: &Value) -> bool
+    ensures { result ≡ takes_other_scalar definition.now value.now }
 {
     match value {
         Value::String(_) => {

@@ -20,7 +20,7 @@ loop-argument-init c = record {
 
 pub returns-in_err-first-clause-checks : goal.returns-in_err-first-clause-checks
 returns-in_err-first-clause-checks c =
-    checks-err _ _ _ _ _ c.from_residual.ensures.0 (kept_by _ _ _ _ c.loop-argument.invariant.reported)
+    checks-err _ _ _ _ _ c.from_residual.ensures.0 (kept_by c.loop-argument.invariant.reported)
 
 pub returns-in_err-check_repetition-clause-checks : goal.returns-in_err-check_repetition-clause-checks
 returns-in_err-check_repetition-clause-checks c =
@@ -32,7 +32,7 @@ returns-in_err-check_repetition-clause-checks c =
     ap (λ a. argument_place_in before a.name) c.deref.ensures in
     checks-err _ _ _ _ _ c.from_residual-in_err-check_repetition.ensures.0
     (subst (KeepsReports (IsDiagnostic (RepetitionReport xs)) (entries c.args.diagnostics.now)) (sym (c.in_err-check_repetition.ensures before first_is))
-    (kept_by _ _ _ _ c.loop-argument.invariant.reported))
+    (kept_by c.loop-argument.invariant.reported))
 
 pub loop-argument-preserved : goal.loop-argument-preserved
 loop-argument-preserved c =
@@ -54,8 +54,8 @@ loop-argument-preserved c =
     let report = c.in_ok-check_repetition.ensures before first_is in
     record {
       appended = appends_more xs i x within item old mid new c.loop-argument.invariant.appended report;
-      reported = in_words Q _ _ old new (distinct_at xs i x within item)
-          (both Q _ is_new old mid new c.loop-argument.invariant.reported (reports_more xs i x within item mid new report));
+      reported = in_words (distinct_at xs i x within item)
+          (both c.loop-argument.invariant.reported (reports_more xs i x within item mid new report));
       remembered = rw (more_is xs i x within item)
           (remembers_next met_argument before x (rw name_is at (c.in_ok-first.ensures.remembered _ c.loop-argument.invariant.remembered)));
     }

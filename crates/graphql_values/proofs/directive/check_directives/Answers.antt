@@ -22,7 +22,7 @@ returns-in_err-validate_directive c =
     let xs = c.args.directives.now in
     let i = c.loop-directive.directive-index in
     checks-err _ _ _ _ _ c.from_residual.ensures.0
-    (kept_then _ _ _ _ (kept_by _ _ _ _ c.loop-directive.invariant.reported)
+    (kept_then (kept_by c.loop-directive.invariant.reported)
     (c.in_err-validate_directive.ensures.checks (referred (take i xs)) c.loop-directive.invariant.remembered (referred xs)
     (referred_next xs i c.directive-item.result c.loop-directive-test.true c.directive-item.is)))
 

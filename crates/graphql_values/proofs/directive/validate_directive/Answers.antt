@@ -18,7 +18,7 @@ returns-in_err-validate_arguments-clause-checks c = λ before r directives next.
     let schema = option_copied c.args.schema in
     let arguments_are : c.deref-3.result.now ≡ d.value.value.arguments.items = c.deref-3.ensures.value ∙ ap (λ x. x.arguments.items) c.deref-2.ensures in
     checks-err _ _ _ _ _ c.from_residual.ensures.0
-    (kept_wider (IsDiagnostic (RepetitionReport d.value.value.arguments.items)) (IsDiagnostic (DirectivesBreak schema c.args.variables.now c.args.location directives)) _ _
+    (kept_wider
     (names_repetition schema c.args.variables.now c.args.location directives d (next_stands next))
     (rw arguments_are at c.in_err-validate_arguments.ensures.checks))
 
@@ -28,9 +28,9 @@ returns-in_err-first-clause-checks c = λ before r directives next.
     let schema = option_copied c.args.schema in
     let arguments_are : c.deref-3.result.now ≡ d.value.value.arguments.items = c.deref-3.ensures.value ∙ ap (λ x. x.arguments.items) c.deref-2.ensures in
     checks-err _ _ _ _ _ c.from_residual-in_err-first.ensures.0
-    (kept_wider (IsDiagnostic (RepetitionReport d.value.value.arguments.items)) (IsDiagnostic (DirectivesBreak schema c.args.variables.now c.args.location directives)) _ _
+    (kept_wider
     (names_repetition schema c.args.variables.now c.args.location directives d (next_stands next))
-    (kept_by _ _ _ _ (rw arguments_are at c.in_ok-validate_arguments.ensures.checks)))
+    (kept_by (rw arguments_are at c.in_ok-validate_arguments.ensures.checks)))
 
 pub returns-in_err-check_repetition-clause-checks : goal.returns-in_err-check_repetition-clause-checks
 returns-in_err-check_repetition-clause-checks c = λ before r directives next.
@@ -40,10 +40,10 @@ returns-in_err-check_repetition-clause-checks c = λ before r directives next.
     let first_is : c.in_ok-first.first ≡ head_in before d.value.value.name =
     c.in_ok-first.ensures.found _ r ∙ place_of_first met_directive before c.deref.result.now.name ∙ ap (λ x. head_in before x.name) c.deref.ensures in
     checks-err _ _ _ _ _ c.from_residual-in_err-check_repetition.ensures.0
-    (kept_then _ _ _ _
-    (kept_wider (IsDiagnostic (RepetitionReport d.value.value.arguments.items)) (IsDiagnostic (DirectivesBreak schema c.args.variables.now c.args.location directives)) _ _
+    (kept_then
+    (kept_wider
     (names_repetition schema c.args.variables.now c.args.location directives d (next_stands next))
-    (kept_by _ _ _ _ (rw arguments_are at c.in_ok-validate_arguments.ensures.checks)))
+    (kept_by (rw arguments_are at c.in_ok-validate_arguments.ensures.checks)))
     (c.in_err-check_repetition.ensures before first_is c.args.variables.now c.args.location directives next))
 
 pub returns-clause-checks : goal.returns-clause-checks
@@ -55,7 +55,7 @@ returns-clause-checks c = λ before r directives next.
     let first_is : c.in_ok-first.first ≡ head_in before d.value.value.name =
     c.in_ok-first.ensures.found _ r ∙ place_of_first met_directive before c.deref.result.now.name ∙ ap (λ x. head_in before x.name) c.deref.ensures in
     checks_after _ _ _ Q _ _ _
-    (wider _ (IsDiagnostic (RepetitionReport d.value.value.arguments.items)) Q _ _
+    (wider
     (names_repetition schema c.args.variables.now c.args.location directives d (next_stands next))
     (rw arguments_are at c.in_ok-validate_arguments.ensures.checks))
     (checks_after _ _ _ Q _ _ _ (c.in_ok-check_repetition.ensures before first_is c.args.variables.now c.args.location directives next)

@@ -87,8 +87,8 @@ check_items-returns-in_err-check_value t c =
     let x = c.item-item.result in
     let among : Contains xs x = (c.loop-item.item-index, c.loop-item-test.true, sym c.item-item.is) in
     checks-err _ _ _ _ _ c.from_residual.ensures.0
-    (kept_then _ _ _ _ (kept_by _ _ _ _ c.loop-item.invariant)
-    (kept_wider _ _ _ _ (names_item c.args.schema.now c.args.variables.now (written_at c.args.item_type.now c.args.location) xs x among) c.in_err-check_value.ensures))
+    (kept_then (kept_by c.loop-item.invariant)
+    (kept_wider (names_item c.args.schema.now c.args.variables.now (written_at c.args.item_type.now c.args.location) xs x among) c.in_err-check_value.ensures))
 
 pub check_items-loop-item-preserved : goal.check_items-loop-item-preserved
 check_items-loop-item-preserved t c =
@@ -99,7 +99,7 @@ check_items-loop-item-preserved t c =
     walked_more (AcceptsItem c.args.schema.now c.args.variables.now c.args.item_type.now)
     (IsDiagnostic (ItemReport c.args.schema.now c.args.variables.now ty xs)) xs c.loop-item.item-index x _ _ _
     c.loop-item-test.true c.item-item.is c.loop-item.invariant
-    (wider _ _ _ _ _ (names_item c.args.schema.now c.args.variables.now ty xs x among) c.in_ok-check_value.ensures)
+    (wider (names_item c.args.schema.now c.args.variables.now ty xs x among) c.in_ok-check_value.ensures)
 
 pub check_items-returns : goal.check_items-returns
 check_items-returns t c =
@@ -154,7 +154,7 @@ check_fields-check_required_field-requires-clause-stands t c =
 pub check_fields-returns-in_err-check_required_field : goal.check_fields-returns-in_err-check_required_field
 check_fields-returns-in_err-check_required_field t c = λ ty is.
     checks-err _ _ _ _ _ c.from_residual.ensures.0
-    (kept_then _ _ _ _ (kept_by _ _ _ _ (c.loop-name.invariant.checked ty is))
+    (kept_then (kept_by (c.loop-name.invariant.checked ty is))
     (c.in_err-check_required_field.ensures c.args.schema.now c.args.variables.now ty is))
 
 pub check_fields-loop-name-preserved : goal.check_fields-loop-name-preserved
@@ -172,10 +172,10 @@ check_fields-loop-name-preserved t c =
           let Q = IsDiagnostic (ValueReport c.args.schema.now c.args.variables.now ty c.args.value.now) in
           let entry_holds : Reports (AcceptsEntry c.args.schema.now c.args.variables.now c.args.entries.now x) Q
           (entries c.check_required_field.new.diagnostics) (entries c.check_entry.new.diagnostics) =
-          wider _ _ _ _ _ (names_entry c.args.schema.now c.args.variables.now ty c.args.input_object.now c.args.value.now c.args.entries.now is c.requires x among)
+          wider (names_entry c.args.schema.now c.args.variables.now ty c.args.input_object.now c.args.value.now c.args.entries.now is c.requires x among)
           c.in_ok-check_entry.ensures in
           done_more (AcceptsField c.args.schema.now c.args.variables.now c.args.entries.now) Q c.loop-name.invariant.done x _ _ _ (c.loop-name.invariant.checked ty is)
-          (both _ _ _ _ _ _ (c.in_ok-check_required_field.ensures c.args.schema.now c.args.variables.now ty is) entry_holds);
+          (both (c.in_ok-check_required_field.ensures c.args.schema.now c.args.variables.now ty is) entry_holds);
     }
 
 pub check_fields-returns-in_err-check_entry : goal.check_fields-returns-in_err-check_entry
@@ -185,9 +185,9 @@ check_fields-returns-in_err-check_entry t c = λ ty is.
     let among : Contains c.args.input_object.now.value.value.fields.entries x =
     stands_next _ c.loop-name.invariant.done c.loop-name.name-iterator c.next.new.self x c.loop-name.invariant.all next in
     checks-err _ _ _ _ _ c.from_residual-in_err-check_entry.ensures.0
-    (kept_then _ _ _ _ (kept_by _ _ _ _ (both _ _ _ _ _ _ (c.loop-name.invariant.checked ty is)
+    (kept_then (kept_by (both (c.loop-name.invariant.checked ty is)
     (c.in_ok-check_required_field.ensures c.args.schema.now c.args.variables.now ty is)))
-    (kept_wider _ _ _ _ (names_entry c.args.schema.now c.args.variables.now ty c.args.input_object.now c.args.value.now c.args.entries.now is c.requires x among)
+    (kept_wider (names_entry c.args.schema.now c.args.variables.now ty c.args.input_object.now c.args.value.now c.args.entries.now is c.requires x among)
     c.in_err-check_entry.ensures))
 
 pub check_fields-returns : goal.check_fields-returns

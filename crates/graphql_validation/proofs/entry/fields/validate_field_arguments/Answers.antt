@@ -5,7 +5,7 @@ use Rattle.graphql_validation.proofs.entry.fields.validate_field_arguments.Goals
 pub returns-in_err-validate_given_arguments : goal.returns-in_err-validate_given_arguments
 returns-in_err-validate_given_arguments c =
     checks-err _ _ _ _ _ c.from_residual-in_err-validate_given_arguments.ensures.0
-    (kept_wider _ _ _ _
+    (kept_wider
     (names_given c.args.schema.now c.args.parent.now c.args.field.now c.args.definition.now c.of_field-arguments.result c.of_field-arguments.ensures)
     (rw c.in_ok-variables.ensures at c.in_err-validate_given_arguments.ensures))
 

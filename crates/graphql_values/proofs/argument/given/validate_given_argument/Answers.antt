@@ -16,7 +16,7 @@ pub returns-in_err-check_variable_usage : goal.returns-in_err-check_variable_usa
 returns-in_err-check_variable_usage c =
     let found : definition_named c.args.argument.now.value.value.name c.args.arguments.now.definitions.now ≡ Some c.in-Some.definition.now = search rules in
     checks-err _ _ _ _ _ c.from_residual.ensures.0
-    (kept_wider _ _ _ _ (names_misuse c.args.schema.now c.args.variables.now c.args.arguments.now c.args.argument.now c.in-Some.definition.now c.requires found)
+    (kept_wider (names_misuse c.args.schema.now c.args.variables.now c.args.arguments.now c.args.argument.now c.in-Some.definition.now c.requires found)
     c.in_err-check_variable_usage.ensures.checks)
 
 pub returns-in_err-check_value_of_type : goal.returns-in_err-check_value_of_type
@@ -28,9 +28,9 @@ returns-in_err-check_value_of_type c =
     let d = c.in-Some.definition.now in
     let found : definition_named a.value.value.name arguments.definitions.now ≡ Some d = search rules in
     checks-err _ _ _ _ _ c.from_residual-in_err-check_value_of_type.ensures.0
-    (kept_then _ _ _ _
-    (kept_by _ _ _ _ (wider _ _ _ _ _ (names_misuse schema variables arguments a d c.requires found) c.in_ok-check_variable_usage.ensures.checks))
-    (kept_wider _ _ _ _ (names_wrong_value schema variables arguments a d c.requires found _ c.deref-then-branch.ensures) (rw c.deref-then-branch-2.ensures at c.in_err-check_value_of_type.ensures)))
+    (kept_then
+    (kept_by (wider (names_misuse schema variables arguments a d c.requires found) c.in_ok-check_variable_usage.ensures.checks))
+    (kept_wider (names_wrong_value schema variables arguments a d c.requires found _ c.deref-then-branch.ensures) (rw c.deref-then-branch-2.ensures at c.in_err-check_value_of_type.ensures)))
 
 pub returns-in_ok-check_value_of_type : goal.returns-in_ok-check_value_of_type
 returns-in_ok-check_value_of_type c =
@@ -40,10 +40,10 @@ returns-in_ok-check_value_of_type c =
     let a = c.args.argument.now in
     let d = c.in-Some.definition.now in
     let found : definition_named a.value.value.name arguments.definitions.now ≡ Some d = search rules in
-    in_words _ _ _ _ _ (given_decides schema variables arguments a d c.requires found _ c.deref-then-branch.ensures)
-    (both _ _ _ _ _ _
-    (wider _ _ _ _ _ (names_misuse schema variables arguments a d c.requires found) c.in_ok-check_variable_usage.ensures.checks)
-    (wider _ _ _ _ _ (names_wrong_value schema variables arguments a d c.requires found _ c.deref-then-branch.ensures) (rw c.deref-then-branch-2.ensures at c.in_ok-check_value_of_type.ensures)))
+    in_words (given_decides schema variables arguments a d c.requires found _ c.deref-then-branch.ensures)
+    (both
+    (wider (names_misuse schema variables arguments a d c.requires found) c.in_ok-check_variable_usage.ensures.checks)
+    (wider (names_wrong_value schema variables arguments a d c.requires found _ c.deref-then-branch.ensures) (rw c.deref-then-branch-2.ensures at c.in_ok-check_value_of_type.ensures)))
 
 pub returns-else-branch : goal.returns-else-branch
 returns-else-branch c =
@@ -54,5 +54,5 @@ returns-else-branch c =
     let d = c.in-Some.definition.now in
     let found : definition_named a.value.value.name arguments.definitions.now ≡ Some d = search rules in
     let disallowed : ¬ UsageHolds variables d.value.value a.value.value.value.value.value = search rules in
-    in_words _ _ _ _ _ (λ allowed. absurd (disallowed allowed), usage_needed schema variables arguments a d c.requires found)
-    (wider _ _ _ _ _ (names_misuse schema variables arguments a d c.requires found) c.in_ok-check_variable_usage.ensures.checks)
+    in_words (λ allowed. absurd (disallowed allowed), usage_needed schema variables arguments a d c.requires found)
+    (wider (names_misuse schema variables arguments a d c.requires found) c.in_ok-check_variable_usage.ensures.checks)

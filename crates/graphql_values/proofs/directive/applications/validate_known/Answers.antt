@@ -16,8 +16,8 @@ returns-in_err-validate_given_arguments c = λ directives among.
     let arguments = c.of_directive-arguments.result in
     let Q = IsDiagnostic (DirectivesBreak (Some c.args.schema.now) c.args.variables.now c.args.location directives) in
     checks-err _ _ _ _ _ c.from_residual-in_err-validate_given_arguments.ensures.0
-    (kept_then _ _ _ _ (kept_by _ _ _ _ (c.in_ok-check_location.ensures c.args.schema.now c.args.variables.now c.requires directives among))
-    (kept_wider (IsDiagnostic (GivenArgumentReport c.args.schema.now c.args.variables.now arguments)) Q _ _
+    (kept_then (kept_by (c.in_ok-check_location.ensures c.args.schema.now c.args.variables.now c.requires directives among))
+    (kept_wider
     (names_given c.args.schema.now c.args.variables.now c.args.location c.args.directive.now c.args.definition.now c.requires directives among
     arguments c.of_directive-arguments.ensures)
     c.in_err-validate_given_arguments.ensures))

@@ -13,14 +13,14 @@ returns-in_err-validate_variable_directives-clause-checks c = λ before r variab
 pub returns-in_err-validate_variable_type-clause-checks : goal.returns-in_err-validate_variable_type-clause-checks
 returns-in_err-validate_variable_type-clause-checks c = λ before r variables next.
     checks-err _ _ _ _ _ c.from_residual-in_err-validate_variable_type.ensures.0
-    (kept_then _ _ _ _ (kept_by _ _ _ _ (c.in_ok-validate_variable_directives.ensures variables (next_stands next)))
+    (kept_then (kept_by (c.in_ok-validate_variable_directives.ensures variables (next_stands next)))
     (c.in_err-validate_variable_type.ensures variables (next_stands next)))
 
 pub returns-in_err-first-clause-checks : goal.returns-in_err-first-clause-checks
 returns-in_err-first-clause-checks c = λ before r variables next.
     checks-err _ _ _ _ _ c.from_residual-in_err-first.ensures.0
-    (kept_then _ _ _ _ (kept_by _ _ _ _ (c.in_ok-validate_variable_directives.ensures variables (next_stands next)))
-    (kept_by _ _ _ _ (c.in_ok-validate_variable_type.ensures variables (next_stands next))))
+    (kept_then (kept_by (c.in_ok-validate_variable_directives.ensures variables (next_stands next)))
+    (kept_by (c.in_ok-validate_variable_type.ensures variables (next_stands next))))
 
 pub returns-clause-checks : goal.returns-clause-checks
 returns-clause-checks c = λ before r variables next.

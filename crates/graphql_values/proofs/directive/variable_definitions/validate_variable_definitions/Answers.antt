@@ -22,7 +22,7 @@ returns-in_err-validate_variable_definition c =
     let xs = c.args.variables.now in
     let i = c.loop-variable.variable-index in
     checks-err _ _ _ _ _ c.from_residual.ensures.0
-    (kept_then _ _ _ _ (kept_by _ _ _ _ c.loop-variable.invariant.reported)
+    (kept_then (kept_by c.loop-variable.invariant.reported)
     (c.in_err-validate_variable_definition.ensures.checks (take i xs) c.loop-variable.invariant.remembered xs
     (next_at xs i c.variable-item.result c.loop-variable-test.true c.variable-item.is)))
 

@@ -15,7 +15,7 @@ returns-in_ok-report_usage-in-Some-clause-checks c =
     let is : IsVariable c.args.variables.now c.args.argument.now.value.value.value.value.value c.in-Some.variable.now =
     (c.in-Variable.name, search rules, search rules) in
     let disallowed : ¬ IsUsageAllowed c.in-Some.variable.now.value.value c.args.definition.now.value.value = search rules in
-    in_words _ _ _ _ _ (λ no. absurd no, λ h. disallowed (h c.in-Some.variable.now is))
+    in_words (λ no. absurd no, λ h. disallowed (h c.in-Some.variable.now is))
     (c.in_ok-report_usage-in-Some.ensures c.args.variables.now is)
 
 pub returns-in_default-find-clause-checks : goal.returns-in_default-find-clause-checks
