@@ -51,15 +51,11 @@ IsFragmentUsed document d =
     Any (λ o. (p : Node FragmentSpread) × Reached (fragments_of document) o.value.value.selection_set (kind.FragmentSpread p) ×
     SameName p.value.value.fragment_name d.name) (operations_of document)
 
--- the fields of each operation merge, and each subscription holds as one
-pub record OperationsMerge (schema : Schema) (document : ExecutableDocument) : Type 0 where
-  pub merges : All (λ o. Merges schema (fragments_of document) o.value.value.selection_set) (operations_of document)
-  pub subscriptions : All (λ o. OperationSubscriptionHolds document o.value.value) (operations_of document)
-
 -- every written rule holds for the document, and at each place reached; without a schema, every rule
 -- that needs none
 pub record DocumentHolds (schema : Option Schema) (document : ExecutableDocument) : Type 0 where
   pub operations : All (λ o. OperationHolds schema document o.value.value) (operations_of document)
   pub fragments : All (λ d. IsFragmentUsed document d.value.value) (values document.fragments)
   pub defer : DeferHolds document
-  pub merging : (s : Schema) → schema ≡ Some s → OperationsMerge s document
+  pub subscriptions : (s : Schema) → schema ≡ Some s → All (λ o. OperationSubscriptionHolds document o.value.value) (operations_of document)
+  pub merging : (s : Schema) → schema ≡ Some s → All (λ o. Merges s (fragments_of document) o.value.value.selection_set) (operations_of document)
