@@ -50,6 +50,12 @@ pub record FragmentNestsTooDeep (fragments : Fragments) (d : Node Fragment) (nam
   pub describe_is : describe ≡ codes "fragment"
   pub at_is : at ≡ recompose d.location d.value.value.name.location
 
+-- a report of a limit is true of a fragment: it nests too deep
+pub data FragmentLimit (fragments : Fragments) (d : Node Fragment) : Details → Option SourceSpan → Type 0 where
+  spreads_nest : {name : NameText} {describe : Bor (List ℕ)} {at : Option SourceSpan} →
+      FragmentNestsTooDeep fragments d name describe.now at →
+      FragmentLimit fragments d (details.Diagnostic (report.DeeplyNestedType name describe)) at
+
 -- the same of an input object: reported there
 pub record InputObjectNestsTooDeep (schema : Schema) (d : Node InputObjectType) (name : NameText) (describe : List ℕ) (at : Option SourceSpan) : Type 0 where
   pub long : HasLongRequiredPath schema d (input_object_bound + 1)

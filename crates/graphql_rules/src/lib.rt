@@ -1,0 +1,5 @@
+//! The rules of executable documents: of their operations, selections and fragments. Each call reports
+//! what breaks a rule, and its contract says what it means that nothing is reported.
+#![tactic(auto)]
+
+pub mod operations;

@@ -1,0 +1,5 @@
+//! Operations, with the selections and fragments that they reach.
+
+mod context;
+
+pub use context::OperationValidationContext;
