@@ -1,5 +1,6 @@
 -- What a report says of the form of a field at its place. Specification: 5.3 Fields, 5.4 Arguments.
 use Rattle.std.specs.Prelude.{◌≡◌, ℕ, true, List, [], Option, Some}
+use Rattle.std.specs.Borrow.{Bor}
 use Rattle.graphql_documents.specs.ArgumentReports.{LacksArgument, MissesArgument, RepeatsArgument}
 use Rattle.graphql_documents.specs.Diagnostics.{IsDiagnostic}
 use Rattle.graphql_documents.specs.Fields.{HasDefinition}
@@ -31,6 +32,12 @@ pub record MissesSelection (schema : Option Schema) (parent : NameText) (f : Nod
   pub output_is : output ≡ inner_named_type ty
   pub describe_is : describe ≡ kind_text definition
   pub at_is : at ≡ f.location
+
+-- the report says so
+pub data SelectionIsMissing (schema : Option Schema) (parent : NameText) (f : Node Field) (ty : «Type») : DiagnosticData → Option SourceSpan → Type 0 where
+  is_missing : {coordinate : TypeAttributeCoordinate} {output : NameText} {describe : Bor (List ℕ)} {at : Option SourceSpan} →
+      MissesSelection schema parent f ty coordinate output describe.now at →
+      SelectionIsMissing schema parent f ty (report.MissingSubselection coordinate output describe) at
 
 -- the field stands on this type, and has this definition there
 pub record IsFieldOf (schema : Option Schema) (parent : Option NameText) (f : Field) (ty : NameText) (d : Component FieldDefinition) : Type 0 where

@@ -56,6 +56,13 @@ pub data FragmentLimit (fragments : Fragments) (d : Node Fragment) : Details →
       FragmentNestsTooDeep fragments d name describe.now at →
       FragmentLimit fragments d (details.Diagnostic (report.DeeplyNestedType name describe)) at
 
+-- the same of a fragment that a name finds
+pub record SpreadLimit (fragments : Fragments) (said : Details) (at : Option SourceSpan) : Type 0 where
+  pub name : NameText
+  pub d : Node Fragment
+  pub found : fragments name ≡ Some d
+  pub passes : FragmentLimit fragments d said at
+
 -- the same of an input object: reported there
 pub record InputObjectNestsTooDeep (schema : Schema) (d : Node InputObjectType) (name : NameText) (describe : List ℕ) (at : Option SourceSpan) : Type 0 where
   pub long : HasLongRequiredPath schema d (input_object_bound + 1)

@@ -1,9 +1,9 @@
 -- Selections and the places where they stand. Specification: 2.4 Selection Sets to 2.8 Fragments.
-use Rattle.std.specs.Prelude.{◌≡◌, List, [], Option, None, Some, Contains, unwrap_or, if◌then◌else◌}
+use Rattle.std.specs.Prelude.{◌≡◌, List, [], ◌++◌, Option, None, Some, All, Contains, IsTrue, unwrap_or, if◌then◌else◌}
 use Rattle.std.specs.Option.{option_and_then}
 use Rattle.std.specs.Result.{result_ok}
 use Rattle.indexmap.specs.IndexMap.{get}
-use Rattle.graphql_documents.specs.Names.{NameText, same_name, stands_on}
+use Rattle.graphql_documents.specs.Names.{NameText, SameName, same_name, stands_on}
 use Rattle.graphql_documents.specs.TypeReferences.{inner_named_type}
 use Rattle.graphql_documents.specs.Schemas.{type_field}
 use Rattle.graphql_documents.specs.declared.documents.nodes.Node.{Node}
@@ -141,3 +141,22 @@ pub data Placed (schema : Option Schema) (fragments : Fragments) : Option NameTe
       fragments p.value.value.fragment_name ≡ Some d →
       Placed schema fragments (type_under schema parent (Some d.value.value.selection_set.ty)) (selections_of d.value.value.selection_set) s at →
       Placed schema fragments parent selections s at
+
+-- a spread of this name is reached from these selections, which stand on the type
+pub record IsSpreadFrom (schema : Option Schema) (fragments : Fragments) (parent : Option NameText) (selections : List Selection) (name : NameText) : Type 0 where
+  pub p : Node FragmentSpread
+  pub here : Option NameText
+  pub placed : Placed schema fragments parent selections (kind.FragmentSpread p) here
+  pub named : SameName p.value.value.fragment_name name
+
+-- a walk over these selections goes into fragments: behind those that it had gone into it has others, each of
+-- which is spread at a place that is reached without going through the former
+pub record GoesInto (schema : Option Schema) (fragments : Fragments) (parent : Option NameText) (selections : List Selection) (old new : List NameText) : Type 0 where
+  pub further : List NameText
+  pub grown : new ≡ old ++ further
+  pub spread : All (IsSpreadFrom schema (without old fragments) parent selections) further
+
+-- it has gone into each fragment that is so spread
+abbrev pub HasGoneInto : Option Schema → Fragments → Option NameText → List Selection → List NameText → List NameText → Type 0
+HasGoneInto schema fragments parent selections old new =
+    (name : NameText) → IsSpreadFrom schema (without old fragments) parent selections name → IsTrue (stands_on new name)

@@ -1,0 +1,3 @@
+pub mod EnteredLemmas
+pub mod PlacedLemmas
+pub mod SelectionHoldLemmas

@@ -4,7 +4,7 @@
 mod applications;
 mod variable_definitions;
 
-ghost use Rattle.std.specs.Prelude.{◌∷◌, ◌++◌, [], List, OnOk, map};
+ghost use Rattle.std.specs.Prelude.{◌≡◌, ◌∷◌, ◌++◌, [], IfOk, List, OnOk, map};
 ghost use Rattle.std.specs.Option.{option_copied};
 ghost use Rattle.graphql_documents.specs.Diagnostics.{IsDiagnostic};
 ghost use Rattle.graphql_documents.specs.DirectiveReports.{DirectivesBreak};
@@ -23,6 +23,7 @@ use graphql_documents::diagnostics::{DiagnosticList, ValidationError};
 use graphql_documents::documents::{
     Directive, DirectiveLocation, Name, Node, Schema, SourceSpan, VariableDefinition,
 };
+use std::alloc::Global;
 use std::collections::HashMap;
 pub use variable_definitions::validate_variable_definitions;
 
@@ -77,6 +78,38 @@ pub fn check_directives(
         )?;
     }
     Ok(())
+}
+
+/// The same over the directives of an operation, a selection or a fragment.
+///
+/// Specification: 5.7 Directives; 5.4 Arguments.
+pub fn check_each_directive(
+    diagnostics: &mut DiagnosticList,
+    schema: Option<&Schema>,
+    directives: &[Node<Directive>],
+    location: DirectiveLocation,
+    variables: &VariablesByName,
+) -> Result<(), ValidationError>
+    ensures { Checks result (ApplicationsHold (option_copied schema.entry) variables.now location directives.now)
+        (IsDiagnostic (DirectivesBreak (option_copied schema.entry) variables.now location directives.now))
+        diagnostics.old diagnostics.new }
+{
+    let directives = each_directive(diagnostics.allocator(), directives)?;
+    check_directives(diagnostics, schema, &directives, location, variables)
+}
+
+/// The directives, each as a reference.
+fn each_directive<'a>(
+    alloc: Global,
+    directives: &'a [Node<Directive>],
+) -> Result<Vec<&'a Node<Directive>>, ValidationError>
+    ensures { IfOk result (λ each. map (λ d. d.now) each.items ≡ directives.now) }
+{
+    let mut each = Vec::new(alloc);
+    for directive in directives {
+        each.push(directive)?;
+    }
+    Ok(each)
 }
 
 /// Validates one of the directives applied at one place, behind those that were met.

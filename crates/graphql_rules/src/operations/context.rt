@@ -1,6 +1,7 @@
+ghost use Rattle.std.specs.Prelude.{◌≡◌, [], not, IfOk, OnErr, OnOk};
 ghost use Rattle.std.specs.Option.{option_copied};
-ghost use Rattle.std.specs.Prelude.{◌≡◌, [], IfOk};
-ghost use Rattle.graphql_rules.specs.Contexts.{entered_names};
+ghost use Rattle.graphql_documents.specs.Names.{stands_on, with_name};
+ghost use Rattle.graphql_rules.specs.Contexts.{SharesWith, entered_names, schema_of, variables_of};
 
 use graphql_documents::diagnostics::ValidationError;
 use graphql_documents::documents::{Name, Node, Schema, VariableDefinition};
@@ -25,8 +26,8 @@ impl<'a> OperationValidationContext<'a> {
         schema: Option<&'a Schema>,
         variables: &'a [Node<VariableDefinition>],
     ) -> Result<OperationValidationContext<'a>, ValidationError>
-        ensures schema { IfOk result (λ context. option_copied context.schema ≡ option_copied schema) }
-        ensures variables { IfOk result (λ context. context.variables ≡ variables.now) }
+        ensures schema { IfOk result (λ context. schema_of context ≡ option_copied schema.entry) }
+        ensures variables { IfOk result (λ context. variables_of context ≡ variables.now) }
         ensures entered { IfOk result (λ context. entered_names context ≡ []) }
     {
         Ok(OperationValidationContext {
@@ -34,5 +35,15 @@ impl<'a> OperationValidationContext<'a> {
             variables: VariablesByName::new(alloc, variables)?,
             entered: IndexSet::new(alloc),
         })
+    }
+
+    /// Goes into the fragment of this name, and answers whether it is the first time.
+    pub(crate) fn enter(&mut self, name: &'a Name) -> Result<bool, ValidationError>
+        ensures is_new { IfOk result (λ new. new ≡ not (stands_on (entered_names self.old) name.now)) }
+        ensures names { OnOk result (entered_names self.new ≡ with_name (entered_names self.old) name.now) }
+        ensures kept { OnErr result (entered_names self.new ≡ entered_names self.old) }
+        ensures shared { SharesWith self.old self.new }
+    {
+        Ok(self.entered.insert(name)?)
     }
 }

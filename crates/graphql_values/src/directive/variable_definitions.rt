@@ -15,14 +15,14 @@ ghost use Rattle.graphql_documents.specs.declared.documents.schemas.Schema.{Sche
 ghost use Rattle.graphql_values.specs.FirstPlaces.{Remembers};
 ghost use Rattle.graphql_values.specs.VariableSteps.{ChecksNext, ChecksVariable, FollowsWell, IsNewName, TypeHolds, met_variable, variable_place_in};
 
-use super::validate_directives;
+use super::check_each_directive;
 use crate::first_places::first_place;
 use crate::value::value_of_correct_type;
+use crate::variable::VariablesByName;
 use graphql_documents::diagnostics::{Details, DiagnosticData, DiagnosticList, ValidationError};
 use graphql_documents::documents::{
-    Directive, DirectiveLocation, ExtendedType, Name, Node, Schema, SourceSpan, VariableDefinition,
+    DirectiveLocation, ExtendedType, Name, Node, Schema, SourceSpan, VariableDefinition,
 };
-use std::alloc::Global;
 use std::collections::HashMap;
 
 /// Validates the definitions of the variables of an operation: their directives, their types and
@@ -78,28 +78,14 @@ fn validate_variable_directives(
         (ApplicationsHold (option_copied schema.entry) [] at.VariableDefinition variable.now.value.value.directives.items)
         (option_copied schema.entry) variable.now diagnostics.old diagnostics.new }
 {
-    let directives = each_directive(diagnostics.allocator(), &variable.value.directives)?;
-    validate_directives(
+    let variables = VariablesByName::new(diagnostics.allocator(), &[])?;
+    check_each_directive(
         diagnostics,
         schema,
-        &directives,
+        &variable.value.directives,
         DirectiveLocation::VariableDefinition,
-        &[],
+        &variables,
     )
-}
-
-/// The directives, each as a reference.
-fn each_directive<'a>(
-    alloc: Global,
-    directives: &'a [Node<Directive>],
-) -> Result<Vec<&'a Node<Directive>>, ValidationError>
-    ensures { IfOk result (λ each. map (λ d. d.now) each.items ≡ directives.now) }
-{
-    let mut each = Vec::new(alloc);
-    for directive in directives {
-        each.push(directive)?;
-    }
-    Ok(each)
 }
 
 /// Validates the type of a variable and its default, where there is a schema.

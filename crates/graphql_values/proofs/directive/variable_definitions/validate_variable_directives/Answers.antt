@@ -1,4 +1,4 @@
-use Rattle.std.proofs.Common.{◌≡◌, List, [], Bor, ap, ◌∙◌, subst}
+use Rattle.std.proofs.Common.{◌≡◌, List, [], ap, ◌∙◌, subst}
 use Rattle.std.specs.Option.{option_copied}
 use Rattle.graphql_documents.specs.Diagnostics.{IsDiagnostic, entries}
 use Rattle.graphql_documents.specs.DirectiveReports.{DirectivesBreak}
@@ -8,7 +8,6 @@ use Rattle.graphql_documents.proofs.ReportLemmas.{checks_words, ChecksList}
 use Rattle.graphql_documents.specs.declared.documents.definitions.DirectiveLocation.TheVariants as allowed_at
 use Rattle.graphql_documents.specs.declared.documents.directives.Directive.{Directive}
 use Rattle.graphql_documents.specs.declared.documents.nodes.Node.{Node}
-use Rattle.graphql_values.proofs.ReferenceLemmas.{referred}
 use Rattle.graphql_values.proofs.VariableLemmas.{names_directives}
 use Rattle.graphql_values.proofs.directive.variable_definitions.validate_variable_directives.Goals as goal
 
@@ -18,13 +17,13 @@ returns c = λ variables among.
     let schema = option_copied c.args.schema in
     let directives = v.value.value.directives.items in
     let old = entries c.args.diagnostics.now in
-    let new = entries c.validate_directives.new.diagnostics in
+    let new = entries c.check_each_directive.new.diagnostics in
     let P = λ (l : List (Node Directive)). ApplicationsHold schema [] allowed_at.VariableDefinition l in
     let Q = λ (l : List (Node Directive)). IsDiagnostic (DirectivesBreak schema [] allowed_at.VariableDefinition l) in
-    let are : referred c.deref-3.result.now ≡ directives =
-    ap (λ (l : List (Bor (Node Directive))). referred l) c.deref-3.ensures.value ∙ c.in_ok-directives.ensures ∙
+    let are : c.deref-2.result.now ≡ directives =
     c.deref-2.ensures.value ∙ ap (λ x. x.directives.items) c.deref.ensures in
-    checks_words c.validate_directives.result (P directives) (P directives) (Q directives) (IsDiagnostic (VariablesReport schema variables)) old new
+    checks_words c.check_each_directive.result (P directives) (P directives) (Q directives) (IsDiagnostic (VariablesReport schema variables)) old new
     (λ h. h, λ h. h) (names_directives schema variables v among)
-    (subst (λ l. ChecksList c.validate_directives.result (ApplicationsHold schema [] allowed_at.VariableDefinition l)
-    (IsDiagnostic (DirectivesBreak schema [] allowed_at.VariableDefinition l)) old new) are c.validate_directives.ensures)
+    (subst (λ l. ChecksList c.check_each_directive.result (ApplicationsHold schema [] allowed_at.VariableDefinition l)
+    (IsDiagnostic (DirectivesBreak schema [] allowed_at.VariableDefinition l)) old new) are
+    (rw c.in_ok-variables.ensures at c.check_each_directive.ensures))

@@ -1,5 +1,5 @@
 use Rattle.std.proofs.Common.{◌≡◌, map, take}
-use Rattle.graphql_values.proofs.directive.variable_definitions.each_directive.Given as goal
+use Rattle.graphql_values.proofs.directive.each_directive.Given as goal
 
 -- the directives so far
 abbrev pub invariant-loop-directive : goal.invariant-loop-directive

@@ -1,0 +1,108 @@
+-- Names of fragments that were gone into, walk after walk.
+use Rattle.std.proofs.Common.{◌≡◌, ◌⊎◌, inl, inr, ℕ, List, [], ◌∷◌, ◌++◌, Bool, true, false, ◌||◌, Option, Some, IsTrue, IsFalse, refl, sym, ap, ◌∙◌, subst, All, Contains}
+use Rattle.std.specs.List.{list_any}
+use Rattle.std.specs.Str.{bytes_eq}
+use Rattle.std.proofs.lemmas.List.{append-nil, append_assoc}
+use Rattle.std.proofs.lemmas.List.Elements.{All-nil, All-weaker, All-append, All-contains, Contains-append_left, Contains-append_right}
+use Rattle.std.proofs.lemmas.List.Folds.{Any-from_list_any, list_any-append}
+use Rattle.graphql_documents.specs.Names.{NameText, SameName, same_name, stands_on}
+use Rattle.graphql_documents.specs.Selections.{Fragments, GoesInto, HasGoneInto, IsSpreadFrom, Placed, selections_of, type_under, without}
+use Rattle.graphql_documents.specs.declared.documents.nodes.Node.{Node}
+use Rattle.graphql_documents.specs.declared.documents.schemas.Schema.{Schema}
+use Rattle.graphql_documents.specs.declared.documents.executables.Fragment.{Fragment}
+use Rattle.graphql_documents.specs.declared.documents.executables.Selection.{Selection}
+use Rattle.graphql_documents.proofs.NameLemmas.{same_name_back, same_name_then, same_text}
+use Rattle.graphql_values.proofs.UseLemmas.{any_has}
+use Rattle.graphql_rules.proofs.PlacedLemmas.{by_truth, found_without, placed_among_more, placed_wider, stays_without}
+
+-- names of one text stand on the same lists
+pub stands_by_text : (names : List NameText) (a b : NameText) → SameName a b → stands_on names a ≡ stands_on names b
+stands_by_text names a b same = ap (λ (text : List ℕ). list_any (λ (key : NameText). bytes_eq text key.text) names) (same_text a b same)
+
+stands_by_parts : (a b : Bool) → IsTrue (a || b) → IsTrue a ⊎ IsTrue b
+stands_by_parts true b h = inl refl
+stands_by_parts false b h = inr h
+
+stands_by_left : (a b : Bool) → IsTrue a → IsTrue (a || b)
+stands_by_left true b h = refl
+stands_by_left false b h = absurd (let no : ⊥ = cc in no)
+
+-- what stands on a list stands on a longer one
+pub stands_still : (old new more : List NameText) → new ≡ old ++ more → (name : NameText) → IsTrue (stands_on old name) → IsTrue (stands_on new name)
+stands_still old new more grown name h =
+    subst (λ l. IsTrue (stands_on l name)) (sym grown)
+    (subst IsTrue (sym (list_any-append (same_name name) old more))
+    (stands_by_left (stands_on old name) (stands_on more name) h))
+
+pub stood_not : (old new more : List NameText) → new ≡ old ++ more → (name : NameText) → IsFalse (stands_on new name) → IsFalse (stands_on old name)
+stood_not old new more grown name none =
+    elim (by_truth (stands_on old name)) [
+      | inl there ↦ let stays : IsTrue (stands_on new name) = stands_still old new more grown name there in absurd (let no : ⊥ = cc in no)
+      | inr not_there ↦ not_there
+    ]
+
+module _ {schema : Option Schema} (fragments : Fragments) where
+  -- a name that was entered by a walk is spread where the walk came by
+  pub newly_entered : {parent : Option NameText} {xs : List Selection} {old new : List NameText} →
+      GoesInto schema fragments parent xs old new →
+      (name : NameText) → IsTrue (stands_on new name) → IsFalse (stands_on old name) →
+      IsSpreadFrom schema (without old fragments) parent xs name
+  newly_entered {parent} {xs} {old} {new} goes name there fresh =
+      let parts = subst IsTrue (list_any-append (same_name name) old goes.further) (subst (λ l. IsTrue (stands_on l name)) goes.grown there) in
+      elim (stands_by_parts (stands_on old name) (stands_on goes.further name) parts) [
+        | inl before ↦ absurd (let no : ⊥ = cc in no)
+        | inr further ↦
+            let found = any_has (λ k. SameName name k) goes.further (Any-from_list_any (same_name name) goes.further further) in
+            let spread = All-contains (IsSpreadFrom schema (without old fragments) parent xs) goes.further found.0 goes.spread found.1 in
+            record {
+              p = spread.p;
+              here = spread.here;
+              placed = spread.placed;
+              named = same_name_then spread.p.value.value.fragment_name found.0 name spread.named (same_name_back name found.0 found.2);
+            }
+      ]
+
+  -- nothing was entered
+  pub goes_nowhere : {parent : Option NameText} {xs : List Selection} (old : List NameText) → GoesInto schema fragments parent xs old old
+  goes_nowhere old = record { further = []; grown = sym (append-nil old); spread = All-nil _ }
+
+  -- a walk from elsewhere that comes by the same spreads
+  pub goes_as : {parent other : Option NameText} {xs ys : List Selection} {old new : List NameText} →
+      ((name : NameText) → IsSpreadFrom schema (without old fragments) parent xs name → IsSpreadFrom schema (without old fragments) other ys name) →
+      GoesInto schema fragments parent xs old new → GoesInto schema fragments other ys old new
+  goes_as w goes = record { further = goes.further; grown = goes.grown; spread = All-weaker _ _ w goes.further goes.spread }
+
+  -- what is reached without more fragments is reached without fewer
+  pub without_fewer : {parent here : Option NameText} {xs : List Selection} {s : Selection} (old mid more : List NameText) → mid ≡ old ++ more →
+      Placed schema (without mid fragments) parent xs s here → Placed schema (without old fragments) parent xs s here
+  without_fewer old mid more grown =
+      placed_among_more (λ name d found.
+      let is = found_without mid fragments name d found in
+      stays_without old fragments name d (stood_not old mid more grown name is.0) is.1)
+
+  pub spread_without_fewer : {parent : Option NameText} {xs : List Selection} (old mid more : List NameText) → mid ≡ old ++ more →
+      (name : NameText) → IsSpreadFrom schema (without mid fragments) parent xs name → IsSpreadFrom schema (without old fragments) parent xs name
+  spread_without_fewer old mid more grown name spread =
+      record { p = spread.p; here = spread.here; placed = without_fewer old mid more grown spread.placed; named = spread.named }
+
+  -- one walk after another
+  pub goes_then : {parent : Option NameText} {xs ys : List Selection} {old mid new : List NameText} →
+      GoesInto schema fragments parent xs old mid → GoesInto schema fragments parent ys mid new →
+      GoesInto schema fragments parent (xs ++ ys) old new
+  goes_then {parent} {xs} {ys} {old} {mid} {new} a b = record {
+    further = a.further ++ b.further;
+    grown = b.grown ∙ ap (λ l. l ++ b.further) a.grown ∙ append_assoc old a.further b.further;
+    spread = All-append (IsSpreadFrom schema (without old fragments) parent (xs ++ ys)) a.further b.further
+        (All-weaker _ _ (λ name spread. record {
+          p = spread.p;
+          here = spread.here;
+          placed = placed_wider (λ x in'. Contains-append_left xs ys x in') spread.placed;
+          named = spread.named;
+        }) a.further a.spread)
+        (All-weaker _ _ (λ name spread. record {
+          p = spread.p;
+          here = spread.here;
+          placed = placed_wider (λ x in'. Contains-append_right xs ys x in') (without_fewer old mid a.further a.grown spread.placed);
+          named = spread.named;
+        }) b.further b.spread);
+  }

@@ -1,0 +1,152 @@
+ghost use Rattle.std.specs.Prelude.{◌≡◌, Some, false, [], IfOk, MatchOption};
+ghost use Rattle.std.specs.Option.{option_copied};
+ghost use Rattle.graphql_documents.specs.Diagnostics.{IsDiagnostic};
+ghost use Rattle.graphql_documents.specs.Directives.{ApplicationsHold};
+ghost use Rattle.graphql_documents.specs.FieldReports.{SelectionIsMissing};
+ghost use Rattle.graphql_documents.specs.Fields.{FieldHolds, HasNeededSelection};
+ghost use Rattle.graphql_documents.specs.Reports.{Checks};
+ghost use Rattle.graphql_documents.specs.Selections.{definition_at, selections_of};
+ghost use Rattle.graphql_rules.specs.Contexts.{IsAgainst, parent_of, schema_of, variables_of};
+ghost use Rattle.graphql_rules.specs.SelectionSteps.{DefinedFieldHolds, FieldArgumentsHold, FieldSays, IsBelow, IsUnselected};
+
+use super::context::OperationValidationContext;
+use graphql_documents::diagnostics::{Details, DiagnosticData, DiagnosticList, ValidationError};
+use graphql_documents::documents::{
+    Component, DirectiveLocation, ExtendedType, Field, FieldDefinition, NamedType, Node, Schema,
+    Type, TypeAttributeCoordinate,
+};
+use graphql_values::argument::{
+    GivenArguments, validate_arguments, validate_given_arguments, validate_required_arguments,
+};
+use graphql_values::directive::check_each_directive;
+
+/// Where the selections of a field's set stand: on a type, if that is known, or nowhere.
+pub(super) enum Below<'a> {
+    Nowhere,
+    On(Option<(&'a Schema, &'a NamedType)>),
+}
+
+/// Validates a field, what is below it apart, and answers where that stands.
+pub(super) fn check_field<'a>(
+    diagnostics: &mut DiagnosticList,
+    against_type: Option<(&'a Schema, &NamedType)>,
+    field: &Node<Field>,
+    context: &OperationValidationContext<'a>,
+) -> Result<Below<'a>, ValidationError>
+    requires { IsAgainst (schema_of context.now) against_type }
+    ensures checks { Checks result (FieldHolds (schema_of context.now) (variables_of context.now) (parent_of against_type.entry) field.now.value.value)
+        (IsDiagnostic (FieldSays (schema_of context.now) (variables_of context.now) (parent_of against_type.entry) field.now))
+        diagnostics.old diagnostics.new }
+    ensures below { IfOk result (IsBelow (schema_of context.now) (parent_of against_type.entry) field.now.value.value) }
+{
+    check_each_directive(
+        diagnostics,
+        context.schema,
+        &field.value.directives,
+        DirectiveLocation::Field,
+        &context.variables,
+    )?;
+    validate_arguments(diagnostics, &field.value.arguments)?;
+    let Some((schema, parent)) = against_type else {
+        return Ok(Below::On(None));
+    };
+    let Ok(definition) = schema.type_field(parent, &field.value.name) else {
+        return Ok(Below::Nowhere);
+    };
+    check_defined_field(diagnostics, schema, parent, field, definition, context)
+}
+
+/// Validates what the definition of a field asks of it.
+fn check_defined_field<'a>(
+    diagnostics: &mut DiagnosticList,
+    schema: &'a Schema,
+    parent: &NamedType,
+    field: &Node<Field>,
+    definition: &'a Component<FieldDefinition>,
+    context: &OperationValidationContext<'a>,
+) -> Result<Below<'a>, ValidationError>
+    requires found { definition_at (Some schema.now) (Some parent.now) field.now.value.value.name ≡ Some definition.now }
+    ensures checks { Checks result (DefinedFieldHolds schema.now (variables_of context.now) field.now.value.value definition.now.node.value.value)
+        (IsDiagnostic (FieldSays (Some schema.now) (variables_of context.now) (Some parent.now) field.now))
+        diagnostics.old diagnostics.new }
+    ensures below { IfOk result (IsBelow (Some schema.now) (Some parent.now) field.now.value.value) }
+{
+    check_field_arguments(diagnostics, schema, parent, field, definition, context)?;
+    let ty = &definition.node.value.ty;
+    if validate_leaf_field_selection(diagnostics, schema, parent, field, ty)? {
+        Ok(Below::On(Some((schema, ty.inner_named_type()))))
+    } else {
+        Ok(Below::Nowhere)
+    }
+}
+
+/// Reports what the arguments of a field break, by its definition.
+fn check_field_arguments(
+    diagnostics: &mut DiagnosticList,
+    schema: &Schema,
+    parent: &NamedType,
+    field: &Node<Field>,
+    definition: &Component<FieldDefinition>,
+    context: &OperationValidationContext,
+) -> Result<(), ValidationError>
+    requires found { definition_at (Some schema.now) (Some parent.now) field.now.value.value.name ≡ Some definition.now }
+    ensures { Checks result (FieldArgumentsHold schema.now (variables_of context.now) field.now.value.value definition.now.node.value.value)
+        (IsDiagnostic (FieldSays (Some schema.now) (variables_of context.now) (Some parent.now) field.now))
+        diagnostics.old diagnostics.new }
+{
+    let arguments = GivenArguments::of_field(parent, field, definition);
+    validate_given_arguments(diagnostics, schema, &arguments, &context.variables)?;
+    validate_required_arguments(diagnostics, &arguments)
+}
+
+/// Reports a field of a composite type that selects nothing, at the field, and answers whether none was
+/// reported. A type that is not defined needs no selection. The only error is want of memory.
+///
+/// Specification: 5.3.3 Leaf Field Selections.
+pub fn validate_leaf_field_selection(
+    diagnostics: &mut DiagnosticList,
+    schema: &Schema,
+    parent_type: &NamedType,
+    field: &Node<Field>,
+    field_type: &Type,
+) -> Result<bool, ValidationError>
+    ensures checks { Checks result (HasNeededSelection (Some schema.now) field.now.value.value field_type.now)
+        (IsDiagnostic (SelectionIsMissing (Some schema.now) parent_type.now field.now field_type.now))
+        diagnostics.old diagnostics.new }
+
+    // A field that was reported selects nothing.
+    ensures answer { IfOk result (λ silent. silent ≡ false → selections_of field.now.value.value.selection_set ≡ []) }
+{
+    let Some(type_definition) = type_without_selection(schema, &field.value, field_type) else {
+        return Ok(true);
+    };
+    let coordinate = TypeAttributeCoordinate::new(parent_type, &field.value.name)?;
+    let output_type = field_type.inner_named_type().clone()?;
+    diagnostics.push(
+        field.location,
+        Details::Diagnostic(DiagnosticData::MissingSubselection {
+            coordinate,
+            output_type,
+            describe_type: type_definition.describe(),
+        }),
+    )?;
+    Ok(false)
+}
+
+/// The composite type of a field that selects nothing, if it is such a field.
+fn type_without_selection<'a>(
+    schema: &'a Schema,
+    field: &Field,
+    field_type: &Type,
+) -> Option<&'a ExtendedType>
+    ensures { MatchOption result
+        (HasNeededSelection (Some schema.now) field.now field_type.now)
+        (λ ty. IsUnselected (Some schema.now) field.now field_type.now ty.now) }
+{
+    let type_definition = schema.types.get(field_type.inner_named_type())?;
+    if type_definition.is_composite() && field.selection_set.selections.is_empty() {
+        Some(type_definition)
+    } else {
+        None
+    }
+}

@@ -1,0 +1,201 @@
+ghost use Rattle.std.specs.Prelude.{◌≡◌, ◌≢◌, Some, None, false, IfOk};
+ghost use Rattle.std.specs.Option.{option_copied};
+ghost use Rattle.graphql_documents.specs.Diagnostics.{IsDiagnostic, entries};
+ghost use Rattle.graphql_documents.specs.FragmentSpreads.{FragmentHolds, InlineFragmentHolds, IsPossibleIn, TargetHolds};
+ghost use Rattle.graphql_documents.specs.Limits.{FragmentLimit};
+ghost use Rattle.graphql_documents.specs.Reports.{Checks, ChecksWithin};
+ghost use Rattle.graphql_documents.specs.SelectionReports.{FragmentBreaks, InlineFragmentBreaks, SpreadBreaks};
+ghost use Rattle.graphql_documents.specs.Selections.{Fragments, fragments_of};
+ghost use Rattle.graphql_rules.specs.Contexts.{IsAgainst, StaysAsItWas, parent_of, schema_of, variables_of};
+ghost use Rattle.graphql_rules.specs.SelectionSteps.{ConditionHolds, FragmentSays, InlineFragmentSays, SpreadSays, SpreadStands, IsUndefined};
+
+use super::context::OperationValidationContext;
+use super::fragment_cycles::validate_fragment_cycles;
+use super::spread_types::{FragmentUse, validate_fragment_spread_type};
+use super::type_conditions::validate_fragment_type_condition;
+use graphql_documents::diagnostics::{Details, DiagnosticData, DiagnosticList, ValidationError};
+use graphql_documents::documents::{
+    DirectiveLocation, ExecutableDocument, Fragment, FragmentSpread, InlineFragment, NamedType,
+    Node, Schema,
+};
+use graphql_values::directive::check_each_directive;
+
+/// Validates an inline fragment, the selections in it apart, and answers whether these are to be
+/// validated: not where its condition is no composite type.
+pub(super) fn check_inline_fragment<'a>(
+    diagnostics: &mut DiagnosticList,
+    against_type: Option<(&'a Schema, &NamedType)>,
+    inline: &Node<InlineFragment>,
+    context: &mut OperationValidationContext<'a>,
+) -> Result<bool, ValidationError>
+    requires { IsAgainst (schema_of context.old) against_type }
+    ensures checks { Checks result (InlineFragmentHolds (schema_of context.old) (variables_of context.old) (parent_of against_type.entry) inline.now.value.value)
+        (IsDiagnostic (InlineFragmentSays (schema_of context.old) (variables_of context.old) (parent_of against_type.entry) inline.now))
+        diagnostics.old diagnostics.new }
+    ensures answer { IfOk result (λ goes_on. goes_on ≡ false → ¬ InlineFragmentHolds (schema_of context.old) (variables_of context.old) (parent_of against_type.entry) inline.now.value.value) }
+    ensures context { StaysAsItWas context.old context.new }
+{
+    check_each_directive(
+        diagnostics,
+        context.schema,
+        &inline.value.directives,
+        DirectiveLocation::InlineFragment,
+        &context.variables,
+    )?;
+    match &inline.value.type_condition {
+        Some(condition) => check_condition(diagnostics, against_type, inline, condition, context),
+        None => Ok(true),
+    }
+}
+
+/// Validates the condition of an inline fragment, and answers whether it is a composite type, if there is
+/// a schema.
+fn check_condition<'a>(
+    diagnostics: &mut DiagnosticList,
+    against_type: Option<(&'a Schema, &NamedType)>,
+    inline: &Node<InlineFragment>,
+    condition: &NamedType,
+    context: &mut OperationValidationContext<'a>,
+) -> Result<bool, ValidationError>
+    requires against { IsAgainst (schema_of context.old) against_type }
+    requires condition { inline.now.value.value.type_condition ≡ Some condition.now }
+    ensures checks { Checks result (ConditionHolds (schema_of context.old) (parent_of against_type.entry) condition.now)
+        (IsDiagnostic (InlineFragmentBreaks (schema_of context.old) (parent_of against_type.entry) inline.now))
+        diagnostics.old diagnostics.new }
+    ensures answer { IfOk result (λ goes_on. goes_on ≡ false → ¬ TargetHolds (schema_of context.old) condition.now) }
+    ensures context { StaysAsItWas context.old context.new }
+{
+    let Some(schema) = context.schema else {
+        return Ok(true);
+    };
+    let before = diagnostics.len();
+    validate_fragment_type_condition(diagnostics, schema, None, condition, inline.location)?;
+    if diagnostics.len() > before {
+        return Ok(false);
+    }
+    if let Some((schema, parent)) = against_type {
+        let inline = FragmentUse::Inline(inline);
+        validate_fragment_spread_type(diagnostics, schema, parent, condition, inline, context)?;
+    }
+    Ok(true)
+}
+
+/// Validates a spread, its fragment apart, and answers that.
+pub(super) fn check_spread<'a>(
+    diagnostics: &mut DiagnosticList,
+    document: &'a ExecutableDocument,
+    against_type: Option<(&'a Schema, &NamedType)>,
+    spread: &Node<FragmentSpread>,
+    context: &mut OperationValidationContext<'a>,
+) -> Result<Option<&'a Node<Fragment>>, ValidationError>
+    requires { IsAgainst (schema_of context.old) against_type }
+    ensures checks { Checks result (SpreadStands (schema_of context.old) (fragments_of document.now) (variables_of context.old) (parent_of against_type.entry) spread.now.value.value)
+        (IsDiagnostic (SpreadSays (schema_of context.old) (fragments_of document.now) (variables_of context.old) (parent_of against_type.entry) spread.now))
+        diagnostics.old diagnostics.new }
+    ensures found { IfOk result (λ fragment. option_copied fragment ≡ fragments_of document.now spread.now.value.value.fragment_name) }
+    ensures context { StaysAsItWas context.old context.new }
+{
+    check_each_directive(
+        diagnostics,
+        context.schema,
+        &spread.value.directives,
+        DirectiveLocation::FragmentSpread,
+        &context.variables,
+    )?;
+    let Some(fragment) = document.fragments.get(&spread.value.fragment_name) else {
+        report_undefined_fragment(diagnostics, spread)?;
+        return Ok(None);
+    };
+    check_possible(diagnostics, against_type, spread, fragment, context)?;
+    Ok(Some(fragment))
+}
+
+/// Reports a spread that names no fragment.
+fn report_undefined_fragment(
+    diagnostics: &mut DiagnosticList,
+    spread: &Node<FragmentSpread>,
+) -> Result<(), ValidationError>
+    ensures { Checks result ⊥ (IsDiagnostic (IsUndefined spread.now)) diagnostics.old diagnostics.new }
+{
+    let name = spread.value.fragment_name.clone()?;
+    diagnostics.push(
+        spread.location,
+        Details::Diagnostic(DiagnosticData::UndefinedFragment { name }),
+    )
+}
+
+/// Reports a spread whose fragment cannot be met on the type around, where that is known.
+fn check_possible<'a>(
+    diagnostics: &mut DiagnosticList,
+    against_type: Option<(&'a Schema, &NamedType)>,
+    spread: &Node<FragmentSpread>,
+    fragment: &Node<Fragment>,
+    context: &mut OperationValidationContext<'a>,
+) -> Result<(), ValidationError>
+    requires { IsAgainst (schema_of context.old) against_type }
+    ensures checks { (fragments : Fragments) → fragments spread.now.value.value.fragment_name ≡ Some fragment.now →
+        Checks result (IsPossibleIn (schema_of context.old) fragment.now.value.value.selection_set.ty (parent_of against_type.entry))
+        (IsDiagnostic (SpreadBreaks (schema_of context.old) fragments (parent_of against_type.entry) spread.now))
+        diagnostics.old diagnostics.new }
+    ensures context { StaysAsItWas context.old context.new }
+{
+    match against_type {
+        Some((schema, parent)) => {
+            let condition = &fragment.value.selection_set.ty;
+            let spread = FragmentUse::Spread(spread, fragment);
+            validate_fragment_spread_type(diagnostics, schema, parent, condition, spread, context)
+        }
+        None => Ok(()),
+    }
+}
+
+/// Validates a fragment, the selections in it apart, and answers whether these are to be validated: not
+/// where its condition is no composite type, nor where it spreads itself or nests too deep.
+pub(super) fn check_fragment(
+    diagnostics: &mut DiagnosticList,
+    document: &ExecutableDocument,
+    fragment: &Node<Fragment>,
+    context: &OperationValidationContext,
+) -> Result<bool, ValidationError>
+    ensures checks { ChecksWithin result (FragmentHolds (schema_of context.now) (fragments_of document.now) (variables_of context.now) fragment.now)
+        (IsDiagnostic (FragmentSays (schema_of context.now) (fragments_of document.now) (variables_of context.now) fragment.now))
+        (λ e. FragmentLimit (fragments_of document.now) fragment.now e.details e.location)
+        diagnostics.old diagnostics.new }
+    ensures answer { IfOk result (λ goes_on. goes_on ≡ false → entries diagnostics.new ≢ entries diagnostics.old) }
+{
+    check_each_directive(
+        diagnostics,
+        context.schema,
+        &fragment.value.directives,
+        DirectiveLocation::FragmentDefinition,
+        &context.variables,
+    )?;
+    let before = diagnostics.len();
+    check_target(diagnostics, context.schema, fragment)?;
+    validate_fragment_cycles(diagnostics, document, fragment)?;
+    Ok(diagnostics.len() == before)
+}
+
+/// Reports a fragment whose condition is no composite type, where there is a schema.
+fn check_target(
+    diagnostics: &mut DiagnosticList,
+    schema: Option<&Schema>,
+    fragment: &Node<Fragment>,
+) -> Result<(), ValidationError>
+    ensures { (fragments : Fragments) → Checks result (TargetHolds (option_copied schema.entry) fragment.now.value.value.selection_set.ty)
+        (IsDiagnostic (FragmentBreaks (option_copied schema.entry) fragments fragment.now))
+        diagnostics.old diagnostics.new }
+{
+    let Some(schema) = schema else {
+        return Ok(());
+    };
+    let name = fragment.value.name.clone()?;
+    let condition = &fragment.value.selection_set.ty;
+    validate_fragment_type_condition(
+        diagnostics,
+        schema,
+        Some(name),
+        condition,
+        fragment.location,
+    )
+}

@@ -1,0 +1,199 @@
+//! The walk over selections: each with what is below it, in the order in which they are written.
+
+ghost use Rattle.std.specs.Option.{option_copied};
+ghost use Rattle.std.specs.Prelude.{◌≡◌, ◌∷◌, []};
+ghost use Rattle.graphql_documents.specs.Diagnostics.{entries};
+ghost use Rattle.graphql_documents.specs.Selections.{fragments_of, selections_of, type_under};
+ghost use Rattle.graphql_documents.specs.declared.documents.executables.Selection.TheVariants as kind;
+ghost use Rattle.graphql_rules.specs.Contexts.{IsAgainst, SharesWith, entered_names, parent_of, schema_of, variables_of};
+ghost use Rattle.graphql_rules.specs.SelectionSteps.{FragmentWalks, Walks};
+
+use super::context::OperationValidationContext;
+use super::fields::{Below, check_field};
+use super::fragments::{check_fragment, check_inline_fragment, check_spread};
+use graphql_documents::diagnostics::{DiagnosticList, ValidationError};
+use graphql_documents::documents::{
+    ExecutableDocument, Field, Fragment, FragmentSpread, InlineFragment, NamedType, Node, Schema,
+    Selection, SelectionSet,
+};
+
+/// Validates each selection of a set, with what is below it, in the order in which they are written.
+///
+/// Without a type, as without a schema or below an unknown root, only what needs none is validated. The
+/// only error is want of memory.
+///
+/// Specification: 5.3 Fields; 5.4 Arguments; 5.5 Fragments; 5.6 Values; 5.7 Directives.
+#[cycle(selection)]
+pub fn validate_selection_set<'a>(
+    diagnostics: &mut DiagnosticList,
+    document: &'a ExecutableDocument,
+    against_type: Option<(&'a Schema, &'a NamedType)>,
+    selection_set: &'a SelectionSet,
+    context: &mut OperationValidationContext<'a>,
+) -> Result<(), ValidationError>
+    requires { IsAgainst (schema_of context.old) against_type }
+    ensures walks { Walks result (schema_of context.old) (fragments_of document.now) (variables_of context.old) (parent_of against_type.entry)
+        (selections_of selection_set.now) (entered_names context.old) (entered_names context.new) (entries diagnostics.old) (entries diagnostics.new) }
+    ensures context { SharesWith context.old context.new }
+{
+    for selection in &selection_set.selections {
+        validate_selection(diagnostics, document, against_type, selection, context)?;
+    }
+    Ok(())
+}
+
+#[cycle(selection)]
+fn validate_selection<'a>(
+    diagnostics: &mut DiagnosticList,
+    document: &'a ExecutableDocument,
+    against_type: Option<(&'a Schema, &'a NamedType)>,
+    selection: &'a Selection,
+    context: &mut OperationValidationContext<'a>,
+) -> Result<(), ValidationError>
+    requires { IsAgainst (schema_of context.old) against_type }
+    ensures walks { Walks result (schema_of context.old) (fragments_of document.now) (variables_of context.old) (parent_of against_type.entry)
+        (selection.now ∷ []) (entered_names context.old) (entered_names context.new) (entries diagnostics.old) (entries diagnostics.new) }
+    ensures context { SharesWith context.old context.new }
+{
+    match selection {
+        Selection::Field(field) => {
+            validate_field(diagnostics, document, against_type, field, context)
+        }
+        Selection::FragmentSpread(spread) => {
+            validate_fragment_spread(diagnostics, document, against_type, spread, context)
+        }
+        Selection::InlineFragment(inline) => {
+            validate_inline_fragment(diagnostics, document, against_type, inline, context)
+        }
+    }
+}
+
+/// Validates a field, with what is below it.
+///
+/// Reports come in this order: of its directives; its repeated arguments; each argument, that it is
+/// unknown, or that its variable may not stand there, or else what its value breaks; the required
+/// arguments that are missing; a missing selection, or else what is below. A field that its type lacks is
+/// not reported, and what is below it is not looked at. The only error is want of memory.
+///
+/// Specification: 5.3 Fields; 5.4 Arguments; 5.7 Directives.
+#[cycle(selection)]
+pub fn validate_field<'a>(
+    diagnostics: &mut DiagnosticList,
+    document: &'a ExecutableDocument,
+    against_type: Option<(&'a Schema, &'a NamedType)>,
+    field: &'a Node<Field>,
+    context: &mut OperationValidationContext<'a>,
+) -> Result<(), ValidationError>
+    requires { IsAgainst (schema_of context.old) against_type }
+    ensures walks { Walks result (schema_of context.old) (fragments_of document.now) (variables_of context.old) (parent_of against_type.entry)
+        (kind.Field field.now ∷ []) (entered_names context.old) (entered_names context.new) (entries diagnostics.old) (entries diagnostics.new) }
+    ensures context { SharesWith context.old context.new }
+{
+    match check_field(diagnostics, against_type, field, context)? {
+        Below::Nowhere => Ok(()),
+        Below::On(ty) => {
+            let set = &field.value.selection_set;
+            validate_selection_set(diagnostics, document, ty, set, context)
+        }
+    }
+}
+
+/// Validates an inline fragment, with the selections in it.
+///
+/// Reports come in this order: of its directives; that its condition is no composite type, or else that
+/// it cannot be met on the type around, and then of the selections in it. The only error is want of
+/// memory.
+///
+/// Specification: 5.5.1.3 Fragments on Composite Types; 5.5.2.3 Fragment Spread Is Possible.
+#[cycle(selection)]
+pub fn validate_inline_fragment<'a>(
+    diagnostics: &mut DiagnosticList,
+    document: &'a ExecutableDocument,
+    against_type: Option<(&'a Schema, &'a NamedType)>,
+    inline: &'a Node<InlineFragment>,
+    context: &mut OperationValidationContext<'a>,
+) -> Result<(), ValidationError>
+    requires { IsAgainst (schema_of context.old) against_type }
+    ensures walks { Walks result (schema_of context.old) (fragments_of document.now) (variables_of context.old) (parent_of against_type.entry)
+        (kind.InlineFragment inline.now ∷ []) (entered_names context.old) (entered_names context.new) (entries diagnostics.old) (entries diagnostics.new) }
+    ensures context { SharesWith context.old context.new }
+{
+    if !check_inline_fragment(diagnostics, against_type, inline, context)? {
+        return Ok(());
+    }
+    let condition = inline.value.type_condition.as_ref();
+    let under = type_below(context.schema, against_type, condition);
+    let set = &inline.value.selection_set;
+    validate_selection_set(diagnostics, document, under, set, context)
+}
+
+/// Validates a spread, and its fragment where it was not gone into before.
+///
+/// Reports come in this order: of its directives; that no fragment has its name, or else that its
+/// fragment cannot be met on the type around; and then of the fragment. The only error is want of memory.
+///
+/// Specification: 5.5.2 Fragment Spreads.
+#[cycle(selection)]
+pub fn validate_fragment_spread<'a>(
+    diagnostics: &mut DiagnosticList,
+    document: &'a ExecutableDocument,
+    against_type: Option<(&'a Schema, &'a NamedType)>,
+    spread: &'a Node<FragmentSpread>,
+    context: &mut OperationValidationContext<'a>,
+) -> Result<(), ValidationError>
+    requires { IsAgainst (schema_of context.old) against_type }
+    ensures walks { Walks result (schema_of context.old) (fragments_of document.now) (variables_of context.old) (parent_of against_type.entry)
+        (kind.FragmentSpread spread.now ∷ []) (entered_names context.old) (entered_names context.new) (entries diagnostics.old) (entries diagnostics.new) }
+    ensures context { SharesWith context.old context.new }
+{
+    let Some(fragment) = check_spread(diagnostics, document, against_type, spread, context)? else {
+        return Ok(());
+    };
+    if context.enter(&spread.value.fragment_name)? {
+        validate_fragment_definition(diagnostics, document, fragment, context)
+    } else {
+        Ok(())
+    }
+}
+
+/// Validates a fragment with the variables of an operation that reaches it, and the selections in it.
+///
+/// Reports come in this order: of its directives; that its condition is no composite type; that it
+/// spreads itself, or nests too deep; and where neither was reported, of the selections in it. The only
+/// error is want of memory.
+///
+/// Specification: 5.5.1.3 Fragments on Composite Types; 5.5.2.2 Fragment Spreads Must Not Form Cycles.
+#[cycle(selection)]
+pub fn validate_fragment_definition<'a>(
+    diagnostics: &mut DiagnosticList,
+    document: &'a ExecutableDocument,
+    fragment: &'a Node<Fragment>,
+    context: &mut OperationValidationContext<'a>,
+) -> Result<(), ValidationError>
+    ensures walks { FragmentWalks result (schema_of context.old) (fragments_of document.now) (variables_of context.old)
+        fragment.now (entered_names context.old) (entered_names context.new) (entries diagnostics.old) (entries diagnostics.new) }
+    ensures context { SharesWith context.old context.new }
+{
+    if !check_fragment(diagnostics, document, fragment, context)? {
+        return Ok(());
+    }
+    let set = &fragment.value.selection_set;
+    let under = type_below(context.schema, None, Some(&set.ty));
+    validate_selection_set(diagnostics, document, under, set, context)
+}
+
+/// The type under a condition, or else the type around, where there is a schema.
+fn type_below<'a>(
+    schema: Option<&'a Schema>,
+    around: Option<(&'a Schema, &'a NamedType)>,
+    condition: Option<&'a NamedType>,
+) -> Option<(&'a Schema, &'a NamedType)>
+    requires { IsAgainst (option_copied schema) around }
+    ensures under { parent_of result ≡ type_under (option_copied schema.entry) (parent_of around.entry) (option_copied condition.entry) }
+    ensures against { IsAgainst (option_copied schema.entry) result }
+{
+    match (schema, condition) {
+        (Some(schema), Some(condition)) => Some((schema, condition)),
+        _ => around,
+    }
+}

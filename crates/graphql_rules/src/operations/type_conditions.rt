@@ -1,0 +1,25 @@
+ghost use Rattle.std.specs.Prelude.{Some};
+ghost use Rattle.graphql_documents.specs.Diagnostics.{IsDiagnostic};
+ghost use Rattle.graphql_documents.specs.FragmentSpreads.{NamesComposite};
+ghost use Rattle.graphql_documents.specs.Reports.{Checks};
+ghost use Rattle.graphql_documents.specs.SelectionReports.{InvalidTargetReport};
+
+use graphql_documents::diagnostics::{Details, DiagnosticData, DiagnosticList, ValidationError};
+use graphql_documents::documents::{Name, NamedType, Schema, SourceSpan};
+
+/// Reports a fragment whose type condition names no object, interface or union of the schema, at the
+/// fragment. An inline fragment has no name. The only error is want of memory.
+///
+/// Specification: 5.5.1.2 Fragment Spread Type Existence; 5.5.1.3 Fragments on Composite Types.
+pub fn validate_fragment_type_condition(
+    diagnostics: &mut DiagnosticList,
+    schema: &Schema,
+    fragment_name: Option<Name>,
+    condition: &NamedType,
+    fragment_location: Option<SourceSpan>,
+) -> Result<(), ValidationError>
+    ensures { Checks result (NamesComposite schema.now condition.now)
+        (IsDiagnostic (InvalidTargetReport (Some schema.now) fragment_name condition.now fragment_location)) diagnostics.old diagnostics.new }
+{
+    Ok(())
+}
