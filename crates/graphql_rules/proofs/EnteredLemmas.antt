@@ -1,11 +1,11 @@
 -- Names of fragments that were gone into, walk after walk.
-use Rattle.std.proofs.Common.{◌≡◌, ◌⊎◌, inl, inr, ℕ, List, [], ◌∷◌, ◌++◌, Bool, true, false, ◌||◌, Option, Some, IsTrue, IsFalse, refl, sym, ap, ◌∙◌, subst, All, Contains}
+use Rattle.std.proofs.Common.{◌≡◌, ◌⊎◌, inl, inr, ℕ, List, [], ◌∷◌, ◌++◌, Bool, true, false, ◌||◌, not, if◌then◌else◌, Option, Some, IsTrue, IsFalse, refl, sym, ap, ◌∙◌, subst, All, Contains}
 use Rattle.std.specs.List.{list_any}
 use Rattle.std.specs.Str.{bytes_eq}
 use Rattle.std.proofs.lemmas.List.{append-nil, append_assoc}
 use Rattle.std.proofs.lemmas.List.Elements.{All-nil, All-weaker, All-append, All-contains, Contains-append_left, Contains-append_right}
 use Rattle.std.proofs.lemmas.List.Folds.{Any-from_list_any, list_any-append}
-use Rattle.graphql_documents.specs.Names.{NameText, SameName, same_name, stands_on}
+use Rattle.graphql_documents.specs.Names.{NameText, SameName, same_name, stands_on, with_name}
 use Rattle.graphql_documents.specs.Selections.{Fragments, GoesInto, HasGoneInto, IsSpreadFrom, Placed, selections_of, type_under, without}
 use Rattle.graphql_documents.specs.declared.documents.nodes.Node.{Node}
 use Rattle.graphql_documents.specs.declared.documents.schemas.Schema.{Schema}
@@ -85,24 +85,44 @@ module _ {schema : Option Schema} (fragments : Fragments) where
   spread_without_fewer old mid more grown name spread =
       record { p = spread.p; here = spread.here; placed = without_fewer old mid more grown spread.placed; named = spread.named }
 
+  spread_wider : {parent : Option NameText} {xs ys : List Selection} (old : List NameText) →
+      ((x : Selection) → Contains xs x → Contains ys x) →
+      (name : NameText) → IsSpreadFrom schema (without old fragments) parent xs name → IsSpreadFrom schema (without old fragments) parent ys name
+  spread_wider old more name spread = record { p = spread.p; here = spread.here; placed = placed_wider more spread.placed; named = spread.named }
+
   -- one walk after another
   pub goes_then : {parent : Option NameText} {xs ys : List Selection} {old mid new : List NameText} →
       GoesInto schema fragments parent xs old mid → GoesInto schema fragments parent ys mid new →
       GoesInto schema fragments parent (xs ++ ys) old new
-  goes_then {parent} {xs} {ys} {old} {mid} {new} a b = record {
-    further = a.further ++ b.further;
-    grown = b.grown ∙ ap (λ l. l ++ b.further) a.grown ∙ append_assoc old a.further b.further;
-    spread = All-append (IsSpreadFrom schema (without old fragments) parent (xs ++ ys)) a.further b.further
-        (All-weaker _ _ (λ name spread. record {
-          p = spread.p;
-          here = spread.here;
-          placed = placed_wider (λ x in'. Contains-append_left xs ys x in') spread.placed;
-          named = spread.named;
-        }) a.further a.spread)
-        (All-weaker _ _ (λ name spread. record {
-          p = spread.p;
-          here = spread.here;
-          placed = placed_wider (λ x in'. Contains-append_right xs ys x in') (without_fewer old mid a.further a.grown spread.placed);
-          named = spread.named;
-        }) b.further b.spread);
-  }
+  goes_then {parent} {xs} {ys} {old} {mid} {new} a b =
+      let From = IsSpreadFrom schema (without old fragments) parent in
+      record {
+        further = a.further ++ b.further;
+        grown = b.grown ∙ ap (λ l. l ++ b.further) a.grown ∙ append_assoc old a.further b.further;
+        spread = All-append (From (xs ++ ys)) a.further b.further
+            (All-weaker (From xs) (From (xs ++ ys)) (spread_wider old (λ x in'. Contains-append_left xs ys x in')) a.further a.spread)
+            (All-weaker (IsSpreadFrom schema (without mid fragments) parent ys) (From (xs ++ ys))
+            (λ name spread. spread_wider old (λ x in'. Contains-append_right xs ys x in') name (spread_without_fewer old mid a.further a.grown name spread))
+            b.further b.spread);
+      }
+
+not_true : (b : Bool) → not b ≡ true → b ≡ false
+not_true true h = absurd (let no : ⊥ = cc in no)
+not_true false h = refl
+
+not_false : (b : Bool) → not b ≡ false → b ≡ true
+not_false true h = refl
+not_false false h = absurd (let no : ⊥ = cc in no)
+
+-- a name that was entered for the first time, or was there
+pub was_new : (old new : List NameText) (name : NameText) (is_new : Bool) → is_new ≡ not (stands_on old name) → new ≡ with_name old name → is_new ≡ true →
+    IsFalse (stands_on old name) × (new ≡ old ++ name ∷ [])
+was_new old new name is_new is names first =
+    let fresh = not_true (stands_on old name) (sym is ∙ first) in
+    (fresh, names ∙ ap (λ b. if b then old else old ++ name ∷ []) fresh)
+
+pub was_there : (old new : List NameText) (name : NameText) (is_new : Bool) → is_new ≡ not (stands_on old name) → new ≡ with_name old name → is_new ≡ false →
+    IsTrue (stands_on old name) × (new ≡ old)
+was_there old new name is_new is names again =
+    let there = not_false (stands_on old name) (sym is ∙ again) in
+    (there, names ∙ ap (λ b. if b then old else old ++ name ∷ []) there)

@@ -1,3 +1,5 @@
 pub mod EnteredLemmas
+pub mod MeasureLemmas
 pub mod PlacedLemmas
 pub mod SelectionHoldLemmas
+pub mod WalkLemmas

@@ -6,7 +6,7 @@ use Rattle.std.proofs.lemmas.List.Elements.{All-nil, All-cons, All-contains, Con
 use Rattle.graphql_documents.specs.Fields.{FieldHolds, PlacedSelectionsHold}
 use Rattle.graphql_documents.specs.FragmentSpreads.{FragmentHolds, InlineFragmentHolds, SpreadHolds}
 use Rattle.graphql_documents.specs.Names.{NameText, SameName, stands_on}
-use Rattle.graphql_documents.specs.Selections.{Fragments, GoesInto, IsSpreadFrom, Placed, TypeBelow, placed_in_field, placed_in_inline_fragment, placed_in_spread, selections_of, standing_at, type_under, without}
+use Rattle.graphql_documents.specs.Selections.{Fragments, GoesInto, HasGoneInto, IsSpreadFrom, Placed, TypeBelow, placed_in_field, placed_in_inline_fragment, placed_in_spread, selections_of, standing_at, type_under, without}
 use Rattle.graphql_documents.specs.declared.documents.definitions.VariableDefinition.{VariableDefinition}
 use Rattle.graphql_documents.specs.declared.documents.nodes.Node.{Node}
 use Rattle.graphql_documents.specs.declared.documents.schemas.Schema.{Schema}
@@ -16,9 +16,11 @@ use Rattle.graphql_documents.specs.declared.documents.executables.FragmentSpread
 use Rattle.graphql_documents.specs.declared.documents.executables.InlineFragment.{InlineFragment}
 use Rattle.graphql_documents.specs.declared.documents.executables.Selection.{Selection}
 use Rattle.graphql_documents.specs.declared.documents.executables.Selection.TheVariants as kind
+use Rattle.graphql_documents.proofs.NameLemmas.{same_name_back}
+use Rattle.graphql_values.proofs.SelectionWalkLemmas.{stands_either}
 use Rattle.graphql_documents.proofs.SelectionLemmas.{not_inline, not_spread, same_field, same_inline, same_spread, spread_not_inline}
 use Rattle.graphql_rules.specs.SelectionSteps.{SpreadStands}
-use Rattle.graphql_rules.proofs.EnteredLemmas.{newly_entered, stands_by_text, stood_not, without_fewer}
+use Rattle.graphql_rules.proofs.EnteredLemmas.{newly_entered, stands_by_text, stands_still, stood_not, without_fewer}
 use Rattle.graphql_rules.proofs.PlacedLemmas.{ThroughEntered, avoids_or_goes_through, by_truth, found_without, placed_through, placed_wider, stays_without, type_of_condition}
 
 -- the one element of a list
@@ -30,7 +32,7 @@ one_stands x = Contains-push [] x
 
 -- what is reached from one selection is that, or is reached from what is below it
 module _ {schema : Option Schema} {fragments : Fragments} where
-  field_reaches : {parent here : Option NameText} {xs : List Selection} {s : Selection} (f : Node Field) →
+  pub field_reaches : {parent here : Option NameText} {xs : List Selection} {s : Selection} (f : Node Field) →
       Placed schema fragments parent xs s here → xs ≡ kind.Field f ∷ [] →
       ((s ≡ kind.Field f) × (here ≡ parent)) ⊎
       ((below : Option NameText) × TypeBelow schema parent f.value.value.name below × Placed schema fragments below (selections_of f.value.value.selection_set) s here)
@@ -47,7 +49,7 @@ module _ {schema : Option Schema} {fragments : Fragments} where
   field_reaches {xs = xs} f (placed_in_spread {p = p} d in' found rest) is =
       absurd (not_spread f p (only_one (kind.Field f) (kind.FragmentSpread p) (subst (λ l. Contains l (kind.FragmentSpread p)) is in')))
 
-  inline_reaches : {parent here : Option NameText} {xs : List Selection} {s : Selection} (i : Node InlineFragment) →
+  pub inline_reaches : {parent here : Option NameText} {xs : List Selection} {s : Selection} (i : Node InlineFragment) →
       Placed schema fragments parent xs s here → xs ≡ kind.InlineFragment i ∷ [] →
       ((s ≡ kind.InlineFragment i) × (here ≡ parent)) ⊎
       Placed schema fragments (type_under schema parent i.value.value.type_condition) (selections_of i.value.value.selection_set) s here
@@ -60,7 +62,7 @@ module _ {schema : Option Schema} {fragments : Fragments} where
   inline_reaches i (placed_in_spread {p = p} d in' found rest) is =
       absurd (spread_not_inline i p (only_one (kind.InlineFragment i) (kind.FragmentSpread p) (subst (λ l. Contains l (kind.FragmentSpread p)) is in')))
 
-  spread_reaches : {parent here : Option NameText} {xs : List Selection} {s : Selection} (p : Node FragmentSpread) →
+  pub spread_reaches : {parent here : Option NameText} {xs : List Selection} {s : Selection} (p : Node FragmentSpread) →
       Placed schema fragments parent xs s here → xs ≡ kind.FragmentSpread p ∷ [] →
       ((s ≡ kind.FragmentSpread p) × (here ≡ parent)) ⊎
       ((d : Node Fragment) × (fragments p.value.value.fragment_name ≡ Some d) ×
@@ -77,6 +79,13 @@ module _ {schema : Option Schema} {fragments : Fragments} where
         subst (λ x. fragments x.value.value.fragment_name ≡ Some d) same found,
         subst (λ t. Placed schema fragments t (selections_of d.value.value.selection_set) s here) (type_of_condition schema parent None d.value.value.selection_set.ty) rest,
       )
+
+-- nothing is reached from no selections
+pub nothing_placed : {schema : Option Schema} {fragments : Fragments} {parent here : Option NameText} {xs : List Selection} {s : Selection} → Placed schema fragments parent xs s here → xs ≡ [] → ⊥
+nothing_placed (standing_at {s = s} in') is = All-contains (λ x. ⊥) [] s (All-nil (λ x. ⊥)) (subst (λ l. Contains l s) is in')
+nothing_placed (placed_in_field f in' under p) is = All-contains (λ x. ⊥) [] (kind.Field f) (All-nil (λ x. ⊥)) (subst (λ l. Contains l (kind.Field f)) is in')
+nothing_placed (placed_in_inline_fragment i in' p) is = All-contains (λ x. ⊥) [] (kind.InlineFragment i) (All-nil (λ x. ⊥)) (subst (λ l. Contains l (kind.InlineFragment i)) is in')
+nothing_placed (placed_in_spread {p = p} d in' found rest) is = All-contains (λ x. ⊥) [] (kind.FragmentSpread p) (All-nil (λ x. ⊥)) (subst (λ l. Contains l (kind.FragmentSpread p)) is in')
 
 -- a selection holds where it stands, its fragment too unless that was gone into
 pub record HoldsAt (schema : Option Schema) (entered : List NameText) (fragments : Fragments) (variables : List (Node VariableDefinition)) (s : Selection) (here : Option NameText) : Type 0 where
@@ -131,14 +140,9 @@ module _ (schema : Option Schema) (fragments : Fragments) (variables : List (Nod
     spread = λ q is. subst (λ x. SpreadHolds schema entered fragments variables here x.value.value) (same_spread p q is) h;
   }
 
-  -- nothing is reached from no selections
+  -- so all of it holds
   pub nothing_reached : (entered : List NameText) (parent : Option NameText) (xs : List Selection) → xs ≡ [] → AllHold entered parent xs
-  nothing_reached entered parent xs none = all_hold entered parent xs (λ s here placed. absurd (from_none placed none)) where
-    from_none : {F : Fragments} {parent here : Option NameText} {xs : List Selection} {s : Selection} → Placed schema F parent xs s here → xs ≡ [] → ⊥
-    from_none (standing_at {s = s} in') is = All-contains (λ x. ⊥) [] s (All-nil (λ x. ⊥)) (subst (λ l. Contains l s) is in')
-    from_none (placed_in_field f in' under p) is = All-contains (λ x. ⊥) [] (kind.Field f) (All-nil (λ x. ⊥)) (subst (λ l. Contains l (kind.Field f)) is in')
-    from_none (placed_in_inline_fragment i in' p) is = All-contains (λ x. ⊥) [] (kind.InlineFragment i) (All-nil (λ x. ⊥)) (subst (λ l. Contains l (kind.InlineFragment i)) is in')
-    from_none (placed_in_spread {p = p} d in' found rest) is = All-contains (λ x. ⊥) [] (kind.FragmentSpread p) (All-nil (λ x. ⊥)) (subst (λ l. Contains l (kind.FragmentSpread p)) is in')
+  nothing_reached entered parent xs none = all_hold entered parent xs (λ s here placed. absurd (nothing_placed placed none))
 
   -- a field holds with all that is below it
   pub field_decides : (entered : List NameText) (parent : Option NameText) (f : Node Field) →
@@ -175,3 +179,235 @@ module _ (schema : Option Schema) (fragments : Fragments) (variables : List (Nod
           each_holds entered parent (kind.InlineFragment i ∷ []) h s here (placed_in_inline_fragment i (one_stands (kind.InlineFragment i)) placed)),
     ),
   )
+
+-- from one list behind another it is reached from the one or the other
+pub placed_parts : {schema : Option Schema} {fragments : Fragments} {parent here : Option NameText} {zs : List Selection} {s : Selection} (xs ys : List Selection) →
+    Placed schema fragments parent zs s here → zs ≡ xs ++ ys → Placed schema fragments parent xs s here ⊎ Placed schema fragments parent ys s here
+placed_parts xs ys (standing_at {s = s} in') is =
+    elim (Contains-append_cases xs ys s (subst (λ l. Contains l s) is in')) [ inl first ↦ inl (standing_at first) | inr second ↦ inr (standing_at second) ]
+placed_parts xs ys (placed_in_field f in' under p) is =
+    elim (Contains-append_cases xs ys (kind.Field f) (subst (λ l. Contains l (kind.Field f)) is in')) [
+      | inl first ↦ inl (placed_in_field f first under p)
+      | inr second ↦ inr (placed_in_field f second under p)
+    ]
+placed_parts xs ys (placed_in_inline_fragment i in' p) is =
+    elim (Contains-append_cases xs ys (kind.InlineFragment i) (subst (λ l. Contains l (kind.InlineFragment i)) is in')) [
+      | inl first ↦ inl (placed_in_inline_fragment i first p)
+      | inr second ↦ inr (placed_in_inline_fragment i second p)
+    ]
+placed_parts xs ys (placed_in_spread {p = p} d in' found rest) is =
+    elim (Contains-append_cases xs ys (kind.FragmentSpread p) (subst (λ l. Contains l (kind.FragmentSpread p)) is in')) [
+      | inl first ↦ inl (placed_in_spread d first found rest)
+      | inr second ↦ inr (placed_in_spread d second found rest)
+    ]
+
+-- where names of one text find one fragment
+module _ (schema : Option Schema) (fragments : Fragments) (variables : List (Node VariableDefinition))
+    (one : (a b : NameText) → SameName a b → fragments a ≡ fragments b) where
+  -- with more fragments gone into, less is asked
+  more_entered : (old mid more : List NameText) → mid ≡ old ++ more → (s : Selection) (here : Option NameText) →
+      HoldsAt schema old fragments variables s here → HoldsAt schema mid fragments variables s here
+  more_entered old mid more grown s here h = record {
+    field = h.field;
+    inline_fragment = h.inline_fragment;
+    spread = λ p is. let spread = h.spread p is in record {
+      directives = spread.directives;
+      definition = spread.definition;
+      defined = spread.defined;
+      possible = spread.possible;
+      holds = λ none. spread.holds (stood_not old mid more grown p.value.value.fragment_name none);
+    };
+  }
+
+  -- the fragments that were entered meanwhile hold by themselves
+  abbrev pub EnteredHold : List NameText → List NameText → Type 0
+  EnteredHold old mid = (name : NameText) (d : Node Fragment) → IsTrue (stands_on mid name) → IsFalse (stands_on old name) → fragments name ≡ Some d →
+      FragmentHolds schema fragments variables d
+
+  fewer_entered : (old mid : List NameText) → EnteredHold old mid → (s : Selection) (here : Option NameText) →
+      HoldsAt schema mid fragments variables s here → HoldsAt schema old fragments variables s here
+  fewer_entered old mid entered s here h = record {
+    field = h.field;
+    inline_fragment = h.inline_fragment;
+    spread = λ p is. let spread = h.spread p is in record {
+      directives = spread.directives;
+      definition = spread.definition;
+      defined = spread.defined;
+      possible = spread.possible;
+      holds = λ fresh. elim (by_truth (stands_on mid p.value.value.fragment_name)) [
+        | inl there ↦ entered p.value.value.fragment_name spread.definition there fresh spread.defined
+        | inr none ↦ spread.holds none
+      ];
+    };
+  }
+
+  module _ (parent : Option NameText) (xs : List Selection) (old mid : List NameText) (goes : GoesInto schema fragments parent xs old mid) where
+    -- the fragment of a name that was entered meanwhile is reached
+    reached_meanwhile : (name : NameText) (d : Node Fragment) → IsTrue (stands_on mid name) → IsFalse (stands_on old name) → fragments name ≡ Some d →
+        (p : Node FragmentSpread) × (here : Option NameText) × Placed schema (without old fragments) parent xs (kind.FragmentSpread p) here ×
+        (without old fragments p.value.value.fragment_name ≡ Some d) × IsFalse (stands_on old p.value.value.fragment_name)
+    reached_meanwhile name d there fresh found =
+        let spread = newly_entered fragments goes name there fresh in
+        let own = spread.p.value.value.fragment_name in
+        let fresh_too : IsFalse (stands_on old own) = stands_by_text old own name spread.named ∙ fresh in
+        (spread.p, spread.here, spread.placed, stays_without old fragments own d fresh_too (one own name spread.named ∙ found), fresh_too)
+
+    -- so it holds by itself where all that is reached does
+    entered_hold : EachHolds schema fragments variables old parent xs → EnteredHold old mid
+    entered_hold each name d there fresh found =
+        let r = reached_meanwhile name d there fresh found in
+        let spread = (each (kind.FragmentSpread r.0) r.1 r.2).spread r.0 refl in
+        let own = r.0.value.value.fragment_name in
+        subst (FragmentHolds schema fragments variables)
+        (same_Some spread.definition d (sym spread.defined ∙ (found_without old fragments own d r.3).1))
+        (spread.holds r.4)
+
+    -- and what is reached through it holds
+    through_holds : EachHolds schema fragments variables old parent xs → (s : Selection) (here : Option NameText) →
+        ThroughEntered schema fragments old mid s here → HoldsAt schema old fragments variables s here
+    through_holds each s here t =
+        let r = reached_meanwhile t.name t.d t.entered t.fresh t.found in
+        each s here (placed_through t.d r.2 refl r.3 (without_fewer fragments old mid goes.further goes.grown t.placed))
+
+    -- all that is reached from both lists holds where that from the first does, and from the second what is
+    -- reached without the fragments that the first has reached
+    pub all_then : (ys : List Selection) →
+        (AllHold schema fragments variables old parent xs × AllHold schema fragments variables mid parent ys) ↔ AllHold schema fragments variables old parent (xs ++ ys)
+    all_then ys = (
+      λ p.
+          let first = each_holds schema fragments variables old parent xs p.0 in
+          let second = each_holds schema fragments variables mid parent ys p.1 in
+          all_hold schema fragments variables old parent (xs ++ ys) (λ s here placed. elim (placed_parts xs ys placed refl) [
+            | inl in_first ↦ first s here in_first
+            | inr in_second ↦ elim (avoids_or_goes_through old mid in_second) [
+              | inl avoids ↦ fewer_entered old mid (entered_hold first) s here (second s here avoids)
+              | inr through ↦ through_holds first s here through
+            ]
+          ]),
+      λ h.
+          let each = each_holds schema fragments variables old parent (xs ++ ys) h in (
+            all_hold schema fragments variables old parent xs (λ s here placed. each s here (placed_wider (λ x in'. Contains-append_left xs ys x in') placed)),
+            all_hold schema fragments variables mid parent ys (λ s here placed.
+                more_entered old mid goes.further goes.grown s here
+                (each s here (placed_wider (λ x in'. Contains-append_right xs ys x in') (without_fewer fragments old mid goes.further goes.grown placed)))),
+          ),
+    )
+
+    -- where each part has gone into all fragments that it reaches, both have
+    pub gone_then : (ys : List Selection) (new : List NameText) → GoesInto schema fragments parent ys mid new →
+        HasGoneInto schema fragments parent xs old mid → HasGoneInto schema fragments parent ys mid new → HasGoneInto schema fragments parent (xs ++ ys) old new
+    gone_then ys new further first second name spread =
+        elim (placed_parts xs ys spread.placed refl) [
+          | inl in_first ↦ stands_still mid new further.further further.grown name
+              (first name (record { p = spread.p; here = spread.here; placed = in_first; named = spread.named }))
+          | inr in_second ↦ elim (avoids_or_goes_through old mid in_second) [
+            | inl avoids ↦ second name (record { p = spread.p; here = spread.here; placed = avoids; named = spread.named })
+            | inr t ↦
+                let r = reached_meanwhile t.name t.d t.entered t.fresh t.found in
+                stands_still mid new further.further further.grown name (first name (record {
+                  p = spread.p;
+                  here = spread.here;
+                  placed = placed_through t.d r.2 refl r.3 (without_fewer fragments old mid goes.further goes.grown t.placed);
+                  named = spread.named;
+                }))
+          ]
+        ]
+
+  -- a spread holds with its fragment, or where that was gone into before by itself
+  module _ (entered : List NameText) (parent : Option NameText) (p : Node FragmentSpread) where
+    spread_at : AllHold schema fragments variables entered parent (kind.FragmentSpread p ∷ []) → SpreadHolds schema entered fragments variables parent p.value.value
+    spread_at h = (each_holds schema fragments variables entered parent (kind.FragmentSpread p ∷ []) h (kind.FragmentSpread p) parent (standing_at (one_stands (kind.FragmentSpread p)))).spread p refl
+
+    stands_there : SpreadHolds schema entered fragments variables parent p.value.value → SpreadStands schema fragments variables parent p.value.value
+    stands_there h = record { directives = h.directives; definition = h.definition; defined = h.defined; possible = h.possible }
+
+    pub spread_stands : AllHold schema fragments variables entered parent (kind.FragmentSpread p ∷ []) → SpreadStands schema fragments variables parent p.value.value
+    spread_stands h = stands_there (spread_at h)
+
+    at_itself : SpreadHolds schema entered fragments variables parent p.value.value → (s : Selection) (here : Option NameText) →
+        s ≡ kind.FragmentSpread p → here ≡ parent → HoldsAt schema entered fragments variables s here
+    at_itself h s here is at =
+        subst (λ x. HoldsAt schema entered fragments variables x here) (sym is)
+        (subst (λ t. HoldsAt schema entered fragments variables (kind.FragmentSpread p) t) (sym at) (holds_spread schema fragments variables entered parent p h))
+
+    pub spread_before : IsTrue (stands_on entered p.value.value.fragment_name) →
+        SpreadStands schema fragments variables parent p.value.value ↔ AllHold schema fragments variables entered parent (kind.FragmentSpread p ∷ [])
+    spread_before there = (
+      λ h. all_hold schema fragments variables entered parent (kind.FragmentSpread p ∷ []) (λ s here placed. elim (spread_reaches p placed refl) [
+        | inl itself ↦ at_itself (record {
+          directives = h.directives;
+          definition = h.definition;
+          defined = h.defined;
+          possible = h.possible;
+          holds = λ fresh. absurd (let no : ⊥ = cc in no);
+        }) s here itself.0 itself.1
+        | inr r ↦ let fresh = (found_without entered fragments p.value.value.fragment_name r.0 r.1).0 in absurd (let no : ⊥ = cc in no)
+      ]),
+      spread_stands,
+    )
+
+    -- what was entered last has this name, and finds this fragment
+    module _ (d : Node Fragment) (found : fragments p.value.value.fragment_name ≡ Some d) (fresh : IsFalse (stands_on entered p.value.value.fragment_name))
+        (mid : List NameText) (grown : mid ≡ entered ++ p.value.value.fragment_name ∷ []) where
+      pub it_was_entered : (name : NameText) → IsTrue (stands_on mid name) → IsFalse (stands_on entered name) → SameName p.value.value.fragment_name name
+      it_was_entered name there before =
+          elim (stands_either entered p.value.value.fragment_name name (subst (λ l. IsTrue (stands_on l name)) grown there)) [
+            | inl earlier ↦ absurd (let no : ⊥ = cc in no)
+            | inr same ↦ same_name_back name p.value.value.fragment_name same
+          ]
+
+      pub it_is_found : (name : NameText) (other : Node Fragment) → IsTrue (stands_on mid name) → IsFalse (stands_on entered name) → fragments name ≡ Some other → d ≡ other
+      it_is_found name other there before is =
+          same_Some d other (sym found ∙ one p.value.value.fragment_name name (it_was_entered name there before) ∙ is)
+
+      abbrev pub TypeOf : Option NameText
+      TypeOf = type_under schema None (Some d.value.value.selection_set.ty)
+
+      pub spread_fresh :
+          (SpreadStands schema fragments variables parent p.value.value ×
+          (FragmentHolds schema fragments variables d × AllHold schema fragments variables mid TypeOf (selections_of d.value.value.selection_set))) ↔
+          AllHold schema fragments variables entered parent (kind.FragmentSpread p ∷ [])
+      spread_fresh = (there, back) where
+        there : SpreadStands schema fragments variables parent p.value.value ×
+            (FragmentHolds schema fragments variables d × AllHold schema fragments variables mid TypeOf (selections_of d.value.value.selection_set)) →
+            AllHold schema fragments variables entered parent (kind.FragmentSpread p ∷ [])
+        there h =
+            let hold : EnteredHold entered mid = λ name other stands before is. subst (FragmentHolds schema fragments variables) (it_is_found name other stands before is) h.1.0 in
+            let each = each_holds schema fragments variables mid TypeOf (selections_of d.value.value.selection_set) h.1.1 in
+            all_hold schema fragments variables entered parent (kind.FragmentSpread p ∷ []) (λ s here placed. elim (spread_reaches p placed refl) [
+              | inl itself ↦ at_itself (record {
+                directives = h.0.directives;
+                definition = h.0.definition;
+                defined = h.0.defined;
+                possible = h.0.possible;
+                holds = λ _. subst (FragmentHolds schema fragments variables) (same_Some d h.0.definition (sym found ∙ h.0.defined)) h.1.0;
+              }) s here itself.0 itself.1
+              | inr r ↦
+                  let same : r.0 ≡ d = same_Some r.0 d (sym (found_without entered fragments p.value.value.fragment_name r.0 r.1).1 ∙ found) in
+                  let from_d : Placed schema (without entered fragments) TypeOf (selections_of d.value.value.selection_set) s here =
+                  subst (λ x. Placed schema (without entered fragments) (type_under schema None (Some x.value.value.selection_set.ty)) (selections_of x.value.value.selection_set) s here) same r.2 in
+                  elim (avoids_or_goes_through entered mid from_d) [
+                    | inl avoids ↦ fewer_entered entered mid hold s here (each s here avoids)
+                    | inr t ↦ fewer_entered entered mid hold s here (each s here
+                        (subst (λ x. Placed schema (without mid fragments) (type_under schema None (Some x.value.value.selection_set.ty)) (selections_of x.value.value.selection_set) s here)
+                        (sym (it_is_found t.name t.d t.entered t.fresh t.found)) t.placed))
+                  ]
+            ])
+
+        back : AllHold schema fragments variables entered parent (kind.FragmentSpread p ∷ []) →
+            SpreadStands schema fragments variables parent p.value.value ×
+            (FragmentHolds schema fragments variables d × AllHold schema fragments variables mid TypeOf (selections_of d.value.value.selection_set))
+        back h =
+            let spread = spread_at h in
+            let each = each_holds schema fragments variables entered parent (kind.FragmentSpread p ∷ []) h in (
+              stands_there spread,
+              (
+                subst (FragmentHolds schema fragments variables) (same_Some spread.definition d (sym spread.defined ∙ found)) (spread.holds fresh),
+                all_hold schema fragments variables mid TypeOf (selections_of d.value.value.selection_set) (λ s here placed.
+                    more_entered entered mid (p.value.value.fragment_name ∷ []) grown s here
+                    (each s here (placed_in_spread d (one_stands (kind.FragmentSpread p)) (stays_without entered fragments p.value.value.fragment_name d fresh found)
+                    (subst (λ t. Placed schema (without entered fragments) t (selections_of d.value.value.selection_set) s here)
+                    (type_of_condition schema None parent d.value.value.selection_set.ty)
+                    (without_fewer fragments entered mid (p.value.value.fragment_name ∷ []) grown placed))))),
+              ),
+            )
