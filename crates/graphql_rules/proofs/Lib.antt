@@ -1,5 +1,6 @@
+pub mod AppliedLemmas
 pub mod EnteredLemmas
-pub mod MeasureLemmas
+pub mod FieldLemmas
 pub mod PlacedLemmas
 pub mod SelectionHoldLemmas
 pub mod WalkLemmas

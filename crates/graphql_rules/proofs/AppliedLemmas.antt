@@ -1,0 +1,31 @@
+-- Directives that are checked as a slice, in the words of what they are applied to.
+use Rattle.std.proofs.Common.{◌≡◌, List, Option, Result, subst}
+use Rattle.graphql_documents.specs.Diagnostics.{IsDiagnostic}
+use Rattle.graphql_documents.specs.DirectiveReports.{DirectivesBreak}
+use Rattle.graphql_documents.specs.Directives.{ApplicationsHold}
+use Rattle.graphql_documents.specs.Reports.{KeepsReports, Reports}
+use Rattle.graphql_documents.proofs.DiagnosticLemmas.{diagnostic_wider}
+use Rattle.graphql_documents.proofs.ReportLemmas.{kept_wider, wider}
+use Rattle.graphql_documents.specs.declared.diagnostics.data.DiagnosticData.{DiagnosticData}
+use Rattle.graphql_documents.specs.declared.diagnostics.lists.DiagnosticEntry.{DiagnosticEntry}
+use Rattle.graphql_documents.specs.declared.documents.definitions.DirectiveLocation.{DirectiveLocation}
+use Rattle.graphql_documents.specs.declared.documents.definitions.VariableDefinition.{VariableDefinition}
+use Rattle.graphql_documents.specs.declared.documents.directives.Directive.{Directive}
+use Rattle.graphql_documents.specs.declared.documents.nodes.Node.{Node}
+use Rattle.graphql_documents.specs.declared.documents.schemas.Schema.{Schema}
+use Rattle.graphql_documents.specs.declared.documents.spans.SourceSpan.{SourceSpan}
+
+module _ {schema : Option Schema} {variables : List (Node VariableDefinition)} {location : DirectiveLocation} {given directives : List (Node Directive)}
+    (Says : DiagnosticData → Option SourceSpan → Type 0) {old new : List DiagnosticEntry} where
+  pub directives_kept : ((r : DiagnosticData) (at : Option SourceSpan) → DirectivesBreak schema variables location directives r at → Says r at) → given ≡ directives →
+      KeepsReports (IsDiagnostic (DirectivesBreak schema variables location given)) old new → KeepsReports (IsDiagnostic Says) old new
+  directives_kept wide same k =
+      kept_wider (diagnostic_wider (DirectivesBreak schema variables location directives) Says wide)
+      (subst (λ l. KeepsReports (IsDiagnostic (DirectivesBreak schema variables location l)) old new) same k)
+
+  pub directives_reported : ((r : DiagnosticData) (at : Option SourceSpan) → DirectivesBreak schema variables location directives r at → Says r at) → given ≡ directives →
+      Reports (ApplicationsHold schema variables location given) (IsDiagnostic (DirectivesBreak schema variables location given)) old new →
+      Reports (ApplicationsHold schema variables location directives) (IsDiagnostic Says) old new
+  directives_reported wide same r =
+      wider (diagnostic_wider (DirectivesBreak schema variables location directives) Says wide)
+      (subst (λ l. Reports (ApplicationsHold schema variables location l) (IsDiagnostic (DirectivesBreak schema variables location l)) old new) same r)
