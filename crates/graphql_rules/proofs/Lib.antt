@@ -1,6 +1,7 @@
 pub mod AppliedLemmas
 pub mod EnteredLemmas
 pub mod FieldLemmas
+pub mod FragmentLemmas
 pub mod PlacedLemmas
 pub mod SelectionHoldLemmas
 pub mod WalkLemmas
