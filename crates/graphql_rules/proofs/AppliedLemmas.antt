@@ -1,5 +1,5 @@
 -- Directives that are checked as a slice, in the words of what they are applied to.
-use Rattle.std.proofs.Common.{◌≡◌, List, Option, Result, subst}
+use Rattle.std.proofs.Common.{◌≡◌, List, Option, subst}
 use Rattle.graphql_documents.specs.Diagnostics.{IsDiagnostic}
 use Rattle.graphql_documents.specs.DirectiveReports.{DirectivesBreak}
 use Rattle.graphql_documents.specs.Directives.{ApplicationsHold}

@@ -11,13 +11,13 @@ use Rattle.graphql_documents.specs.Directives.{ApplicationsHold}
 use Rattle.graphql_documents.specs.FieldReports.{FieldBreaks, SelectionIsMissing, is_missing}
 use Rattle.graphql_documents.specs.Fields.{AgreesWithDefinition, FieldHolds, HasNeededSelection}
 use Rattle.graphql_documents.specs.Names.{NameText}
-use Rattle.graphql_documents.specs.Reports.{KeepsReports, Reports}
+use Rattle.graphql_documents.specs.Reports.{Reports}
 use Rattle.graphql_documents.specs.Schemas.{type_field}
 use Rattle.graphql_documents.specs.SelectionReports.{FieldValuesBreak}
 use Rattle.graphql_documents.specs.Selections.{TypeBelow, below_known, below_unknown, definition_at}
 use Rattle.graphql_documents.specs.TypeReferences.{inner_named_type}
 use Rattle.graphql_documents.proofs.DiagnosticLemmas.{diagnostic_wider}
-use Rattle.graphql_documents.proofs.ReportLemmas.{ChecksList, both, checks_after, checks_words, in_words, kept_by, kept_then, kept_wider, wider}
+use Rattle.graphql_documents.proofs.ReportLemmas.{ChecksList, both, checks_after, checks_words, in_words, wider}
 use Rattle.graphql_documents.specs.declared.diagnostics.data.DiagnosticData.TheVariants as report
 use Rattle.graphql_documents.specs.declared.diagnostics.data.DiagnosticData.{DiagnosticData}
 use Rattle.graphql_documents.specs.declared.diagnostics.lists.DiagnosticEntry.{DiagnosticEntry}
@@ -163,8 +163,7 @@ module _ (schema : Option Schema) (variables : List (Node VariableDefinition)) (
     back : FieldHolds schema variables parent f →
         (ApplicationsHold schema variables at.Field f.directives.items × HasDistinctNames f.arguments.items) × DefinedFieldHolds s variables f d.node.value.value
     back h =
-        let agrees = h.form.agrees d is in
-        (
+        let agrees = h.form.agrees d is in (
           (h.directives, h.form.distinct),
           record {
             arguments = arguments_hold s variables f d.node.value.value agrees.arguments (h.values s d has is);

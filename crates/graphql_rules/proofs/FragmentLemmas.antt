@@ -1,5 +1,5 @@
 -- Inline fragments, spreads and fragments, in the words of what is asked of them.
-use Rattle.std.proofs.Common.{◌≡◌, ◌≢◌, ◌↔◌, ◌⊎◌, inl, inr, ℕ, ◌+◌, ◌<◌, List, [], ◌++◌, length, Bool, false, Option, None, Some, Result, Ok, Err, IfOk, refl, sym, ap, ◌∙◌, subst, arith}
+use Rattle.std.proofs.Common.{◌≡◌, ◌↔◌, ◌⊎◌, inl, inr, ◌+◌, ◌<◌, List, ◌++◌, length, Bool, false, Option, None, Some, Result, Ok, Err, IfOk, refl, sym, ap, ◌∙◌, subst, arith}
 use Rattle.std.proofs.lemmas.List.{append-nil, length-append}
 use Rattle.std.proofs.lemmas.Option.{none-some, same_Some}
 use Rattle.graphql_documents.specs.Diagnostics.{IsDiagnostic, IsLimitEntry}
@@ -11,7 +11,7 @@ use Rattle.graphql_documents.specs.Reports.{KeepsReports, Reports, ReportsWithin
 use Rattle.graphql_documents.specs.SelectionReports.{FragmentBreaks, ImpossibleReport, InlineFragmentBreaks, InvalidTargetReport, SpreadBreaks, impossible_use, invalid_target}
 use Rattle.graphql_documents.specs.Selections.{Fragments}
 use Rattle.graphql_documents.proofs.DiagnosticLemmas.{diagnostic_wider}
-use Rattle.graphql_documents.proofs.ReportLemmas.{ChecksList, checks_words, kept_wider, wider}
+use Rattle.graphql_documents.proofs.ReportLemmas.{ChecksList, checks_words, wider}
 use Rattle.graphql_documents.proofs.ReportWithinLemmas.{both_within, in_words_within, wider_within, within}
 use Rattle.graphql_documents.specs.declared.diagnostics.data.DiagnosticData.{DiagnosticData}
 use Rattle.graphql_documents.specs.declared.diagnostics.lists.DiagnosticEntry.{DiagnosticEntry}
@@ -23,7 +23,7 @@ use Rattle.graphql_documents.specs.declared.documents.executables.InlineFragment
 use Rattle.graphql_documents.specs.declared.documents.nodes.Node.{Node}
 use Rattle.graphql_documents.specs.declared.documents.schemas.Schema.{Schema}
 use Rattle.graphql_documents.specs.declared.documents.spans.SourceSpan.{SourceSpan}
-use Rattle.graphql_rules.specs.SelectionSteps.{ConditionHolds, FragmentSays, InlineFragmentSays, IsUndefined, SpreadSays, SpreadStands, by_condition, by_fragment, by_inline_directives, by_spread, is_undefined}
+use Rattle.graphql_rules.specs.SelectionSteps.{ConditionHolds, FragmentSays, InlineFragmentSays, IsUndefined, SpreadSays, SpreadStands, by_condition, by_fragment, by_spread, is_undefined}
 
 -- a rule that holds adds nothing
 pub not_silent : {Entry P : Type 0} {Q : Entry → Type 0} {old new : List Entry} → Reports P Q old new → length old < length new → ¬ P
@@ -179,35 +179,37 @@ module _ (schema : Option Schema) (fragments : Fragments) (variables : List (Nod
       ),
     )
 
-    -- whether its fragment is possible where it stands
-    module _ (s : Schema) (around condition : NameText) (has : schema ≡ Some s) (is : parent ≡ Some around) (same : condition ≡ d.value.value.selection_set.ty) where
-      of_use : (r : DiagnosticData) (at : Option SourceSpan) →
-          ImpossibleReport schema (Some p.value.value.fragment_name) d.value.value.selection_set.ty parent d.location p.location r at →
-          SpreadBreaks schema fragments parent p r at
-      of_use r at (impossible_use impossible) = (d, found, refl, impossible)
+-- whether the fragment of a spread is possible where that stands
+module _ (schema : Option Schema) (fragments : Fragments) (parent : Option NameText) (p : Node FragmentSpread) (d : Node Fragment)
+    (found : fragments p.value.value.fragment_name ≡ Some d) (s : Schema) (around condition : NameText)
+    (has : schema ≡ Some s) (is : parent ≡ Some around) (same : condition ≡ d.value.value.selection_set.ty) where
+  of_use : (r : DiagnosticData) (at : Option SourceSpan) →
+      ImpossibleReport schema (Some p.value.value.fragment_name) d.value.value.selection_set.ty parent d.location p.location r at →
+      SpreadBreaks schema fragments parent p r at
+  of_use r at (impossible_use impossible) = (d, found, refl, impossible)
 
-      names_use : (e : DiagnosticEntry) → IsDiagnostic (ImpossibleReport (Some s) (Some p.value.value.fragment_name) condition (Some around) d.location p.location) e →
-          IsDiagnostic (SpreadBreaks schema fragments parent p) e
-      names_use e said =
-          let name = Some p.value.value.fragment_name in
-          diagnostic_wider (ImpossibleReport schema name d.value.value.selection_set.ty parent d.location p.location) (SpreadBreaks schema fragments parent p) of_use e
-          (subst (λ o. IsDiagnostic (ImpossibleReport o name d.value.value.selection_set.ty parent d.location p.location) e) (sym has)
-          (subst (λ q. IsDiagnostic (ImpossibleReport (Some s) name d.value.value.selection_set.ty q d.location p.location) e) (sym is)
-          (subst (λ c. IsDiagnostic (ImpossibleReport (Some s) name c (Some around) d.location p.location) e) same said)))
+  names_use : (e : DiagnosticEntry) → IsDiagnostic (ImpossibleReport (Some s) (Some p.value.value.fragment_name) condition (Some around) d.location p.location) e →
+      IsDiagnostic (SpreadBreaks schema fragments parent p) e
+  names_use e said =
+      let name = Some p.value.value.fragment_name in
+      diagnostic_wider (ImpossibleReport schema name d.value.value.selection_set.ty parent d.location p.location) (SpreadBreaks schema fragments parent p) of_use e
+      (subst (λ o. IsDiagnostic (ImpossibleReport o name d.value.value.selection_set.ty parent d.location p.location) e) (sym has)
+      (subst (λ q. IsDiagnostic (ImpossibleReport (Some s) name d.value.value.selection_set.ty q d.location p.location) e) (sym is)
+      (subst (λ c. IsDiagnostic (ImpossibleReport (Some s) name c (Some around) d.location p.location) e) same said)))
 
-      use_decides : IsPossibleAt s condition (Some around) ↔ IsPossibleIn schema d.value.value.selection_set.ty parent
-      use_decides =
-          subst (λ c. IsPossibleAt s c (Some around) ↔ IsPossibleIn schema d.value.value.selection_set.ty parent) (sym same)
-          (possible_decides schema d.value.value.selection_set.ty parent s around has is)
+  use_decides : IsPossibleAt s condition (Some around) ↔ IsPossibleIn schema d.value.value.selection_set.ty parent
+  use_decides =
+      subst (λ c. IsPossibleAt s c (Some around) ↔ IsPossibleIn schema d.value.value.selection_set.ty parent) (sym same)
+      (possible_decides schema d.value.value.selection_set.ty parent s around has is)
 
-      pub use_checked : {T E : Type 0} (r : Result T E) (old new : List DiagnosticEntry) →
-          ChecksList r (IsPossibleAt s condition (Some around))
-          (IsDiagnostic (ImpossibleReport (Some s) (Some p.value.value.fragment_name) condition (Some around) d.location p.location)) old new →
-          ChecksList r (IsPossibleIn schema d.value.value.selection_set.ty parent) (IsDiagnostic (SpreadBreaks schema fragments parent p)) old new
-      use_checked r old new checks =
-          checks_words r (IsPossibleAt s condition (Some around)) (IsPossibleIn schema d.value.value.selection_set.ty parent)
-          (IsDiagnostic (ImpossibleReport (Some s) (Some p.value.value.fragment_name) condition (Some around) d.location p.location))
-          (IsDiagnostic (SpreadBreaks schema fragments parent p)) old new use_decides names_use checks
+  pub use_checked : {T E : Type 0} (r : Result T E) (old new : List DiagnosticEntry) →
+      ChecksList r (IsPossibleAt s condition (Some around))
+      (IsDiagnostic (ImpossibleReport (Some s) (Some p.value.value.fragment_name) condition (Some around) d.location p.location)) old new →
+      ChecksList r (IsPossibleIn schema d.value.value.selection_set.ty parent) (IsDiagnostic (SpreadBreaks schema fragments parent p)) old new
+  use_checked r old new checks =
+      checks_words r (IsPossibleAt s condition (Some around)) (IsPossibleIn schema d.value.value.selection_set.ty parent)
+      (IsDiagnostic (ImpossibleReport (Some s) (Some p.value.value.fragment_name) condition (Some around) d.location p.location))
+      (IsDiagnostic (SpreadBreaks schema fragments parent p)) old new use_decides names_use checks
 
 -- the condition of a fragment
 module _ (schema : Option Schema) (fragments : Fragments) (d : Node Fragment) (s : Schema) (name condition : NameText) (has : schema ≡ Some s)

@@ -1,6 +1,4 @@
-use Rattle.std.proofs.Common.{Some, ap, refl, ◌≡◌, ◌∙◌, subst, sym}
-use Rattle.graphql_documents.specs.Names.{NameText}
-use Rattle.graphql_documents.specs.Selections.{TypeBelow}
+use Rattle.std.proofs.Common.{Some, ap, refl, ◌≡◌, ◌∙◌}
 use Rattle.graphql_documents.specs.TypeReferences.{inner_named_type}
 use Rattle.graphql_documents.proofs.ReportLemmas.{checks-err, kept_by, kept_then, kept_wider}
 use Rattle.graphql_documents.specs.declared.documents.definitions.FieldDefinition.{FieldDefinition}
@@ -27,8 +25,7 @@ returns-then-branch-clause-checks c =
 pub returns-then-branch-clause-below : goal.returns-then-branch-clause-below
 returns-then-branch-clause-below c =
     let inner : c.inner_named_type.result.now ≡ inner_named_type c.args.definition.now.node.value.value.ty =
-    c.inner_named_type.ensures ∙ ap (λ (d : FieldDefinition). inner_named_type d.ty) c.deref.ensures in
-    (
+    c.inner_named_type.ensures ∙ ap (λ (d : FieldDefinition). inner_named_type d.ty) c.deref.ensures in (
       refl,
       rw inner (stands_below (Some c.args.schema.now) (Some c.args.parent.now) c.args.field.now.value.value.name c.args.definition.now c.requires.found),
     )

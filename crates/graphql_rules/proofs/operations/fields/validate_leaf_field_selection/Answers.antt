@@ -1,4 +1,4 @@
-use Rattle.std.proofs.Common.{Some, refl, rules, subst}
+use Rattle.std.proofs.Common.{Some, refl, rules}
 use Rattle.graphql_documents.specs.FieldReports.{is_missing}
 use Rattle.graphql_documents.proofs.ReportLemmas.{broken, holds}
 use Rattle.graphql_rules.specs.SelectionSteps.{IsUnselected}

@@ -1,4 +1,4 @@
-use Rattle.std.proofs.Common.{◌≡◌, ◌<◌, length, Some, ap, sym, ◌∙◌, rules}
+use Rattle.std.proofs.Common.{◌≡◌, ◌<◌, length, Some, ap}
 use Rattle.std.specs.Option.{option_copied}
 use Rattle.graphql_documents.specs.Diagnostics.{entries}
 use Rattle.graphql_documents.proofs.ReportLemmas.{both, checks-err, holds, in_words, kept_by, kept_then, kept_wider, wider}

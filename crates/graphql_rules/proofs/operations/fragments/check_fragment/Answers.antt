@@ -1,4 +1,4 @@
-use Rattle.std.proofs.Common.{◌≡◌, Bool, false, true, length, nat_eq, ap, sym, ◌∙◌, arith}
+use Rattle.std.proofs.Common.{◌≡◌, length, ap, sym, ◌∙◌, arith}
 use Rattle.std.proofs.lemmas.Bool.Decides.{nat_tests}
 use Rattle.graphql_documents.specs.Diagnostics.{IsLimitEntry, entries}
 use Rattle.graphql_documents.proofs.ReportLemmas.{kept_by, kept_then, kept_wider}

@@ -1,4 +1,4 @@
-use Rattle.std.proofs.Common.{◌≡◌, None, Some, ap, sym, ◌∙◌}
+use Rattle.std.proofs.Common.{ap, sym, ◌∙◌}
 use Rattle.graphql_documents.specs.Diagnostics.{IsDiagnostic}
 use Rattle.graphql_documents.specs.FragmentSpreads.{InlineFragmentHolds, TargetHolds}
 use Rattle.graphql_documents.specs.SelectionReports.{InlineFragmentBreaks}
