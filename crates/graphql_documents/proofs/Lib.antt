@@ -1,8 +1,10 @@
 pub mod DiagnosticLemmas
+pub mod ImplementerLemmas
 pub mod ListLemmas
 pub mod NameLemmas
 pub mod NumberLemmas
 pub mod ReportLemmas
 pub mod ReportWithinLemmas
 pub mod SelectionLemmas
+pub mod SelectionReportLemmas
 pub mod VariableUseLemmas

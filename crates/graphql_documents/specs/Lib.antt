@@ -21,6 +21,7 @@ pub mod Fields
 pub mod FragmentSpreads
 pub mod ImplementationReports
 pub mod Implementations
+pub mod Implementers
 pub mod InputCoercion
 pub mod Limits
 pub mod MergedFields

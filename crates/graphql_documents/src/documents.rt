@@ -6,6 +6,7 @@ pub mod definitions;
 pub mod directives;
 pub mod executables;
 pub mod floats;
+pub mod implementers;
 pub mod integers;
 pub mod meta_fields;
 pub mod names;
@@ -30,6 +31,7 @@ pub use executables::{
     OperationMap, Selection, SelectionSet, Valid,
 };
 pub use floats::FloatValue;
+pub use implementers::Implementers;
 pub use integers::IntValue;
 pub use meta_fields::MetaFields;
 pub use names::{Name, NamedType};

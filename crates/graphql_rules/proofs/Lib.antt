@@ -1,7 +1,1 @@
-pub mod AppliedLemmas
-pub mod EnteredLemmas
-pub mod FieldLemmas
-pub mod FragmentLemmas
-pub mod PlacedLemmas
-pub mod SelectionHoldLemmas
-pub mod WalkLemmas
+mod PossibleTypeLemmas

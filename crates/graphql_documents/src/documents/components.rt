@@ -1,6 +1,12 @@
+ghost use Rattle.std.proofs.Common.{ap};
+ghost use Rattle.std.specs.Cmp.Lexicographic.{bytes_decides, nat_list_eq_equiv};
+ghost use Rattle.std.specs.Hash as fed;
+ghost use Rattle.graphql_documents.specs.Names.{same_name};
+
 use super::names::Name;
 use super::nodes::Node;
 use super::spans::SourceSpan;
+use indexmap::Equivalent;
 
 /// An extension of a definition, by its number in the document.
 #[derive(Clone, Copy, Debug, PartialEq, Eq, Hash)]
@@ -32,4 +38,17 @@ pub struct ComponentName {
     #[derive_where(skip(EqHashOrd))]
     pub origin: ComponentOrigin,
     pub name: Name,
+}
+
+/// A list of a definition is asked for a name without its origin.
+impl Equivalent<ComponentName> for &Name {
+    ghost equivalent = { λ name listed. same_name name.now listed.name };
+
+    ghost respects_hash = { λ name listed same. ap fed.str ((bytes_decides name.now.text listed.name.text).0 same) };
+
+    ghost respects_eq = { λ name listed other. nat_list_eq_equiv.congr name.now.text listed.name.text other.name.text };
+
+    fn equivalent(&self, listed: &ComponentName) -> bool {
+        **self == listed.name
+    }
 }

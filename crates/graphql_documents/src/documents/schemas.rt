@@ -117,7 +117,7 @@ pub enum FieldLookupError {
 impl ExtendedType {
     ghost use Rattle.std.specs.Prelude.{◌≡◌};
     ghost use Rattle.std.specs.Option.{option_copied};
-    ghost use Rattle.graphql_documents.specs.Schemas.{is_built_in, is_composite, is_input_type, is_output_type, kind_text, location_of, own_field};
+    ghost use Rattle.graphql_documents.specs.Schemas.{interfaces_of, is_built_in, is_composite, is_input_type, is_output_type, kind_text, location_of, own_field};
 
     /// Whether the type is an object, an interface or a union, so that its fields are selected.
     pub fn is_composite(&self) -> bool
@@ -171,6 +171,21 @@ impl ExtendedType {
             ExtendedType::Union(definition) => definition.location,
             ExtendedType::Enum(definition) => definition.location,
             ExtendedType::InputObject(definition) => definition.location,
+        }
+    }
+
+    /// The interfaces that the type lists; none where it is no object and no interface.
+    ///
+    /// Specification: 3.6 Objects; 3.7 Interfaces.
+    pub fn implements_interfaces(&self) -> &[ComponentName]
+        ensures { result.now ≡ interfaces_of self.now }
+    {
+        match self {
+            ExtendedType::Object(definition) => definition.value.implements_interfaces.as_slice(),
+            ExtendedType::Interface(definition) => {
+                definition.value.implements_interfaces.as_slice()
+            }
+            _ => &[],
         }
     }
 

@@ -21,5 +21,17 @@ pub fn validate_fragment_type_condition(
     ensures { Checks result (NamesComposite schema.now condition.now)
         (IsDiagnostic (InvalidTargetReport (Some schema.now) fragment_name condition.now fragment_location)) diagnostics.old diagnostics.new }
 {
-    Ok(())
+    if let Some(definition) = schema.types.get(condition) {
+        if definition.is_composite() {
+            return Ok(());
+        }
+    }
+    let ty = condition.clone()?;
+    diagnostics.push(
+        fragment_location,
+        Details::Diagnostic(DiagnosticData::InvalidFragmentTarget {
+            name: fragment_name,
+            ty,
+        }),
+    )
 }

@@ -1,0 +1,35 @@
+-- What the checks of the types of fragments report, in the words of selections and fragments.
+use Rattle.std.proofs.Common.{◌≡◌, Option, None, Some, refl}
+use Rattle.graphql_documents.specs.Names.{NameText}
+use Rattle.graphql_documents.specs.SelectionReports.{FragmentBreaks, ImpossibleReport, InlineFragmentBreaks, InvalidTargetReport, SpreadBreaks, of_impossible, of_target}
+use Rattle.graphql_documents.specs.Selections.{Fragments}
+use Rattle.graphql_documents.specs.declared.diagnostics.data.DiagnosticData.{DiagnosticData}
+use Rattle.graphql_documents.specs.declared.documents.executables.Fragment.{Fragment}
+use Rattle.graphql_documents.specs.declared.documents.executables.FragmentSpread.{FragmentSpread}
+use Rattle.graphql_documents.specs.declared.documents.executables.InlineFragment.{InlineFragment}
+use Rattle.graphql_documents.specs.declared.documents.nodes.Node.{Node}
+use Rattle.graphql_documents.specs.declared.documents.schemas.Schema.{Schema}
+use Rattle.graphql_documents.specs.declared.documents.spans.SourceSpan.{SourceSpan}
+
+module _ {schema : Option Schema} {r : DiagnosticData} {at : Option SourceSpan} where
+  -- the condition of an inline fragment
+  pub inline_target : (parent : Option NameText) (i : Node InlineFragment) (condition : NameText) → i.value.value.type_condition ≡ Some condition →
+      InvalidTargetReport schema None condition i.location r at → InlineFragmentBreaks schema parent i r at
+  inline_target parent i condition is (of_target invalid) = (condition, is, refl, invalid)
+
+  -- the condition of a fragment
+  pub fragment_target : (fragments : Fragments) (d : Node Fragment) →
+      InvalidTargetReport schema (Some d.value.value.name) d.value.value.selection_set.ty d.location r at → FragmentBreaks schema fragments d r at
+  fragment_target fragments d (of_target invalid) = (refl, invalid)
+
+  -- an inline fragment on the type around
+  pub inline_impossible : (parent : Option NameText) (i : Node InlineFragment) (condition : NameText) → i.value.value.type_condition ≡ Some condition →
+      ImpossibleReport schema None condition parent i.location i.location r at → InlineFragmentBreaks schema parent i r at
+  inline_impossible parent i condition is (of_impossible impossible) = (condition, is, refl, impossible)
+
+  -- a spread on the type around
+  pub spread_impossible : (fragments : Fragments) (parent : Option NameText) (p : Node FragmentSpread) (d : Node Fragment) →
+      fragments p.value.value.fragment_name ≡ Some d →
+      ImpossibleReport schema (Some p.value.value.fragment_name) d.value.value.selection_set.ty parent d.location p.location r at →
+      SpreadBreaks schema fragments parent p r at
+  spread_impossible fragments parent p d found (of_impossible impossible) = (d, found, refl, impossible)
