@@ -11,25 +11,24 @@ use Rattle.graphql_documents.specs.declared.documents.nodes.Node.{Node}
 use Rattle.graphql_documents.specs.declared.documents.schemas.Schema.{Schema}
 use Rattle.graphql_documents.specs.declared.documents.spans.SourceSpan.{SourceSpan}
 
-module _ {schema : Option Schema} {r : DiagnosticData} {at : Option SourceSpan} where
-  -- the condition of an inline fragment
-  pub inline_target : (parent : Option NameText) (i : Node InlineFragment) (condition : NameText) → i.value.value.type_condition ≡ Some condition →
-      InvalidTargetReport schema None condition i.location r at → InlineFragmentBreaks schema parent i r at
-  inline_target parent i condition is (of_target invalid) = (condition, is, refl, invalid)
+-- the condition of an inline fragment
+pub inline_target : {schema : Option Schema} (parent : Option NameText) (i : Node InlineFragment) (condition : NameText) → i.value.value.type_condition ≡ Some condition →
+    (r : DiagnosticData) (at : Option SourceSpan) → InvalidTargetReport schema None condition i.location r at → InlineFragmentBreaks schema parent i r at
+inline_target parent i condition is r at (of_target invalid) = (condition, is, refl, invalid)
 
-  -- the condition of a fragment
-  pub fragment_target : (fragments : Fragments) (d : Node Fragment) →
-      InvalidTargetReport schema (Some d.value.value.name) d.value.value.selection_set.ty d.location r at → FragmentBreaks schema fragments d r at
-  fragment_target fragments d (of_target invalid) = (refl, invalid)
+-- the condition of a fragment
+pub fragment_target : {schema : Option Schema} (fragments : Fragments) (d : Node Fragment) (r : DiagnosticData) (at : Option SourceSpan) →
+    InvalidTargetReport schema (Some d.value.value.name) d.value.value.selection_set.ty d.location r at → FragmentBreaks schema fragments d r at
+fragment_target fragments d r at (of_target invalid) = (refl, invalid)
 
-  -- an inline fragment on the type around
-  pub inline_impossible : (parent : Option NameText) (i : Node InlineFragment) (condition : NameText) → i.value.value.type_condition ≡ Some condition →
-      ImpossibleReport schema None condition parent i.location i.location r at → InlineFragmentBreaks schema parent i r at
-  inline_impossible parent i condition is (of_impossible impossible) = (condition, is, refl, impossible)
+-- an inline fragment on the type around
+pub inline_impossible : {schema : Option Schema} (parent : Option NameText) (i : Node InlineFragment) (condition : NameText) → i.value.value.type_condition ≡ Some condition →
+    (r : DiagnosticData) (at : Option SourceSpan) → ImpossibleReport schema None condition parent i.location i.location r at → InlineFragmentBreaks schema parent i r at
+inline_impossible parent i condition is r at (of_impossible impossible) = (condition, is, refl, impossible)
 
-  -- a spread on the type around
-  pub spread_impossible : (fragments : Fragments) (parent : Option NameText) (p : Node FragmentSpread) (d : Node Fragment) →
-      fragments p.value.value.fragment_name ≡ Some d →
-      ImpossibleReport schema (Some p.value.value.fragment_name) d.value.value.selection_set.ty parent d.location p.location r at →
-      SpreadBreaks schema fragments parent p r at
-  spread_impossible fragments parent p d found (of_impossible impossible) = (d, found, refl, impossible)
+-- a spread on the type around
+pub spread_impossible : {schema : Option Schema} (fragments : Fragments) (parent : Option NameText) (p : Node FragmentSpread) (d : Node Fragment) →
+    fragments p.value.value.fragment_name ≡ Some d → (r : DiagnosticData) (at : Option SourceSpan) →
+    ImpossibleReport schema (Some p.value.value.fragment_name) d.value.value.selection_set.ty parent d.location p.location r at →
+    SpreadBreaks schema fragments parent p r at
+spread_impossible fragments parent p d found r at (of_impossible impossible) = (d, found, refl, impossible)
