@@ -1,6 +1,6 @@
 -- The map of implementers that is made type by type is the one that its definition says.
-use Rattle.std.proofs.Common.{◌≡◌, Bool, true, false, cond, ◌||◌, ◌&&◌, List, [], ◌∷◌, ◌++◌, map, refl, sym, ap, ◌∙◌, subst}
-use Rattle.std.specs.Prelude.{Option, Some, None, filter, flat_map, fold, unwrap_or}
+use Rattle.std.proofs.Common.{◌≡◌, Bool, true, false, cond, ◌||◌, ◌&&◌, List, [], ◌∷◌, ◌++◌, map, refl, sym, ap, ◌∙◌}
+use Rattle.std.specs.Prelude.{Some, None, filter, flat_map, fold, unwrap_or}
 use Rattle.std.specs.Borrow.{Bor}
 use Rattle.std.specs.Cmp.Lexicographic.{nat_list_eq_equiv}
 use Rattle.std.specs.List.{list_any}
@@ -292,10 +292,10 @@ module _ (test : ExtendedType → Bool) (interface : NameText) where
       ap (fold with_name known) (map-append own here behind) ∙ fold-append with_name known (map own here) (map own behind) ∙
       ap (λ k. fold with_name k (map own behind)) (listed_once known t.1 (interfaces_of t.1)) ∙
       kind_in_order (cond (lists t) (with_name known (own_name t.1)) known) ts ∙ next (lists t) where
-    next : (b : Bool) → fold with_name (cond b (with_name known (own_name t.1)) known) (map (λ entry. own_name entry.1) (filter lists ts)) ≡
-        fold with_name known (map (λ entry. own_name entry.1) (cond b (t ∷ filter lists ts) (filter lists ts)))
-    next true = refl
-    next false = refl
+        next : (b : Bool) → fold with_name (cond b (with_name known (own_name t.1)) known) (map (λ entry. own_name entry.1) (filter lists ts)) ≡
+            fold with_name known (map (λ entry. own_name entry.1) (cond b (t ∷ filter lists ts) (filter lists ts)))
+        next true = refl
+        next false = refl
 
 -- the map that is made of all types
 pub made_of_types : (schema : Schema) → fold with_implementer [] (listings_in schema.types.entries) ≡ implementers_map schema

@@ -1,4 +1,4 @@
-use Rattle.std.proofs.Common.{◌≡◌, ap, sym, ◌∙◌, List, map, refl}
+use Rattle.std.proofs.Common.{ap, sym, ◌∙◌, List, map, refl}
 use Rattle.std.specs.Borrow.{Bor}
 use Rattle.graphql_documents.specs.Implementers.{implementer_names, with_own_name}
 use Rattle.graphql_documents.specs.Names.{NameText, with_name}

@@ -1,7 +1,6 @@
-use Rattle.std.proofs.Common.{◌≡◌, ◌++◌, [], ◌∷◌, List, fold, sym, ap, ◌∙◌}
-use Rattle.std.proofs.lemmas.Grind.{fold-append}
+use Rattle.std.proofs.Common.{◌≡◌, ◌++◌, [], ◌∷◌, fold, sym, ap, ◌∙◌}
 use Rattle.std.proofs.lemmas.List.{append-nil}
-use Rattle.graphql_documents.specs.Implementers.{implementer_entries, listings_of, with_implementer}
+use Rattle.graphql_documents.specs.Implementers.{listings_of, with_implementer}
 use Rattle.graphql_documents.specs.Names.{NameText}
 use Rattle.graphql_documents.specs.declared.documents.schemas.ExtendedType.{ExtendedType}
 use Rattle.graphql_documents.proofs.ImplementerLemmas.{listings_in, listings_more, made_of_types}
