@@ -30,6 +30,16 @@ stands_among names n e = any_has (λ x. same_name n x ≡ true) names (Any-from_
 pub among_stands : (names : List NameText) (n x : NameText) → Contains names x → SameName n x → stands_on names n ≡ true
 among_stands names n x in' same = list_any-from_Any (same_name n) names (has_any (λ x. same_name n x ≡ true) names x in' same)
 
+-- what stands among the names of some things
+pub any_named : {X : Type 0} (f : X → NameText) (xs : List X) (n : NameText) → stands_on (map f xs) n ≡ list_any (λ x. same_name n (f x)) xs
+any_named f [] n = refl
+any_named f (x ∷ xs) n = ap (λ b. same_name n (f x) || b) (any_named f xs n)
+
+-- a test of the names of some things
+pub any_tested : {X : Type 0} (f : X → NameText) (test : NameText → Bool) (xs : List X) → list_any test (map f xs) ≡ list_any (λ x. test (f x)) xs
+any_tested f test [] = refl
+any_tested f test (x ∷ xs) = ap (λ b. test (f x) || b) (any_tested f test xs)
+
 -- a name stands in a list where it is one of the different ones
 stands_different : (names : List NameText) (n : NameText) → stands_on (different_names names) n ≡ stands_on names n
 stands_different names n = stands_folded [] names n

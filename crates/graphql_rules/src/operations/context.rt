@@ -1,8 +1,9 @@
 ghost use Rattle.std.specs.Prelude.{◌≡◌, [], not, IfOk, OnErr, OnOk};
 ghost use Rattle.std.specs.Option.{option_copied};
-ghost use Rattle.std.specs.Prelude.{◌≡◌, ◌↔◌, [], IfOk, IfSome, IsTrue, Some};
-ghost use Rattle.graphql_documents.specs.FragmentSpreads.{HaveCommonObject};
-ghost use Rattle.graphql_rules.specs.Contexts.{entered_names};
+ghost use Rattle.std.specs.Prelude.{◌≡◌, IfSome, Some};
+ghost use Rattle.std.specs.Coded.{Coded-set, codes};
+ghost use Rattle.std.proofs.Props.{props};
+ghost use Rattle.graphql_documents.specs.contracts.documents.schemas.Schema as schema_type;
 
 use super::possible_types::PossibleTypes;
 use graphql_documents::diagnostics::ValidationError;
@@ -20,10 +21,16 @@ pub struct OperationValidationContext<'a> {
     pub variables: VariablesByName<'a>,
     pub entered: IndexSet<&'a Name>,
     possible_types: Option<PossibleTypes<'a>>,
-    ghost possible: { IfSome possible_types (λ possible. option_copied schema ≡ Some possible.schema.now) },
+    ghost possible: { IfSome possible_types (λ possible. option_copied schema ≡ Some possible.schema.now) }
+        by { Prim.hlevel (props, Coded-set, codes, schema_type.the_row.coded) },
 }
 
 impl<'a> OperationValidationContext<'a> {
+    ghost use Rattle.std.specs.Option.{option_copied};
+    ghost use Rattle.std.specs.Prelude.{◌≡◌, ◌↔◌, [], IfOk, IsTrue, Some};
+    ghost use Rattle.graphql_documents.specs.FragmentSpreads.{HaveCommonObject};
+    ghost use Rattle.graphql_rules.specs.Contexts.{entered_names};
+
     /// The context of an operation with these variables, which has gone into no fragment. The only error
     /// is want of memory.
     pub fn new(
@@ -31,8 +38,8 @@ impl<'a> OperationValidationContext<'a> {
         schema: Option<&'a Schema>,
         variables: &'a [Node<VariableDefinition>],
     ) -> Result<OperationValidationContext<'a>, ValidationError>
-        ensures schema { IfOk result (λ context. schema_of context ≡ option_copied schema.entry) }
-        ensures variables { IfOk result (λ context. variables_of context ≡ variables.now) }
+        ensures schema { IfOk result (λ context. option_copied context.schema ≡ option_copied schema.entry) }
+        ensures variables { IfOk result (λ context. context.variables ≡ variables.now) }
         ensures entered { IfOk result (λ context. entered_names context ≡ []) }
     {
         Ok(OperationValidationContext {

@@ -22,6 +22,7 @@ pub(crate) struct PossibleTypes<'a> {
 }
 
 /// The own names of the objects that are values of a type, where the schema has them.
+#[derive(Drop)]
 enum ObjectNames<'a> {
     Nothing,
     Own(&'a Name),
@@ -70,7 +71,7 @@ impl<'a> PossibleTypes<'a> {
     }
 
     /// The objects that implement the interface.
-    fn implementers_of<'s>(&'s self, interface: &Name) -> ObjectNames<'s>
+    fn implementers_of<'s>(&'s self, interface: &'s Name) -> ObjectNames<'s>
         ensures { (name : NameText) → IsImplementedBy self.now.schema.now interface.now name ↔ IsTrue (stands_on (object_names result) name) }
     {
         match self.implementers.get(&interface) {
@@ -110,15 +111,20 @@ impl<'a> ObjectNames<'a> {
         match self {
             ObjectNames::Nothing => false,
             ObjectNames::Own(own) => others.contains(own),
-            ObjectNames::Implementers(names) => {
-                names.as_slice().iter().any(|name| others.contains(name))
-            }
-            ObjectNames::Members(members) => {
-                members
-                    .as_slice()
-                    .iter()
-                    .any(|member| others.contains(&member.name))
-            }
+            ObjectNames::Implementers(names) => others.contains_any(names.as_slice()),
+            ObjectNames::Members(members) => others.contains_member(members.as_slice()),
         }
+    }
+
+    fn contains_any(&self, names: &[&Name]) -> bool
+        ensures { result ≡ list_any (λ name. stands_on (object_names self.now) name.now) names.now }
+    {
+        names.iter().any(|name| self.contains(name))
+    }
+
+    fn contains_member(&self, members: &[ComponentName]) -> bool
+        ensures { result ≡ list_any (λ member. stands_on (object_names self.now) member.name) members.now }
+    {
+        members.iter().any(|member| self.contains(&member.name))
     }
 }

@@ -1,4 +1,4 @@
-ghost use Rattle.std.specs.Prelude.{Some};
+ghost use Rattle.std.specs.Prelude.{◌↔◌, IsTrue, Some};
 ghost use Rattle.graphql_documents.specs.Diagnostics.{IsDiagnostic};
 ghost use Rattle.graphql_documents.specs.FragmentSpreads.{NamesComposite};
 ghost use Rattle.graphql_documents.specs.Reports.{Checks};
@@ -21,10 +21,8 @@ pub fn validate_fragment_type_condition(
     ensures { Checks result (NamesComposite schema.now condition.now)
         (IsDiagnostic (InvalidTargetReport (Some schema.now) fragment_name condition.now fragment_location)) diagnostics.old diagnostics.new }
 {
-    if let Some(definition) = schema.types.get(condition) {
-        if definition.is_composite() {
-            return Ok(());
-        }
+    if names_composite(schema, condition) {
+        return Ok(());
     }
     let ty = condition.clone()?;
     diagnostics.push(
@@ -34,4 +32,14 @@ pub fn validate_fragment_type_condition(
             ty,
         }),
     )
+}
+
+/// Whether the name is that of an object, an interface or a union.
+fn names_composite(schema: &Schema, name: &NamedType) -> bool
+    ensures { IsTrue result ↔ NamesComposite schema.now name.now }
+{
+    match schema.types.get(name) {
+        Some(definition) => definition.is_composite(),
+        None => false,
+    }
 }
