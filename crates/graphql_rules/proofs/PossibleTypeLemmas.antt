@@ -1,6 +1,7 @@
 -- The objects that are values of a type, as the map of implementers has them.
-use Rattle.std.proofs.Common.{◌≡◌, ◌↔◌, ℕ, Bool, true, false, cond, ◌||◌, ◌&&◌, List, [], ◌∷◌, map, refl, sym, ap, ◌∙◌, subst, All, Any, Contains}
-use Rattle.std.specs.Prelude.{Option, Some, None, IsTrue, filter, flat_map}
+use Rattle.std.proofs.Common.{◌≡◌, ◌↔◌, ℕ, Bool, true, false, cond, ◌||◌, ◌&&◌, List, [], ◌∷◌, map, refl, sym, ap, ◌∙◌, subst, true≢false, All, Any, Contains}
+use mathlib.Core.Logic.{inl, inr}
+use Rattle.std.specs.Prelude.{◌⊎◌, Option, Some, None, IsTrue, filter, flat_map}
 use Rattle.std.specs.Borrow.{Bor}
 use Rattle.std.specs.List.{list_any}
 use Rattle.std.specs.Map.{lookup}
@@ -9,10 +10,10 @@ use Rattle.std.specs.Str.{bytes_eq}
 use Rattle.std.proofs.lemmas.List.Elements.{All-contains, All-contains_itself, All-filter, filter_passes}
 use Rattle.std.proofs.lemmas.Option.{same_Some}
 use Rattle.std.proofs.lemmas.List.Folds.{Any-from_list_any, list_any-from_Any}
-use Rattle.graphql_documents.specs.FragmentSpreads.{HaveCommonObject}
+use Rattle.graphql_documents.specs.FragmentSpreads.{HaveCommonObject, IsPossibleAt}
 use Rattle.graphql_documents.specs.Implementers.{implementer_entries, implementer_names}
 use Rattle.graphql_documents.specs.Names.{NameText, SameName, different_names, same_name, stands_on}
-use Rattle.graphql_documents.specs.Schemas.{ImplementerNames, IsImplementedBy, IsListed, IsPossibleType, implementers_map, implementers_of_kind, interfaces_of, is_interface_type, is_object_type, listed_interfaces, lists_interface, own_name}
+use Rattle.graphql_documents.specs.Schemas.{ImplementerNames, IsImplementedBy, IsListed, IsPossibleType, implementers_map, implementers_of_kind, interfaces_of, is_interface_type, is_object_type, listed_interfaces, lists_interface, own_name, type_definition}
 use Rattle.graphql_documents.specs.declared.documents.components.ComponentName.{ComponentName}
 use Rattle.graphql_documents.specs.declared.documents.implementers.Implementers.{Implementers}
 use Rattle.graphql_documents.specs.declared.documents.schemas.ExtendedType.{ExtendedType}
@@ -174,3 +175,23 @@ module _ (schema : Schema) where
 
   pub common_swapped : (a b : ExtendedType) → HaveCommonObject schema a b → HaveCommonObject schema b a
   common_swapped a b (name, other, is_a, is_b, same) = (other, name, is_b, is_a, same_name_back name other same)
+
+-- what is selected on a condition can be met on a type, or not
+module _ (schema : Schema) (condition parent : NameText) where
+  pub possible_without_condition : type_definition schema condition ≡ None → IsPossibleAt schema condition (Some parent)
+  possible_without_condition none = λ a b of_condition of_parent. absurd (let e = sym none ∙ of_condition in let no : ⊥ = cc in no)
+
+  pub possible_without_parent : type_definition schema parent ≡ None → IsPossibleAt schema condition (Some parent)
+  possible_without_parent none = λ a b of_condition of_parent. absurd (let e = sym none ∙ of_parent in let no : ⊥ = cc in no)
+
+  module _ (selected around : ExtendedType) (of_condition : type_definition schema condition ≡ Some selected) (of_parent : type_definition schema parent ≡ Some around) where
+    pub possible_by_object : HaveCommonObject schema selected around → IsPossibleAt schema condition (Some parent)
+    possible_by_object common = λ a b of_a of_b.
+        inr (subst (λ t. HaveCommonObject schema t b) (same_Some selected a (sym of_condition ∙ of_a))
+        (subst (HaveCommonObject schema selected) (same_Some around b (sym of_parent ∙ of_b)) common))
+
+    pub not_possible : same_name condition parent ≡ false → ¬ HaveCommonObject schema selected around → ¬ IsPossibleAt schema condition (Some parent)
+    not_possible other none possible = by (possible selected around of_condition of_parent) where
+      by : SameName condition parent ⊎ HaveCommonObject schema selected around → ⊥
+      by (inl same) = true≢false (sym same ∙ other)
+      by (inr common) = none common

@@ -1,5 +1,6 @@
-use Rattle.std.proofs.Common.{refl, ap, sym, ◌∙◌}
+use Rattle.std.proofs.Common.{refl, sym, true≢false, ◌∙◌}
 use Rattle.graphql_documents.proofs.ReportLemmas.{checks-err, checks-push, holds, kept}
+use Rattle.graphql_documents.specs.FragmentSpreads.{NamesComposite}
 use Rattle.graphql_documents.specs.SelectionReports.{of_target}
 use Rattle.graphql_rules.proofs.operations.type_conditions.validate_fragment_type_condition.Goals as goal
 
@@ -11,12 +12,13 @@ returns-in_err-ty c = checks-err _ _ _ _ _ c.from_residual.ensures.0 (kept _ _)
 
 pub returns : goal.returns
 returns c =
-    let not_composite = λ composite. (let no : ⊥ = cc (c.names_composite.ensures.1 composite, c.if-names_composite.false) in no) in
-    checks-push _ _ _ _ _ _ c.push.ensures.ok c.push.ensures.err ?
+    let not_composite : ¬ NamesComposite c.args.schema.now c.args.condition.now =
+    λ composite. true≢false (sym (c.names_composite.ensures.1 composite) ∙ c.if-names_composite.false) in
+    checks-push _ _ _ _ _ _ c.push.ensures.ok c.push.ensures.err not_composite
     (of_target (record {
       against = c.args.schema.now;
       has_schema = refl;
-      not_composite = ?;
+      not_composite = not_composite;
       type_is = c.in_ok-ty.ensures.cases;
       at_is = refl;
     }))
