@@ -1,1 +1,2 @@
+mod FragmentUseLemmas
 mod PossibleTypeLemmas
