@@ -1,7 +1,7 @@
 -- The objects that are values of a type, as the map of implementers has them.
-use Rattle.std.proofs.Common.{◌≡◌, ◌↔◌, ℕ, Bool, true, false, cond, ◌||◌, ◌&&◌, List, [], ◌∷◌, map, refl, sym, ap, ◌∙◌, subst, true≢false, All, Any, Contains}
+use Rattle.std.proofs.Common.{◌≡◌, ◌↔◌, ℕ, Bool, true, false, cond, ◌||◌, ◌&&◌, List, [], ◌∷◌, map, refl, sym, ap, ◌∙◌, subst, true≢false, Contains}
 use mathlib.Core.Logic.{inl, inr}
-use Rattle.std.specs.Prelude.{◌⊎◌, Option, Some, None, IsTrue, filter, flat_map}
+use Rattle.std.specs.Prelude.{◌⊎◌, Some, None, IsTrue, filter, flat_map}
 use Rattle.std.specs.Borrow.{Bor}
 use Rattle.std.specs.List.{list_any}
 use Rattle.std.specs.Map.{lookup}
@@ -21,7 +21,7 @@ use Rattle.graphql_documents.specs.declared.documents.schemas.ExtendedType.TheVa
 use Rattle.graphql_documents.specs.declared.documents.schemas.Schema.{Schema}
 use Rattle.graphql_documents.proofs.ImplementerLemmas.{found_as_names, stands_folded, stands_same}
 use Rattle.graphql_documents.proofs.ListLemmas.{kept_by_filter, made_of, stands_flat, stands_mapped}
-use Rattle.graphql_documents.proofs.NameLemmas.{same_name_back, same_name_itself, same_name_then, same_text}
+use Rattle.graphql_documents.proofs.NameLemmas.{same_name_back, same_name_itself, same_text}
 use Rattle.graphql_values.proofs.UseLemmas.{any_has, has_any}
 
 -- what stands among names is the same as one of them

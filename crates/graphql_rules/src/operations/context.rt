@@ -21,8 +21,7 @@ pub struct OperationValidationContext<'a> {
     pub variables: VariablesByName<'a>,
     pub entered: IndexSet<&'a Name>,
     possible_types: Option<PossibleTypes<'a>>,
-    ghost possible: { IfSome possible_types (λ possible. option_copied schema ≡ Some possible.schema.now) }
-        by { Prim.hlevel (props, Coded-set, codes, schema_type.the_row.coded) },
+    ghost possible: { IfSome possible_types (λ possible. option_copied schema ≡ Some possible.schema.now) } by { Prim.hlevel (props, Coded-set, codes, schema_type.the_row.coded) },
 }
 
 impl<'a> OperationValidationContext<'a> {

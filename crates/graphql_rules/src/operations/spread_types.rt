@@ -10,7 +10,8 @@ ghost use Rattle.graphql_rules.specs.FragmentUses.{UseReport};
 use super::context::OperationValidationContext;
 use graphql_documents::diagnostics::{Details, DiagnosticData, DiagnosticList, ValidationError};
 use graphql_documents::documents::{
-    ExtendedType, Fragment, FragmentSpread, InlineFragment, Name, NamedType, Node, Schema, SourceSpan,
+    ExtendedType, Fragment, FragmentSpread, InlineFragment, Name, NamedType, Node, Schema,
+    SourceSpan,
 };
 use std::alloc::AllocError;
 

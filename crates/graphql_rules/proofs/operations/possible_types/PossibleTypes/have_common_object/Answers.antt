@@ -1,4 +1,4 @@
-use Rattle.std.proofs.Common.{sym, subst, ◌∙◌}
+use Rattle.std.proofs.Common.{sym, ◌∙◌}
 use Rattle.graphql_rules.specs.PossibleTypes.{object_names}
 use Rattle.graphql_rules.proofs.PossibleTypeLemmas.{common_stands, common_swapped}
 use Rattle.graphql_rules.proofs.operations.possible_types.PossibleTypes.have_common_object.Goals as goal
@@ -14,8 +14,7 @@ returns-else-len c =
     let schema = c.args.self.now.schema.now in
     let a = c.args.a.now in
     let b = c.args.b.now in
-    let common = common_stands schema b a (object_names c.objects_of-others.result) (object_names c.objects_of-objects.result) c.objects_of-others.ensures c.objects_of-objects.ensures in
-    (
+    let common = common_stands schema b a (object_names c.objects_of-others.result) (object_names c.objects_of-objects.result) c.objects_of-others.ensures c.objects_of-objects.ensures in (
       λ t. common_swapped schema b a (common.1 (sym c.meets-else-len.ensures ∙ t)),
       λ h. c.meets-else-len.ensures ∙ common.0 (common_swapped schema a b h),
     )

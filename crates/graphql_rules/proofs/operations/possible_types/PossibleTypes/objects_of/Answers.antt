@@ -1,4 +1,4 @@
-use Rattle.std.proofs.Common.{◌↔◌, List, ap, subst, sym}
+use Rattle.std.proofs.Common.{◌↔◌, subst, sym}
 use Rattle.std.specs.Prelude.{IsTrue}
 use Rattle.graphql_documents.specs.Names.{NameText, stands_on}
 use Rattle.graphql_documents.specs.Schemas.{IsImplementedBy, IsListed, IsPossibleType}
