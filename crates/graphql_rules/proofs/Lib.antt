@@ -1,2 +1,4 @@
-mod FragmentUseLemmas
-mod PossibleTypeLemmas
+pub mod FragmentRoomLemmas
+pub mod CycleLemmas
+pub mod FragmentSearchLemmas
+pub mod SeenNameLemmas

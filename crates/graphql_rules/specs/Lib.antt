@@ -1,3 +1,3 @@
 pub mod Contexts
-pub mod FragmentUses
-pub mod PossibleTypes
+pub mod CycleSearches
+pub mod FragmentSearches

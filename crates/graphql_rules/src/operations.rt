@@ -1,10 +1,7 @@
 //! Operations, with the selections and fragments that they reach.
 
 mod context;
-mod possible_types;
-mod spread_types;
-mod type_conditions;
+mod fragment_cycles;
 
 pub use context::OperationValidationContext;
-pub use spread_types::{FragmentUse, validate_fragment_spread_type};
-pub use type_conditions::validate_fragment_type_condition;
+pub use fragment_cycles::validate_fragment_cycles;

@@ -1,0 +1,152 @@
+-- The spreads among which a search for cycles of fragments goes on, and what it does at one of them.
+use Rattle.std.proofs.Common.{◌≡◌, ℕ, ◌+◌, ◌<◌, ◌≤◌, ◌⊎◌, inl, inr, List, [], ◌∷◌, ◌++◌, Some, None, length, take, drop, get_or, refl, sym, ap, ◌∙◌, subst, IsTrue, IsFalse, Contains, arith}
+use Rattle.std.specs.Borrow.{Bor}
+use Rattle.std.proofs.lemmas.Option.{none-some, same_Some}
+use Rattle.std.proofs.lemmas.List.{take_all}
+use Rattle.std.proofs.lemmas.List.Elements.{Contains-append_cases, Contains-append_right}
+use Rattle.graphql_documents.proofs.ListLemmas.{only_one, stands_first}
+use Rattle.graphql_documents.proofs.NameLemmas.{not_both, same_name_back, same_name_itself, same_name_then}
+use Rattle.graphql_documents.proofs.ReportLemmas.{more_is}
+use Rattle.graphql_documents.proofs.SelectionLemmas.{not_inline, not_spread, one_fragment_found, same_field, same_inline, same_spread, spread_not_inline}
+use Rattle.graphql_documents.specs.FragmentSpreads.{SpreadsBy, fragment_of}
+use Rattle.graphql_documents.specs.Names.{DifferentNames, NameText, SameName, stands_on}
+use Rattle.graphql_documents.specs.Selections.{SetWritten, fragments_of, selections_of, set_itself, set_in_field, set_in_inline_fragment}
+use Rattle.graphql_documents.specs.declared.documents.executables.ExecutableDocument.{ExecutableDocument}
+use Rattle.graphql_documents.specs.declared.documents.executables.Field.{Field}
+use Rattle.graphql_documents.specs.declared.documents.executables.Fragment.{Fragment}
+use Rattle.graphql_documents.specs.declared.documents.executables.FragmentSpread.{FragmentSpread}
+use Rattle.graphql_documents.specs.declared.documents.executables.InlineFragment.{InlineFragment}
+use Rattle.graphql_documents.specs.declared.documents.executables.Selection.TheVariants as kind
+use Rattle.graphql_documents.specs.declared.documents.executables.Selection.{Selection}
+use Rattle.graphql_documents.specs.declared.documents.executables.SelectionSet.{SelectionSet}
+use Rattle.graphql_documents.specs.declared.documents.nodes.Node.{Node}
+use Rattle.graphql_values.proofs.ObjectLemmas.{split_at}
+use Rattle.graphql_guards.specs.Guards.{Refuses, path_limit, path_of}
+use Rattle.graphql_guards.specs.declared.recursion.CycleError.{CycleError}
+use Rattle.graphql_guards.specs.declared.recursion.CycleError.TheVariants.{Recursed, Limit, Memory}
+use Rattle.graphql_guards.specs.declared.recursion.RecursionStack.{RecursionStack}
+use Rattle.graphql_rules.proofs.CycleLemmas.{closes_below, closes_fewer, closes_nothing, closes_then, goes_far_here, stops_wider}
+use Rattle.graphql_rules.proofs.SeenNameLemmas.{Marked, marked_grows, marked_is_seen, marked_only, names_at, one_too_many}
+use Rattle.graphql_rules.specs.CycleSearches.{Closes, IsSeen, Next, StandsOn, StopsBy}
+use Rattle.graphql_rules.specs.FragmentSearches.{SpreadAmong, SpreadAt, SpreadIn, spread_itself, spread_in_field, spread_in_inline_fragment}
+
+-- the name that a spread writes
+abbrev pub name_of : Node FragmentSpread → NameText
+name_of p = p.value.value.fragment_name
+
+-- what is written in a set is written at one of its selections
+pub spread_among : {set : SelectionSet} {p : Node FragmentSpread} → SpreadIn set p → SpreadAmong (selections_of set) p
+spread_among {p = p} written = at written.1 written.2 where
+  at : {set inner : SelectionSet} → SetWritten set inner → Contains (selections_of inner) (kind.FragmentSpread p) → SpreadAmong (selections_of set) p
+  at set_itself stands = (kind.FragmentSpread p, stands, spread_itself refl)
+  at (set_in_field {f = f} there more) stands = (kind.Field f, there, spread_in_field f refl (_, more, stands))
+  at (set_in_inline_fragment {i = i} there more) stands = (kind.InlineFragment i, there, spread_in_inline_fragment i refl (_, more, stands))
+
+pub spread_in : {set : SelectionSet} {s : Selection} {p : Node FragmentSpread} → Contains (selections_of set) s → SpreadAt s p → SpreadIn set p
+spread_in {set = set} stands (spread_itself is) = (set, set_itself, subst (Contains (selections_of set)) is stands)
+spread_in {set = set} stands (spread_in_field f is w) = (w.0, set_in_field (subst (Contains (selections_of set)) is stands) w.1, w.2)
+spread_in {set = set} stands (spread_in_inline_fragment i is w) = (w.0, set_in_inline_fragment (subst (Contains (selections_of set)) is stands) w.1, w.2)
+
+-- what is written at a selection, by its kind
+pub at_field : {s : Selection} {p : Node FragmentSpread} (f : Node Field) → s ≡ kind.Field f → SpreadAt s p → SpreadIn f.value.value.selection_set p
+at_field {p = p} f is (spread_itself e) = absurd (not_spread f p (sym e ∙ is))
+at_field {p = p} f is (spread_in_field g e w) = subst (λ (h : Node Field). SpreadIn h.value.value.selection_set p) (same_field f g (sym e ∙ is)) w
+at_field f is (spread_in_inline_fragment i e w) = absurd (not_inline f i (sym e ∙ is))
+
+pub at_inline_fragment : {s : Selection} {p : Node FragmentSpread} (i : Node InlineFragment) → s ≡ kind.InlineFragment i → SpreadAt s p →
+    SpreadIn i.value.value.selection_set p
+at_inline_fragment {p = p} i is (spread_itself e) = absurd (spread_not_inline i p (sym e ∙ is))
+at_inline_fragment i is (spread_in_field f e w) = absurd (not_inline f i (sym is ∙ e))
+at_inline_fragment {p = p} i is (spread_in_inline_fragment j e w) =
+    subst (λ (h : Node InlineFragment). SpreadIn h.value.value.selection_set p) (same_inline j i (sym e ∙ is)) w
+
+pub at_spread : {s : Selection} {q : Node FragmentSpread} (p : Node FragmentSpread) → s ≡ kind.FragmentSpread p → SpreadAt s q → q ≡ p
+at_spread {q = q} p is (spread_itself e) = same_spread q p (sym e ∙ is)
+at_spread p is (spread_in_field f e w) = absurd (not_spread f p (sym is ∙ e))
+at_spread p is (spread_in_inline_fragment i e w) = absurd (spread_not_inline i p (sym is ∙ e))
+
+-- a selection of a list stands in it
+stands_at : (xs : List Selection) (i : ℕ) (s : Selection) → i < length xs → s ≡ get_or xs i s → Contains xs s
+stands_at xs i s within item =
+    subst (λ l. Contains l s) (sym (split_at xs i s within item))
+    (Contains-append_right (take i xs) (s ∷ drop (i + 1) xs) s (stands_first s (drop (i + 1) xs)))
+
+-- one selection more
+pub among_either : (xs : List Selection) (i : ℕ) (s : Selection) {p : Node FragmentSpread} → i < length xs → s ≡ get_or xs i s →
+    SpreadAmong (take (i + 1) xs) p → SpreadAmong (take i xs) p ⊎ SpreadAt s p
+among_either xs i s {p = p} within item among =
+    elim (Contains-append_cases (take i xs) (s ∷ []) among.0 (subst (λ l. Contains l among.0) (more_is xs i s within item) among.1)) [
+      | inl before ↦ inl (among.0, before, among.2)
+      | inr last ↦ inr (subst (λ t. SpreadAt t p) (only_one s among.0 last) among.2)
+    ]
+
+-- the spreads that a search of fragments goes by, and those that lead back to its root
+module _ (document : ExecutableDocument) (root : NameText) where
+  abbrev pub ClosesOver : (Node FragmentSpread → Type 0) → (old new : List (Bor NameText)) → Type 0
+  ClosesOver begins old new =
+      Closes SpreadsBy (fragment_of (fragments_of document)) name_of (λ p. SameName (name_of p) root) begins (IsSeen old) (IsSeen new)
+
+  module _ (p : Node FragmentSpread) {old mid : List (Bor NameText)} (m : Marked (name_of p) old mid) (other : DifferentNames (name_of p) root) where
+    is_seen_now : (q : Node FragmentSpread) → q ≡ p → IsSeen mid (name_of q)
+    is_seen_now q same = marked_is_seen m (name_of q) (subst (λ r. SameName (name_of r) (name_of p)) (sym same) (same_name_itself (name_of p)))
+
+    not_back : (q : Node FragmentSpread) → SameName (name_of q) (name_of p) → ¬ SameName (name_of q) root
+    not_back q same back =
+        not_both (name_of p) root (same_name_then (name_of p) (name_of q) root (same_name_back (name_of q) (name_of p) same) back) other
+
+    -- a spread whose fragment is gone into
+    pub closes_fragment : (d : Node Fragment) (new : List (Bor NameText)) → fragments_of document (name_of p) ≡ Some d →
+        ClosesOver (SpreadIn d.value.value.selection_set) mid new → ClosesOver (λ q. q ≡ p) old new
+    closes_fragment d new found c =
+        closes_below {marked = λ k. SameName k (name_of p)} (marked_grows m) is_seen_now (marked_only m) not_back (λ q r same next.
+        subst (λ (e : Node Fragment). SpreadIn e.value.value.selection_set r)
+        (same_Some next.definition d (sym next.leads ∙ one_fragment_found document (name_of q) (name_of p) same ∙ found)) next.refers) c
+
+    -- a spread of an undefined one
+    pub closes_undefined : fragments_of document (name_of p) ≡ None → ClosesOver (λ q. q ≡ p) old mid
+    closes_undefined none =
+        closes_below {below = λ q. ⊥} {marked = λ k. SameName k (name_of p)} (marked_grows m) is_seen_now (marked_only m) not_back (λ q r same next.
+        none-some next.definition (sym none ∙ one_fragment_found document (name_of p) (name_of q) (same_name_back (name_of q) (name_of p) same) ∙ next.leads))
+        (closes_nothing (λ q no. absurd no))
+
+  -- a spread whose name was seen
+  pub closes_seen : (p : Node FragmentSpread) (old new : List (Bor NameText)) → IsSeen old (name_of p) → names_at new ≡ names_at old →
+      ClosesOver (λ q. q ≡ p) old new
+  closes_seen p old new seen names = record {
+    grows = λ k h. subst (λ l. IsTrue (stands_on l k)) (sym names) h;
+    begun = λ q same. subst (λ l. IsTrue (stands_on l (name_of q))) (sym names) (subst (λ r. IsSeen old (name_of r)) (sym same) seen);
+    closed = λ q h. inl (subst (λ l. IsTrue (stands_on l (name_of q))) names h);
+    apart = λ q h. inl (subst (λ l. IsTrue (stands_on l (name_of q))) names h);
+  }
+
+  -- why a search of fragments stopped
+  abbrev pub StopsOver : (Node FragmentSpread → Type 0) → List NameText → ℕ → CycleError FragmentSpread → Type 0
+  StopsOver begins path limit e = StopsBy SpreadsBy (fragment_of (fragments_of document)) name_of root begins path limit e
+
+  -- a search of one selection more, and of all
+  pub closes_next : (xs : List Selection) (i : ℕ) (s : Selection) (old mid new : List (Bor NameText)) → i < length xs → s ≡ get_or xs i s →
+      ClosesOver (SpreadAmong (take i xs)) old mid → ClosesOver (SpreadAt s) mid new → ClosesOver (SpreadAmong (take (i + 1) xs)) old new
+  closes_next xs i s old mid new within item a b = closes_fewer (λ p. among_either xs i s within item) (closes_then a b)
+
+  pub closes_whole : {xs : List Selection} (set : SelectionSet) (i : ℕ) (old new : List (Bor NameText)) → length xs ≤ i → xs ≡ selections_of set →
+      ClosesOver (SpreadAmong (take i xs)) old new → ClosesOver (SpreadIn set) old new
+  closes_whole {xs = xs} set i old new past same c =
+      closes_fewer (λ p written. subst (λ l. SpreadAmong l p) (sym (take_all i xs past ∙ same)) (spread_among written)) c
+
+  -- a search that stops at one of the selections
+  pub stops_among : {xs : List Selection} (set : SelectionSet) (i : ℕ) (s : Selection) {path now : List NameText} {limit bound : ℕ} (e : CycleError FragmentSpread) →
+      i < length xs → s ≡ get_or xs i s → xs ≡ selections_of set → now ≡ path → bound ≡ limit →
+      StopsOver (SpreadAt s) now bound e → StopsOver (SpreadIn set) path limit e
+  stops_among {xs = xs} set i s {path = path} {now = now} {bound = bound} e within item same is_path is_limit stops =
+      let stands : Contains (selections_of set) s = subst (λ l. Contains l s) same (stands_at xs i s within item) in
+      subst (λ n. StopsOver (SpreadIn set) path n e) is_limit
+      (subst (λ l. StopsOver (SpreadIn set) l bound e) is_path
+      (stops_wider SpreadsBy (fragment_of (fragments_of document)) name_of root (SpreadAt s) (SpreadIn set) now bound e (λ p at. spread_in {set = set} {s = s} {p = p} stands at) stops))
+
+  -- the path refuses the name of a spread
+  pub stops_at_refusal : (p : Node FragmentSpread) (stack : RecursionStack) (seen : List (Bor NameText)) (e : CycleError FragmentSpread) →
+      StandsOn root (path_of stack) (path_limit stack) seen → IsFalse (stands_on (names_at seen) (name_of p)) → DifferentNames (name_of p) root →
+      Refuses stack e → StopsOver (λ q. q ≡ p) (path_of stack) (path_limit stack) e
+  stops_at_refusal p stack seen (Recursed trace) s unseen other refused = absurd refused
+  stops_at_refusal p stack seen Limit s unseen other refused = goes_far_here p refl (one_too_many s (name_of p) unseen other refused)
+  stops_at_refusal p stack seen Memory s unseen other refused = tt
