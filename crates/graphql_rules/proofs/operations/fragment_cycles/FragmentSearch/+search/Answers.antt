@@ -8,10 +8,11 @@ use Rattle.graphql_documents.specs.Selections.{fragments_of}
 use Rattle.graphql_documents.specs.declared.documents.executables.Fragment.{Fragment}
 use Rattle.graphql_documents.specs.declared.documents.executables.FragmentSpread.{FragmentSpread}
 use Rattle.graphql_documents.specs.declared.documents.executables.Selection.TheVariants as kind
+use Rattle.graphql_documents.specs.declared.documents.executables.Selection.TheViews.{size-SelectionSet}
 use Rattle.graphql_documents.specs.declared.documents.nodes.Node.{Node}
 use Rattle.graphql_guards.specs.Guards.{path_limit, path_of}
 use Rattle.graphql_rules.proofs.CycleLemmas.{searches_words, stops_at_root, stops_before}
-use Rattle.graphql_rules.proofs.FragmentRoomLemmas.{room, room_falls}
+use Rattle.graphql_rules.proofs.FragmentRoomLemmas.{room, room_falls, room_for}
 use Rattle.graphql_rules.proofs.FragmentSearchLemmas.{ClosesOver, StopsOver, at_field, at_inline_fragment, at_spread, closes_fragment, closes_next, closes_undefined, closes_whole, name_of, stops_among, stops_at_refusal}
 use Rattle.graphql_rules.proofs.SeenNameLemmas.{Marked, names_at, stands_deeper, stands_still, was_marked}
 use Rattle.graphql_rules.specs.FragmentSearches.{SearchesFor, SpreadAt, SpreadIn, spread_itself, spread_in_field, spread_in_inline_fragment}
@@ -130,10 +131,16 @@ search_spread-search_set-requires t c =
     subst (λ (q : FragmentSpread). path_of c.enter.new.self ≡ path_of c.args.path.now ++ q.fragment_name ∷ []) c.deref.ensures c.in_ok-enter.ensures.entered in
     let found : fragments_of self.document.now (name_of p) ≡ Some c.in-Some.fragment.now =
     subst (λ (q : FragmentSpread). fragments_of self.document.now q.fragment_name ≡ Some c.in-Some.fragment.now) c.deref.ensures (sym c.in-Some.ensures.value) in
-    let d = c.decreases in
-    let falls = room_falls self.document.now (name_of p) c.in-Some.fragment.now (path_limit c.args.path.now) (path_of c.args.path.now) (path_of c.enter.new.self)
-    found c.in_ok-enter.ensures.bound longer in
-    (?, stands_still longer c.in_ok-enter.ensures.limit (λ k h. h) (stands_deeper c.requires (name_of p) m.unseen other m c.in_ok-enter.ensures.bound))
+    let document = self.document.now in
+    let now : 2 * room document c.args.path.now ≡ t = c.decreases in
+    let less : 2 * (room document c.enter.new.self + size-SelectionSet c.deref-2.result.now.selection_set) + 1 < 2 * room document c.args.path.now =
+    subst (λ (limit : ℕ). 2 * (room_for document limit (length (path_of c.enter.new.self)) + size-SelectionSet c.deref-2.result.now.selection_set) + 1 < 2 * room document c.args.path.now)
+    (sym c.in_ok-enter.ensures.limit)
+    (subst (λ (f : Fragment). 2 * (room_for document (path_limit c.args.path.now) (length (path_of c.enter.new.self)) + size-SelectionSet f.selection_set) + 1 < 2 * room document c.args.path.now)
+    (sym c.deref-2.ensures)
+    (room_falls self.document.now (name_of p) c.in-Some.fragment.now (path_limit c.args.path.now) (path_of c.args.path.now) (path_of c.enter.new.self)
+    found c.in_ok-enter.ensures.bound longer)) in
+    (subst (λ (n : ℕ). 2 * (room document c.enter.new.self + size-SelectionSet c.deref-2.result.now.selection_set) + 1 < n) now less, stands_still longer c.in_ok-enter.ensures.limit (λ k h. h) (stands_deeper c.requires (name_of p) m.unseen other m c.in_ok-enter.ensures.bound))
 
 pub search_spread-returns-in-Ok-clause-searches : goal.search_spread-returns-in-Ok-clause-searches
 search_spread-returns-in-Ok-clause-searches t c =
