@@ -139,6 +139,11 @@ module _ {Definition Reference : Type 0} {RefersBy : Definition → Reference �
     is_long = long g.way g.is_long;
   }
 
+  -- a long way from a definition, as a path
+  pub long_path : {name_of : Reference → NameText} {count : ℕ} (own : NameText) (d : Definition) →
+      GoesFar RefersBy target (RefersBy d) (λ way. HasDifferentNames count (own ∷ map name_of way)) → HasLongPath RefersBy target name_of own d count
+  long_path own d g = (g.way, path_of_way g.is_way, g.is_long)
+
 -- one more of each of two lists
 zipped_more : {X Y : Type 0} (R : X → Y → Type 0) (xs : List X) (ys : List Y) (x : X) (y : Y) → AllZip R xs ys → R x y → AllZip R (xs ++ x ∷ []) (ys ++ y ∷ [])
 zipped_more R [] [] x y all here = (here, tt)

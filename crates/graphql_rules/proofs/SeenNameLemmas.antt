@@ -1,6 +1,6 @@
 -- What a search for cycles has seen, and the names of its path: a name that is marked, and goes on the
 -- path.
-use Rattle.std.proofs.Common.{◌≡◌, ℕ, ◌+◌, ◌<◌, ◌≤◌, ◌⊎◌, inl, inr, Bool, true, false, ◌||◌, not, if◌then◌else◌, List, [], ◌∷◌, ◌++◌, length, get_or, map, refl, sym, ap, ◌∙◌, subst, IsTrue, IsFalse, All, Contains, arith, length-append}
+use Rattle.std.proofs.Common.{◌≡◌, ℕ, ◌+◌, ◌<◌, ◌≤◌, ◌⊎◌, inl, inr, Bool, true, false, not, if◌then◌else◌, List, [], ◌∷◌, ◌++◌, length, get_or, map, refl, sym, ap, ◌∙◌, subst, IsTrue, IsFalse, All, Contains, arith, length-append}
 use Rattle.std.specs.Borrow.{Bor}
 use Rattle.std.proofs.lemmas.List.Elements.{All-contains_itself}
 use Rattle.std.proofs.lemmas.List.Folds.{list_any_at}
@@ -21,6 +21,10 @@ both_not b is is_not = let h : ⊥ = cc in h
 -- the names to which references lead
 abbrev pub names_at : List (Bor NameText) → List NameText
 names_at seen = map (λ b. b.now) seen
+
+-- an empty set has no name
+pub nothing_seen : (seen : List (Bor NameText)) → seen ≡ [] → (k : NameText) → ¬ IsSeen seen k
+nothing_seen seen empty k h = both_not false (subst (λ l. IsSeen l k) empty h) refl
 
 -- a name was not seen, and was marked
 pub record Marked (name : NameText) (old new : List (Bor NameText)) : Type 0 where
@@ -64,19 +68,6 @@ stands_still is_path is_limit grows s = record {
   fits = omega (arith, ap length is_path, s.fits);
   known = λ k h. elim (s.known k (subst (λ l. IsTrue (stands_on l k)) is_path h)) [ inl same ↦ inl same | inr seen ↦ inr (grows k seen) ];
 }
-
--- a path of the root alone
-pub stands_at_root : (root : NameText) {path : List NameText} {limit : ℕ} {seen : List (Bor NameText)} → path ≡ root ∷ [] → 1 ≤ limit → StandsOn root path limit seen
-stands_at_root root is fits = record {
-  distinct = λ i j d before within. absurd (omega (arith, ap length is, within, before));
-  fits = omega (arith, ap length is, fits);
-  known = λ k h. inl (alone k (subst (λ l. IsTrue (stands_on l k)) is h));
-} where
-  alone : (k : NameText) → IsTrue (stands_on (root ∷ []) k) → SameName k root
-  alone k h = either (same_name k root) h where
-    either : (b : Bool) → IsTrue (b || false) → IsTrue b
-    either true h = refl
-    either false h = h
 
 module _ {root : NameText} {path : List NameText} {limit : ℕ} {old : List (Bor NameText)} (s : StandsOn root path limit old)
     (name : NameText) (unseen : IsFalse (stands_on (names_at old) name)) (other : DifferentNames name root) where
