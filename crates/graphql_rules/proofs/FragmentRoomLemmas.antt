@@ -10,7 +10,7 @@ use Rattle.graphql_documents.specs.declared.documents.executables.ExecutableDocu
 use Rattle.graphql_documents.specs.declared.documents.executables.Fragment.{Fragment}
 use Rattle.graphql_documents.specs.declared.documents.executables.Selection.TheViews.{size-SelectionSet}
 use Rattle.graphql_documents.specs.declared.documents.nodes.Node.{Node}
-use Rattle.graphql_guards.specs.Guards.{path_limit, path_of}
+use Rattle.graphql_guards.specs.Guards.{HasRoom, path_limit, path_of}
 use Rattle.graphql_guards.specs.declared.recursion.RecursionStack.{RecursionStack}
 
 -- how deep the sets of these fragments are, together
@@ -18,12 +18,9 @@ abbrev pub depths : List (NameText × Node Fragment) → ℕ
 depths [] = 0
 depths (entry ∷ entries) = size-SelectionSet entry.1.value.value.selection_set + depths entries
 
--- what a path of so many names has left
-abbrev pub room_for : ExecutableDocument → ℕ → ℕ → ℕ
-room_for document limit count = (limit - count) * (depths document.fragments.entries + 1)
-
+-- how much a path has left: as many fragments as it has room for, each of any depth
 abbrev pub room : ExecutableDocument → RecursionStack → ℕ
-room document path = room_for document (path_limit path) (length (path_of path))
+room document path = (path_limit path - length (path_of path)) * (depths document.fragments.entries + 1)
 
 -- what a name finds is no deeper
 found_within : (name : NameText) (entries : List (NameText × Node Fragment)) (d : Node Fragment) → lookup (same_name name) entries ≡ Some d →
@@ -39,16 +36,21 @@ found_within name (e ∷ es) d found = at_first (same_name name e.0) refl (λ la
       let rest : size-SelectionSet d.value.value.selection_set ≤ depths es = later (rw is at found) in
       omega (arith, rest)
 
-falls : (limit count longer most depth : ℕ) → count < limit → longer ≡ count + 1 → depth ≤ most →
-    2 * ((limit - longer) * (most + 1) + depth) + 1 < 2 * ((limit - count) * (most + 1))
-falls limit count longer most depth room is within =
-    let e : limit - count ≡ (limit - longer) + 1 = omega arith in
-    rw e (omega (arith, add-mul (limit - longer) 1 (most + 1), one-mul (most + 1)))
+falls : (limit bound count longer most depth : ℕ) → count < limit → bound ≡ limit → longer ≡ count + 1 → depth ≤ most →
+    2 * ((bound - longer) * (most + 1) + depth) + 1 < 2 * ((limit - count) * (most + 1))
+falls limit bound count longer most depth room same is within =
+    let e : limit - count ≡ (bound - longer) + 1 = omega arith in
+    rw e (omega (arith, add-mul (bound - longer) 1 (most + 1), one-mul (most + 1)))
 
 -- so a fragment that is gone into leaves less
-pub room_falls : (document : ExecutableDocument) (name : NameText) (d : Node Fragment) (limit : ℕ) (path longer : List NameText) →
-    fragments_of document name ≡ Some d → length path < limit → longer ≡ path ++ name ∷ [] →
-    2 * (room_for document limit (length longer) + size-SelectionSet d.value.value.selection_set) + 1 < 2 * room_for document limit (length path)
-room_falls document name d limit path longer found within is =
-    falls limit (length path) (length longer) (depths document.fragments.entries) (size-SelectionSet d.value.value.selection_set) within
-    (ap length is ∙ length-append path (name ∷ [])) (found_within name document.fragments.entries d found)
+pub room_falls : (document : ExecutableDocument) (name : NameText) (d : Node Fragment) (held : Fragment) (before after : RecursionStack) (measure : ℕ) →
+    held ≡ d.value.value → fragments_of document name ≡ Some d → HasRoom before → path_limit after ≡ path_limit before →
+    path_of after ≡ path_of before ++ name ∷ [] → 2 * room document before ≡ measure →
+    2 * (room document after + size-SelectionSet held.selection_set) + 1 < measure
+room_falls document name d held before after measure is found has_room limit longer now =
+    let within : size-SelectionSet held.selection_set ≤ depths document.fragments.entries =
+    subst (λ (f : Fragment). size-SelectionSet f.selection_set ≤ depths document.fragments.entries) (sym is)
+    (found_within name document.fragments.entries d found) in
+    subst (λ n. 2 * (room document after + size-SelectionSet held.selection_set) + 1 < n) now
+    (falls (path_limit before) (path_limit after) (length (path_of before)) (length (path_of after)) (depths document.fragments.entries) (size-SelectionSet held.selection_set)
+    has_room limit (ap length longer ∙ length-append (path_of before) (name ∷ [])) within)

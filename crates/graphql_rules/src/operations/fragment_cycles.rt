@@ -175,7 +175,7 @@ impl<'doc> FragmentSearch<'doc> {
     {
         let name = &spread.value.fragment_name;
         if name == self.root {
-            return Err(before_step(CycleError::Recursed(Vec::new(self.alloc)), spread));
+            return Err(trace_step(CycleError::Recursed(Vec::new(self.alloc)), spread));
         }
         if !mark(seen, name)? {
             return Ok(());
@@ -189,7 +189,7 @@ impl<'doc> FragmentSearch<'doc> {
                 path.leave();
                 Ok(())
             }
-            Err(error) => Err(before_step(error, spread)),
+            Err(error) => Err(trace_step(error, spread)),
         }
     }
 }
@@ -211,7 +211,7 @@ fn mark<'doc, T: Drop>(
 
 /// The error of a search, with the step before it at the end of its trace. A refusal of memory takes its
 /// place.
-fn before_step<T: Drop>(error: CycleError<T>, step: &Node<T>) -> CycleError<T>
+fn trace_step<T: Drop>(error: CycleError<T>, step: &Node<T>) -> CycleError<T>
     ensures { GoesOn step.now error result }
 {
     match error {

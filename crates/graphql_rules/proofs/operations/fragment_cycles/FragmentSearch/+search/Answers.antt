@@ -8,13 +8,12 @@ use Rattle.graphql_documents.specs.Selections.{fragments_of}
 use Rattle.graphql_documents.specs.declared.documents.executables.Fragment.{Fragment}
 use Rattle.graphql_documents.specs.declared.documents.executables.FragmentSpread.{FragmentSpread}
 use Rattle.graphql_documents.specs.declared.documents.executables.Selection.TheVariants as kind
-use Rattle.graphql_documents.specs.declared.documents.executables.Selection.TheViews.{size-SelectionSet}
 use Rattle.graphql_documents.specs.declared.documents.nodes.Node.{Node}
 use Rattle.graphql_guards.specs.Guards.{path_limit, path_of}
 use Rattle.graphql_rules.proofs.CycleLemmas.{searches_words, stops_at_root, stops_before}
-use Rattle.graphql_rules.proofs.FragmentRoomLemmas.{room, room_falls, room_for}
-use Rattle.graphql_rules.proofs.FragmentSearchLemmas.{ClosesOver, StopsOver, at_field, at_inline_fragment, at_spread, closes_fragment, closes_next, closes_undefined, closes_whole, name_of, stops_among, stops_at_refusal}
-use Rattle.graphql_rules.proofs.SeenNameLemmas.{Marked, names_at, stands_deeper, stands_still, was_marked}
+use Rattle.graphql_rules.proofs.FragmentRoomLemmas.{room_falls}
+use Rattle.graphql_rules.proofs.FragmentSearchLemmas.{ClosesOver, StopsOver, at_field, at_inline_fragment, at_spread, closes_fragment, closes_next, closes_undefined, closes_whole, found_of, longer_of, marked_of, name_of, other_of, stops_among, stops_at_refusal}
+use Rattle.graphql_rules.proofs.SeenNameLemmas.{stands_deeper, stands_still}
 use Rattle.graphql_rules.specs.FragmentSearches.{SearchesFor, SpreadAt, SpreadIn, spread_itself, spread_in_field, spread_in_inline_fragment}
 use Rattle.graphql_rules.proofs.operations.fragment_cycles.FragmentSearch.+search.Goals as goal
 
@@ -86,13 +85,7 @@ search_spread-returns-then-eq-clause-searches t c =
     let p = c.args.spread.now in
     let back : SameName (name_of p) self.root.now = search rules in
     stops_at_root SpreadsBy (fragment_of (fragments_of self.document.now)) name_of self.root.now
-    (λ q. q ≡ p) (path_of c.args.path.now) (path_limit c.args.path.now) p c.new.result c.before_step.result refl back c.new.ensures.items c.before_step.ensures
-
--- a name that was marked
-marked_here : (p : Node FragmentSpread) (named : FragmentSpread) (old new : List (Bor NameText)) (is_new : Bool) → named ≡ p.value.value →
-    is_new ≡ not (stands_on (names_at old) named.fragment_name) → names_at new ≡ with_name (names_at old) named.fragment_name → is_new ≡ true →
-    Marked (name_of p) old new
-marked_here p named old new is_new here e names is = subst (λ (q : FragmentSpread). Marked q.fragment_name old new) here (was_marked named.fragment_name old new is_new e names is)
+    (λ q. q ≡ p) (path_of c.args.path.now) (path_limit c.args.path.now) p c.new.result c.trace_step.result refl back c.new.ensures.items c.trace_step.ensures
 
 pub search_spread-returns-in_default-clause-searches : goal.search_spread-returns-in_default-clause-searches
 search_spread-returns-in_default-clause-searches t c =
@@ -100,10 +93,10 @@ search_spread-returns-in_default-clause-searches t c =
     let p = c.args.spread.now in
     let old = c.args.seen.now.keys in
     let new = c.mark.new.seen.keys in
-    let m = marked_here p c.deref.result.now old new c.in_ok-mark.field-0 c.deref.ensures c.in_ok-mark.ensures.is_new c.in_ok-mark.ensures.names c.if-not-branch.false in
-    let other : DifferentNames (name_of p) self.root.now = subst (λ (q : FragmentSpread). DifferentNames q.fragment_name self.root.now) c.deref.ensures (sym c.if-eq.ensures) in
+    let m = marked_of p c.deref.result.now c.deref.ensures old new c.in_ok-mark.field-0 c.in_ok-mark.ensures.is_new c.in_ok-mark.ensures.names c.if-not-branch.false in
+    let other = other_of p c.deref.result.now c.deref.ensures self.root.now c.if-eq.ensures in
     closes_undefined self.document.now self.root.now p m other
-    (subst (λ (q : FragmentSpread). fragments_of self.document.now q.fragment_name ≡ None) c.deref.ensures (sym c.in_default.ensures.value))
+    (found_of p c.deref.result.now c.deref.ensures self.document.now None c.in_default.ensures.value)
 
 pub search_spread-returns-in_err-enter-clause-searches : goal.search_spread-returns-in_err-enter-clause-searches
 search_spread-returns-in_err-enter-clause-searches t c =
@@ -111,8 +104,8 @@ search_spread-returns-in_err-enter-clause-searches t c =
     let p = c.args.spread.now in
     let old = c.args.seen.now.keys in
     let new = c.mark.new.seen.keys in
-    let m = marked_here p c.deref.result.now old new c.in_ok-mark.field-0 c.deref.ensures c.in_ok-mark.ensures.is_new c.in_ok-mark.ensures.names c.if-not-branch.false in
-    let other : DifferentNames (name_of p) self.root.now = subst (λ (q : FragmentSpread). DifferentNames q.fragment_name self.root.now) c.deref.ensures (sym c.if-eq.ensures) in
+    let m = marked_of p c.deref.result.now c.deref.ensures old new c.in_ok-mark.field-0 c.in_ok-mark.ensures.is_new c.in_ok-mark.ensures.names c.if-not-branch.false in
+    let other = other_of p c.deref.result.now c.deref.ensures self.root.now c.if-eq.ensures in
     let r = err_from_is_err_and c.from_residual-in_err-enter.result c.from_residual-in_err-enter.ensures.1 in
     let e = c.in_err-enter.field-0.0 in
     let same : r.0 ≡ e = r.2 in
@@ -125,22 +118,14 @@ search_spread-search_set-requires t c =
     let p = c.args.spread.now in
     let old = c.args.seen.now.keys in
     let new = c.mark.new.seen.keys in
-    let m = marked_here p c.deref.result.now old new c.in_ok-mark.field-0 c.deref.ensures c.in_ok-mark.ensures.is_new c.in_ok-mark.ensures.names c.if-not-branch.false in
-    let other : DifferentNames (name_of p) self.root.now = subst (λ (q : FragmentSpread). DifferentNames q.fragment_name self.root.now) c.deref.ensures (sym c.if-eq.ensures) in
-    let longer : path_of c.enter.new.self ≡ path_of c.args.path.now ++ name_of p ∷ [] =
-    subst (λ (q : FragmentSpread). path_of c.enter.new.self ≡ path_of c.args.path.now ++ q.fragment_name ∷ []) c.deref.ensures c.in_ok-enter.ensures.entered in
-    let found : fragments_of self.document.now (name_of p) ≡ Some c.in-Some.fragment.now =
-    subst (λ (q : FragmentSpread). fragments_of self.document.now q.fragment_name ≡ Some c.in-Some.fragment.now) c.deref.ensures (sym c.in-Some.ensures.value) in
-    let document = self.document.now in
-    let now : 2 * room document c.args.path.now ≡ t = c.decreases in
-    let less : 2 * (room document c.enter.new.self + size-SelectionSet c.deref-2.result.now.selection_set) + 1 < 2 * room document c.args.path.now =
-    subst (λ (limit : ℕ). 2 * (room_for document limit (length (path_of c.enter.new.self)) + size-SelectionSet c.deref-2.result.now.selection_set) + 1 < 2 * room document c.args.path.now)
-    (sym c.in_ok-enter.ensures.limit)
-    (subst (λ (f : Fragment). 2 * (room_for document (path_limit c.args.path.now) (length (path_of c.enter.new.self)) + size-SelectionSet f.selection_set) + 1 < 2 * room document c.args.path.now)
-    (sym c.deref-2.ensures)
-    (room_falls self.document.now (name_of p) c.in-Some.fragment.now (path_limit c.args.path.now) (path_of c.args.path.now) (path_of c.enter.new.self)
-    found c.in_ok-enter.ensures.bound longer)) in
-    (subst (λ (n : ℕ). 2 * (room document c.enter.new.self + size-SelectionSet c.deref-2.result.now.selection_set) + 1 < n) now less, stands_still longer c.in_ok-enter.ensures.limit (λ k h. h) (stands_deeper c.requires (name_of p) m.unseen other m c.in_ok-enter.ensures.bound))
+    let m = marked_of p c.deref.result.now c.deref.ensures old new c.in_ok-mark.field-0 c.in_ok-mark.ensures.is_new c.in_ok-mark.ensures.names c.if-not-branch.false in
+    let other = other_of p c.deref.result.now c.deref.ensures self.root.now c.if-eq.ensures in
+    let longer = longer_of p c.deref.result.now c.deref.ensures (path_of c.args.path.now) (path_of c.enter.new.self) c.in_ok-enter.ensures.entered in
+    let found = found_of p c.deref.result.now c.deref.ensures self.document.now (Some c.in-Some.fragment.now) c.in-Some.ensures.value in (
+      room_falls self.document.now (name_of p) c.in-Some.fragment.now c.deref-2.result.now c.args.path.now c.enter.new.self t
+          c.deref-2.ensures found c.in_ok-enter.ensures.bound c.in_ok-enter.ensures.limit longer c.decreases,
+      stands_still longer c.in_ok-enter.ensures.limit (λ k h. h) (stands_deeper c.requires (name_of p) m.unseen other m c.in_ok-enter.ensures.bound),
+    )
 
 pub search_spread-returns-in-Ok-clause-searches : goal.search_spread-returns-in-Ok-clause-searches
 search_spread-returns-in-Ok-clause-searches t c =
@@ -149,10 +134,9 @@ search_spread-returns-in-Ok-clause-searches t c =
     let old = c.args.seen.now.keys in
     let mid = c.mark.new.seen.keys in
     let new = c.search_set.new.seen.keys in
-    let m = marked_here p c.deref.result.now old mid c.in_ok-mark.field-0 c.deref.ensures c.in_ok-mark.ensures.is_new c.in_ok-mark.ensures.names c.if-not-branch.false in
-    let other : DifferentNames (name_of p) self.root.now = subst (λ (q : FragmentSpread). DifferentNames q.fragment_name self.root.now) c.deref.ensures (sym c.if-eq.ensures) in
-    let found : fragments_of self.document.now (name_of p) ≡ Some c.in-Some.fragment.now =
-    subst (λ (q : FragmentSpread). fragments_of self.document.now q.fragment_name ≡ Some c.in-Some.fragment.now) c.deref.ensures (sym c.in-Some.ensures.value) in
+    let m = marked_of p c.deref.result.now c.deref.ensures old mid c.in_ok-mark.field-0 c.in_ok-mark.ensures.is_new c.in_ok-mark.ensures.names c.if-not-branch.false in
+    let other = other_of p c.deref.result.now c.deref.ensures self.root.now c.if-eq.ensures in
+    let found = found_of p c.deref.result.now c.deref.ensures self.document.now (Some c.in-Some.fragment.now) c.in-Some.ensures.value in
     closes_fragment self.document.now self.root.now p m other c.in-Some.fragment.now new found
     (subst (λ (d : Fragment). ClosesOver self.document.now self.root.now (SpreadIn d.selection_set) mid new) c.deref-2.ensures c.in-Ok.ensures.searches)
 
@@ -163,12 +147,10 @@ search_spread-returns-in-Err-clause-searches t c =
     let d = c.in-Some.fragment.now in
     let e = c.in-Err.error in
     let Stops = λ (begins : Node FragmentSpread → Type 0) (path : List NameText) (limit : ℕ). StopsOver self.document.now self.root.now begins path limit e in
-    let longer : path_of c.enter.new.self ≡ path_of c.args.path.now ++ name_of p ∷ [] =
-    subst (λ (q : FragmentSpread). path_of c.enter.new.self ≡ path_of c.args.path.now ++ q.fragment_name ∷ []) c.deref.ensures c.in_ok-enter.ensures.entered in
-    let found : fragments_of self.document.now (name_of p) ≡ Some d =
-    subst (λ (q : FragmentSpread). fragments_of self.document.now q.fragment_name ≡ Some d) c.deref.ensures (sym c.in-Some.ensures.value) in
+    let longer = longer_of p c.deref.result.now c.deref.ensures (path_of c.args.path.now) (path_of c.enter.new.self) c.in_ok-enter.ensures.entered in
+    let found = found_of p c.deref.result.now c.deref.ensures self.document.now (Some c.in-Some.fragment.now) c.in-Some.ensures.value in
     stops_before SpreadsBy (fragment_of (fragments_of self.document.now)) name_of self.root.now (λ q. q ≡ p) (path_of c.args.path.now) (path_limit c.args.path.now) p d
-    e c.before_step-in-Err.result refl found c.before_step-in-Err.ensures
+    e c.trace_step-in-Err.result refl found c.trace_step-in-Err.ensures
     (subst (λ (path : List NameText). Stops (SpreadsBy d) path (path_limit c.args.path.now)) longer
     (subst (Stops (SpreadsBy d) (path_of c.enter.new.self)) c.in_ok-enter.ensures.limit
     (subst (λ (f : Fragment). Stops (SpreadIn f.selection_set) (path_of c.enter.new.self) (path_limit c.enter.new.self)) c.deref-2.ensures c.in-Err.ensures.searches)))

@@ -1,7 +1,7 @@
 use Rattle.std.proofs.Common.{sym, subst}
 use Rattle.graphql_guards.specs.declared.recursion.CycleError.TheVariants.{Recursed}
 use Rattle.graphql_rules.specs.CycleSearches.{GoesOn}
-use Rattle.graphql_rules.proofs.operations.fragment_cycles.before_step.Goals as goal
+use Rattle.graphql_rules.proofs.operations.fragment_cycles.trace_step.Goals as goal
 
 pub returns-in-Ok-push : goal.returns-in-Ok-push
 returns-in-Ok-push g c =
