@@ -1,16 +1,16 @@
 -- Searches for cycles put together, over any references: nothing done, one after another, a reference
 -- that is gone into, and what a search from nothing shows. Each search for cycles cites these.
-use Rattle.std.proofs.Common.{◌≡◌, ℕ, ◌+◌, ◌<◌, ◌≤◌, ◌⊎◌, inl, inr, List, [], ◌∷◌, ◌++◌, Option, Some, length, map, reverse, refl, sym, ap, ◌∙◌, subst, All, Contains, append_assoc}
-use Rattle.std.specs.Prelude.{⊤, Result, MatchResult}
+use Rattle.std.proofs.Common.{◌≡◌, ℕ, ◌+◌, ◌⊎◌, inl, inr, List, [], ◌∷◌, ◌++◌, Option, Some, map, reverse, refl, sym, ap, ◌∙◌, subst, All, append_assoc}
+use Rattle.std.specs.Prelude.{Result}
 use Rattle.std.specs.Borrow.{Bor}
 use Rattle.std.specs.List.{AllZip}
 use Rattle.std.specs.declared.vec.Vec.{Vec}
 use Rattle.std.specs.declared.alloc.Global.{Global}
 use Rattle.std.proofs.lemmas.List.{reverse-append}
-use Rattle.std.proofs.lemmas.List.Elements.{All-nil, All-cons, All-head, All-contains_itself}
+use Rattle.std.proofs.lemmas.List.Elements.{All-nil, All-cons, All-head}
 use Rattle.std.proofs.lemmas.Result.{MatchResult-weaker}
 use Rattle.graphql_documents.proofs.ReportLemmas.{All-append_right}
-use Rattle.graphql_documents.specs.Names.{AreDistinct, HasDifferentNames, NameText, SameName}
+use Rattle.graphql_documents.specs.Names.{HasDifferentNames, NameText, SameName}
 use Rattle.graphql_documents.specs.Nodes.{SameNode}
 use Rattle.graphql_documents.specs.Paths.{Path, path_of_one, path_of_more, IsCycle, HasNoCycle, HasLongPath}
 use Rattle.graphql_documents.specs.declared.documents.nodes.Node.{Node}

@@ -1,5 +1,5 @@
 -- The spreads among which a search for cycles of fragments goes on, and what it does at one of them.
-use Rattle.std.proofs.Common.{◌≡◌, ℕ, ◌+◌, ◌<◌, ◌≤◌, ◌⊎◌, inl, inr, Bool, true, false, not, List, [], ◌∷◌, ◌++◌, Option, Some, None, length, take, drop, get_or, refl, sym, ap, ◌∙◌, subst, IsTrue, IsFalse, Contains, arith}
+use Rattle.std.proofs.Common.{◌≡◌, ℕ, ◌+◌, ◌<◌, ◌≤◌, ◌⊎◌, inl, inr, Bool, true, not, List, [], ◌∷◌, ◌++◌, Option, Some, None, length, take, drop, get_or, refl, sym, ◌∙◌, subst, IsTrue, IsFalse, Contains}
 use Rattle.std.specs.Borrow.{Bor}
 use Rattle.std.proofs.lemmas.Option.{none-some, same_Some}
 use Rattle.std.proofs.lemmas.List.{take_all}
@@ -9,7 +9,7 @@ use Rattle.graphql_documents.proofs.NameLemmas.{not_both, same_name_back, same_n
 use Rattle.graphql_documents.proofs.ReportLemmas.{more_is}
 use Rattle.graphql_documents.proofs.SelectionLemmas.{not_inline, not_spread, one_fragment_found, same_field, same_inline, same_spread, spread_not_inline}
 use Rattle.graphql_documents.specs.FragmentSpreads.{SpreadsBy, fragment_of}
-use Rattle.graphql_documents.specs.Names.{DifferentNames, NameText, SameName, same_name, stands_on, with_name}
+use Rattle.graphql_documents.specs.Names.{DifferentNames, NameText, SameName, stands_on, with_name}
 use Rattle.graphql_documents.specs.Selections.{SetWritten, fragments_of, selections_of, set_itself, set_in_field, set_in_inline_fragment}
 use Rattle.graphql_documents.specs.declared.documents.executables.ExecutableDocument.{ExecutableDocument}
 use Rattle.graphql_documents.specs.declared.documents.executables.Field.{Field}
@@ -27,7 +27,7 @@ use Rattle.graphql_guards.specs.declared.recursion.CycleError.TheVariants.{Recur
 use Rattle.graphql_guards.specs.declared.recursion.RecursionStack.{RecursionStack}
 use Rattle.graphql_rules.proofs.CycleLemmas.{closes_below, closes_fewer, closes_nothing, closes_then, goes_far_here, stops_wider}
 use Rattle.graphql_rules.proofs.SeenNameLemmas.{Marked, marked_grows, marked_is_seen, marked_only, names_at, one_too_many, was_marked}
-use Rattle.graphql_rules.specs.CycleSearches.{Closes, IsSeen, Next, StandsOn, StopsBy}
+use Rattle.graphql_rules.specs.CycleSearches.{Closes, IsSeen, StandsOn, StopsBy}
 use Rattle.graphql_rules.specs.FragmentSearches.{SpreadAmong, SpreadAt, SpreadIn, spread_itself, spread_in_field, spread_in_inline_fragment}
 
 -- the name that a spread writes
@@ -40,9 +40,6 @@ module _ (p : Node FragmentSpread) (held : FragmentSpread) (is : held ≡ p.valu
       names_at new ≡ with_name (names_at old) held.fragment_name → is_new ≡ true → Marked (name_of p) old new
   marked_of old new is_new e names new_is =
       subst (λ (f : FragmentSpread). Marked f.fragment_name old new) is (was_marked held.fragment_name old new is_new e names new_is)
-
-  pub other_of : (root : NameText) → false ≡ same_name held.fragment_name root → DifferentNames (name_of p) root
-  other_of root e = subst (λ (f : FragmentSpread). DifferentNames f.fragment_name root) is (sym e)
 
   pub found_of : (document : ExecutableDocument) (found : Option (Node Fragment)) → found ≡ fragments_of document held.fragment_name →
       fragments_of document (name_of p) ≡ found

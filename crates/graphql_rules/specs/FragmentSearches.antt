@@ -1,5 +1,5 @@
 -- Searches for cycles of fragments, for the contracts of private functions.
-use Rattle.std.specs.Prelude.{◌≡◌, ℕ, List, Contains, Result}
+use Rattle.std.specs.Prelude.{◌≡◌, List, Contains, Result}
 use Rattle.std.specs.Borrow.{Bor}
 use Rattle.graphql_documents.specs.FragmentSpreads.{SpreadsBy, fragment_of}
 use Rattle.graphql_documents.specs.Names.{NameText}

@@ -174,7 +174,8 @@ impl<'doc> FragmentSearch<'doc> {
         ensures limit { OnOk result (path_limit path.new ≡ path_limit path.old) }
     {
         let name = &spread.value.fragment_name;
-        if name == self.root {
+        let leads_back = name == self.root;
+        if leads_back {
             return Err(trace_step(CycleError::Recursed(Vec::new(self.alloc)), spread));
         }
         if !mark(seen, name)? {

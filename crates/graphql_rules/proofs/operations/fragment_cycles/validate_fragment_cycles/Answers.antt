@@ -1,5 +1,5 @@
 -- What the search from the fragment's set says of the fragment.
-use Rattle.std.proofs.Common.{◌≡◌, ℕ, ◌+◌, List, [], ◌∷◌, ◌++◌, map, ap, sym, ◌∙◌, subst}
+use Rattle.std.proofs.Common.{◌≡◌, ℕ, ◌+◌, List, [], ◌∷◌, ◌++◌, map, ap, ◌∙◌, subst}
 use Rattle.graphql_documents.proofs.ReportLemmas.{holds}
 use Rattle.graphql_documents.proofs.ReportWithinLemmas.{within}
 use Rattle.graphql_documents.specs.Diagnostics.{IsLimitEntry}
@@ -11,8 +11,6 @@ use Rattle.graphql_documents.specs.declared.documents.executables.Fragment.{Frag
 use Rattle.graphql_documents.specs.declared.documents.executables.FragmentSpread.{FragmentSpread}
 use Rattle.graphql_documents.specs.declared.documents.nodes.Node.{Node}
 use Rattle.graphql_guards.specs.Guards.{path_limit, path_of}
-use Rattle.graphql_guards.specs.declared.recursion.CycleError.{CycleError}
-use Rattle.graphql_guards.specs.declared.recursion.CycleError.TheVariants.{Recursed, Limit}
 use Rattle.graphql_rules.proofs.CycleLemmas.{closed_no_way_back, cycle_of, long_path}
 use Rattle.graphql_rules.proofs.FragmentSearchLemmas.{ClosesOver, StopsOver, name_of}
 use Rattle.graphql_rules.proofs.SeenNameLemmas.{nothing_seen}

@@ -1,9 +1,8 @@
 -- Each exit of the search.
-use Rattle.std.proofs.Common.{rules, ◌≡◌, ℕ, ◌+◌, ◌*◌, ◌<◌, Bool, true, false, not, List, [], ◌∷◌, ◌++◌, Some, None, length, refl, sym, ◌∙◌, ap, subst, arith}
-use Rattle.std.specs.Borrow.{Bor}
+use Rattle.std.proofs.Common.{rules, ◌≡◌, ℕ, List, Some, None, refl, sym, ◌∙◌, ap, subst}
 use Rattle.std.proofs.lemmas.Result.{err_from_is_err_and}
 use Rattle.graphql_documents.specs.FragmentSpreads.{SpreadsBy, fragment_of}
-use Rattle.graphql_documents.specs.Names.{DifferentNames, NameText, SameName, stands_on, with_name}
+use Rattle.graphql_documents.specs.Names.{DifferentNames, NameText, SameName}
 use Rattle.graphql_documents.specs.Selections.{fragments_of}
 use Rattle.graphql_documents.specs.declared.documents.executables.Fragment.{Fragment}
 use Rattle.graphql_documents.specs.declared.documents.executables.FragmentSpread.{FragmentSpread}
@@ -12,7 +11,7 @@ use Rattle.graphql_documents.specs.declared.documents.nodes.Node.{Node}
 use Rattle.graphql_guards.specs.Guards.{path_limit, path_of}
 use Rattle.graphql_rules.proofs.CycleLemmas.{searches_words, stops_at_root, stops_before}
 use Rattle.graphql_rules.proofs.FragmentRoomLemmas.{room_falls}
-use Rattle.graphql_rules.proofs.FragmentSearchLemmas.{ClosesOver, StopsOver, at_field, at_inline_fragment, at_spread, closes_fragment, closes_next, closes_undefined, closes_whole, found_of, longer_of, marked_of, name_of, other_of, stops_among, stops_at_refusal}
+use Rattle.graphql_rules.proofs.FragmentSearchLemmas.{ClosesOver, StopsOver, at_field, at_inline_fragment, at_spread, closes_fragment, closes_next, closes_undefined, closes_whole, found_of, longer_of, marked_of, name_of, stops_among, stops_at_refusal}
 use Rattle.graphql_rules.proofs.SeenNameLemmas.{stands_deeper, stands_still}
 use Rattle.graphql_rules.specs.FragmentSearches.{SearchesFor, SpreadAt, SpreadIn, spread_itself, spread_in_field, spread_in_inline_fragment}
 use Rattle.graphql_rules.proofs.operations.fragment_cycles.FragmentSearch.+search.Goals as goal
@@ -79,8 +78,8 @@ search_set-returns-clause-searches t c =
     c.loop-selection.selection-index c.args.seen.now.keys c.loop-selection.seen.keys
     c.loop-selection-test.false c.deref-selection-items.ensures.value c.loop-selection.invariant.closes
 
-pub search_spread-returns-then-eq-clause-searches : goal.search_spread-returns-then-eq-clause-searches
-search_spread-returns-then-eq-clause-searches t c =
+pub search_spread-returns-then-leads_back-clause-searches : goal.search_spread-returns-then-leads_back-clause-searches
+search_spread-returns-then-leads_back-clause-searches t c =
     let self = c.args.self.now in
     let p = c.args.spread.now in
     let back : SameName (name_of p) self.root.now = search rules in
@@ -94,7 +93,7 @@ search_spread-returns-in_default-clause-searches t c =
     let old = c.args.seen.now.keys in
     let new = c.mark.new.seen.keys in
     let m = marked_of p c.deref.result.now c.deref.ensures old new c.in_ok-mark.field-0 c.in_ok-mark.ensures.is_new c.in_ok-mark.ensures.names c.if-not-branch.false in
-    let other = other_of p c.deref.result.now c.deref.ensures self.root.now c.if-eq.ensures in
+    let other : DifferentNames (name_of p) self.root.now = search rules in
     closes_undefined self.document.now self.root.now p m other
     (found_of p c.deref.result.now c.deref.ensures self.document.now None c.in_default.ensures.value)
 
@@ -105,7 +104,7 @@ search_spread-returns-in_err-enter-clause-searches t c =
     let old = c.args.seen.now.keys in
     let new = c.mark.new.seen.keys in
     let m = marked_of p c.deref.result.now c.deref.ensures old new c.in_ok-mark.field-0 c.in_ok-mark.ensures.is_new c.in_ok-mark.ensures.names c.if-not-branch.false in
-    let other = other_of p c.deref.result.now c.deref.ensures self.root.now c.if-eq.ensures in
+    let other : DifferentNames (name_of p) self.root.now = search rules in
     let r = err_from_is_err_and c.from_residual-in_err-enter.result c.from_residual-in_err-enter.ensures.1 in
     let e = c.in_err-enter.field-0.0 in
     let same : r.0 ≡ e = r.2 in
@@ -119,7 +118,7 @@ search_spread-search_set-requires t c =
     let old = c.args.seen.now.keys in
     let new = c.mark.new.seen.keys in
     let m = marked_of p c.deref.result.now c.deref.ensures old new c.in_ok-mark.field-0 c.in_ok-mark.ensures.is_new c.in_ok-mark.ensures.names c.if-not-branch.false in
-    let other = other_of p c.deref.result.now c.deref.ensures self.root.now c.if-eq.ensures in
+    let other : DifferentNames (name_of p) self.root.now = search rules in
     let longer = longer_of p c.deref.result.now c.deref.ensures (path_of c.args.path.now) (path_of c.enter.new.self) c.in_ok-enter.ensures.entered in
     let found = found_of p c.deref.result.now c.deref.ensures self.document.now (Some c.in-Some.fragment.now) c.in-Some.ensures.value in (
       room_falls self.document.now (name_of p) c.in-Some.fragment.now c.deref-2.result.now c.args.path.now c.enter.new.self t
@@ -135,7 +134,7 @@ search_spread-returns-in-Ok-clause-searches t c =
     let mid = c.mark.new.seen.keys in
     let new = c.search_set.new.seen.keys in
     let m = marked_of p c.deref.result.now c.deref.ensures old mid c.in_ok-mark.field-0 c.in_ok-mark.ensures.is_new c.in_ok-mark.ensures.names c.if-not-branch.false in
-    let other = other_of p c.deref.result.now c.deref.ensures self.root.now c.if-eq.ensures in
+    let other : DifferentNames (name_of p) self.root.now = search rules in
     let found = found_of p c.deref.result.now c.deref.ensures self.document.now (Some c.in-Some.fragment.now) c.in-Some.ensures.value in
     closes_fragment self.document.now self.root.now p m other c.in-Some.fragment.now new found
     (subst (λ (d : Fragment). ClosesOver self.document.now self.root.now (SpreadIn d.selection_set) mid new) c.deref-2.ensures c.in-Ok.ensures.searches)
