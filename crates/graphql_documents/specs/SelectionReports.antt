@@ -36,7 +36,7 @@ pub record HasInvalidTarget (schema : Option Schema) (condition : NameText) (fra
 
 -- the report names such a fragment, by this name if it has one
 pub data InvalidTargetReport (schema : Option Schema) (name : Option NameText) (condition : NameText) (fragment_at : Option SourceSpan) : DiagnosticData → Option SourceSpan → Type 0 where
-  of_target : {ty : NameText} {at : Option SourceSpan} → HasInvalidTarget schema condition fragment_at ty at →
+  invalid_target : {ty : NameText} {at : Option SourceSpan} → HasInvalidTarget schema condition fragment_at ty at →
       InvalidTargetReport schema name condition fragment_at (report.InvalidFragmentTarget name ty) at
 
 -- what is on the condition cannot be met on the type around: reported at the selection, with the places of
@@ -57,7 +57,7 @@ pub record IsImpossible (schema : Option Schema) (condition : NameText) (parent 
 
 -- the report names such a fragment, by the name by which it is spread if it is
 pub data ImpossibleReport (schema : Option Schema) (name : Option NameText) (condition : NameText) (parent : Option NameText) (fragment_at selection_at : Option SourceSpan) : DiagnosticData → Option SourceSpan → Type 0 where
-  of_impossible : {type_condition type_name : NameText} {fragment_location type_location at : Option SourceSpan} →
+  impossible_use : {type_condition type_name : NameText} {fragment_location type_location at : Option SourceSpan} →
       IsImpossible schema condition parent fragment_at selection_at type_condition type_name fragment_location type_location at →
       ImpossibleReport schema name condition parent fragment_at selection_at (report.InvalidFragmentSpread name type_condition type_name fragment_location type_location) at
 

@@ -1,4 +1,14 @@
-pub mod FragmentRoomLemmas
+pub mod AppliedLemmas
 pub mod CycleLemmas
+pub mod EnteredLemmas
+pub mod FieldLemmas
+pub mod FragmentLemmas
+pub mod FragmentRoomLemmas
 pub mod FragmentSearchLemmas
+mod FragmentUseLemmas
+pub mod MeasureLemmas
+pub mod PlacedLemmas
+mod PossibleTypeLemmas
 pub mod SeenNameLemmas
+pub mod SelectionHoldLemmas
+pub mod WalkLemmas

@@ -1,3 +1,6 @@
 pub mod Contexts
 pub mod CycleSearches
 pub mod FragmentSearches
+pub mod FragmentUses
+pub mod PossibleTypes
+pub mod SelectionSteps

@@ -1,7 +1,20 @@
 //! Operations, with the selections and fragments that they reach.
 
 mod context;
+mod fields;
 mod fragment_cycles;
+mod fragments;
+mod possible_types;
+mod selections;
+mod spread_types;
+mod type_conditions;
 
 pub use context::OperationValidationContext;
+pub use fields::validate_leaf_field_selection;
 pub use fragment_cycles::validate_fragment_cycles;
+pub use selections::{
+    validate_field, validate_fragment_definition, validate_fragment_spread,
+    validate_inline_fragment, validate_selection_set,
+};
+pub use spread_types::{FragmentUse, validate_fragment_spread_type};
+pub use type_conditions::validate_fragment_type_condition;

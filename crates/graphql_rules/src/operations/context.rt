@@ -1,4 +1,3 @@
-ghost use Rattle.std.specs.Prelude.{◌≡◌, [], not, IfOk, OnErr, OnOk};
 ghost use Rattle.std.specs.Option.{option_copied};
 ghost use Rattle.std.specs.Prelude.{◌≡◌, IfSome, Some};
 ghost use Rattle.std.specs.Coded.{Coded-set, codes};
@@ -26,9 +25,10 @@ pub struct OperationValidationContext<'a> {
 
 impl<'a> OperationValidationContext<'a> {
     ghost use Rattle.std.specs.Option.{option_copied};
-    ghost use Rattle.std.specs.Prelude.{◌≡◌, ◌↔◌, [], IfOk, IsTrue, Some};
+    ghost use Rattle.std.specs.Prelude.{◌≡◌, ◌↔◌, [], not, IfOk, IsTrue, OnErr, OnOk, Some};
     ghost use Rattle.graphql_documents.specs.FragmentSpreads.{HaveCommonObject};
-    ghost use Rattle.graphql_rules.specs.Contexts.{entered_names};
+    ghost use Rattle.graphql_documents.specs.Names.{stands_on, with_name};
+    ghost use Rattle.graphql_rules.specs.Contexts.{SharesWith, entered_names};
 
     /// The context of an operation with these variables, which has gone into no fragment. The only error
     /// is want of memory.
@@ -67,6 +67,16 @@ impl<'a> OperationValidationContext<'a> {
             entered: IndexSet::new(alloc),
             possible_types: self.possible_types,
         })
+    }
+
+    /// Goes into the fragment of this name, and answers whether it is the first time.
+    pub(super) fn enter(&mut self, name: &'a Name) -> Result<bool, ValidationError>
+        ensures is_new { IfOk result (λ new. new ≡ not (stands_on (entered_names self.old) name.now)) }
+        ensures names { OnOk result (entered_names self.new ≡ with_name (entered_names self.old) name.now) }
+        ensures kept { OnErr result (entered_names self.new ≡ entered_names self.old) }
+        ensures shared { SharesWith self.old self.new }
+    {
+        Ok(self.entered.insert(name)?)
     }
 
     /// Whether some object is a value of both types of the schema. The only error is want of memory.

@@ -1,7 +1,7 @@
 use Rattle.std.proofs.Common.{Option, Some, refl, subst, sym}
 use Rattle.graphql_documents.proofs.ReportLemmas.{checks-err, checks-push, kept}
 use Rattle.graphql_documents.specs.Names.{NameText}
-use Rattle.graphql_documents.specs.SelectionReports.{ImpossibleReport, of_impossible}
+use Rattle.graphql_documents.specs.SelectionReports.{ImpossibleReport, impossible_use}
 use Rattle.graphql_documents.specs.declared.diagnostics.data.DiagnosticData.TheVariants as report
 use Rattle.graphql_rules.specs.FragmentUses.{name_of_use, place_of_fragment, place_of_use}
 use Rattle.graphql_rules.proofs.operations.spread_types.report_impossible.Goals as goal
@@ -25,7 +25,7 @@ returns c = λ schema defined impossible.
     (report.InvalidFragmentSpread name c.in_ok-type_condition.type_condition c.in_ok-type_name.type_name c.fragment_location.result c.location-2.result)
     c.location.result in
     checks-push _ _ _ _ _ _ c.push.ensures.ok c.push.ensures.err impossible
-    (subst says (sym c.in_ok-name.ensures) (of_impossible (record {
+    (subst says (sym c.in_ok-name.ensures) (impossible_use (record {
       against = schema;
       ty = parent;
       definition = c.args.around.now;

@@ -1,7 +1,7 @@
 use Rattle.std.proofs.Common.{refl, sym, true≢false, ◌∙◌}
 use Rattle.graphql_documents.proofs.ReportLemmas.{checks-err, checks-push, holds, kept}
 use Rattle.graphql_documents.specs.FragmentSpreads.{NamesComposite}
-use Rattle.graphql_documents.specs.SelectionReports.{of_target}
+use Rattle.graphql_documents.specs.SelectionReports.{invalid_target}
 use Rattle.graphql_rules.proofs.operations.type_conditions.validate_fragment_type_condition.Goals as goal
 
 pub returns-then-names_composite : goal.returns-then-names_composite
@@ -15,7 +15,7 @@ returns c =
     let not_composite : ¬ NamesComposite c.args.schema.now c.args.condition.now =
     λ composite. true≢false (sym (c.names_composite.ensures.1 composite) ∙ c.if-names_composite.false) in
     checks-push _ _ _ _ _ _ c.push.ensures.ok c.push.ensures.err not_composite
-    (of_target (record {
+    (invalid_target (record {
       against = c.args.schema.now;
       has_schema = refl;
       not_composite = not_composite;
