@@ -1,10 +1,11 @@
 -- What a report says of a document. Specification: 5 Validation.
-use Rattle.std.specs.Prelude.{◌≡◌, Option, Some, Contains}
+use Rattle.std.specs.Prelude.{◌≡◌, List, [], ◌∷◌, Option, Some, Contains}
 use Rattle.indexmap.specs.IndexMap.{values}
 use Rattle.graphql_documents.specs.Defer.{operations_of}
 use Rattle.graphql_documents.specs.DeferReports.{DeferBreaks}
 use Rattle.graphql_documents.specs.DirectiveReports.{DirectivesBreak}
 use Rattle.graphql_documents.specs.Documents.{IsFragmentUsed, operation_location, root_type}
+use Rattle.graphql_documents.specs.Limits.{FragmentWalkLimit}
 use Rattle.graphql_documents.specs.MergingReports.{MergingBreaks}
 use Rattle.graphql_documents.specs.Names.{NameText}
 use Rattle.graphql_documents.specs.SelectionReports.{SelectionReport}
@@ -16,6 +17,7 @@ use Rattle.graphql_documents.specs.declared.diagnostics.data.DiagnosticData.TheV
 use Rattle.graphql_documents.specs.declared.diagnostics.data.DiagnosticData.{DiagnosticData}
 use Rattle.graphql_documents.specs.declared.diagnostics.details.Details.TheVariants as details
 use Rattle.graphql_documents.specs.declared.diagnostics.details.Details.{Details}
+use Rattle.graphql_documents.specs.declared.diagnostics.lists.DiagnosticEntry.{DiagnosticEntry}
 use Rattle.graphql_documents.specs.declared.documents.definitions.OperationType.TheVariants as operation
 use Rattle.graphql_documents.specs.declared.documents.executables.ExecutableDocument.{ExecutableDocument}
 use Rattle.graphql_documents.specs.declared.documents.executables.Fragment.{Fragment}
@@ -44,6 +46,33 @@ pub record IsUnusedFragment (document : ExecutableDocument) (name : NameText) (a
   pub unused : ¬ IsFragmentUsed document d.value.value
   pub name_is : name ≡ d.value.value.name
   pub at_is : at ≡ d.location
+
+-- the report names an unused fragment. Specification: 5.5.1.4 Fragments Must Be Used
+pub data FragmentUseReport (document : ExecutableDocument) : Details → Option SourceSpan → Type 0 where
+  of_unused : {name : NameText} {at : Option SourceSpan} →
+      IsUnusedFragment document name at → FragmentUseReport document (details.Diagnostic (report.UnusedFragment name)) at
+
+-- the report is that of this fragment, which is not used
+pub record IsReportOfUnused (document : ExecutableDocument) (d : Node Fragment) (entry : DiagnosticEntry) : Type 0 where
+  pub unused : ¬ IsFragmentUsed document d.value.value
+  pub details_are : entry.details ≡ details.Diagnostic (report.UnusedFragment d.value.value.name)
+  pub at_is : entry.location ≡ d.location
+
+-- the reports are of the unused ones among these fragments, one for each, in order
+pub data AreUnusedFragmentReports (document : ExecutableDocument) : List (Node Fragment) → List DiagnosticEntry → Type 0 where
+  no_fragment : AreUnusedFragmentReports document [] []
+  used_fragment : {d : Node Fragment} {rest : List (Node Fragment)} {reports : List DiagnosticEntry} →
+      IsFragmentUsed document d.value.value → AreUnusedFragmentReports document rest reports → AreUnusedFragmentReports document (d ∷ rest) reports
+  unused_fragment : {d : Node Fragment} {rest : List (Node Fragment)} {entry : DiagnosticEntry} {reports : List DiagnosticEntry} →
+      IsReportOfUnused document d entry → AreUnusedFragmentReports document rest reports →
+      AreUnusedFragmentReports document (d ∷ rest) (entry ∷ reports)
+
+-- the reports are those of each unused fragment of the document, or the one of the bound
+pub data AreFragmentUseReports (document : ExecutableDocument) : List DiagnosticEntry → Type 0 where
+  are_of_unused : {reports : List DiagnosticEntry} →
+      AreUnusedFragmentReports document (values document.fragments) reports → AreFragmentUseReports document reports
+  is_of_bound : {entry : DiagnosticEntry} →
+      FragmentWalkLimit document entry.details entry.location → AreFragmentUseReports document (entry ∷ [])
 
 -- the report names a rule that the document breaks
 pub data DocumentReport (schema : Option Schema) (document : ExecutableDocument) : Details → Option SourceSpan → Type 0 where

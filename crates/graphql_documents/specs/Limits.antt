@@ -108,6 +108,13 @@ pub record MergingNestsTooDeep (same : Field → Field → Bool) (schema : Schem
   pub passes : MergingPasses same schema fragments deep.value.value.selection_set
   pub at_is : at ≡ o.location
 
+-- a report of a limit is true of the walk that seeks used fragments: some operation passes its bound;
+-- reported without a place
+pub data FragmentWalkLimit (document : ExecutableDocument) : Details → Option SourceSpan → Type 0 where
+  fragment_walk_passes : {o : Node Operation} {limit : RecursionLimitError} →
+      Contains (operations_of document) o → PassesDepth (fragments_of document) full_walk o.value.value.selection_set →
+      FragmentWalkLimit document (details.RecursionLimit limit) None
+
 -- a report of a limit is true of a document: reported without a place, but for merging
 pub data DocumentLimit (same : Field → Field → Bool) (schema : Option Schema) (document : ExecutableDocument) : Details → Option SourceSpan → Type 0 where
   fragment_nests : {d : Node Fragment} {name : NameText} {describe : Bor (List ℕ)} {at : Option SourceSpan} →

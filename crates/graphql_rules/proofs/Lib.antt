@@ -11,4 +11,5 @@ pub mod PlacedLemmas
 mod PossibleTypeLemmas
 pub mod SeenNameLemmas
 pub mod SelectionHoldLemmas
+pub mod UsedFragmentLemmas
 pub mod WalkLemmas

@@ -4,3 +4,4 @@ pub mod FragmentSearches
 pub mod FragmentUses
 pub mod PossibleTypes
 pub mod SelectionSteps
+pub mod UsedFragments
