@@ -18,6 +18,8 @@ mod field_sets;
 #[cfg(test)]
 mod fixtures;
 #[cfg(test)]
+mod fragment_cycles;
+#[cfg(test)]
 mod guards;
 #[cfg(test)]
 mod input_objects;
