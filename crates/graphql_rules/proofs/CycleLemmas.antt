@@ -1,6 +1,6 @@
 -- Searches for cycles put together, over any references: nothing done, one after another, a reference
 -- that is gone into, and what a search from nothing shows. Each search for cycles cites these.
-use Rattle.std.proofs.Common.{◌≡◌, ℕ, ◌+◌, ◌⊎◌, inl, inr, List, [], ◌∷◌, ◌++◌, Option, Some, map, reverse, refl, sym, ap, ◌∙◌, subst, All, append_assoc}
+use Rattle.std.proofs.Common.{◌≡◌, ℕ, ◌+◌, ◌⊎◌, inl, inr, List, [], ◌∷◌, ◌++◌, Option, Some, map, reverse, refl, sym, ap, ◌∙◌, subst, IsFalse, All, append_assoc}
 use Rattle.std.specs.Prelude.{Result}
 use Rattle.std.specs.Borrow.{Bor}
 use Rattle.std.specs.List.{AllZip}
@@ -9,14 +9,18 @@ use Rattle.std.specs.declared.alloc.Global.{Global}
 use Rattle.std.proofs.lemmas.List.{reverse-append}
 use Rattle.std.proofs.lemmas.List.Elements.{All-nil, All-cons, All-head}
 use Rattle.std.proofs.lemmas.Result.{MatchResult-weaker}
+use Rattle.graphql_documents.proofs.NameLemmas.{not_both, same_name_back, same_name_itself, same_name_then}
 use Rattle.graphql_documents.proofs.ReportLemmas.{All-append_right}
-use Rattle.graphql_documents.specs.Names.{HasDifferentNames, NameText, SameName}
+use Rattle.graphql_documents.specs.Names.{DifferentNames, HasDifferentNames, NameText, SameName, stands_on}
 use Rattle.graphql_documents.specs.Nodes.{SameNode}
 use Rattle.graphql_documents.specs.Paths.{Path, path_of_one, path_of_more, IsCycle, HasNoCycle, HasLongPath}
 use Rattle.graphql_documents.specs.declared.documents.nodes.Node.{Node}
+use Rattle.graphql_guards.specs.Guards.{Refuses, path_limit, path_of}
 use Rattle.graphql_guards.specs.declared.recursion.CycleError.{CycleError}
 use Rattle.graphql_guards.specs.declared.recursion.CycleError.TheVariants.{Recursed, Limit, Memory}
-use Rattle.graphql_rules.specs.CycleSearches.{Next, Way, way_of_one, way_of_more, Closes, LeadsBack, GoesFar, Traces, StopsBy, Searches, GoesOn, IsMemory}
+use Rattle.graphql_guards.specs.declared.recursion.RecursionStack.{RecursionStack}
+use Rattle.graphql_rules.proofs.SeenNameLemmas.{Marked, marked_grows, marked_is_seen, marked_only, names_at, one_too_many}
+use Rattle.graphql_rules.specs.CycleSearches.{Next, Way, way_of_one, way_of_more, Closes, LeadsBack, GoesFar, Traces, StopsBy, Searches, GoesOn, IsSeen, StandsOn}
 
 module _ {Definition Reference : Type 0} {RefersBy : Definition → Reference → Type 0} {target : Reference → Option Definition} where
   -- a way that begins with one of these begins with one of more
@@ -159,6 +163,35 @@ traces_more {trace = trace} {more = more} {way = way} step copy is same t = reco
       (subst (AllZip SameNode (reverse way ++ step ∷ [])) (sym is) (zipped_more SameNode (reverse way) trace step copy t.copies same));
 }
 
+-- searches whose seen keys are names
+module _ {Definition Reference : Type 0} (RefersBy : Definition → Reference → Type 0) (target : Reference → Option Definition)
+    (name_of : Reference → NameText) (root : NameText) where
+  -- what a search that began with these has done
+  abbrev pub ClosesNames : (Reference → Type 0) → (old new : List (Bor NameText)) → Type 0
+  ClosesNames begins old new = Closes RefersBy target name_of (λ r. SameName (name_of r) root) begins (IsSeen old) (IsSeen new)
+
+  module _ (r : Reference) {old mid : List (Bor NameText)} (m : Marked (name_of r) old mid) (other : DifferentNames (name_of r) root) where
+    is_seen_now : (s : Reference) → s ≡ r → IsSeen mid (name_of s)
+    is_seen_now s same = marked_is_seen m (name_of s) (subst (λ q. SameName (name_of q) (name_of r)) (sym same) (same_name_itself (name_of r)))
+
+    not_back : (s : Reference) → SameName (name_of s) (name_of r) → ¬ SameName (name_of s) root
+    not_back s same back =
+        not_both (name_of r) root (same_name_then (name_of r) (name_of s) root (same_name_back (name_of s) (name_of r) same) back) other
+
+    -- a reference whose name was marked, and whose definition was searched, which is all that its name finds
+    pub closes_into : (d : Definition) (new : List (Bor NameText)) →
+        ((s : Reference) (e : Definition) → SameName (name_of s) (name_of r) → target s ≡ Some e → e ≡ d) →
+        ClosesNames (RefersBy d) mid new → ClosesNames (λ s. s ≡ r) old new
+    closes_into d new only c =
+        closes_below {marked = λ k. SameName k (name_of r)} (marked_grows m) is_seen_now (marked_only m) not_back
+        (λ s q same next. subst (λ e. RefersBy e q) (only s next.definition same next.leads) next.refers) c
+
+    -- or whose name finds nothing
+    pub closes_at : ((s : Reference) (e : Definition) → SameName (name_of s) (name_of r) → ¬ (target s ≡ Some e)) → ClosesNames (λ s. s ≡ r) old mid
+    closes_at none =
+        closes_below {below = λ s. ⊥} {marked = λ k. SameName k (name_of r)} (marked_grows m) is_seen_now (marked_only m) not_back
+        (λ s q same next. none s next.definition same next.leads) (closes_nothing (λ s never. absurd never))
+
 module _ {Definition T : Type 0} (RefersBy : Definition → Node T → Type 0) (target : Node T → Option Definition) (name_of : Node T → NameText) (root : NameText) where
   -- why a search stopped, seen from further off
   pub stops_wider : (begins more : Node T → Type 0) (path : List NameText) (limit : ℕ) (e : CycleError T) → ((r : Node T) → begins r → more r) →
@@ -202,9 +235,10 @@ module _ {Definition T : Type 0} (RefersBy : Definition → Node T → Type 0) (
   stops_at_root begins path limit step none Limit b back empty on = absurd on
   stops_at_root begins path limit step none Memory b back empty on = tt
 
-  -- memory is refused
-  pub stops_for_memory : (begins : Node T → Type 0) (path : List NameText) (limit : ℕ) (e : CycleError T) → IsMemory e →
-      StopsBy RefersBy target name_of root begins path limit e
-  stops_for_memory begins path limit (Recursed trace) refused = absurd refused
-  stops_for_memory begins path limit Limit refused = absurd refused
-  stops_for_memory begins path limit Memory refused = tt
+  -- the path refuses the name of the step
+  pub stops_at_refusal : (stack : RecursionStack) (seen : List (Bor NameText)) (step : Node T) (e : CycleError T) →
+      StandsOn root (path_of stack) (path_limit stack) seen → IsFalse (stands_on (names_at seen) (name_of step)) → DifferentNames (name_of step) root →
+      Refuses stack e → StopsBy RefersBy target name_of root (λ r. r ≡ step) (path_of stack) (path_limit stack) e
+  stops_at_refusal stack seen step (Recursed trace) s unseen other refused = absurd refused
+  stops_at_refusal stack seen step Limit s unseen other refused = goes_far_here step refl (one_too_many s (name_of step) unseen other refused)
+  stops_at_refusal stack seen step Memory s unseen other refused = tt

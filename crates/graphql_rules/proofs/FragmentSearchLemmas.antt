@@ -1,15 +1,15 @@
 -- The spreads among which a search for cycles of fragments goes on, and what it does at one of them.
-use Rattle.std.proofs.Common.{◌≡◌, ℕ, ◌+◌, ◌<◌, ◌≤◌, ◌⊎◌, inl, inr, Bool, true, not, List, [], ◌∷◌, ◌++◌, Option, Some, None, length, take, drop, get_or, refl, sym, ◌∙◌, subst, IsTrue, IsFalse, Contains}
+use Rattle.std.proofs.Common.{◌≡◌, ℕ, ◌+◌, ◌<◌, ◌≤◌, ◌⊎◌, inl, inr, Bool, true, not, List, [], ◌∷◌, ◌++◌, Option, Some, None, length, take, drop, get_or, refl, sym, ◌∙◌, subst, Contains}
 use Rattle.std.specs.Borrow.{Bor}
 use Rattle.std.proofs.lemmas.Option.{none-some, same_Some}
 use Rattle.std.proofs.lemmas.List.{take_all}
 use Rattle.std.proofs.lemmas.List.Elements.{Contains-append_cases, Contains-append_right}
 use Rattle.graphql_documents.proofs.ListLemmas.{only_one, stands_first}
-use Rattle.graphql_documents.proofs.NameLemmas.{not_both, same_name_back, same_name_itself, same_name_then}
+use Rattle.graphql_documents.proofs.NameLemmas.{same_name_back}
 use Rattle.graphql_documents.proofs.ReportLemmas.{more_is}
 use Rattle.graphql_documents.proofs.SelectionLemmas.{not_inline, not_spread, one_fragment_found, same_field, same_inline, same_spread, spread_not_inline}
 use Rattle.graphql_documents.specs.FragmentSpreads.{SpreadsBy, fragment_of}
-use Rattle.graphql_documents.specs.Names.{DifferentNames, NameText, SameName, stands_on, with_name}
+use Rattle.graphql_documents.specs.Names.{NameText, SameName, stands_on, with_name}
 use Rattle.graphql_documents.specs.Selections.{SetWritten, fragments_of, selections_of, set_itself, set_in_field, set_in_inline_fragment}
 use Rattle.graphql_documents.specs.declared.documents.executables.ExecutableDocument.{ExecutableDocument}
 use Rattle.graphql_documents.specs.declared.documents.executables.Field.{Field}
@@ -21,13 +21,10 @@ use Rattle.graphql_documents.specs.declared.documents.executables.Selection.{Sel
 use Rattle.graphql_documents.specs.declared.documents.executables.SelectionSet.{SelectionSet}
 use Rattle.graphql_documents.specs.declared.documents.nodes.Node.{Node}
 use Rattle.graphql_values.proofs.ObjectLemmas.{split_at}
-use Rattle.graphql_guards.specs.Guards.{Refuses, path_limit, path_of}
 use Rattle.graphql_guards.specs.declared.recursion.CycleError.{CycleError}
-use Rattle.graphql_guards.specs.declared.recursion.CycleError.TheVariants.{Recursed, Limit, Memory}
-use Rattle.graphql_guards.specs.declared.recursion.RecursionStack.{RecursionStack}
-use Rattle.graphql_rules.proofs.CycleLemmas.{closes_below, closes_fewer, closes_nothing, closes_then, goes_far_here, stops_wider}
-use Rattle.graphql_rules.proofs.SeenNameLemmas.{Marked, marked_grows, marked_is_seen, marked_only, names_at, one_too_many, was_marked}
-use Rattle.graphql_rules.specs.CycleSearches.{Closes, IsSeen, StandsOn, StopsBy}
+use Rattle.graphql_rules.proofs.CycleLemmas.{ClosesNames, closes_fewer, closes_then, stops_wider}
+use Rattle.graphql_rules.proofs.SeenNameLemmas.{Marked, names_at, was_marked}
+use Rattle.graphql_rules.specs.CycleSearches.{StopsBy}
 use Rattle.graphql_rules.specs.FragmentSearches.{SpreadAmong, SpreadAt, SpreadIn, spread_itself, spread_in_field, spread_in_inline_fragment}
 
 -- the name that a spread writes
@@ -94,46 +91,24 @@ among_either xs i s {p = p} within item among =
       | inr last ↦ inr (subst (λ t. SpreadAt t p) (only_one s among.0 last) among.2)
     ]
 
--- the spreads that a search of fragments goes by, and those that lead back to its root
+-- spreads of one name lead to one fragment, or to none
+pub one_target : (document : ExecutableDocument) (p : Node FragmentSpread) (d : Node Fragment) → fragments_of document (name_of p) ≡ Some d →
+    (q : Node FragmentSpread) (e : Node Fragment) → SameName (name_of q) (name_of p) → fragment_of (fragments_of document) q ≡ Some e → e ≡ d
+one_target document p d found q e same leads =
+    same_Some e d (sym leads ∙ one_fragment_found document (name_of q) (name_of p) same ∙ found)
+
+pub no_target : (document : ExecutableDocument) (p : Node FragmentSpread) → fragments_of document (name_of p) ≡ None →
+    (q : Node FragmentSpread) (e : Node Fragment) → SameName (name_of q) (name_of p) → ¬ (fragment_of (fragments_of document) q ≡ Some e)
+no_target document p none q e same leads =
+    none-some e (sym none ∙ one_fragment_found document (name_of p) (name_of q) (same_name_back (name_of q) (name_of p) same) ∙ leads)
+
+-- the searches of fragments
 module _ (document : ExecutableDocument) (root : NameText) where
+  -- what one has done
   abbrev pub ClosesOver : (Node FragmentSpread → Type 0) → (old new : List (Bor NameText)) → Type 0
-  ClosesOver begins old new =
-      Closes SpreadsBy (fragment_of (fragments_of document)) name_of (λ p. SameName (name_of p) root) begins (IsSeen old) (IsSeen new)
+  ClosesOver begins old new = ClosesNames SpreadsBy (fragment_of (fragments_of document)) name_of root begins old new
 
-  module _ (p : Node FragmentSpread) {old mid : List (Bor NameText)} (m : Marked (name_of p) old mid) (other : DifferentNames (name_of p) root) where
-    is_seen_now : (q : Node FragmentSpread) → q ≡ p → IsSeen mid (name_of q)
-    is_seen_now q same = marked_is_seen m (name_of q) (subst (λ r. SameName (name_of r) (name_of p)) (sym same) (same_name_itself (name_of p)))
-
-    not_back : (q : Node FragmentSpread) → SameName (name_of q) (name_of p) → ¬ SameName (name_of q) root
-    not_back q same back =
-        not_both (name_of p) root (same_name_then (name_of p) (name_of q) root (same_name_back (name_of q) (name_of p) same) back) other
-
-    -- a spread whose fragment is gone into
-    pub closes_fragment : (d : Node Fragment) (new : List (Bor NameText)) → fragments_of document (name_of p) ≡ Some d →
-        ClosesOver (SpreadIn d.value.value.selection_set) mid new → ClosesOver (λ q. q ≡ p) old new
-    closes_fragment d new found c =
-        closes_below {marked = λ k. SameName k (name_of p)} (marked_grows m) is_seen_now (marked_only m) not_back (λ q r same next.
-        subst (λ (e : Node Fragment). SpreadIn e.value.value.selection_set r)
-        (same_Some next.definition d (sym next.leads ∙ one_fragment_found document (name_of q) (name_of p) same ∙ found)) next.refers) c
-
-    -- a spread of an undefined one
-    pub closes_undefined : fragments_of document (name_of p) ≡ None → ClosesOver (λ q. q ≡ p) old mid
-    closes_undefined none =
-        closes_below {below = λ q. ⊥} {marked = λ k. SameName k (name_of p)} (marked_grows m) is_seen_now (marked_only m) not_back (λ q r same next.
-        none-some next.definition (sym none ∙ one_fragment_found document (name_of p) (name_of q) (same_name_back (name_of q) (name_of p) same) ∙ next.leads))
-        (closes_nothing (λ q no. absurd no))
-
-  -- a spread whose name was seen
-  pub closes_seen : (p : Node FragmentSpread) (old new : List (Bor NameText)) → IsSeen old (name_of p) → names_at new ≡ names_at old →
-      ClosesOver (λ q. q ≡ p) old new
-  closes_seen p old new seen names = record {
-    grows = λ k h. subst (λ l. IsTrue (stands_on l k)) (sym names) h;
-    begun = λ q same. subst (λ l. IsTrue (stands_on l (name_of q))) (sym names) (subst (λ r. IsSeen old (name_of r)) (sym same) seen);
-    closed = λ q h. inl (subst (λ l. IsTrue (stands_on l (name_of q))) names h);
-    apart = λ q h. inl (subst (λ l. IsTrue (stands_on l (name_of q))) names h);
-  }
-
-  -- why a search of fragments stopped
+  -- why one stopped
   abbrev pub StopsOver : (Node FragmentSpread → Type 0) → List NameText → ℕ → CycleError FragmentSpread → Type 0
   StopsOver begins path limit e = StopsBy SpreadsBy (fragment_of (fragments_of document)) name_of root begins path limit e
 
@@ -156,11 +131,3 @@ module _ (document : ExecutableDocument) (root : NameText) where
       subst (λ n. StopsOver (SpreadIn set) path n e) is_limit
       (subst (λ l. StopsOver (SpreadIn set) l bound e) is_path
       (stops_wider SpreadsBy (fragment_of (fragments_of document)) name_of root (SpreadAt s) (SpreadIn set) now bound e (λ p at. spread_in {set = set} {s = s} {p = p} stands at) stops))
-
-  -- the path refuses the name of a spread
-  pub stops_at_refusal : (p : Node FragmentSpread) (stack : RecursionStack) (seen : List (Bor NameText)) (e : CycleError FragmentSpread) →
-      StandsOn root (path_of stack) (path_limit stack) seen → IsFalse (stands_on (names_at seen) (name_of p)) → DifferentNames (name_of p) root →
-      Refuses stack e → StopsOver (λ q. q ≡ p) (path_of stack) (path_limit stack) e
-  stops_at_refusal p stack seen (Recursed trace) s unseen other refused = absurd refused
-  stops_at_refusal p stack seen Limit s unseen other refused = goes_far_here p refl (one_too_many s (name_of p) unseen other refused)
-  stops_at_refusal p stack seen Memory s unseen other refused = tt

@@ -1,8 +1,4 @@
-pub mod AppliedLemmas
 pub mod CycleLemmas
-pub mod EnteredLemmas
-pub mod FieldLemmas
-pub mod FragmentLemmas
 pub mod FragmentRoomLemmas
 pub mod FragmentSearchLemmas
 mod FragmentUseLemmas

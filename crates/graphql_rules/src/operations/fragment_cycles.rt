@@ -178,6 +178,7 @@ impl<'doc> FragmentSearch<'doc> {
         if leads_back {
             return Err(trace_step(CycleError::Recursed(Vec::new(self.alloc)), spread));
         }
+        // Each name on the path but the root's is marked, so what stands there is passed over too.
         if !mark(seen, name)? {
             return Ok(());
         }
@@ -210,8 +211,8 @@ fn mark<'doc, T: Drop>(
     }
 }
 
-/// The error of a search, with the step before it at the end of its trace. A refusal of memory takes its
-/// place.
+/// The error of a search, with the step before it at the end of its trace. Where memory for that is
+/// refused, this is the error.
 fn trace_step<T: Drop>(error: CycleError<T>, step: &Node<T>) -> CycleError<T>
     ensures { GoesOn step.now error result }
 {

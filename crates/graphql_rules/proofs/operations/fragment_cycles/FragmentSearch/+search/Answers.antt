@@ -9,9 +9,9 @@ use Rattle.graphql_documents.specs.declared.documents.executables.FragmentSpread
 use Rattle.graphql_documents.specs.declared.documents.executables.Selection.TheVariants as kind
 use Rattle.graphql_documents.specs.declared.documents.nodes.Node.{Node}
 use Rattle.graphql_guards.specs.Guards.{path_limit, path_of}
-use Rattle.graphql_rules.proofs.CycleLemmas.{searches_words, stops_at_root, stops_before}
+use Rattle.graphql_rules.proofs.CycleLemmas.{closes_at, closes_into, searches_words, stops_at_refusal, stops_at_root, stops_before}
 use Rattle.graphql_rules.proofs.FragmentRoomLemmas.{room_falls}
-use Rattle.graphql_rules.proofs.FragmentSearchLemmas.{ClosesOver, StopsOver, at_field, at_inline_fragment, at_spread, closes_fragment, closes_next, closes_undefined, closes_whole, found_of, longer_of, marked_of, name_of, stops_among, stops_at_refusal}
+use Rattle.graphql_rules.proofs.FragmentSearchLemmas.{ClosesOver, StopsOver, at_field, at_inline_fragment, at_spread, closes_next, closes_whole, found_of, longer_of, marked_of, name_of, no_target, one_target, stops_among}
 use Rattle.graphql_rules.proofs.SeenNameLemmas.{stands_deeper, stands_still}
 use Rattle.graphql_rules.specs.FragmentSearches.{SearchesFor, SpreadAt, SpreadIn, spread_itself, spread_in_field, spread_in_inline_fragment}
 use Rattle.graphql_rules.proofs.operations.fragment_cycles.FragmentSearch.+search.Goals as goal
@@ -94,8 +94,8 @@ search_spread-returns-in_default-clause-searches t c =
     let new = c.mark.new.seen.keys in
     let m = marked_of p c.deref.result.now c.deref.ensures old new c.in_ok-mark.field-0 c.in_ok-mark.ensures.is_new c.in_ok-mark.ensures.names c.if-not-branch.false in
     let other : DifferentNames (name_of p) self.root.now = search rules in
-    closes_undefined self.document.now self.root.now p m other
-    (found_of p c.deref.result.now c.deref.ensures self.document.now None c.in_default.ensures.value)
+    closes_at SpreadsBy (fragment_of (fragments_of self.document.now)) name_of self.root.now p m other
+    (no_target self.document.now p (found_of p c.deref.result.now c.deref.ensures self.document.now None c.in_default.ensures.value))
 
 pub search_spread-returns-in_err-enter-clause-searches : goal.search_spread-returns-in_err-enter-clause-searches
 search_spread-returns-in_err-enter-clause-searches t c =
@@ -109,7 +109,8 @@ search_spread-returns-in_err-enter-clause-searches t c =
     let e = c.in_err-enter.field-0.0 in
     let same : r.0 ≡ e = r.2 in
     rw r.1 (subst (StopsOver self.document.now self.root.now (λ q. q ≡ p) (path_of c.args.path.now) (path_limit c.args.path.now)) (sym same)
-    (stops_at_refusal self.document.now self.root.now p c.args.path.now old e c.requires m.unseen other c.in_err-enter.ensures.bound))
+    (stops_at_refusal SpreadsBy (fragment_of (fragments_of self.document.now)) name_of self.root.now c.args.path.now old p e
+    c.requires m.unseen other c.in_err-enter.ensures.bound))
 
 pub search_spread-search_set-requires : goal.search_spread-search_set-requires
 search_spread-search_set-requires t c =
@@ -136,7 +137,8 @@ search_spread-returns-in-Ok-clause-searches t c =
     let m = marked_of p c.deref.result.now c.deref.ensures old mid c.in_ok-mark.field-0 c.in_ok-mark.ensures.is_new c.in_ok-mark.ensures.names c.if-not-branch.false in
     let other : DifferentNames (name_of p) self.root.now = search rules in
     let found = found_of p c.deref.result.now c.deref.ensures self.document.now (Some c.in-Some.fragment.now) c.in-Some.ensures.value in
-    closes_fragment self.document.now self.root.now p m other c.in-Some.fragment.now new found
+    closes_into SpreadsBy (fragment_of (fragments_of self.document.now)) name_of self.root.now p m other c.in-Some.fragment.now new
+    (one_target self.document.now p c.in-Some.fragment.now found)
     (subst (λ (d : Fragment). ClosesOver self.document.now self.root.now (SpreadIn d.selection_set) mid new) c.deref-2.ensures c.in-Ok.ensures.searches)
 
 pub search_spread-returns-in-Err-clause-searches : goal.search_spread-returns-in-Err-clause-searches
