@@ -39,6 +39,11 @@ pub data OperationReport (schema : Option Schema) (document : ExecutableDocument
       SelectionReport schema (fragments_of document) o.variables.items (root_type schema o) (selections_of o.selection_set) r at →
       OperationReport schema document o r at
 
+-- the report names a rule that one of the operations of the document breaks
+pub data OperationsReport (schema : Option Schema) (document : ExecutableDocument) : DiagnosticData → Option SourceSpan → Type 0 where
+  of_one : {o : Node Operation} {r : DiagnosticData} {at : Option SourceSpan} →
+      Contains (operations_of document) o → OperationReport schema document o.value.value r at → OperationsReport schema document r at
+
 -- a fragment is not used: reported at the fragment
 pub record IsUnusedFragment (document : ExecutableDocument) (name : NameText) (at : Option SourceSpan) : Type 0 where
   pub d : Node Fragment

@@ -115,6 +115,19 @@ pub data FragmentWalkLimit (document : ExecutableDocument) : Details → Option 
       Contains (operations_of document) o → PassesDepth (fragments_of document) full_walk o.value.value.selection_set →
       FragmentWalkLimit document (details.RecursionLimit limit) None
 
+-- a report of a limit is true of an operation: of the walk that seeks the uses of its variables, reported without
+-- a place, or of a fragment
+pub data OperationLimit (document : ExecutableDocument) (o : Operation) : Details → Option SourceSpan → Type 0 where
+  variable_walk_passes : PassesDepth (fragments_of document) full_walk o.selection_set →
+      OperationLimit document o (details.Diagnostic report.RecursionError) None
+  spread_passes : {said : Details} {at : Option SourceSpan} →
+      SpreadLimit (fragments_of document) said at → OperationLimit document o said at
+
+-- the same of one of the operations of a document
+pub data OperationsLimit (document : ExecutableDocument) : Details → Option SourceSpan → Type 0 where
+  one_passes : {o : Node Operation} {said : Details} {at : Option SourceSpan} →
+      Contains (operations_of document) o → OperationLimit document o.value.value said at → OperationsLimit document said at
+
 -- a report of a limit is true of a document: reported without a place, but for merging
 pub data DocumentLimit (same : Field → Field → Bool) (schema : Option Schema) (document : ExecutableDocument) : Details → Option SourceSpan → Type 0 where
   fragment_nests : {d : Node Fragment} {name : NameText} {describe : Bor (List ℕ)} {at : Option SourceSpan} →

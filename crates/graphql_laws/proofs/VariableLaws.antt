@@ -96,7 +96,7 @@ module _ (fragments : Fragments) (o : Operation) where
       let named = among (map name_of o.variables.items) [] (name_of v) (stands_mapped name_of o.variables.items v there) in
       uses_same fragments o named.0 (name_of v) named.2 (All-contains (UsesVariable fragments o) (defined_names o) named.0 all named.1))
 
-  defined_as_used : VariablesAreUsed fragments o → All (UsesVariable fragments o) (defined_names o)
+  pub defined_as_used : VariablesAreUsed fragments o → All (UsesVariable fragments o) (defined_names o)
   defined_as_used all = each_standing (UsesVariable fragments o) (defined_names o) (λ u there.
       by u (only (map name_of o.variables.items) [] u there)) where
         by : (u : NameText) → Contains [] u ⊎ Contains (map name_of o.variables.items) u → UsesVariable fragments o u

@@ -3,6 +3,7 @@ pub mod FragmentRoomLemmas
 pub mod FragmentSearchLemmas
 mod FragmentUseLemmas
 pub mod MeasureLemmas
+pub mod OperationLemmas
 pub mod PlacedLemmas
 mod PossibleTypeLemmas
 pub mod SeenNameLemmas

@@ -5,6 +5,7 @@ mod fields;
 mod fragment_cycles;
 mod fragments;
 mod fragments_used;
+mod operation;
 mod possible_types;
 mod selections;
 mod spread_types;
@@ -14,6 +15,7 @@ pub use context::OperationValidationContext;
 pub use fields::validate_leaf_field_selection;
 pub use fragment_cycles::validate_fragment_cycles;
 pub use fragments_used::validate_fragments_used;
+pub use operation::{validate_operation, validate_operation_definitions};
 pub use selections::{
     validate_field, validate_fragment_definition, validate_fragment_spread,
     validate_inline_fragment, validate_selection_set,

@@ -28,7 +28,7 @@ impl<'a> OperationValidationContext<'a> {
     ghost use Rattle.std.specs.Prelude.{◌≡◌, ◌↔◌, [], not, IfOk, IsTrue, OnErr, OnOk, Some};
     ghost use Rattle.graphql_documents.specs.FragmentSpreads.{HaveCommonObject};
     ghost use Rattle.graphql_documents.specs.Names.{stands_on, with_name};
-    ghost use Rattle.graphql_rules.specs.Contexts.{SharesWith, entered_names};
+    ghost use Rattle.graphql_rules.specs.Contexts.{SharesWith, entered_names, schema_of, variables_of};
 
     /// The context of an operation with these variables, which has gone into no fragment. The only error
     /// is want of memory.
@@ -49,24 +49,21 @@ impl<'a> OperationValidationContext<'a> {
         })
     }
 
-    /// The context of the next operation of the document, with these variables: it has gone into no
-    /// fragment, and keeps what was found of the schema. The only error is want of memory.
-    pub fn next(
-        self,
+    /// Begins the next operation of the document, with these variables: it has gone into no fragment, and
+    /// what was found of the schema is kept. The only error is want of memory.
+    pub fn begin(
+        &mut self,
         alloc: Global,
         variables: &'a [Node<VariableDefinition>],
-    ) -> Result<OperationValidationContext<'a>, ValidationError>
-        ensures schema { IfOk result (λ context. option_copied context.schema ≡ option_copied self.entry.schema) }
-        ensures variables { IfOk result (λ context. context.variables ≡ variables.now) }
-        ensures entered { IfOk result (λ context. entered_names context ≡ []) }
+    ) -> Result<(), ValidationError>
+        ensures schema { schema_of self.new ≡ schema_of self.old }
+        ensures variables { OnOk result (variables_of self.new ≡ variables.now) }
+        ensures entered { OnOk result (entered_names self.new ≡ []) }
+        ensures kept { OnErr result (SharesWith self.old self.new × (entered_names self.new ≡ entered_names self.old)) }
     {
-        let variables = VariablesByName::new(alloc, variables)?;
-        Ok(OperationValidationContext {
-            schema: self.schema,
-            variables,
-            entered: IndexSet::new(alloc),
-            possible_types: self.possible_types,
-        })
+        self.variables = VariablesByName::new(alloc, variables)?;
+        self.entered = IndexSet::new(alloc);
+        Ok(())
     }
 
     /// Goes into the fragment of this name, and answers whether it is the first time.

@@ -47,7 +47,7 @@ pub fn validate_fragments_used(
 }
 
 /// The operations of a document: the one without a name, then the others in order.
-fn operations_of(
+pub(super) fn operations_of(
     alloc: Global,
     document: &ExecutableDocument,
 ) -> Result<Vec<&Node<Operation>>, ValidationError>

@@ -1,0 +1,122 @@
+ghost use Rattle.std.specs.Option.{option_copied};
+ghost use Rattle.std.specs.Prelude.{◌≡◌, All};
+ghost use Rattle.graphql_documents.specs.Defer.{operations_of};
+ghost use Rattle.graphql_documents.specs.Diagnostics.{IsDiagnostic};
+ghost use Rattle.graphql_documents.specs.DocumentReports.{OperationReport, OperationsReport};
+ghost use Rattle.graphql_documents.specs.Documents.{OperationHolds, operation_location, root_type};
+ghost use Rattle.graphql_documents.specs.Limits.{OperationLimit, OperationsLimit};
+ghost use Rattle.graphql_documents.specs.Reports.{ChecksWithin};
+ghost use Rattle.graphql_rules.specs.Contexts.{IsAgainst, parent_of, schema_of};
+
+use super::context::OperationValidationContext;
+use super::fragments_used::operations_of;
+use super::selections::validate_selection_set;
+use graphql_documents::diagnostics::{DiagnosticList, ValidationError};
+use graphql_documents::documents::{
+    DirectiveLocation, ExecutableDocument, NamedType, Operation, OperationType, Schema,
+};
+use graphql_values::directive::{check_each_directive, validate_variable_definitions};
+use graphql_values::variable::validate_unused_variables;
+
+/// Validates the operations of a document, each with the fragments that it reaches: the one without a
+/// name, then the others in order. The only error is want of memory.
+///
+/// Specification: 5.2 Operations.
+pub fn validate_operation_definitions(
+    diagnostics: &mut DiagnosticList,
+    document: &ExecutableDocument,
+    schema: Option<&Schema>,
+) -> Result<(), ValidationError>
+    ensures { ChecksWithin result (All (λ o. OperationHolds (option_copied schema.entry) document.now o.value.value) (operations_of document.now))
+        (IsDiagnostic (OperationsReport (option_copied schema.entry) document.now))
+        (λ e. OperationsLimit document.now e.details e.location)
+        diagnostics.old diagnostics.new }
+{
+    let alloc = diagnostics.allocator();
+    let operations = operations_of(alloc, document)?;
+    let mut context = OperationValidationContext::new(alloc, schema, &[])?;
+    for operation in &operations {
+        check_operation(diagnostics, document, &operation.value, &mut context)?;
+    }
+    Ok(())
+}
+
+/// Validates an operation with the fragments that it reaches.
+///
+/// Reports come in this order: of its directives; of the definitions of its variables; its unused
+/// variables; and of its selections, each with what is below it. The only error is want of memory.
+///
+/// Specification: 5.2 Operations; 5.8 Variables.
+pub fn validate_operation(
+    diagnostics: &mut DiagnosticList,
+    document: &ExecutableDocument,
+    operation: &Operation,
+    schema: Option<&Schema>,
+) -> Result<(), ValidationError>
+    ensures { ChecksWithin result (OperationHolds (option_copied schema.entry) document.now operation.now)
+        (IsDiagnostic (OperationReport (option_copied schema.entry) document.now operation.now))
+        (λ e. OperationLimit document.now operation.now e.details e.location)
+        diagnostics.old diagnostics.new }
+{
+    let mut context = OperationValidationContext::new(diagnostics.allocator(), schema, &[])?;
+    check_operation(diagnostics, document, operation, &mut context)
+}
+
+/// Validates an operation, where what was found of the schema is kept from the one before.
+fn check_operation<'a>(
+    diagnostics: &mut DiagnosticList,
+    document: &'a ExecutableDocument,
+    operation: &'a Operation,
+    context: &mut OperationValidationContext<'a>,
+) -> Result<(), ValidationError>
+    ensures checks { ChecksWithin result (OperationHolds (schema_of context.old) document.now operation.now)
+        (IsDiagnostic (OperationReport (schema_of context.old) document.now operation.now))
+        (λ e. OperationLimit document.now operation.now e.details e.location)
+        diagnostics.old diagnostics.new }
+    ensures schema { schema_of context.new ≡ schema_of context.old }
+{
+    context.begin(diagnostics.allocator(), &operation.variables)?;
+    let root = root_of(context.schema, operation);
+    check_each_directive(
+        diagnostics,
+        context.schema,
+        &operation.directives,
+        location_of(operation.operation_type),
+        &context.variables,
+    )?;
+    validate_variable_definitions(diagnostics, context.schema, &operation.variables)?;
+    validate_unused_variables(diagnostics, document, operation)?;
+    validate_selection_set(diagnostics, document, root, &operation.selection_set, context)
+}
+
+/// Where the directives of an operation stand.
+fn location_of(operation_type: OperationType) -> DirectiveLocation
+    ensures { result ≡ operation_location operation_type }
+{
+    match operation_type {
+        OperationType::Query => DirectiveLocation::Query,
+        OperationType::Mutation => DirectiveLocation::Mutation,
+        OperationType::Subscription => DirectiveLocation::Subscription,
+    }
+}
+
+/// The type on which the selections of an operation stand, if the schema names that root.
+fn root_of<'a>(
+    schema: Option<&'a Schema>,
+    operation: &Operation,
+) -> Option<(&'a Schema, &'a NamedType)>
+    ensures root { parent_of result ≡ root_type (option_copied schema.entry) operation.now }
+    ensures against { IsAgainst (option_copied schema.entry) result }
+{
+    let schema = schema?;
+    let roots = &schema.schema_definition.value;
+    let root = match operation.operation_type {
+        OperationType::Query => roots.query.as_ref(),
+        OperationType::Mutation => roots.mutation.as_ref(),
+        OperationType::Subscription => roots.subscription.as_ref(),
+    };
+    match root {
+        Some(root) => Some((schema, &root.name)),
+        None => None,
+    }
+}
