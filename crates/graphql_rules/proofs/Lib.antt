@@ -1,4 +1,8 @@
+pub mod AppliedLemmas
 pub mod CycleLemmas
+pub mod EnteredLemmas
+pub mod FieldLemmas
+pub mod FragmentLemmas
 pub mod FragmentRoomLemmas
 pub mod FragmentSearchLemmas
 mod FragmentUseLemmas

@@ -1,7 +1,7 @@
 -- What is said of an operation, part by part, and of several.
-use Rattle.std.proofs.Common.{◌≡◌, ◌⊎◌, ◌↔◌, inl, inr, List, [], ◌∷◌, ◌++◌, Option, Some, None, refl, sym, ap, ◌∙◌, subst, All, Contains}
+use Rattle.std.proofs.Common.{ℕ, ◌<◌, Bor, get_or, length, map, ◌≡◌, ◌⊎◌, ◌↔◌, inl, inr, List, [], ◌∷◌, ◌++◌, Option, Some, None, refl, sym, ap, ◌∙◌, subst, All, Contains}
 use Rattle.std.proofs.lemmas.List.{append_cancel_left}
-use Rattle.std.proofs.lemmas.List.Elements.{All-head, All-tail, All-nil, All-weaker}
+use Rattle.std.proofs.lemmas.List.Elements.{All-cons, All-contains, All-contains_itself, All-head, All-map, All-nil, All-tail, All-weaker, Contains-get_or}
 use Rattle.graphql_documents.specs.Defer.{operations_of}
 use Rattle.graphql_documents.specs.Diagnostics.{IsDiagnostic, IsLimit, IsLimitEntry, limit_of_walk, Says}
 use Rattle.graphql_documents.specs.DirectiveReports.{DirectivesBreak}
@@ -20,6 +20,11 @@ use Rattle.graphql_documents.specs.declared.diagnostics.data.DiagnosticData.TheV
 use Rattle.graphql_documents.specs.declared.diagnostics.details.Details.{Details}
 use Rattle.graphql_documents.specs.declared.diagnostics.details.Details.TheVariants as details
 use Rattle.graphql_documents.specs.declared.diagnostics.lists.DiagnosticEntry.{DiagnosticEntry}
+use Rattle.graphql_documents.specs.declared.documents.definitions.DirectiveLocation.{DirectiveLocation}
+use Rattle.graphql_documents.specs.declared.documents.definitions.VariableDefinition.{VariableDefinition}
+use Rattle.graphql_documents.specs.declared.documents.directives.Directive.{Directive}
+use Rattle.graphql_documents.proofs.ReportLemmas.{kept_wider, wider}
+use Rattle.graphql_documents.proofs.ReportWithinLemmas.{wider_within}
 use Rattle.graphql_documents.specs.declared.documents.executables.ExecutableDocument.{ExecutableDocument}
 use Rattle.graphql_documents.specs.declared.documents.executables.Operation.{Operation}
 use Rattle.graphql_documents.specs.declared.documents.nodes.Node.{Node}
@@ -129,6 +134,29 @@ module _ (schema : Option Schema) (document : ExecutableDocument) (o : Operation
     λ h. (((h.directives, h.variables.definitions), h.variables.used), h.selections),
   )
 
+-- what was said of the directives and variables of an operation, at hand in other lists
+module _ (schema : Option Schema) (document : ExecutableDocument) (o : Operation) where
+  pub directives_checked : (variables : List (Node VariableDefinition)) (location : DirectiveLocation) (directives : List (Node Directive)) (old new : List DiagnosticEntry) →
+      variables ≡ o.variables.items → location ≡ operation_location o.operation_type → directives ≡ o.directives.items →
+      Reports (ApplicationsHold schema variables location directives) (IsDiagnostic (DirectivesBreak schema variables location directives)) old new →
+      Reports (ApplicationsHold schema o.variables.items (operation_location o.operation_type) o.directives.items) (OperationTruth schema document o) old new
+  directives_checked variables location directives old new v l d r =
+      wider (of_its_directives schema document o) (rw (sym v, sym l, sym d) r)
+
+  pub directives_kept : (variables : List (Node VariableDefinition)) (location : DirectiveLocation) (directives : List (Node Directive)) (old new : List DiagnosticEntry) →
+      variables ≡ o.variables.items → location ≡ operation_location o.operation_type → directives ≡ o.directives.items →
+      KeepsReports (IsDiagnostic (DirectivesBreak schema variables location directives)) old new → KeepsReports (OperationTruth schema document o) old new
+  directives_kept variables location directives old new v l d r = kept_wider (of_its_directives schema document o) (rw (sym v, sym l, sym d) r)
+
+  pub variables_checked : (variables : List (Node VariableDefinition)) (old new : List DiagnosticEntry) → variables ≡ o.variables.items →
+      Reports (VariableDefinitionsHold schema variables) (IsDiagnostic (VariablesReport schema variables)) old new →
+      Reports (VariableDefinitionsHold schema o.variables.items) (OperationTruth schema document o) old new
+  variables_checked variables old new v r = wider (of_its_variables schema document o) (rw (sym v) r)
+
+  pub variables_kept : (variables : List (Node VariableDefinition)) (old new : List DiagnosticEntry) → variables ≡ o.variables.items →
+      KeepsReports (IsDiagnostic (VariablesReport schema variables)) old new → KeepsReports (OperationTruth schema document o) old new
+  variables_kept variables old new v r = kept_wider (of_its_variables schema document o) (rw (sym v) r)
+
 -- the reports of the operations of a document, and the limits
 abbrev pub OperationsTruth : Option Schema → ExecutableDocument → DiagnosticEntry → Type 0
 OperationsTruth schema document e = IsDiagnostic (OperationsReport schema document) e ⊎ OperationsLimit document e.details e.location
@@ -138,3 +166,27 @@ pub of_an_operation : (schema : Option Schema) (document : ExecutableDocument) (
 of_an_operation schema document o in' e (inl says) =
     inl (diagnostic_wider (OperationReport schema document o.value.value) (OperationsReport schema document) (λ r at b. of_one in' b) e says)
 of_an_operation schema document o in' e (inr limit) = inr (one_passes in' limit)
+
+-- what holds of each reference holds of what they refer to
+pub all_referred : {X : Type 0} (P : X → Type 0) (xs : List (Bor X)) → All (λ b. P b.now) xs ↔ All P (map (λ b. b.now) xs)
+all_referred {X = X} P xs = (All-map P (λ b. b.now) xs, back xs) where
+  back : (ys : List (Bor X)) → All P (map (λ b. b.now) ys) → All (λ b. P b.now) ys
+  back [] all = All-nil _
+  back (y ∷ ys) all = All-cons (λ b. P b.now) y ys (All-head P y.now (map (λ b. b.now) ys) all) (back ys (All-tail P y.now (map (λ b. b.now) ys) all))
+
+-- an operation of the document, by its reference
+pub stands_referred : {X : Type 0} (xs : List (Bor X)) (i : ℕ) (x : Bor X) → i < length xs → x ≡ get_or xs i x → Contains (map (λ b. b.now) xs) x.now
+stands_referred xs i x within is =
+    let l = map (λ b. b.now) xs in
+    All-contains (λ b. Contains l b.now) xs x ((all_referred (Contains l) xs).1 (All-contains_itself l)) (subst (Contains xs) (sym is) (Contains-get_or xs i x within))
+
+-- one of them was checked, at hand in another form
+module _ (document : ExecutableDocument) (o : Node Operation) (in' : Contains (operations_of document) o) where
+  pub operation_checked : (given schema : Option Schema) (part : Operation) (old new : List DiagnosticEntry) → given ≡ schema → part ≡ o.value.value →
+      ReportsWithin IsLimitEntry (OperationHolds given document part) (OperationTruth given document part) old new →
+      ReportsWithin IsLimitEntry (OperationHolds schema document o.value.value) (OperationsTruth schema document) old new
+  operation_checked given schema part old new s p r = wider_within IsLimitEntry (of_an_operation schema document o in') (rw (sym s, sym p) r)
+
+  pub operation_kept : (given schema : Option Schema) (part : Operation) (old new : List DiagnosticEntry) → given ≡ schema → part ≡ o.value.value →
+      KeepsReports (OperationTruth given document part) old new → KeepsReports (OperationsTruth schema document) old new
+  operation_kept given schema part old new s p r = kept_wider (of_an_operation schema document o in') (rw (sym s, sym p) r)

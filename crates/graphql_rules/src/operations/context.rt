@@ -37,8 +37,8 @@ impl<'a> OperationValidationContext<'a> {
         schema: Option<&'a Schema>,
         variables: &'a [Node<VariableDefinition>],
     ) -> Result<OperationValidationContext<'a>, ValidationError>
-        ensures schema { IfOk result (λ context. option_copied context.schema ≡ option_copied schema.entry) }
-        ensures variables { IfOk result (λ context. context.variables ≡ variables.now) }
+        ensures schema { IfOk result (λ context. schema_of context ≡ option_copied schema.entry) }
+        ensures variables { IfOk result (λ context. variables_of context ≡ variables.now) }
         ensures entered { IfOk result (λ context. entered_names context ≡ []) }
     {
         Ok(OperationValidationContext {
@@ -49,21 +49,24 @@ impl<'a> OperationValidationContext<'a> {
         })
     }
 
-    /// Begins the next operation of the document, with these variables: it has gone into no fragment, and
-    /// what was found of the schema is kept. The only error is want of memory.
-    pub fn begin(
-        &mut self,
+    /// The context of the next operation of the document, with these variables: it has gone into no
+    /// fragment, and keeps what was found of the schema. The only error is want of memory.
+    pub fn next(
+        self,
         alloc: Global,
         variables: &'a [Node<VariableDefinition>],
-    ) -> Result<(), ValidationError>
-        ensures schema { schema_of self.new ≡ schema_of self.old }
-        ensures variables { OnOk result (variables_of self.new ≡ variables.now) }
-        ensures entered { OnOk result (entered_names self.new ≡ []) }
-        ensures kept { OnErr result (SharesWith self.old self.new × (entered_names self.new ≡ entered_names self.old)) }
+    ) -> Result<OperationValidationContext<'a>, ValidationError>
+        ensures schema { IfOk result (λ context. schema_of context ≡ schema_of self.entry) }
+        ensures variables { IfOk result (λ context. variables_of context ≡ variables.now) }
+        ensures entered { IfOk result (λ context. entered_names context ≡ []) }
     {
-        self.variables = VariablesByName::new(alloc, variables)?;
-        self.entered = IndexSet::new(alloc);
-        Ok(())
+        let variables = VariablesByName::new(alloc, variables)?;
+        Ok(OperationValidationContext {
+            schema: self.schema,
+            variables,
+            entered: IndexSet::new(alloc),
+            possible_types: self.possible_types,
+        })
     }
 
     /// Goes into the fragment of this name, and answers whether it is the first time.

@@ -1,12 +1,12 @@
 ghost use Rattle.std.specs.Option.{option_copied};
-ghost use Rattle.std.specs.Prelude.{◌≡◌, All};
+ghost use Rattle.std.specs.Prelude.{◌≡◌, [], All};
 ghost use Rattle.graphql_documents.specs.Defer.{operations_of};
 ghost use Rattle.graphql_documents.specs.Diagnostics.{IsDiagnostic};
 ghost use Rattle.graphql_documents.specs.DocumentReports.{OperationReport, OperationsReport};
 ghost use Rattle.graphql_documents.specs.Documents.{OperationHolds, operation_location, root_type};
 ghost use Rattle.graphql_documents.specs.Limits.{OperationLimit, OperationsLimit};
 ghost use Rattle.graphql_documents.specs.Reports.{ChecksWithin};
-ghost use Rattle.graphql_rules.specs.Contexts.{IsAgainst, parent_of, schema_of};
+ghost use Rattle.graphql_rules.specs.Contexts.{IsAgainst, entered_names, parent_of, schema_of, variables_of};
 
 use super::context::OperationValidationContext;
 use super::fragments_used::operations_of;
@@ -36,6 +36,7 @@ pub fn validate_operation_definitions(
     let operations = operations_of(alloc, document)?;
     let mut context = OperationValidationContext::new(alloc, schema, &[])?;
     for operation in &operations {
+        context = context.next(alloc, &operation.value.variables)?;
         check_operation(diagnostics, document, &operation.value, &mut context)?;
     }
     Ok(())
@@ -58,24 +59,26 @@ pub fn validate_operation(
         (λ e. OperationLimit document.now operation.now e.details e.location)
         diagnostics.old diagnostics.new }
 {
-    let mut context = OperationValidationContext::new(diagnostics.allocator(), schema, &[])?;
+    let alloc = diagnostics.allocator();
+    let mut context = OperationValidationContext::new(alloc, schema, &operation.variables)?;
     check_operation(diagnostics, document, operation, &mut context)
 }
 
-/// Validates an operation, where what was found of the schema is kept from the one before.
+/// Validates an operation in a context of its own.
 fn check_operation<'a>(
     diagnostics: &mut DiagnosticList,
     document: &'a ExecutableDocument,
     operation: &'a Operation,
     context: &mut OperationValidationContext<'a>,
 ) -> Result<(), ValidationError>
+    requires variables { variables_of context.old ≡ operation.now.variables.items }
+    requires entered { entered_names context.old ≡ [] }
     ensures checks { ChecksWithin result (OperationHolds (schema_of context.old) document.now operation.now)
         (IsDiagnostic (OperationReport (schema_of context.old) document.now operation.now))
         (λ e. OperationLimit document.now operation.now e.details e.location)
         diagnostics.old diagnostics.new }
     ensures schema { schema_of context.new ≡ schema_of context.old }
 {
-    context.begin(diagnostics.allocator(), &operation.variables)?;
     let root = root_of(context.schema, operation);
     check_each_directive(
         diagnostics,
