@@ -1,120 +1,156 @@
--- In a set of plain fields the places that are reached are those reached by fields alone.
-use Rattle.std.proofs.Common.{◌≡◌, ◌↔◌, arith, List, [], Option, Some, Result, Ok, Err, refl, sym, ap, subst, Contains}
-use Rattle.std.specs.Result.{result_ok}
-use Rattle.std.proofs.lemmas.Option.{same_Some, none-some}
-use Rattle.std.proofs.lemmas.List.Elements.{All-nil}
-use Rattle.graphql_documents.specs.Names.{NameText}
-use Rattle.graphql_documents.specs.TypeReferences.{inner_named_type}
-use Rattle.graphql_documents.specs.Schemas.{type_field}
-use Rattle.graphql_documents.specs.Selections.{selections_of, definition_at, no_fragments, set_itself, set_in_field, TypeBelow, below_unknown, below_known, Placed, standing_at, placed_in_field, placed_in_inline_fragment, placed_in_spread}
-use Rattle.graphql_documents.specs.Directives.{ApplicationsHold}
-use Rattle.graphql_documents.specs.Fields.{FieldHolds}
-use Rattle.graphql_documents.specs.FieldSets.{IsPlainField, IsPlain, FieldSetHolds}
-use Rattle.graphql_documents.specs.declared.documents.nodes.Node.{Node}
-use Rattle.graphql_documents.specs.declared.documents.components.Component.{Component}
-use Rattle.graphql_documents.specs.declared.documents.definitions.FieldDefinition.{FieldDefinition}
-use Rattle.graphql_documents.specs.declared.documents.schemas.Schema.{Schema}
-use Rattle.graphql_documents.specs.declared.documents.executables.SelectionSet.{SelectionSet}
-use Rattle.graphql_documents.specs.declared.documents.executables.Selection.{Selection}
-use Rattle.graphql_documents.specs.declared.documents.executables.Selection.TheVariants.{outs-Field, outs-InlineFragment, outs-FragmentSpread}
-use Rattle.graphql_documents.specs.declared.documents.executables.Selection.TheVariants as kind
-use Rattle.graphql_documents.specs.declared.documents.executables.Field.{Field}
-use Rattle.graphql_documents.specs.declared.documents.directives.Directive.{Directive}
+-- A field set has no fragments, so what a walk over it says comes without a limit.
+use Rattle.std.proofs.Common.{◌≡◌, ◌⊎◌, inl, inr, Bool, true, false, List, [], Option, Some, None, refl, sym, ap, ◌∙◌, subst, All}
+use Rattle.std.specs.Map.{lookup}
+use Rattle.std.proofs.lemmas.Option.{none-some}
+use Rattle.std.proofs.lemmas.List.Elements.{All-weaker}
+use Rattle.graphql_documents.specs.Diagnostics.{IsDiagnostic, IsLimit, IsLimitEntry, Says, limit_of_depth, limit_of_path, limit_of_walk}
+use Rattle.graphql_documents.specs.DirectiveReports.{ApplicationBreaks, ArgumentValuesBreak, DirectivesBreak, of_application, of_argument_values, of_misplaced_directive, of_missing_argument, of_repeated_argument, of_repeated_directive, of_undefined_directive, of_unknown_argument, of_usage, of_value}
+use Rattle.graphql_documents.specs.FieldReports.{FieldBreaks}
+use Rattle.graphql_documents.specs.FieldSets.{FieldSetHolds, NamesBrokenFieldSetRule}
+use Rattle.graphql_documents.specs.Names.{NameText, same_name}
+use Rattle.graphql_documents.specs.Reports.{KeepsReports, Reports}
+use Rattle.graphql_documents.specs.SelectionReports.{FragmentBreaks, InlineFragmentBreaks, SelectionReport, SpreadBreaks, of_field_directives, of_field_form, of_field_values, of_fragment, of_fragment_directives, of_inline_fragment, of_inline_fragment_directives, of_spread, of_spread_directives}
+use Rattle.graphql_documents.specs.Selections.{Fragments, fragments_of, no_fragments, selections_of}
+use Rattle.graphql_documents.specs.TypeReferences.{TypeReference}
+use Rattle.graphql_documents.specs.ValueReports.{ValueBreaks}
+use Rattle.graphql_documents.specs.declared.diagnostics.data.DiagnosticData.{DiagnosticData}
+use Rattle.graphql_documents.specs.declared.diagnostics.data.DiagnosticData.TheVariants as report
+use Rattle.graphql_documents.specs.declared.diagnostics.details.Details.{Details}
+use Rattle.graphql_documents.specs.declared.diagnostics.details.Details.TheVariants as details
+use Rattle.graphql_documents.specs.declared.diagnostics.lists.DiagnosticEntry.{DiagnosticEntry}
 use Rattle.graphql_documents.specs.declared.documents.definitions.DirectiveLocation.{DirectiveLocation}
 use Rattle.graphql_documents.specs.declared.documents.definitions.VariableDefinition.{VariableDefinition}
-use Rattle.graphql_documents.proofs.SelectionLemmas.{not_inline, not_spread, same_field}
-use Rattle.graphql_validation.specs.FieldWalk.{ReachedByFields, stands, below, ReachedFieldsHold}
+use Rattle.graphql_documents.specs.declared.documents.definitions.DirectiveDefinition.{DirectiveDefinition}
+use Rattle.graphql_documents.specs.declared.documents.definitions.InputValueDefinition.{InputValueDefinition}
+use Rattle.graphql_documents.specs.declared.documents.directives.Argument.{Argument}
+use Rattle.graphql_documents.specs.declared.documents.directives.Directive.{Directive}
+use Rattle.graphql_documents.specs.declared.documents.executables.ExecutableDocument.{ExecutableDocument}
+use Rattle.graphql_documents.specs.declared.documents.executables.Field.{Field}
+use Rattle.graphql_documents.specs.declared.documents.executables.Fragment.{Fragment}
+use Rattle.graphql_documents.specs.declared.documents.executables.FragmentSpread.{FragmentSpread}
+use Rattle.graphql_documents.specs.declared.documents.executables.InlineFragment.{InlineFragment}
+use Rattle.graphql_documents.specs.declared.documents.executables.Selection.{Selection}
+use Rattle.graphql_documents.specs.declared.documents.executables.SelectionSet.{SelectionSet}
+use Rattle.graphql_documents.specs.declared.documents.nodes.Node.{Node}
+use Rattle.graphql_documents.specs.declared.documents.schemas.Schema.{Schema}
+use Rattle.graphql_documents.specs.declared.documents.spans.SourceSpan.{SourceSpan}
+use Rattle.graphql_documents.specs.declared.documents.values.Value.{Value}
+use Rattle.graphql_rules.specs.SelectionSteps.{SelectionTruth, WalkAnswers, WalkStops}
 
--- a definition that was found is an answer
-pub found_ok : {T E : Type 0} (r : Result T E) (d : T) → result_ok r ≡ Some d → r ≡ Ok d
-found_ok (Ok x) d e = ap Ok (same_Some x d e)
-found_ok (Err x) d e = absurd (none-some d e)
+-- the broken rules that are limits
+abbrev is_bound : DiagnosticData → Bool
+is_bound report.RecursionError = true
+is_bound (report.DeeplyNestedType name describe) = true
+is_bound _ = false
 
--- the place in the set of a field that stands on a known type
-pub known_below : (schema : Schema) (place : Option NameText) (field : NameText) (at : Option NameText) → TypeBelow (Some schema) place field at →
-    (parent : NameText) → place ≡ Some parent →
-    (d : Component FieldDefinition) × (type_field schema parent field ≡ Ok d) × (at ≡ Some (inner_named_type d.node.value.value.ty))
-known_below schema place field at below_unknown parent is = absurd (none-some parent is)
-known_below schema place field at (below_known {d = d} e) parent is =
-    (d, found_ok (type_field schema parent field) d (subst (λ p. definition_at (Some schema) p field ≡ Some d) is e), refl)
+abbrev says_bound : Details → Bool
+says_bound (details.Diagnostic r) = is_bound r
+says_bound (details.Build b) = false
+says_bound (details.RecursionLimit l) = true
 
--- what is placed is reached by fields
-placed_among : {schema : Schema} {place at : Option NameText} {selections : List Selection} {s : Selection} →
-    Placed (Some schema) no_fragments place selections s at → (set : SelectionSet) → selections ≡ selections_of set →
-    (parent : NameText) → place ≡ Some parent → IsPlain set → (f : Node Field) → s ≡ kind.Field f →
-    (t : NameText) × (at ≡ Some t) × ReachedByFields schema parent set f t
-placed_among {selections = selections} (standing_at in') set same parent is plain f e =
-    (parent, is, stands (subst (λ l. Contains l (kind.Field f)) same (subst (Contains selections) e in')))
-placed_among {schema = schema} {place = place} (placed_in_field {below = u} g in' under p) set same parent is plain f e =
-    let stands_here = subst (λ l. Contains l (kind.Field g)) same in' in
-    let k = known_below schema place g.value.value.name u under parent is in
-    let r = placed_among p g.value.value.selection_set refl (inner_named_type k.0.node.value.value.ty) k.2
-    (λ x w. plain x (w.0, set_in_field stands_here w.1, w.2)) f e in
-    (r.0, r.1, below stands_here k.1 r.2)
-placed_among (placed_in_inline_fragment i in' p) set same parent is plain f e =
-    let field = plain (kind.InlineFragment i) (_, set_itself, subst (λ l. Contains l (kind.InlineFragment i)) same in') in
-    absurd (not_inline field.field i field.is_field)
-placed_among (placed_in_spread d in' found p) set same parent is plain f e = absurd (none-some d found)
+limit_says : (d : Details) → IsLimit d → says_bound d ≡ true
+limit_says d limit_of_walk = refl
+limit_says d limit_of_path = refl
+limit_says d limit_of_depth = refl
 
-pub placed_reached : (schema : Schema) (place : Option NameText) (set : SelectionSet) (s : Selection) (at : Option NameText) →
-    Placed (Some schema) no_fragments place (selections_of set) s at →
-    (parent : NameText) → place ≡ Some parent → IsPlain set → (f : Node Field) → s ≡ kind.Field f →
-    (t : NameText) × (at ≡ Some t) × ReachedByFields schema parent set f t
-placed_reached schema place set s at p = placed_among p set refl
+-- no report of a selection is one
+module _ (schema : Schema) (variables : List (Node VariableDefinition)) (ty : TypeReference) (value : Node Value) where
+  of_values : (r : DiagnosticData) (at : Option SourceSpan) → ValueBreaks schema variables ty value r at → is_bound r ≡ false
+  of_values report.RecursionError at b = absurd b
+  of_values (report.DeeplyNestedType name describe) at b = absurd b
+  of_values r at b = refl
 
--- what is reached by fields is placed
-pub reached_placed : (schema : Schema) (parent : NameText) (set : SelectionSet) (f : Node Field) (t : NameText) →
-    ReachedByFields schema parent set f t → Placed (Some schema) no_fragments (Some parent) (selections_of set) (kind.Field f) (Some t)
-reached_placed schema parent set f t (stands in') = standing_at in'
-reached_placed schema parent set f t (below {g = g} {d = d} in' is r) =
-    placed_in_field g in' (below_known (ap result_ok is))
-    (reached_placed schema (inner_named_type d.node.value.value.ty) g.value.value.selection_set f t r)
+of_arguments : {schema : Schema} {variables : List (Node VariableDefinition)} {definitions : List (Node InputValueDefinition)} {given : List (Node Argument)} {r : DiagnosticData} {at : Option SourceSpan} →
+    ArgumentValuesBreak schema variables definitions given r at → is_bound r ≡ false
+of_arguments (of_usage b) = refl
+of_arguments {schema} {variables} {r = r} {at = at} (of_value b) = of_values schema variables _ _ r at b.broken.broken
 
--- in a plain set only fields are placed, and these without directives
-plain_among : {schema : Option Schema} {place at : Option NameText} {selections : List Selection} {s : Selection} →
-    Placed schema no_fragments place selections s at → (set : SelectionSet) → selections ≡ selections_of set → IsPlain set → IsPlainField s
-plain_among {s = s} (standing_at in') set same plain = plain s (_, set_itself, subst (λ l. Contains l s) same in')
-plain_among (placed_in_field g in' under p) set same plain =
-    plain_among p g.value.value.selection_set refl (λ x w. plain x (w.0, set_in_field (subst (λ l. Contains l (kind.Field g)) same in') w.1, w.2))
-plain_among (placed_in_inline_fragment i in' p) set same plain =
-    let field = plain (kind.InlineFragment i) (_, set_itself, subst (λ l. Contains l (kind.InlineFragment i)) same in') in
-    absurd (not_inline field.field i field.is_field)
-plain_among (placed_in_spread d in' found p) set same plain = absurd (none-some d found)
+of_directives : {schema : Option Schema} {variables : List (Node VariableDefinition)} {location : DirectiveLocation} {directives : List (Node Directive)} {r : DiagnosticData} {at : Option SourceSpan} →
+    DirectivesBreak schema variables location directives r at → is_bound r ≡ false
+of_directives (of_repeated_argument d in' b) = refl
+of_directives (of_undefined_directive b) = refl
+of_directives (of_repeated_directive b) = refl
+of_directives (of_misplaced_directive b) = refl
+of_directives (of_application is b) = by_application b where
+  by_application : {against : Schema} {variables : List (Node VariableDefinition)} {d : Node Directive} {definition : Node DirectiveDefinition} {r : DiagnosticData} {at : Option SourceSpan} →
+      ApplicationBreaks against variables d definition r at → is_bound r ≡ false
+  by_application (of_unknown_argument b) = refl
+  by_application (of_missing_argument b) = refl
+  by_application (of_argument_values b) = of_arguments b
 
-placed_plain : (schema : Option Schema) (place : Option NameText) (set : SelectionSet) (s : Selection) (at : Option NameText) →
-    Placed schema no_fragments place (selections_of set) s at → IsPlain set → IsPlainField s
-placed_plain schema place set s at p = plain_among p set refl
+of_form : (schema : Option Schema) (parent : Option NameText) (f : Node Field) (r : DiagnosticData) (at : Option SourceSpan) → FieldBreaks schema parent f r at → is_bound r ≡ false
+of_form schema parent f report.RecursionError at b = absurd b
+of_form schema parent f (report.DeeplyNestedType name describe) at b = absurd b
+of_form schema parent f r at b = refl
 
--- no directives hold wherever they are
-none_applied : (schema : Option Schema) (variables : List (Node VariableDefinition)) (location : DirectiveLocation) (directives : List (Node Directive)) →
-    directives ≡ [] → ApplicationsHold schema variables location directives
-none_applied schema variables location directives none =
-    subst (ApplicationsHold schema variables location) (sym none) (record { each = All-nil _; repetitions = λ i j d before within. absurd (let no : ⊥ = omega arith in no) })
+of_inline : (schema : Option Schema) (parent : Option NameText) (i : Node InlineFragment) (r : DiagnosticData) (at : Option SourceSpan) → InlineFragmentBreaks schema parent i r at → is_bound r ≡ false
+of_inline schema parent i report.RecursionError at b = absurd b
+of_inline schema parent i (report.DeeplyNestedType name describe) at b = absurd b
+of_inline schema parent i r at b = refl
 
--- so a plain set holds where the fields reached by fields do
-pub plain_holds : (schema : Schema) (set : SelectionSet) → IsPlain set → ReachedFieldsHold schema set.ty set ↔ FieldSetHolds schema set
-plain_holds schema set plain = (there, back) where
-  there : ReachedFieldsHold schema set.ty set → FieldSetHolds schema set
-  there h = record {
-    fields = λ f at placed.
-        let r = placed_reached schema (Some set.ty) set (kind.Field f) at placed set.ty refl plain f refl in
-        let bare = placed_plain (Some schema) (Some set.ty) set (kind.Field f) at placed plain in
-        let same : bare.field ≡ f = same_field f bare.field (sym bare.is_field) in
-        let holds = h f r.0 r.2 in
-        subst (λ t. FieldHolds (Some schema) [] t f.value.value) (sym r.1) (record {
-          directives = none_applied _ _ _ _ (subst (λ g. g.value.value.directives.items ≡ []) same bare.no_directives);
-          form = holds.form;
-          values = holds.values;
-        });
-    inline_fragments = λ i at placed.
-        let bare = placed_plain (Some schema) (Some set.ty) set (kind.InlineFragment i) at placed plain in
-        absurd (not_inline bare.field i bare.is_field);
-    spreads = λ p at placed.
-        let bare = placed_plain (Some schema) (Some set.ty) set (kind.FragmentSpread p) at placed plain in
-        absurd (not_spread bare.field p bare.is_field);
+of_spreads : (schema : Option Schema) (fragments : Fragments) (parent : Option NameText) (p : Node FragmentSpread) (r : DiagnosticData) (at : Option SourceSpan) → SpreadBreaks schema fragments parent p r at → is_bound r ≡ false
+of_spreads schema fragments parent p report.RecursionError at b = absurd b
+of_spreads schema fragments parent p (report.DeeplyNestedType name describe) at b = absurd b
+of_spreads schema fragments parent p r at b = refl
+
+of_fragments : (schema : Option Schema) (fragments : Fragments) (d : Node Fragment) (r : DiagnosticData) (at : Option SourceSpan) → FragmentBreaks schema fragments d r at → is_bound r ≡ false
+of_fragments schema fragments d report.RecursionError at b = absurd b
+of_fragments schema fragments d (report.DeeplyNestedType name describe) at b = absurd b
+of_fragments schema fragments d r at b = refl
+
+of_selections : {schema : Option Schema} {fragments : Fragments} {variables : List (Node VariableDefinition)} {parent : Option NameText} {selections : List Selection} (r : DiagnosticData) (at : Option SourceSpan) →
+    SelectionReport schema fragments variables parent selections r at → is_bound r ≡ false
+of_selections r at (of_field_directives f p b) = of_directives b
+of_selections r at (of_field_form f p b) = of_form _ _ f r at b
+of_selections r at (of_field_values f p b) = of_arguments b.broken
+of_selections r at (of_inline_fragment_directives i p b) = of_directives b
+of_selections r at (of_inline_fragment i p b) = of_inline _ _ i r at b
+of_selections r at (of_spread_directives s p b) = of_directives b
+of_selections r at (of_spread s p b) = of_spreads _ _ _ s r at b
+of_selections r at (of_fragment_directives s p found b) = of_directives b
+of_selections r at (of_fragment s {d = d} p found b) = of_fragments _ _ d r at b
+
+says_no_bound : (schema : Option Schema) (fragments : Fragments) (variables : List (Node VariableDefinition)) (parent : Option NameText) (selections : List Selection) (d : Details) (at : Option SourceSpan) →
+    Says (SelectionReport schema fragments variables parent selections) d at → says_bound d ≡ false
+says_no_bound schema fragments variables parent selections (details.Diagnostic r) at says = of_selections r at says
+says_no_bound schema fragments variables parent selections (details.Build b) at says = absurd says
+says_no_bound schema fragments variables parent selections (details.RecursionLimit l) at says = absurd says
+
+-- a document without fragments
+pub has_no_fragments : (document : ExecutableDocument) → document.fragments.entries ≡ [] → fragments_of document ≡ no_fragments
+has_no_fragments document none =
+    let found_in : List (NameText × Node Fragment) → Fragments = λ es name. lookup (same_name name) es in
+    ap found_in none
+
+module _ (schema : Schema) (set : SelectionSet) where
+  -- where there are no fragments, none nests too deep
+  only_broken : (e : DiagnosticEntry) → SelectionTruth (Some schema) no_fragments [] (Some set.ty) (selections_of set) e → NamesBrokenFieldSetRule schema set e
+  only_broken e (inl says) = says
+  only_broken e (inr limit) = absurd (none-some limit.d limit.found)
+
+  no_limit : (e : DiagnosticEntry) → NamesBrokenFieldSetRule schema set e → ¬ IsLimitEntry e
+  no_limit e says limit =
+      let is : says_bound e.details ≡ true = limit_says e.details limit in
+      let is_none : says_bound e.details ≡ false = says_no_bound (Some schema) no_fragments [] (Some set.ty) (selections_of set) e.details e.location says in
+      let no' : ⊥ = cc in no'
+
+  pub field_set_checked : {entered : List NameText} {old new : List DiagnosticEntry} →
+      WalkAnswers (Some schema) no_fragments [] (Some set.ty) (selections_of set) [] entered old new →
+      Reports (FieldSetHolds schema set) (NamesBrokenFieldSetRule schema set) old new
+  field_set_checked w =
+      let each = All-weaker _ (NamesBrokenFieldSetRule schema set) only_broken w.reports.added w.reports.each in
+      record {
+        added = w.reports.added;
+        appended = w.reports.appended;
+        silent = w.reports.silent (All-weaker (NamesBrokenFieldSetRule schema set) (λ e. ¬ IsLimitEntry e) no_limit w.reports.added each);
+        each = each;
+      }
+
+  pub field_set_kept : {entered : List NameText} {old new : List DiagnosticEntry} →
+      WalkStops (Some schema) no_fragments [] (Some set.ty) (selections_of set) [] entered old new →
+      KeepsReports (NamesBrokenFieldSetRule schema set) old new
+  field_set_kept s = record {
+    added = s.reports.added;
+    appended = s.reports.appended;
+    each = All-weaker _ (NamesBrokenFieldSetRule schema set) only_broken s.reports.added s.reports.each;
   }
-
-  back : FieldSetHolds schema set → ReachedFieldsHold schema set.ty set
-  back h f t r =
-      let holds = h.fields f (Some t) (reached_placed schema set.ty set f t r) in
-      record { form = holds.form; values = holds.values }

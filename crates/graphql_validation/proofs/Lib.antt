@@ -1,3 +1,2 @@
-pub mod FieldArgumentLemmas
+pub mod DocumentLemmas
 pub mod FieldSetLemmas
-pub mod FieldWalkLemmas

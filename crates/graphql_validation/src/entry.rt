@@ -1,39 +1,117 @@
 //! The calls that validate a whole document or field set.
 
-mod fields;
+ghost use Rattle.indexmap.specs.IndexMap.{values};
+ghost use Rattle.std.specs.Option.{option_copied};
+ghost use Rattle.std.specs.Prelude.{◌≡◌, [], All, Bool, None, Some};
+ghost use Rattle.graphql_documents.specs.Defer.{operations_of};
+ghost use Rattle.graphql_documents.specs.DocumentReports.{DocumentReport};
+ghost use Rattle.graphql_documents.specs.Documents.{IsFragmentUsed, OperationHolds};
+ghost use Rattle.graphql_documents.specs.FieldSets.{FieldSetHolds, NamesBrokenFieldSetRule};
+ghost use Rattle.graphql_documents.specs.Limits.{DocumentLimit};
+ghost use Rattle.graphql_documents.specs.Reports.{Checks, ChecksWithin};
+ghost use Rattle.graphql_documents.specs.declared.documents.executables.Field.{Field};
 
-ghost use Rattle.std.specs.Prelude.{OnOk};
-ghost use Rattle.graphql_documents.specs.Diagnostics.{entries};
-ghost use Rattle.graphql_documents.specs.Reports.{Reports, KeepsReports};
-ghost use Rattle.graphql_documents.specs.FieldSets.{IsPlain, FieldSetHolds, NamesBrokenFieldSetRule};
-
-use fields::validate_selection_set;
 use graphql_documents::diagnostics::{DiagnosticList, ValidationError};
-use graphql_documents::documents::{FieldSet, Schema, Valid};
+use graphql_documents::documents::{
+    ExecutableDocument, FieldSet, OperationMap, Schema, Valid,
+};
+use graphql_rules::operations::{
+    OperationValidationContext, validate_fragments_used, validate_operation_definitions,
+    validate_selection_set,
+};
+use indexmap::IndexMap;
+use std::alloc::Global;
 
-/// Validates a field set against a schema: the argument names of each field are distinct, its
-/// arguments are defined and their values accepted, the required ones are given, and a field of a
-/// composite type selects something.
+/// Validates a document against a schema: each operation, with its directives, its variables and the
+/// selections and fragments that it reaches, and that each fragment is used. Merging, the rules of
+/// subscriptions and those of `@defer` are not looked at yet.
 ///
-/// Reports come in the order of the set: for one field its repeated arguments, the undefined ones and
-/// wrong values, the missing ones, and a missing selection or else what is below. Directives and
-/// fragments are not looked at. The only error is want of memory.
+/// Reports come in the order of the document: for each operation those of its directives, of the
+/// definitions of its variables, its unused variables, and those of its selections, each with what is
+/// below it; then the unused fragments. The only error is want of memory.
 ///
-/// Specification: 5.3 Fields; 5.4 Arguments; 5.6 Values.
+/// Specification: 5 Validation.
+pub fn validate_executable_document(
+    diagnostics: &mut DiagnosticList,
+    schema: &Schema,
+    document: &ExecutableDocument,
+) -> Result<(), ValidationError>
+    ensures { (same : Field → Field → Bool) → ChecksWithin result
+        (All (λ o. OperationHolds (Some schema.now) document.now o.value.value) (operations_of document.now) ×
+        All (λ d. IsFragmentUsed document.now d.value.value) (values document.now.fragments))
+        (λ e. DocumentReport (Some schema.now) document.now e.details e.location)
+        (λ e. DocumentLimit same (Some schema.now) document.now e.details e.location)
+        diagnostics.old diagnostics.new }
+{
+    validate_with_or_without_schema(diagnostics, Some(schema), document)
+}
+
+/// Validates a document without a schema, by the rules that need none, in the same order. The only error
+/// is want of memory.
+///
+/// Specification: 5 Validation.
+pub fn validate_standalone_executable(
+    diagnostics: &mut DiagnosticList,
+    document: &ExecutableDocument,
+) -> Result<(), ValidationError>
+    ensures { (same : Field → Field → Bool) → ChecksWithin result
+        (All (λ o. OperationHolds None document.now o.value.value) (operations_of document.now) ×
+        All (λ d. IsFragmentUsed document.now d.value.value) (values document.now.fragments))
+        (λ e. DocumentReport None document.now e.details e.location)
+        (λ e. DocumentLimit same None document.now e.details e.location)
+        diagnostics.old diagnostics.new }
+{
+    validate_with_or_without_schema(diagnostics, None, document)
+}
+
+/// Validates a document by the rules that need no schema, and with a schema by those that do.
+fn validate_with_or_without_schema(
+    diagnostics: &mut DiagnosticList,
+    schema: Option<&Schema>,
+    document: &ExecutableDocument,
+) -> Result<(), ValidationError>
+    ensures { (same : Field → Field → Bool) → ChecksWithin result
+        (All (λ o. OperationHolds (option_copied schema.entry) document.now o.value.value) (operations_of document.now) ×
+        All (λ d. IsFragmentUsed document.now d.value.value) (values document.now.fragments))
+        (λ e. DocumentReport (option_copied schema.entry) document.now e.details e.location)
+        (λ e. DocumentLimit same (option_copied schema.entry) document.now e.details e.location)
+        diagnostics.old diagnostics.new }
+{
+    validate_operation_definitions(diagnostics, document, schema)?;
+    validate_fragments_used(diagnostics, document)
+}
+
+/// Validates a field set against a schema: every selection that is reached holds at its place. There are
+/// no fragments to spread and no variables. The only error is want of memory.
+///
+/// Reports come in the order of the set, each selection with what is below it.
+///
+/// Specification: 5.3 Fields; 5.4 Arguments; 5.5 Fragments; 5.6 Values; 5.7 Directives.
 pub fn validate_field_set(
     diagnostics: &mut DiagnosticList,
     schema: &Valid<Schema>,
     field_set: &FieldSet,
 ) -> Result<(), ValidationError>
-    ensures exact { IsPlain field_set.now.selection_set →
-        OnOk result (Reports (FieldSetHolds schema.now.0 field_set.now.selection_set)
+    ensures { Checks result (FieldSetHolds schema.now.0 field_set.now.selection_set)
         (NamesBrokenFieldSetRule schema.now.0 field_set.now.selection_set)
-        (entries diagnostics.old) (entries diagnostics.new)) }
-
-    // Whatever the set, and also where memory was refused.
-    ensures kept { KeepsReports (NamesBrokenFieldSetRule schema.now.0 field_set.now.selection_set)
-        (entries diagnostics.old) (entries diagnostics.new) }
+        diagnostics.old diagnostics.new }
 {
-    let selection_set = &field_set.selection_set;
-    validate_selection_set(diagnostics, &schema.0, &selection_set.ty, selection_set)
+    let alloc = diagnostics.allocator();
+    let document = empty_document(alloc);
+    let mut context = OperationValidationContext::new(alloc, Some(&schema.0), &[])?;
+    let set = &field_set.selection_set;
+    validate_selection_set(diagnostics, &document, Some((&schema.0, &set.ty)), set, &mut context)
+}
+
+/// A document without operations and fragments.
+fn empty_document(alloc: Global) -> ExecutableDocument
+    ensures { result.fragments.entries ≡ [] }
+{
+    ExecutableDocument {
+        operations: OperationMap {
+            anonymous: None,
+            named: IndexMap::new(alloc),
+        },
+        fragments: IndexMap::new(alloc),
+    }
 }

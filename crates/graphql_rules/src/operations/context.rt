@@ -61,10 +61,11 @@ impl<'a> OperationValidationContext<'a> {
         ensures entered { IfOk result (λ context. entered_names context ≡ []) }
     {
         let variables = VariablesByName::new(alloc, variables)?;
+        let entered = IndexSet::new(alloc);
         Ok(OperationValidationContext {
             schema: self.schema,
             variables,
-            entered: IndexSet::new(alloc),
+            entered,
             possible_types: self.possible_types,
         })
     }

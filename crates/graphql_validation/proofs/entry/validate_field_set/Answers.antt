@@ -1,13 +1,30 @@
-use Rattle.std.proofs.lemmas.Result.{MatchResult-weaker}
-use Rattle.graphql_documents.proofs.ReportLemmas.{kept_by_check, in_words}
-use Rattle.graphql_validation.proofs.FieldSetLemmas.{plain_holds}
+use Rattle.std.proofs.Common.{[], Some, refl, ap, subst}
+use Rattle.std.proofs.lemmas.Result.{MatchResult-from_err, MatchResult-weaker}
+use Rattle.graphql_documents.proofs.ReportLemmas.{kept}
+use Rattle.graphql_documents.specs.Diagnostics.{entries}
+use Rattle.graphql_documents.specs.Selections.{fragments_of, selections_of}
+use Rattle.graphql_documents.proofs.SelectionLemmas.{one_fragment_found}
+use Rattle.graphql_rules.specs.Contexts.{entered_names}
+use Rattle.graphql_rules.specs.SelectionSteps.{Walks}
+use Rattle.graphql_rules.proofs.WalkLemmas.{walks_as}
+use Rattle.graphql_validation.proofs.FieldSetLemmas.{field_set_checked, field_set_kept, has_no_fragments}
 use Rattle.graphql_validation.proofs.entry.validate_field_set.Goals as goal
 
-pub returns-clause-exact : goal.returns-clause-exact
-returns-clause-exact c = λ plain.
-    MatchResult-weaker c.validate_selection_set.result c.validate_selection_set.ensures
-    (λ _ r. in_words (plain_holds c.args.schema.now.0 c.args.field_set.now.selection_set plain) r)
-    (λ _ _. tt)
+pub returns-in_err-context : goal.returns-in_err-context
+returns-in_err-context c = MatchResult-from_err _ _ _ c.from_residual.ensures.0 (λ y. kept _ _)
 
-pub returns-clause-kept : goal.returns-clause-kept
-returns-clause-kept c = kept_by_check _ _ _ _ _ c.validate_selection_set.ensures
+pub returns : goal.returns
+returns c =
+    let s = c.args.schema.now.0 in
+    let set = c.args.field_set.now.selection_set in
+    let D = c.empty_document-document.result in
+    let r = c.validate_selection_set.result in
+    let new = entered_names c.validate_selection_set.new.context in
+    let old = entries c.args.diagnostics.now in
+    let further = entries c.validate_selection_set.new.diagnostics in
+    MatchResult-weaker r
+    (subst (λ F. Walks r (Some s) F [] (Some set.ty) (selections_of set) [] new old further) (has_no_fragments D c.empty_document-document.ensures)
+    (walks_as (Some s) (fragments_of D) [] (one_fragment_found D) r new old further
+    c.in_ok-context.ensures.schema c.in_ok-context.ensures.variables refl refl c.in_ok-context.ensures.entered c.validate_selection_set.ensures.walks))
+    (λ _ w. field_set_checked s set w)
+    (λ _ k. field_set_kept s set k)

@@ -1,0 +1,56 @@
+-- What is said of operations and of fragments, as what is said of the document.
+use Rattle.std.proofs.Common.{◌≡◌, ◌⊎◌, inl, inr, Bool, true, false, List, [], ◌∷◌, Option, Some, refl, subst, Contains}
+use Rattle.std.specs.Map.{lookup, values_of}
+use Rattle.std.proofs.lemmas.List.Elements.{Contains-append_left, Contains-append_right, Contains-push}
+use Rattle.graphql_documents.specs.Diagnostics.{IsDiagnostic, Says}
+use Rattle.graphql_documents.specs.DocumentReports.{DocumentReport, FragmentUseReport, OperationsReport, of_one, of_operation}
+use Rattle.graphql_documents.specs.Limits.{DocumentLimit, FragmentLimit, FragmentWalkLimit, OperationsLimit, fragment_nests, one_passes, spread_passes, spreads_nest, variable_walk_passes, walk_of_variables}
+use Rattle.graphql_documents.specs.Names.{NameText, same_name}
+use Rattle.graphql_documents.specs.Selections.{fragments_of}
+use Rattle.graphql_documents.specs.declared.documents.executables.Fragment.{Fragment}
+use Rattle.graphql_documents.specs.declared.documents.nodes.Node.{Node}
+use Rattle.graphql_documents.specs.declared.diagnostics.details.Details.{Details}
+use Rattle.graphql_documents.specs.declared.diagnostics.details.Details.TheVariants as details
+use Rattle.graphql_documents.specs.declared.diagnostics.lists.DiagnosticEntry.{DiagnosticEntry}
+use Rattle.graphql_documents.specs.declared.documents.executables.ExecutableDocument.{ExecutableDocument}
+use Rattle.graphql_documents.specs.declared.documents.executables.Field.{Field}
+use Rattle.graphql_documents.specs.declared.documents.schemas.Schema.{Schema}
+use Rattle.graphql_documents.specs.declared.documents.spans.SourceSpan.{SourceSpan}
+use Rattle.graphql_rules.proofs.OperationLemmas.{OperationsTruth}
+use Rattle.graphql_rules.proofs.UsedFragmentLemmas.{is_document_limit, is_document_report}
+
+-- what a look-up finds is among the values
+found_value : (test : NameText → Bool) (es : List (NameText × Node Fragment)) (d : Node Fragment) → lookup test es ≡ Some d → Contains (values_of es) d
+found_value test [] d found = absurd (let no' : ⊥ = cc in no')
+found_value test (e ∷ es) d found = at_first (test e.0) refl (λ later. found_value test es d later) where
+  at_first : (b : Bool) → test e.0 ≡ b → (lookup test es ≡ Some d → Contains (values_of es) d) → Contains (values_of (e ∷ es)) d
+  at_first true is later =
+      let same : e.1 ≡ d = let f : Some e.1 ≡ Some d = rw is at found in cc in
+      subst (Contains (values_of (e ∷ es))) same (Contains-append_left (e.1 ∷ []) (values_of es) e.1 (Contains-push [] e.1))
+  at_first false is later = Contains-append_right (e.1 ∷ []) (values_of es) d (later (rw is at found))
+
+module _ (same : Field → Field → Bool) (schema : Option Schema) (document : ExecutableDocument) where
+  abbrev pub DocumentTruth : DiagnosticEntry → Type 0
+  DocumentTruth e = DocumentReport schema document e.details e.location ⊎ DocumentLimit same schema document e.details e.location
+
+  by_details : (d : Details) (at : Option SourceSpan) → Says (OperationsReport schema document) d at → DocumentReport schema document d at
+  by_details (details.Diagnostic r) at (of_one in' b) = of_operation in' b
+  by_details (details.Build b) at says = absurd says
+  by_details (details.RecursionLimit l) at says = absurd says
+
+  of_nesting : (d : Node Fragment) (name : NameText) → fragments_of document name ≡ Some d → {said : Details} {at : Option SourceSpan} →
+      FragmentLimit (fragments_of document) d said at → DocumentLimit same schema document said at
+  of_nesting d name found (spreads_nest nests) = fragment_nests (found_value (same_name name) document.fragments.entries d found) nests
+
+  by_limit : (d : Details) (at : Option SourceSpan) → OperationsLimit document d at → DocumentLimit same schema document d at
+  by_limit d at (one_passes in' (variable_walk_passes passes)) = walk_of_variables in' passes
+  by_limit d at (one_passes in' (spread_passes limit)) = of_nesting limit.d limit.name limit.found limit.passes
+
+  pub of_operations : (e : DiagnosticEntry) → OperationsTruth schema document e → DocumentTruth e
+  of_operations e (inl says) = inl (by_details e.details e.location says)
+  of_operations e (inr limit) = inr (by_limit e.details e.location limit)
+
+  pub of_used_fragments : (e : DiagnosticEntry) →
+      FragmentUseReport document e.details e.location ⊎ FragmentWalkLimit document e.details e.location → DocumentTruth e
+  of_used_fragments e (inl unused) = inl (is_document_report unused)
+  of_used_fragments e (inr limit) = inr (is_document_limit limit)
