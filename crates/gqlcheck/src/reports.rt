@@ -1,29 +1,35 @@
 use crate::faults::{Fault, fault_of_output};
 use crate::places::Place;
 use graphql_documents::diagnostics::{DiagnosticEntry, DiagnosticList};
-use graphql_rows::{CaseData, Row, Subject, TABLES, build_case};
+use graphql_rows::{Case, Row, Validated, build_case};
+use graphql_rows_more::find;
 use graphql_validation::entry::validate_field_set;
 use std::alloc::Global;
 use std::io::Write;
 
-/// Whether the call is there that validates such an example.
-pub fn runs(row: &Row) -> bool {
-    matches!(row.subject, Subject::FieldSet(_))
-}
+/// The examples that run: those whose calls are there.
+pub const RUNNING: &[&str] = &["1a", "1b", "1c"];
 
-/// Validates the case of this name, and prints a line for each report. Whether there was one.
+/// Validates the example of this name, and prints a line for each report. Whether there was one.
 pub fn report_case<O: Write>(alloc: Global, id: &str, output: &mut O) -> Result<bool, Fault> {
-    for rows in TABLES {
-        if let Some(case) = build_case(alloc, rows, id)? {
-            return report_data(alloc, &case.data, output);
-        }
-    }
-    Err(Fault::BadArguments)
+    let row = running_row(id).ok_or(Fault::BadArguments)?;
+    let case = build_case(alloc, row)?;
+    let reported = report(alloc, &case, output);
+    drop(case);
+    reported
 }
 
-fn report_data<O: Write>(alloc: Global, data: &CaseData, output: &mut O) -> Result<bool, Fault> {
+fn running_row(id: &str) -> Option<&'static Row> {
+    if RUNNING.iter().any(|running| *running == id) {
+        find(id)
+    } else {
+        None
+    }
+}
+
+fn report<O: Write>(alloc: Global, case: &Case, output: &mut O) -> Result<bool, Fault> {
     let mut diagnostics = DiagnosticList::new(alloc);
-    validate(&mut diagnostics, data)?;
+    validate(&mut diagnostics, case)?;
     for entry in diagnostics.iter() {
         print_entry(entry, output)?;
     }
@@ -31,12 +37,12 @@ fn report_data<O: Write>(alloc: Global, data: &CaseData, output: &mut O) -> Resu
 }
 
 /// Validates the example, if the call is there that does.
-fn validate(diagnostics: &mut DiagnosticList, data: &CaseData) -> Result<(), Fault> {
-    match data {
-        CaseData::FieldSet { schema, field_set } => {
-            Ok(validate_field_set(diagnostics, schema, field_set)?)
+fn validate(diagnostics: &mut DiagnosticList, case: &Case) -> Result<(), Fault> {
+    match &case.validated {
+        Validated::FieldSet(set) => Ok(validate_field_set(diagnostics, &case.schema, set)?),
+        Validated::Document(_) | Validated::Standalone(_) | Validated::Schema => {
+            Err(Fault::BadArguments)
         }
-        _ => Err(Fault::BadArguments),
     }
 }
 

@@ -7,7 +7,7 @@
 //! - In a schema, `without Name` takes a type away that was defined before; `builtin` before a
 //!   definition has it stand in the file of the built-in ones; `key Name` before a definition puts it
 //!   under that name, in place of what stands there.
-//! - Extensions of a type or of the schema stand behind its definition.
+//! - Extensions of a type or of the schema stand behind its definition, and name it.
 //! - In a document, `key Name` before a fragment puts it under that name.
 //!
 //! Data stands nowhere, but for what is built in and for texts that are read as a file.
@@ -16,6 +16,7 @@ mod applications;
 mod definitions;
 mod documents;
 mod literals;
+mod parts;
 mod reader;
 mod repetitions;
 mod schemas;
@@ -24,7 +25,8 @@ mod type_references;
 mod types;
 
 pub use applications::{arguments, directives};
-pub use definitions::inputs;
-pub use documents::{document, document_in_file, variables};
+pub use definitions::{inputs, variables};
+pub use documents::{document, document_in_file};
+pub(crate) use parts::both;
 pub use schemas::schema;
 pub use selections::field_set;

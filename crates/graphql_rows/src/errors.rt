@@ -1,38 +1,53 @@
 use graphql_documents::diagnostics::ValidationError;
 use graphql_documents::documents::FieldLookupError;
 use std::alloc::{AllocError, AllocFailed};
-use thiserror::Error;
+use std::error::Error;
+use std::fmt;
 
 /// Why an example could not be built.
-#[derive(Clone, Copy, Debug, PartialEq, Eq, Error)]
+#[derive(Clone, Copy, Debug, PartialEq, Eq)]
 pub enum RowError {
-    #[error("out of memory")]
     OutOfMemory,
-    #[error("a text of the notation is no name")]
     NotAName,
-    #[error("a text of the notation is no number")]
     NotANumber,
-    #[error("a text of the notation is no type reference")]
-    NotATypeReference,
-    #[error("a text of the notation is no repetition")]
     NotARepetition,
-    #[error("a text of the notation is no location of directives")]
     NotALocation,
-    #[error("a text of the notation lacks a sign or a word")]
     NotInNotation,
-    #[error("a list of the notation is too long")]
     TooLong,
-    #[error("a text of the notation is nested too deep")]
     TooDeep,
-    #[error("two definitions of one list have the same name")]
     RepeatedName,
-    #[error("the schema lacks the root of an operation")]
     NoSuchRoot,
-    #[error("a field is selected from a type that the schema lacks")]
     NoSuchType,
-    #[error("a field is selected that its type lacks")]
     NoSuchField,
 }
+
+impl RowError {
+    /// What is wrong.
+    pub fn message(self) -> &'static str {
+        match self {
+            RowError::OutOfMemory => "out of memory",
+            RowError::NotAName => "a text of the notation is no name",
+            RowError::NotANumber => "a text of the notation is no number",
+            RowError::NotARepetition => "a text of the notation is no repetition",
+            RowError::NotALocation => "a text of the notation is no location of directives",
+            RowError::NotInNotation => "a text of the notation lacks a sign or a word",
+            RowError::TooLong => "a list of the notation is too long",
+            RowError::TooDeep => "a text of the notation is nested too deep",
+            RowError::RepeatedName => "two definitions of one list have the same name",
+            RowError::NoSuchRoot => "the schema lacks the root of an operation",
+            RowError::NoSuchType => "a field is selected from a type that the schema lacks",
+            RowError::NoSuchField => "a field is selected that its type lacks",
+        }
+    }
+}
+
+impl fmt::Display for RowError {
+    fn fmt<W: fmt::Write>(&self, f: &mut fmt::Formatter<W>) -> fmt::Result {
+        f.write_str(self.message())
+    }
+}
+
+impl Error for RowError {}
 
 impl From<AllocError> for RowError {
     fn from(_refusal: AllocError) -> RowError {

@@ -7,6 +7,6 @@ pub mod cases;
 pub mod errors;
 pub mod rows;
 
-pub use cases::{Case, CaseData, build_case};
+pub use cases::{Case, Validated, build_case};
 pub use errors::RowError;
 pub use rows::{Row, Subject, TABLES, find_row};

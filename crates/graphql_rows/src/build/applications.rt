@@ -1,4 +1,5 @@
 use super::literals::value;
+use super::parts::{Part, both, listed, located};
 use super::reader::{LONGEST, Place, Reader};
 use crate::errors::RowError;
 use graphql_documents::documents::{Argument, Directive, Node};
@@ -6,7 +7,7 @@ use std::alloc::Global;
 
 /// The arguments that a text as `(a: 1, b: 2)` writes.
 pub fn arguments(alloc: Global, text: &str) -> Result<Vec<Node<Argument>>, RowError> {
-    read_arguments(&mut Reader::new(alloc, text, Place::Nowhere))
+    listed(&mut Reader::new(alloc, text, Place::Nowhere), "(", ")")
 }
 
 /// The applications of directives that a text as `@a @b(c: 1)` writes.
@@ -14,49 +15,29 @@ pub fn directives(alloc: Global, text: &str) -> Result<Vec<Node<Directive>>, Row
     read_directives(&mut Reader::new(alloc, text, Place::Nowhere))
 }
 
-/// Reads arguments in parentheses, if there are any.
-pub(super) fn read_arguments(reader: &mut Reader<'_>) -> Result<Vec<Node<Argument>>, RowError> {
-    let mut arguments = Vec::new(reader.alloc);
-    if !reader.takes("(") {
-        return Ok(arguments);
-    }
-    for _ in 0..LONGEST {
-        if reader.takes(")") {
-            return Ok(arguments);
-        }
-        arguments.push(argument(reader)?)?;
-    }
-    Err(RowError::TooLong)
-}
-
-fn argument(reader: &mut Reader<'_>) -> Result<Node<Argument>, RowError> {
-    let start = reader.start();
-    let name = reader.name()?;
-    reader.expect(":")?;
-    let argument = Argument {
-        name,
-        value: value(reader)?,
-    };
-    reader.node(argument, start)
-}
-
 /// Reads applications of directives, if there are any.
 pub(super) fn read_directives(reader: &mut Reader<'_>) -> Result<Vec<Node<Directive>>, RowError> {
     let mut directives = Vec::new(reader.alloc);
     for _ in 0..LONGEST {
-        let start = reader.start();
-        if !reader.takes("@") {
+        if !reader.stands_before("@") {
             return Ok(directives);
         }
-        directives.push(directive(reader, start)?)?;
+        directives.push(located(reader)?)?;
     }
     Err(RowError::TooLong)
 }
 
-fn directive(reader: &mut Reader<'_>, start: usize) -> Result<Node<Directive>, RowError> {
-    let directive = Directive {
-        name: reader.name()?,
-        arguments: read_arguments(reader)?,
-    };
-    reader.node(directive, start)
+impl Part for Argument {
+    fn read(reader: &mut Reader<'_>) -> Result<Argument, RowError> {
+        let (name, value) = both(reader.label(), value(reader))?;
+        Ok(Argument { name, value })
+    }
+}
+
+impl Part for Directive {
+    fn read(reader: &mut Reader<'_>) -> Result<Directive, RowError> {
+        reader.expect("@")?;
+        let (name, arguments) = both(reader.name(), listed(reader, "(", ")"))?;
+        Ok(Directive { name, arguments })
+    }
 }

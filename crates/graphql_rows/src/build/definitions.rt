@@ -1,57 +1,64 @@
 use super::applications::read_directives;
 use super::literals::value;
+use super::parts::{Member, Part, both, listed, located};
 use super::reader::{LONGEST, Place, Reader};
-use super::type_references::type_reference;
 use crate::errors::RowError;
 use graphql_documents::documents::{
     DirectiveDefinition, DirectiveLocation, EnumValueDefinition, FieldDefinition,
-    InputValueDefinition, Node, Type, Value,
+    InputValueDefinition, Name, Node, Type, Value, VariableDefinition,
 };
 use std::alloc::Global;
 
 /// The definitions of arguments that a text as `(a: Int = 1, b: [Int])` writes.
 pub fn inputs(alloc: Global, text: &str) -> Result<Vec<Node<InputValueDefinition>>, RowError> {
-    read_inputs(&mut Reader::new(alloc, text, Place::Nowhere))
+    listed(&mut Reader::new(alloc, text, Place::Nowhere), "(", ")")
 }
 
-/// Reads the definitions of arguments in parentheses, if there are any.
-fn read_inputs(reader: &mut Reader<'_>) -> Result<Vec<Node<InputValueDefinition>>, RowError> {
-    let mut inputs = Vec::new(reader.alloc);
-    if !reader.takes("(") {
-        return Ok(inputs);
+/// The definitions of variables that a text as `($a: Int = 1, $b: [Int])` writes.
+pub fn variables(alloc: Global, text: &str) -> Result<Vec<Node<VariableDefinition>>, RowError> {
+    listed(&mut Reader::new(alloc, text, Place::Nowhere), "(", ")")
+}
+
+impl Part for InputValueDefinition {
+    fn read(reader: &mut Reader<'_>) -> Result<InputValueDefinition, RowError> {
+        let typed = both(reader.label(), located(reader));
+        let settings = both(default_value(reader), read_directives(reader));
+        let ((name, ty), (default_value, directives)) = both(typed, settings)?;
+        Ok(InputValueDefinition {
+            name,
+            ty,
+            default_value,
+            directives,
+        })
     }
-    for _ in 0..LONGEST {
-        if reader.takes(")") {
-            return Ok(inputs);
-        }
-        inputs.push(input(reader)?)?;
+}
+
+impl Member for InputValueDefinition {
+    fn name(&self) -> &Name {
+        &self.name
     }
-    Err(RowError::TooLong)
 }
 
-/// Reads the definition of an argument or of a field of an input object.
-pub(super) fn input(reader: &mut Reader<'_>) -> Result<Node<InputValueDefinition>, RowError> {
-    let start = reader.start();
-    let name = reader.name()?;
-    reader.expect(":")?;
-    let input = InputValueDefinition {
-        name,
-        ty: typed(reader)?,
-        default_value: default_value(reader)?,
-        directives: read_directives(reader)?,
-    };
-    reader.node(input, start)
-}
-
-/// Reads the type of a variable or of an input value.
-pub(super) fn typed(reader: &mut Reader<'_>) -> Result<Node<Type>, RowError> {
-    let start = reader.start();
-    let ty = type_reference(reader)?;
-    reader.node(ty, start)
+impl Part for VariableDefinition {
+    fn read(reader: &mut Reader<'_>) -> Result<VariableDefinition, RowError> {
+        reader.expect("$")?;
+        let InputValueDefinition {
+            name,
+            ty,
+            default_value,
+            directives,
+        } = InputValueDefinition::read(reader)?;
+        Ok(VariableDefinition {
+            name,
+            ty,
+            default_value,
+            directives,
+        })
+    }
 }
 
 /// Reads `= value`, if it comes next.
-pub(super) fn default_value(reader: &mut Reader<'_>) -> Result<Option<Node<Value>>, RowError> {
+fn default_value(reader: &mut Reader<'_>) -> Result<Option<Node<Value>>, RowError> {
     if reader.takes("=") {
         Ok(Some(value(reader)?))
     } else {
@@ -59,47 +66,59 @@ pub(super) fn default_value(reader: &mut Reader<'_>) -> Result<Option<Node<Value
     }
 }
 
-/// Reads the definition of a field of an object or an interface.
-pub(super) fn field(reader: &mut Reader<'_>) -> Result<Node<FieldDefinition>, RowError> {
-    let start = reader.start();
-    let name = reader.name()?;
-    let arguments = read_inputs(reader)?;
-    reader.expect(":")?;
-    let field = FieldDefinition {
-        name,
-        arguments,
-        ty: type_reference(reader)?,
-        directives: read_directives(reader)?,
-    };
-    reader.node(field, start)
+impl Part for FieldDefinition {
+    fn read(reader: &mut Reader<'_>) -> Result<FieldDefinition, RowError> {
+        let head = both(reader.name(), listed(reader, "(", ")"));
+        let typed = both(
+            reader.expect(":").and(Type::read(reader)),
+            read_directives(reader),
+        );
+        let ((name, arguments), (ty, directives)) = both(head, typed)?;
+        Ok(FieldDefinition {
+            name,
+            arguments,
+            ty,
+            directives,
+        })
+    }
 }
 
-/// Reads the definition of a value of an enum.
-pub(super) fn enum_value(reader: &mut Reader<'_>) -> Result<Node<EnumValueDefinition>, RowError> {
-    let start = reader.start();
-    let definition = EnumValueDefinition {
-        value: reader.name()?,
-        directives: read_directives(reader)?,
-    };
-    reader.node(definition, start)
+impl Member for FieldDefinition {
+    fn name(&self) -> &Name {
+        &self.name
+    }
+}
+
+impl Part for EnumValueDefinition {
+    fn read(reader: &mut Reader<'_>) -> Result<EnumValueDefinition, RowError> {
+        let (value, directives) = both(reader.name(), read_directives(reader))?;
+        Ok(EnumValueDefinition { value, directives })
+    }
+}
+
+impl Member for EnumValueDefinition {
+    fn name(&self) -> &Name {
+        &self.value
+    }
 }
 
 /// Reads the definition of a directive, from its name on.
 pub(super) fn directive(reader: &mut Reader<'_>) -> Result<DirectiveDefinition, RowError> {
-    let name = reader.name()?;
-    let arguments = read_inputs(reader)?;
+    let head = both(reader.name(), listed(reader, "(", ")"));
     let repeatable = reader.takes_word("repeatable");
-    reader.expect_word("on")?;
+    let ((name, arguments), locations) = both(head, locations(reader))?;
     Ok(DirectiveDefinition {
         name,
         arguments,
         repeatable,
-        locations: locations(reader)?,
+        locations,
     })
 }
 
+/// Reads `on A | B`.
 fn locations(reader: &mut Reader<'_>) -> Result<Vec<DirectiveLocation>, RowError> {
     let mut locations = Vec::new(reader.alloc);
+    reader.expect_word("on")?;
     for _ in 0..LONGEST {
         locations.push(location(reader.word())?)?;
         if !reader.takes("|") {
@@ -108,7 +127,6 @@ fn locations(reader: &mut Reader<'_>) -> Result<Vec<DirectiveLocation>, RowError
     }
     Err(RowError::TooLong)
 }
-
 /// All places where a directive may be applied.
 const LOCATIONS: [DirectiveLocation; 19] = [
     DirectiveLocation::Query,

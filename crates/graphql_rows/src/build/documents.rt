@@ -1,12 +1,12 @@
 use super::applications::read_directives;
-use super::definitions::{default_value, typed};
+use super::parts::{add_named, add_new, both, listed};
 use super::reader::{LONGEST, Place, Reader};
 use super::repetitions::written_out;
 use super::selections::selection_set;
 use crate::errors::RowError;
 use graphql_documents::documents::{
     ExecutableDocument, FileId, Fragment, Name, Node, Operation, OperationMap, OperationType,
-    Schema, SchemaDefinition, VariableDefinition,
+    Schema, SchemaDefinition,
 };
 use indexmap::IndexMap;
 use std::alloc::Global;
@@ -18,8 +18,7 @@ pub fn document(
     text: &str,
 ) -> Result<ExecutableDocument, RowError> {
     let written = written_out(alloc, text)?;
-    let mut reader = Reader::new(alloc, written.as_str(), Place::Nowhere);
-    read_document(&mut reader, schema)
+    read_document(Reader::new(alloc, written.as_str(), Place::Nowhere), schema)
 }
 
 /// The document of this text, built against the schema. The text is this file.
@@ -29,16 +28,11 @@ pub fn document_in_file(
     text: &str,
     file_id: FileId,
 ) -> Result<ExecutableDocument, RowError> {
-    let mut reader = Reader::new(alloc, text, Place::In(file_id));
-    read_document(&mut reader, schema)
+    read_document(Reader::new(alloc, text, Place::In(file_id)), schema)
 }
 
-/// The definitions of variables that a text as `($a: Int = 1, $b: [Int])` writes.
-pub fn variables(alloc: Global, text: &str) -> Result<Vec<Node<VariableDefinition>>, RowError> {
-    read_variables(&mut Reader::new(alloc, text, Place::Nowhere))
-}
-
-fn read_document(reader: &mut Reader<'_>, schema: &Schema) -> Result<ExecutableDocument, RowError> {
+fn read_document(reader: Reader<'_>, schema: &Schema) -> Result<ExecutableDocument, RowError> {
+    let mut reader = reader;
     let mut document = ExecutableDocument {
         operations: OperationMap {
             anonymous: None,
@@ -46,11 +40,20 @@ fn read_document(reader: &mut Reader<'_>, schema: &Schema) -> Result<ExecutableD
         },
         fragments: IndexMap::new(reader.alloc),
     };
+    add_definitions(&mut reader, schema, &mut document).and(Ok(document))
+}
+
+/// Reads all definitions that are left.
+fn add_definitions(
+    reader: &mut Reader<'_>,
+    schema: &Schema,
+    document: &mut ExecutableDocument,
+) -> Result<(), RowError> {
     for _ in 0..LONGEST {
         if reader.is_at_end() {
-            return Ok(document);
+            return Ok(());
         }
-        add_definition(reader, schema, &mut document)?;
+        add_definition(reader, schema, document)?;
     }
     Err(RowError::TooLong)
 }
@@ -60,94 +63,89 @@ fn add_definition(
     schema: &Schema,
     document: &mut ExecutableDocument,
 ) -> Result<(), RowError> {
-    let key = key(reader)?;
-    let start = reader.start();
-    if reader.takes_word("fragment") {
-        let fragment = fragment(reader, schema)?;
-        let fragment = reader.node(fragment, start)?;
-        add_fragment(&mut document.fragments, key, fragment)
-    } else {
-        let operation = operation(reader, schema)?;
-        let operation = reader.node(operation, start)?;
-        add_operation(&mut document.operations, operation)
-    }
-}
-
-/// Reads `key Name`, if it comes next.
-pub(super) fn key(reader: &mut Reader<'_>) -> Result<Option<Name>, RowError> {
-    if reader.takes_word("key") {
-        Ok(Some(reader.name()?))
-    } else {
-        Ok(None)
+    match reader.next_word() {
+        "key" | "fragment" => add_fragment(reader, schema, &mut document.fragments),
+        _ => add_operation(reader, schema, &mut document.operations),
     }
 }
 
 fn add_fragment(
+    reader: &mut Reader<'_>,
+    schema: &Schema,
     fragments: &mut IndexMap<Name, Node<Fragment>>,
-    key: Option<Name>,
-    fragment: Node<Fragment>,
 ) -> Result<(), RowError> {
-    let key = match key {
-        Some(key) => key,
-        None => fragment.value.name.clone()?,
-    };
-    match fragments.insert(key, fragment)? {
-        Some(_) => Err(RowError::RepeatedName),
-        None => Ok(()),
-    }
+    let key = reader.key();
+    let start = reader.start();
+    reader.expect_word("fragment")?;
+    let own = *reader;
+    let fragment = fragment(reader, schema)?;
+    let fragment = reader.node(fragment, start)?;
+    add_named(fragments, key, own, fragment)
 }
 
-fn add_operation(
-    operations: &mut OperationMap,
-    operation: Node<Operation>,
-) -> Result<(), RowError> {
-    let before = match &operation.value.name {
-        Some(name) => {
-            let key = name.clone()?;
-            operations.named.insert(key, operation)?
-        }
-        None => operations.anonymous.replace(operation),
-    };
-    match before {
-        Some(_) => Err(RowError::RepeatedName),
-        None => Ok(()),
-    }
-}
-
+/// Reads a fragment, from its name on.
 fn fragment(reader: &mut Reader<'_>, schema: &Schema) -> Result<Fragment, RowError> {
-    let name = reader.name()?;
-    reader.expect_word("on")?;
-    let condition = reader.name()?;
+    let name = reader.name();
+    let condition = reader.expect_word("on").and(reader.name());
+    let directives = read_directives(reader);
+    let inside = selection_set(reader, schema, condition);
+    let (name, (directives, selection_set)) = both(name, both(directives, inside))?;
     Ok(Fragment {
         name,
-        directives: read_directives(reader)?,
-        selection_set: selection_set(reader, schema, &condition)?,
+        directives,
+        selection_set,
     })
 }
 
+fn add_operation(
+    reader: &mut Reader<'_>,
+    schema: &Schema,
+    operations: &mut OperationMap,
+) -> Result<(), RowError> {
+    let start = reader.start();
+    let operation = operation(reader, schema)?;
+    let operation = reader.node(operation, start)?;
+    let (name, operation) = both(own_name(&operation.value), Ok(operation))?;
+    match name {
+        Some(name) => add_new(&mut operations.named, name, operation),
+        None => add_anonymous(operations, operation),
+    }
+}
+
+fn own_name(operation: &Operation) -> Result<Option<Name>, RowError> {
+    Ok(operation.name.clone()?)
+}
+
+fn add_anonymous(
+    operations: &mut OperationMap,
+    operation: Node<Operation>,
+) -> Result<(), RowError> {
+    match operations.anonymous.replace(operation) {
+        Some(_) => Err(RowError::RepeatedName),
+        None => Ok(()),
+    }
+}
+
 fn operation(reader: &mut Reader<'_>, schema: &Schema) -> Result<Operation, RowError> {
-    let operation_type = if reader.next_word().is_empty() {
-        OperationType::Query
-    } else {
-        operation_type(reader.word())?
-    };
-    let name = optional_name(reader)?;
-    let variables = read_variables(reader)?;
-    let directives = read_directives(reader)?;
-    let root = root_type(&schema.schema_definition.value, operation_type)?;
+    let operation_type = operation_type(reader)?;
+    let root = root_type(&schema.schema_definition.value, operation_type);
+    let head = both(optional_name(reader), listed(reader, "(", ")"));
+    let directives = read_directives(reader);
+    let inside = selection_set(reader, schema, root);
+    let ((name, variables), (directives, selection_set)) = both(head, both(directives, inside))?;
     Ok(Operation {
         operation_type,
         name,
         variables,
         directives,
-        selection_set: selection_set(reader, schema, root)?,
+        selection_set,
     })
 }
 
-/// The kind of operations that a keyword names.
-pub(super) fn operation_type(keyword: &str) -> Result<OperationType, RowError> {
-    match keyword {
-        "query" => Ok(OperationType::Query),
+/// Reads the kind of an operation; none stands for a query.
+pub(super) fn operation_type(reader: &mut Reader<'_>) -> Result<OperationType, RowError> {
+    match reader.word() {
+        "" | "query" => Ok(OperationType::Query),
         "mutation" => Ok(OperationType::Mutation),
         "subscription" => Ok(OperationType::Subscription),
         _ => Err(RowError::NotInNotation),
@@ -162,43 +160,14 @@ fn optional_name(reader: &mut Reader<'_>) -> Result<Option<Name>, RowError> {
     }
 }
 
-fn root_type(roots: &SchemaDefinition, operation_type: OperationType) -> Result<&Name, RowError> {
+fn root_type(roots: &SchemaDefinition, operation_type: OperationType) -> Result<Name, RowError> {
     let root = match operation_type {
         OperationType::Query => &roots.query,
         OperationType::Mutation => &roots.mutation,
         OperationType::Subscription => &roots.subscription,
     };
     match root {
-        Some(root) => Ok(&root.name),
+        Some(root) => Ok(root.name.clone()?),
         None => Err(RowError::NoSuchRoot),
     }
-}
-
-/// Reads definitions of variables in parentheses, if there are any.
-fn read_variables(reader: &mut Reader<'_>) -> Result<Vec<Node<VariableDefinition>>, RowError> {
-    let mut variables = Vec::new(reader.alloc);
-    if !reader.takes("(") {
-        return Ok(variables);
-    }
-    for _ in 0..LONGEST {
-        if reader.takes(")") {
-            return Ok(variables);
-        }
-        variables.push(variable(reader)?)?;
-    }
-    Err(RowError::TooLong)
-}
-
-fn variable(reader: &mut Reader<'_>) -> Result<Node<VariableDefinition>, RowError> {
-    let start = reader.start();
-    reader.expect("$")?;
-    let name = reader.name()?;
-    reader.expect(":")?;
-    let variable = VariableDefinition {
-        name,
-        ty: typed(reader)?,
-        default_value: default_value(reader)?,
-        directives: read_directives(reader)?,
-    };
-    reader.node(variable, start)
 }

@@ -1,67 +1,59 @@
+use super::parts::both;
 use super::reader::{DEEPEST, LONGEST, Reader};
 use crate::errors::RowError;
 use graphql_documents::documents::{FloatValue, IntValue, Name, Node, Value};
 
 /// Reads a value.
 pub(super) fn value(reader: &mut Reader<'_>) -> Result<Node<Value>, RowError> {
-    let start = reader.start();
-    let value = nested_value(reader, DEEPEST)?;
-    reader.node(value, start)
+    nested_value(reader, DEEPEST)
 }
 
 #[cycle(value)]
-fn nested_value(reader: &mut Reader<'_>, depth: u32) -> Result<Value, RowError> {
+fn nested_value(reader: &mut Reader<'_>, depth: u32) -> Result<Node<Value>, RowError> {
     if depth == 0 {
         return Err(RowError::TooDeep);
     }
-    if reader.takes("[") {
-        Ok(Value::List(list_items(reader, depth - 1)?))
+    let start = reader.start();
+    let value = if reader.takes("[") {
+        let mut items = Vec::new(reader.alloc);
+        add_items(reader, &mut items, depth - 1).and(Ok(Value::List(items)))
     } else if reader.takes("{") {
-        Ok(Value::Object(object_fields(reader, depth - 1)?))
+        let mut fields = Vec::new(reader.alloc);
+        add_fields(reader, &mut fields, depth - 1).and(Ok(Value::Object(fields)))
     } else {
         plain_value(reader)
-    }
+    };
+    reader.node(value?, start)
 }
 
 #[cycle(value)]
-fn list_items(reader: &mut Reader<'_>, depth: u32) -> Result<Vec<Node<Value>>, RowError> {
-    let mut items = Vec::new(reader.alloc);
+fn add_items(
+    reader: &mut Reader<'_>,
+    items: &mut Vec<Node<Value>>,
+    depth: u32,
+) -> Result<(), RowError> {
     for _ in 0..LONGEST {
         if reader.takes("]") {
-            return Ok(items);
+            return Ok(());
         }
-        items.push(item(reader, depth)?)?;
+        items.push(nested_value(reader, depth)?)?;
     }
     Err(RowError::TooLong)
 }
 
 #[cycle(value)]
-fn object_fields(
+fn add_fields(
     reader: &mut Reader<'_>,
+    fields: &mut Vec<(Name, Node<Value>)>,
     depth: u32,
-) -> Result<Vec<(Name, Node<Value>)>, RowError> {
-    let mut fields = Vec::new(reader.alloc);
+) -> Result<(), RowError> {
     for _ in 0..LONGEST {
         if reader.takes("}") {
-            return Ok(fields);
+            return Ok(());
         }
-        fields.push(object_field(reader, depth)?)?;
+        fields.push(both(reader.label(), nested_value(reader, depth))?)?;
     }
     Err(RowError::TooLong)
-}
-
-#[cycle(value)]
-fn object_field(reader: &mut Reader<'_>, depth: u32) -> Result<(Name, Node<Value>), RowError> {
-    let name = reader.name()?;
-    reader.expect(":")?;
-    Ok((name, item(reader, depth)?))
-}
-
-#[cycle(value)]
-fn item(reader: &mut Reader<'_>, depth: u32) -> Result<Node<Value>, RowError> {
-    let start = reader.start();
-    let value = nested_value(reader, depth)?;
-    reader.node(value, start)
 }
 
 /// Reads a value that holds no other.
@@ -79,21 +71,26 @@ fn plain_value(reader: &mut Reader<'_>) -> Result<Value, RowError> {
 }
 
 fn number(reader: &Reader<'_>, text: &str) -> Result<Value, RowError> {
-    if let Some(integer) = IntValue::new(String::from_str(reader.alloc, text)?) {
-        return Ok(Value::Int(integer));
-    }
-    let float = FloatValue::new(String::from_str(reader.alloc, text)?);
-    Ok(Value::Float(float.ok_or(RowError::NotANumber)?))
+    let written = String::from_str(reader.alloc, text)?;
+    let number = if text.contains(is_of_float) {
+        FloatValue::new(written).map(Value::Float)
+    } else {
+        IntValue::new(written).map(Value::Int)
+    };
+    number.ok_or(RowError::NotANumber)
+}
+
+fn is_of_float(c: char) -> bool {
+    matches!(c, '.' | 'e' | 'E')
 }
 
 fn word(reader: &mut Reader<'_>) -> Result<Value, RowError> {
-    if reader.takes_word("null") {
-        Ok(Value::Null)
-    } else if reader.takes_word("true") {
-        Ok(Value::Boolean(true))
-    } else if reader.takes_word("false") {
-        Ok(Value::Boolean(false))
-    } else {
-        Ok(Value::Enum(reader.name()?))
-    }
+    let value = match reader.next_word() {
+        "null" => Value::Null,
+        "true" => Value::Boolean(true),
+        "false" => Value::Boolean(false),
+        _ => return Ok(Value::Enum(reader.name()?)),
+    };
+    reader.word();
+    Ok(value)
 }

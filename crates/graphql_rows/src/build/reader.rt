@@ -5,7 +5,7 @@ use std::alloc::Global;
 /// No list of the notation has as many items.
 pub(super) const LONGEST: usize = 2_000;
 
-/// No selection and no value of the notation lies as deep.
+/// No selection, no value and no type reference of the notation lies as deep.
 pub(super) const DEEPEST: u32 = 520;
 
 /// Where the data stands that is read.
@@ -42,6 +42,11 @@ impl<'a> Reader<'a> {
     /// Whether nothing is left.
     pub(super) fn is_at_end(&self) -> bool {
         self.rest.is_empty()
+    }
+
+    /// Whether this sign comes next.
+    pub(super) fn stands_before(&self, sign: &str) -> bool {
+        self.rest.starts_with(sign)
     }
 
     /// The word that comes next, of letters, digits and `_`; empty where a sign does.
@@ -109,19 +114,27 @@ impl<'a> Reader<'a> {
         Some(number)
     }
 
-    /// Takes the type reference that comes next.
-    pub(super) fn type_text(&mut self) -> &'a str {
-        let rest = self.rest.trim_start_matches(continues_type);
-        let text = self.rest.strip_suffix(rest).unwrap_or("");
-        self.go_on(rest);
-        text
-    }
-
     /// Takes the name that has to come next.
     pub(super) fn name(&mut self) -> Result<Name, RowError> {
         let start = self.start();
         let text = String::from_str(self.alloc, self.word())?;
         Name::new(text, self.place_from(start)).ok_or(RowError::NotAName)
+    }
+
+    /// Takes the name and the colon that have to come next.
+    pub(super) fn label(&mut self) -> Result<Name, RowError> {
+        let name = self.name();
+        self.expect(":").and(name)
+    }
+
+    /// Takes `key Name` if it comes next, and gives the place of the name.
+    pub(super) fn key(&mut self) -> Option<Reader<'a>> {
+        if !self.takes_word("key") {
+            return None;
+        }
+        let key = *self;
+        self.word();
+        Some(key)
     }
 
     /// A node of this value, which was read from there on.
@@ -171,8 +184,4 @@ fn starts_number(c: char) -> bool {
 
 fn continues_number(c: char) -> bool {
     c.is_ascii_digit() || matches!(c, '-' | '+' | '.' | 'e' | 'E')
-}
-
-fn continues_type(c: char) -> bool {
-    continues_word(c) || matches!(c, '[' | ']' | '!')
 }

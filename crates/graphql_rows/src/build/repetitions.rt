@@ -2,30 +2,50 @@ use crate::errors::RowError;
 use std::alloc::Global;
 use std::fmt::Write;
 
-/// The text with each repetition `<first-last: text>` written out.
-pub(super) fn written_out(alloc: Global, text: &str) -> Result<String, RowError> {
-    let mut pieces = text.split('<');
-    let mut whole = String::from_str(alloc, pieces.next().unwrap_or(""))?;
-    for piece in pieces {
-        let (repetition, after) = piece.split_once('>').ok_or(RowError::NotARepetition)?;
-        push_repeated(&mut whole, repetition)?;
-        whole.push_str(after)?;
-    }
-    Ok(whole)
+/// A text that is written once for each number.
+#[derive(Clone, Copy)]
+struct Repetition<'a> {
+    first: u16,
+    last: u16,
+    text: &'a str,
 }
 
-/// Writes `first-last: text` out: the text once for each number.
-fn push_repeated(whole: &mut String, repetition: &str) -> Result<(), RowError> {
-    let (range, text) = repetition.split_once(':').ok_or(RowError::NotARepetition)?;
-    let (first, last) = range.split_once('-').ok_or(RowError::NotARepetition)?;
-    for number in number_of(first)?..=number_of(last)? {
-        push_numbered(whole, text, number)?;
+/// The text with each repetition `<first-last: text>` written out.
+pub(super) fn written_out(alloc: Global, text: &str) -> Result<String, RowError> {
+    let mut whole = String::new(alloc);
+    push_pieces(&mut whole, text).and(Ok(whole))
+}
+
+fn push_pieces(whole: &mut String, text: &str) -> Result<(), RowError> {
+    let mut is_repeated = false;
+    for piece in text.split(['<', '>']) {
+        if is_repeated {
+            push_repeated(whole, piece)?;
+        } else {
+            whole.push_str(piece)?;
+        }
+        is_repeated = !is_repeated;
     }
     Ok(())
 }
 
-fn number_of(text: &str) -> Result<u16, RowError> {
-    text.parse::<u16>().map_err(|_| RowError::NotARepetition)
+fn push_repeated(whole: &mut String, written: &str) -> Result<(), RowError> {
+    let repetition = read_repetition(written).ok_or(RowError::NotARepetition)?;
+    for number in repetition.first..=repetition.last {
+        push_numbered(whole, repetition.text, number)?;
+    }
+    Ok(())
+}
+
+/// Reads `first-last: text`.
+fn read_repetition(written: &str) -> Option<Repetition<'_>> {
+    let (range, text) = written.split_once(':')?;
+    let (first, last) = range.split_once('-')?;
+    Some(Repetition {
+        first: first.parse().ok()?,
+        last: last.parse().ok()?,
+        text,
+    })
 }
 
 /// Writes the text with this number for each `%`, and the next one for each `%+`.
@@ -34,14 +54,11 @@ fn push_numbered(whole: &mut String, text: &str, number: u16) -> Result<(), RowE
     let mut pieces = text.split('%');
     whole.push_str(pieces.next().unwrap_or(""))?;
     for piece in pieces {
-        match piece.strip_prefix('+') {
-            Some(after) => push_number(whole, number + 1, after)?,
-            None => push_number(whole, number, piece)?,
-        }
+        let (number, after) = match piece.strip_prefix('+') {
+            Some(after) => (number + 1, after),
+            None => (number, piece),
+        };
+        write!(whole, "{number}{after}").or(Err(RowError::OutOfMemory))?;
     }
     Ok(())
-}
-
-fn push_number(whole: &mut String, number: u32, after: &str) -> Result<(), RowError> {
-    write!(whole, "{number}{after}").map_err(|_| RowError::OutOfMemory)
 }

@@ -1,5 +1,5 @@
 use super::definitions::directive;
-use super::documents::key;
+use super::parts::{add_named, both};
 use super::reader::{LONGEST, Place, Reader};
 use super::repetitions::written_out;
 use super::types::{schema_definition, type_definition};
@@ -26,58 +26,117 @@ const BASE: &str = "
     directive @deprecated(reason: String = \"No longer supported\") on FIELD_DEFINITION | ENUM_VALUE
     directive @specifiedBy(url: String!) on SCALAR";
 
-/// The definitions of a schema.
-#[derive(Drop)]
-struct Definitions {
-    schema_definition: Option<Node<SchemaDefinition>>,
-    directive_definitions: IndexMap<Name, Node<DirectiveDefinition>>,
-    types: IndexMap<Name, ExtendedType>,
-}
-
-/// The schema of the built-in definitions, and then those of this text. Where the text does not define
-/// the schema, its roots are the types that are called `Query`, `Mutation` and `Subscription`.
+/// The schema of the built-in definitions, and then those of this text. Where the text names no root,
+/// the roots are the types that are called `Query`, `Mutation` and `Subscription`.
 pub fn schema(alloc: Global, text: &str) -> Result<Valid<Schema>, RowError> {
     let written = written_out(alloc, text)?;
-    let mut definitions = Definitions {
-        schema_definition: None,
+    let mut schema = empty_schema(alloc)?;
+    read_schema(alloc, written.as_str(), &mut schema).and(Ok(Valid(schema)))
+}
+
+fn empty_schema(alloc: Global) -> Result<Schema, RowError> {
+    let no_types = IndexMap::new(alloc);
+    let (schema_definition, meta_fields) = both(named_roots(alloc, &no_types), meta_fields(alloc))?;
+    Ok(Schema {
+        schema_definition,
         directive_definitions: IndexMap::new(alloc),
-        types: IndexMap::new(alloc),
-    };
-    add_definitions(&mut Reader::new(alloc, BASE, BUILT_IN), &mut definitions)?;
-    let mut reader = Reader::new(alloc, written.as_str(), Place::Nowhere);
-    add_definitions(&mut reader, &mut definitions)?;
-    finished(alloc, definitions)
-}
-
-fn finished(alloc: Global, definitions: Definitions) -> Result<Valid<Schema>, RowError> {
-    let meta_fields = MetaFields::new(alloc)?;
-    let Definitions {
-        schema_definition,
-        directive_definitions,
-        types,
-    } = definitions;
-    let schema_definition = match schema_definition {
-        Some(definition) => definition,
-        None => named_roots(alloc, &types)?,
-    };
-    Ok(Valid(Schema {
-        schema_definition,
-        directive_definitions,
-        types,
+        types: no_types,
         meta_fields,
-    }))
+    })
 }
 
-/// The roots that types have by their names.
+fn meta_fields(alloc: Global) -> Result<MetaFields, RowError> {
+    Ok(MetaFields::new(alloc)?)
+}
+
+fn read_schema(alloc: Global, text: &str, schema: &mut Schema) -> Result<(), RowError> {
+    add_definitions(Reader::new(alloc, BASE, BUILT_IN), schema)?;
+    add_definitions(Reader::new(alloc, text, Place::Nowhere), schema)?;
+    add_named_roots(alloc, schema)
+}
+
+/// Reads all definitions of a text.
+fn add_definitions(reader: Reader<'_>, schema: &mut Schema) -> Result<(), RowError> {
+    let mut reader = reader;
+    let place = reader.place;
+    for _ in 0..LONGEST {
+        if reader.is_at_end() {
+            return Ok(());
+        }
+        reader.place = place;
+        add_definition(&mut reader, schema)?;
+    }
+    Err(RowError::TooLong)
+}
+
+fn add_definition(reader: &mut Reader<'_>, schema: &mut Schema) -> Result<(), RowError> {
+    if reader.takes_word("without") {
+        let name = reader.name()?;
+        schema.types.shift_remove(&name);
+        return Ok(());
+    }
+    let key = reader.key();
+    if reader.takes_word("builtin") {
+        reader.place = BUILT_IN;
+    }
+    let start = reader.start();
+    match reader.word() {
+        "schema" => {
+            schema.schema_definition = schema_definition(reader, start)?;
+            Ok(())
+        }
+        "directive" => add_directive(reader, &mut schema.directive_definitions, key, start),
+        keyword => add_type(reader, &mut schema.types, keyword, key, start),
+    }
+}
+
+fn add_directive(
+    reader: &mut Reader<'_>,
+    directives: &mut IndexMap<Name, Node<DirectiveDefinition>>,
+    key: Option<Reader<'_>>,
+    start: usize,
+) -> Result<(), RowError> {
+    reader.expect("@")?;
+    let own = *reader;
+    let definition = directive(reader)?;
+    let definition = reader.node(definition, start)?;
+    add_named(directives, key, own, definition)
+}
+
+fn add_type(
+    reader: &mut Reader<'_>,
+    types: &mut IndexMap<Name, ExtendedType>,
+    keyword: &str,
+    key: Option<Reader<'_>>,
+    start: usize,
+) -> Result<(), RowError> {
+    let own = *reader;
+    let definition = type_definition(reader, keyword, start)?;
+    add_named(types, key, own, definition)
+}
+
+/// The schema has the roots that its text names, or else those that types have by their names.
+fn add_named_roots(alloc: Global, schema: &mut Schema) -> Result<(), RowError> {
+    let roots = &schema.schema_definition.value;
+    if roots.query.is_none() && roots.mutation.is_none() && roots.subscription.is_none() {
+        schema.schema_definition = named_roots(alloc, &schema.types)?;
+    }
+    Ok(())
+}
+
 fn named_roots(
     alloc: Global,
     types: &IndexMap<Name, ExtendedType>,
 ) -> Result<Node<SchemaDefinition>, RowError> {
+    let query = named_root(alloc, types, "Query");
+    let mutation = named_root(alloc, types, "Mutation");
+    let subscription = named_root(alloc, types, "Subscription");
+    let (query, (mutation, subscription)) = both(query, both(mutation, subscription))?;
     let definition = SchemaDefinition {
         directives: Vec::new(alloc),
-        query: named_root(alloc, types, "Query")?,
-        mutation: named_root(alloc, types, "Mutation")?,
-        subscription: named_root(alloc, types, "Subscription")?,
+        query,
+        mutation,
+        subscription,
     };
     Ok(Node::new(alloc, definition)?)
 }
@@ -94,84 +153,4 @@ fn named_root(
     } else {
         Ok(None)
     }
-}
-
-/// Reads all definitions that are left.
-fn add_definitions(reader: &mut Reader<'_>, definitions: &mut Definitions) -> Result<(), RowError> {
-    let place = reader.place;
-    for _ in 0..LONGEST {
-        if reader.is_at_end() {
-            return Ok(());
-        }
-        reader.place = place;
-        add_definition(reader, definitions)?;
-    }
-    Err(RowError::TooLong)
-}
-
-fn add_definition(reader: &mut Reader<'_>, definitions: &mut Definitions) -> Result<(), RowError> {
-    if reader.takes_word("without") {
-        let name = reader.name()?;
-        definitions.types.shift_remove(&name);
-        return Ok(());
-    }
-    let key = key(reader)?;
-    if reader.takes_word("builtin") {
-        reader.place = BUILT_IN;
-    }
-    let start = reader.start();
-    if reader.takes_word("schema") {
-        definitions.schema_definition = Some(schema_definition(reader, start)?);
-        Ok(())
-    } else if reader.takes_word("directive") {
-        add_directive(reader, &mut definitions.directive_definitions, key, start)
-    } else {
-        add_type(reader, &mut definitions.types, key, start)
-    }
-}
-
-fn add_directive(
-    reader: &mut Reader<'_>,
-    directives: &mut IndexMap<Name, Node<DirectiveDefinition>>,
-    key: Option<Name>,
-    start: usize,
-) -> Result<(), RowError> {
-    reader.expect("@")?;
-    let definition = directive(reader)?;
-    let own = definition.name.clone()?;
-    let definition = reader.node(definition, start)?;
-    insert(directives, key, own, definition)
-}
-
-fn add_type(
-    reader: &mut Reader<'_>,
-    types: &mut IndexMap<Name, ExtendedType>,
-    key: Option<Name>,
-    start: usize,
-) -> Result<(), RowError> {
-    let keyword = reader.word();
-    let name = reader.name()?;
-    let own = name.clone()?;
-    let definition = type_definition(reader, keyword, name, start)?;
-    insert(types, key, own, definition)
-}
-
-/// Puts a definition under its key, in place of what stands there, or under its own name, where nothing
-/// may stand.
-fn insert<T: Drop>(
-    definitions: &mut IndexMap<Name, T>,
-    key: Option<Name>,
-    own: Name,
-    definition: T,
-) -> Result<(), RowError> {
-    let Some(key) = key else {
-        let before = definitions.insert(own, definition)?;
-        return if before.is_some() {
-            Err(RowError::RepeatedName)
-        } else {
-            Ok(())
-        };
-    };
-    definitions.insert(key, definition)?;
-    Ok(())
 }

@@ -1,9 +1,11 @@
-use super::applications::{read_arguments, read_directives};
+use super::applications::read_directives;
+use super::parts::{both, listed};
 use super::reader::{DEEPEST, LONGEST, Place, Reader};
 use super::repetitions::written_out;
 use crate::errors::RowError;
 use graphql_documents::documents::{
-    Field, FieldSet, FragmentSpread, InlineFragment, Name, Node, Schema, Selection, SelectionSet,
+    Field, FieldDefinition, FieldSet, FragmentSpread, InlineFragment, Name, Node, Schema,
+    Selection, SelectionSet,
 };
 use std::alloc::Global;
 
@@ -16,54 +18,49 @@ pub fn field_set(
     text: &str,
 ) -> Result<FieldSet, RowError> {
     let written = written_out(alloc, text)?;
-    let ty = Reader::new(alloc, type_name, Place::Nowhere).name()?;
     let mut reader = Reader::new(alloc, written.as_str(), Place::Nowhere);
-    Ok(FieldSet {
-        selection_set: selection_set(&mut reader, schema, &ty)?,
-    })
+    let ty = Reader::new(alloc, type_name, Place::Nowhere).name();
+    let selection_set = selection_set(&mut reader, schema, ty)?;
+    Ok(FieldSet { selection_set })
 }
 
 /// Reads selections in braces, from this type; none where no brace comes next.
 pub(super) fn selection_set(
     reader: &mut Reader<'_>,
     schema: &Schema,
-    ty: &Name,
+    ty: Result<Name, RowError>,
 ) -> Result<SelectionSet, RowError> {
-    nested_set(reader, schema, ty, DEEPEST)
+    let mut set = empty_set(reader.alloc, ty?);
+    fill(reader, schema, &mut set, DEEPEST).and(Ok(set))
 }
 
+fn empty_set(alloc: Global, ty: Name) -> SelectionSet {
+    SelectionSet {
+        ty,
+        selections: Vec::new(alloc),
+    }
+}
+
+/// Reads the selections of a set.
 #[cycle(selection)]
-fn nested_set(
+fn fill(
     reader: &mut Reader<'_>,
     schema: &Schema,
-    ty: &Name,
+    set: &mut SelectionSet,
     depth: u32,
-) -> Result<SelectionSet, RowError> {
+) -> Result<(), RowError> {
     if depth == 0 {
         return Err(RowError::TooDeep);
     }
-    Ok(SelectionSet {
-        ty: ty.clone()?,
-        selections: selections(reader, schema, ty, depth - 1)?,
-    })
-}
-
-#[cycle(selection)]
-fn selections(
-    reader: &mut Reader<'_>,
-    schema: &Schema,
-    ty: &Name,
-    depth: u32,
-) -> Result<Vec<Selection>, RowError> {
-    let mut selections = Vec::new(reader.alloc);
     if !reader.takes("{") {
-        return Ok(selections);
+        return Ok(());
     }
     for _ in 0..LONGEST {
         if reader.takes("}") {
-            return Ok(selections);
+            return Ok(());
         }
-        selections.push(selection(reader, schema, ty, depth)?)?;
+        let selection = selection(reader, schema, &set.ty, depth - 1)?;
+        set.selections.push(selection)?;
     }
     Err(RowError::TooLong)
 }
@@ -77,13 +74,13 @@ fn selection(
 ) -> Result<Selection, RowError> {
     let start = reader.start();
     if !reader.takes("...") {
-        let field = field(reader, schema, ty, depth)?;
-        return Ok(Selection::Field(reader.node(field, start)?));
-    }
-    let word = reader.next_word();
-    if word.is_empty() || word == "on" {
-        let inline = inline_fragment(reader, schema, ty, depth)?;
-        Ok(Selection::InlineFragment(reader.node(inline, start)?))
+        let mut field = field(reader, schema, ty)?;
+        let filled = fill(reader, schema, &mut field.selection_set, depth);
+        Ok(Selection::Field(reader.node(filled.and(Ok(field))?, start)?))
+    } else if matches!(reader.next_word(), "" | "on") {
+        let mut inline = inline_fragment(reader, ty)?;
+        let filled = fill(reader, schema, &mut inline.selection_set, depth);
+        Ok(Selection::InlineFragment(reader.node(filled.and(Ok(inline))?, start)?))
     } else {
         let spread = fragment_spread(reader)?;
         Ok(Selection::FragmentSpread(reader.node(spread, start)?))
@@ -91,51 +88,45 @@ fn selection(
 }
 
 fn fragment_spread(reader: &mut Reader<'_>) -> Result<FragmentSpread, RowError> {
+    let (fragment_name, directives) = both(reader.name(), read_directives(reader))?;
     Ok(FragmentSpread {
-        fragment_name: reader.name()?,
-        directives: read_directives(reader)?,
+        fragment_name,
+        directives,
     })
 }
 
-#[cycle(selection)]
-fn inline_fragment(
-    reader: &mut Reader<'_>,
-    schema: &Schema,
-    ty: &Name,
-    depth: u32,
-) -> Result<InlineFragment, RowError> {
-    let type_condition = if reader.takes_word("on") {
-        Some(reader.name()?)
-    } else {
-        None
-    };
-    let directives = read_directives(reader)?;
-    let inside = type_condition.as_ref().unwrap_or(ty);
+/// Reads an inline fragment up to its selections.
+fn inline_fragment(reader: &mut Reader<'_>, ty: &Name) -> Result<InlineFragment, RowError> {
+    let (type_condition, directives) = both(condition(reader), read_directives(reader))?;
+    let inside = type_condition.as_ref().unwrap_or(ty).clone()?;
     Ok(InlineFragment {
-        selection_set: nested_set(reader, schema, inside, depth)?,
+        selection_set: empty_set(reader.alloc, inside),
         type_condition,
         directives,
     })
 }
 
-#[cycle(selection)]
-fn field(
-    reader: &mut Reader<'_>,
-    schema: &Schema,
-    ty: &Name,
-    depth: u32,
-) -> Result<Field, RowError> {
+/// Reads `on Name`, if it comes next.
+fn condition(reader: &mut Reader<'_>) -> Result<Option<Name>, RowError> {
+    if reader.takes_word("on") {
+        Ok(Some(reader.name()?))
+    } else {
+        Ok(None)
+    }
+}
+
+/// Reads a field up to its selections.
+fn field(reader: &mut Reader<'_>, schema: &Schema, ty: &Name) -> Result<Field, RowError> {
     let (alias, name) = alias_and_name(reader)?;
-    let arguments = read_arguments(reader)?;
-    let directives = read_directives(reader)?;
-    let definition = schema.type_field(ty, &name)?.node.clone()?;
-    let below = definition.value.ty.inner_named_type();
+    let applied = both(listed(reader, "(", ")"), read_directives(reader));
+    let typed = definition_and_set(reader.alloc, schema, ty, &name);
+    let ((arguments, directives), (definition, selection_set)) = both(applied, typed)?;
     Ok(Field {
         alias,
         name,
         arguments,
         directives,
-        selection_set: nested_set(reader, schema, below, depth)?,
+        selection_set,
         definition,
     })
 }
@@ -143,8 +134,20 @@ fn field(
 fn alias_and_name(reader: &mut Reader<'_>) -> Result<(Option<Name>, Name), RowError> {
     let first = reader.name()?;
     if reader.takes(":") {
-        Ok((Some(first), reader.name()?))
+        both(Ok(Some(first)), reader.name())
     } else {
         Ok((None, first))
     }
+}
+
+/// The definition of a field of this type, and a set of the type that it gives.
+fn definition_and_set(
+    alloc: Global,
+    schema: &Schema,
+    ty: &Name,
+    name: &Name,
+) -> Result<(Node<FieldDefinition>, SelectionSet), RowError> {
+    let definition = &schema.type_field(ty, name)?.node;
+    let below = definition.value.ty.inner_named_type().clone()?;
+    Ok((definition.clone()?, empty_set(alloc, below)))
 }

@@ -1,47 +1,42 @@
-use super::reader::Reader;
+use super::parts::Part;
+use super::reader::{DEEPEST, Reader};
 use crate::errors::RowError;
-use graphql_documents::documents::{Name, Type};
-use std::alloc::Global;
+use graphql_documents::documents::Type;
 
-/// Reads a type reference as `[Int!]!`. It is built from the name outwards, and the name stands where
-/// the reference does.
-pub(super) fn type_reference(reader: &mut Reader<'_>) -> Result<Type, RowError> {
-    let start = reader.start();
-    let text = reader.type_text();
-    let opened = text.trim_start_matches('[');
-    let named = opened.trim_end_matches(is_wrapper);
-    let wrappers = opened
-        .strip_prefix(named)
-        .ok_or(RowError::NotATypeReference)?;
-    if count_of(text, b'[') != count_of(wrappers, b']') {
-        return Err(RowError::NotATypeReference);
+impl Part for Type {
+    /// Reads a type reference as `[Int!]!`.
+    fn read(reader: &mut Reader<'_>) -> Result<Type, RowError> {
+        nested_type(reader, DEEPEST)
     }
-    let name = String::from_str(reader.alloc, named)?;
-    let name = Name::new(name, reader.place_from(start)).ok_or(RowError::NotAName)?;
-    wrapped_in(reader.alloc, Type::Named(name), wrappers)
 }
 
-fn is_wrapper(c: char) -> bool {
-    matches!(c, '!' | ']')
-}
-
-fn count_of(text: &str, wanted: u8) -> usize {
-    text.bytes().filter(|byte| *byte == wanted).count()
-}
-
-fn wrapped_in(alloc: Global, ty: Type, wrappers: &str) -> Result<Type, RowError> {
-    let mut ty = ty;
-    for wrapper in wrappers.bytes() {
-        ty = wrapped(alloc, ty, wrapper)?;
+fn nested_type(reader: &mut Reader<'_>, depth: u32) -> Result<Type, RowError> {
+    if depth == 0 {
+        return Err(RowError::TooDeep);
     }
-    Ok(ty)
+    if reader.takes("[") {
+        let item = nested_type(reader, depth - 1);
+        let item = reader.expect("]").and(item)?;
+        list_type(reader, item)
+    } else {
+        named_type(reader)
+    }
 }
 
-fn wrapped(alloc: Global, ty: Type, wrapper: u8) -> Result<Type, RowError> {
-    match (wrapper, ty) {
-        (b']', ty) => Ok(Type::List(Box::new(alloc, ty)?)),
-        (b'!', Type::Named(name)) => Ok(Type::NonNullNamed(name)),
-        (b'!', Type::List(item)) => Ok(Type::NonNullList(item)),
-        _ => Err(RowError::NotATypeReference),
+fn named_type(reader: &mut Reader<'_>) -> Result<Type, RowError> {
+    let name = reader.name()?;
+    if reader.takes("!") {
+        Ok(Type::NonNullNamed(name))
+    } else {
+        Ok(Type::Named(name))
+    }
+}
+
+fn list_type(reader: &mut Reader<'_>, item: Type) -> Result<Type, RowError> {
+    let item = Box::new(reader.alloc, item)?;
+    if reader.takes("!") {
+        Ok(Type::NonNullList(item))
+    } else {
+        Ok(Type::List(item))
     }
 }

@@ -1,14 +1,15 @@
 use super::applications::read_directives;
-use super::definitions::{enum_value, field, input};
 use super::documents::operation_type;
+use super::parts::add_members;
 use super::reader::{LONGEST, Reader};
 use crate::errors::RowError;
 use graphql_documents::documents::{
-    Component, ComponentName, ComponentOrigin, Directive, EnumType, EnumValueDefinition,
-    ExtendedType, ExtensionId, FieldDefinition, InputObjectType, InputValueDefinition,
-    InterfaceType, Name, Node, ObjectType, OperationType, ScalarType, SchemaDefinition, UnionType,
+    Component, ComponentName, ComponentOrigin, Directive, EnumType, ExtendedType, ExtensionId,
+    FieldDefinition, InputObjectType, InterfaceType, Name, Node, ObjectType, OperationType,
+    ScalarType, SchemaDefinition, UnionType,
 };
 use indexmap::{IndexMap, IndexSet};
+use std::alloc::Global;
 
 /// No definition of the notation has as many extensions.
 const MOST_EXTENSIONS: u32 = 100;
@@ -16,96 +17,36 @@ const MOST_EXTENSIONS: u32 = 100;
 /// A definition that extensions add to.
 trait Extensible: Drop {
     /// Reads what a definition, or an extension of it, says behind its name.
-    fn read(&mut self, reader: &mut Reader<'_>, origin: ComponentOrigin) -> Result<(), RowError>;
+    fn add(&mut self, reader: &mut Reader<'_>, origin: ComponentOrigin) -> Result<(), RowError>;
 }
 
-/// Reads a type definition and its extensions, from behind its keyword and its name.
+/// A definition of a type.
+trait NamedType: Extensible {
+    /// A type of this name, of which nothing else is known.
+    fn new(alloc: Global, name: Name) -> Self;
+}
+
+/// Reads a type definition and its extensions, from behind its keyword.
 pub(super) fn type_definition(
     reader: &mut Reader<'_>,
     keyword: &str,
-    name: Name,
     start: usize,
 ) -> Result<ExtendedType, RowError> {
     match keyword {
-        "scalar" => scalar_type(reader, name, start),
-        "type" => object_type(reader, name, start),
-        "interface" => interface_type(reader, name, start),
-        "union" => union_type(reader, name, start),
-        "enum" => enum_type(reader, name, start),
-        "input" => input_object_type(reader, name, start),
+        "scalar" => Ok(ExtendedType::Scalar(named_type(reader, start)?)),
+        "type" => Ok(ExtendedType::Object(named_type(reader, start)?)),
+        "interface" => Ok(ExtendedType::Interface(named_type(reader, start)?)),
+        "union" => Ok(ExtendedType::Union(named_type(reader, start)?)),
+        "enum" => Ok(ExtendedType::Enum(named_type(reader, start)?)),
+        "input" => Ok(ExtendedType::InputObject(named_type(reader, start)?)),
         _ => Err(RowError::NotInNotation),
     }
 }
 
-fn scalar_type(
-    reader: &mut Reader<'_>,
-    name: Name,
-    start: usize,
-) -> Result<ExtendedType, RowError> {
-    let scalar = ScalarType {
-        name,
-        directives: Vec::new(reader.alloc),
-    };
-    Ok(ExtendedType::Scalar(extended(reader, scalar, start)?))
-}
-
-fn object_type(
-    reader: &mut Reader<'_>,
-    name: Name,
-    start: usize,
-) -> Result<ExtendedType, RowError> {
-    let object = ObjectType {
-        name,
-        implements_interfaces: IndexSet::new(reader.alloc),
-        directives: Vec::new(reader.alloc),
-        fields: IndexMap::new(reader.alloc),
-    };
-    Ok(ExtendedType::Object(extended(reader, object, start)?))
-}
-
-fn interface_type(
-    reader: &mut Reader<'_>,
-    name: Name,
-    start: usize,
-) -> Result<ExtendedType, RowError> {
-    let interface = InterfaceType {
-        name,
-        implements_interfaces: IndexSet::new(reader.alloc),
-        directives: Vec::new(reader.alloc),
-        fields: IndexMap::new(reader.alloc),
-    };
-    Ok(ExtendedType::Interface(extended(reader, interface, start)?))
-}
-
-fn union_type(reader: &mut Reader<'_>, name: Name, start: usize) -> Result<ExtendedType, RowError> {
-    let union = UnionType {
-        name,
-        directives: Vec::new(reader.alloc),
-        members: IndexSet::new(reader.alloc),
-    };
-    Ok(ExtendedType::Union(extended(reader, union, start)?))
-}
-
-fn enum_type(reader: &mut Reader<'_>, name: Name, start: usize) -> Result<ExtendedType, RowError> {
-    let definition = EnumType {
-        name,
-        directives: Vec::new(reader.alloc),
-        values: IndexMap::new(reader.alloc),
-    };
-    Ok(ExtendedType::Enum(extended(reader, definition, start)?))
-}
-
-fn input_object_type(
-    reader: &mut Reader<'_>,
-    name: Name,
-    start: usize,
-) -> Result<ExtendedType, RowError> {
-    let input_object = InputObjectType {
-        name,
-        directives: Vec::new(reader.alloc),
-        fields: IndexMap::new(reader.alloc),
-    };
-    Ok(ExtendedType::InputObject(extended(reader, input_object, start)?))
+fn named_type<T: NamedType>(reader: &mut Reader<'_>, start: usize) -> Result<Node<T>, RowError> {
+    let own = reader.next_word();
+    let name = reader.name()?;
+    extended(reader, T::new(reader.alloc, name), own, start)
 }
 
 /// Reads the definition of the schema and its extensions, from behind its keyword.
@@ -119,33 +60,48 @@ pub(super) fn schema_definition(
         mutation: None,
         subscription: None,
     };
-    extended(reader, definition, start)
+    extended(reader, definition, "", start)
 }
 
-/// Reads a definition and the extensions behind it, from behind its name.
+/// Reads a definition of this name, or of none, and the extensions behind it.
 fn extended<T: Extensible>(
     reader: &mut Reader<'_>,
     definition: T,
+    name: &str,
     start: usize,
 ) -> Result<Node<T>, RowError> {
     let mut definition = definition;
-    definition.read(reader, ComponentOrigin::Definition)?;
+    add_all(reader, &mut definition, name)?;
+    reader.node(definition, start)
+}
+
+fn add_all<T: Extensible>(
+    reader: &mut Reader<'_>,
+    definition: &mut T,
+    name: &str,
+) -> Result<(), RowError> {
+    definition.add(reader, ComponentOrigin::Definition)?;
     for number in 1..MOST_EXTENSIONS {
         if !reader.takes_word("extend") {
-            return reader.node(definition, start);
+            return Ok(());
         }
-        let origin = extension(reader, number)?;
-        definition.read(reader, origin)?;
+        let origin = extension(reader, name, number)?;
+        definition.add(reader, origin)?;
     }
     Err(RowError::TooLong)
 }
 
-/// Reads the keyword and the name of an extension.
-fn extension(reader: &mut Reader<'_>, number: u32) -> Result<ComponentOrigin, RowError> {
+/// Reads the keyword of an extension and the name, if there is one, which it shares with the
+/// definition.
+fn extension(
+    reader: &mut Reader<'_>,
+    name: &str,
+    number: u32,
+) -> Result<ComponentOrigin, RowError> {
     let start = reader.start();
-    if !reader.takes_word("schema") {
-        reader.word();
-        reader.name()?;
+    reader.word();
+    if !name.is_empty() {
+        reader.expect_word(name)?;
     }
     Ok(ComponentOrigin::Extension(ExtensionId {
         number,
@@ -153,30 +109,71 @@ fn extension(reader: &mut Reader<'_>, number: u32) -> Result<ComponentOrigin, Ro
     }))
 }
 
+impl NamedType for ScalarType {
+    fn new(alloc: Global, name: Name) -> ScalarType {
+        ScalarType {
+            name,
+            directives: Vec::new(alloc),
+        }
+    }
+}
+
 impl Extensible for ScalarType {
-    fn read(&mut self, reader: &mut Reader<'_>, origin: ComponentOrigin) -> Result<(), RowError> {
+    fn add(&mut self, reader: &mut Reader<'_>, origin: ComponentOrigin) -> Result<(), RowError> {
         add_directives(reader, &mut self.directives, origin)
     }
 }
 
+impl NamedType for ObjectType {
+    fn new(alloc: Global, name: Name) -> ObjectType {
+        ObjectType {
+            name,
+            implements_interfaces: IndexSet::new(alloc),
+            directives: Vec::new(alloc),
+            fields: IndexMap::new(alloc),
+        }
+    }
+}
+
 impl Extensible for ObjectType {
-    fn read(&mut self, reader: &mut Reader<'_>, origin: ComponentOrigin) -> Result<(), RowError> {
+    fn add(&mut self, reader: &mut Reader<'_>, origin: ComponentOrigin) -> Result<(), RowError> {
         add_interfaces(reader, &mut self.implements_interfaces, origin)?;
         add_directives(reader, &mut self.directives, origin)?;
-        add_fields(reader, &mut self.fields, origin)
+        add_members(reader, &mut self.fields, origin)
+    }
+}
+
+impl NamedType for InterfaceType {
+    fn new(alloc: Global, name: Name) -> InterfaceType {
+        InterfaceType {
+            name,
+            implements_interfaces: IndexSet::new(alloc),
+            directives: Vec::new(alloc),
+            fields: IndexMap::new(alloc),
+        }
     }
 }
 
 impl Extensible for InterfaceType {
-    fn read(&mut self, reader: &mut Reader<'_>, origin: ComponentOrigin) -> Result<(), RowError> {
+    fn add(&mut self, reader: &mut Reader<'_>, origin: ComponentOrigin) -> Result<(), RowError> {
         add_interfaces(reader, &mut self.implements_interfaces, origin)?;
         add_directives(reader, &mut self.directives, origin)?;
-        add_fields(reader, &mut self.fields, origin)
+        add_members(reader, &mut self.fields, origin)
+    }
+}
+
+impl NamedType for UnionType {
+    fn new(alloc: Global, name: Name) -> UnionType {
+        UnionType {
+            name,
+            directives: Vec::new(alloc),
+            members: IndexSet::new(alloc),
+        }
     }
 }
 
 impl Extensible for UnionType {
-    fn read(&mut self, reader: &mut Reader<'_>, origin: ComponentOrigin) -> Result<(), RowError> {
+    fn add(&mut self, reader: &mut Reader<'_>, origin: ComponentOrigin) -> Result<(), RowError> {
         add_directives(reader, &mut self.directives, origin)?;
         if reader.takes("=") {
             add_names(reader, &mut self.members, "|", origin)?;
@@ -185,22 +182,42 @@ impl Extensible for UnionType {
     }
 }
 
+impl NamedType for EnumType {
+    fn new(alloc: Global, name: Name) -> EnumType {
+        EnumType {
+            name,
+            directives: Vec::new(alloc),
+            values: IndexMap::new(alloc),
+        }
+    }
+}
+
 impl Extensible for EnumType {
-    fn read(&mut self, reader: &mut Reader<'_>, origin: ComponentOrigin) -> Result<(), RowError> {
+    fn add(&mut self, reader: &mut Reader<'_>, origin: ComponentOrigin) -> Result<(), RowError> {
         add_directives(reader, &mut self.directives, origin)?;
-        add_values(reader, &mut self.values, origin)
+        add_members(reader, &mut self.values, origin)
+    }
+}
+
+impl NamedType for InputObjectType {
+    fn new(alloc: Global, name: Name) -> InputObjectType {
+        InputObjectType {
+            name,
+            directives: Vec::new(alloc),
+            fields: IndexMap::new(alloc),
+        }
     }
 }
 
 impl Extensible for InputObjectType {
-    fn read(&mut self, reader: &mut Reader<'_>, origin: ComponentOrigin) -> Result<(), RowError> {
+    fn add(&mut self, reader: &mut Reader<'_>, origin: ComponentOrigin) -> Result<(), RowError> {
         add_directives(reader, &mut self.directives, origin)?;
-        add_input_fields(reader, &mut self.fields, origin)
+        add_members(reader, &mut self.fields, origin)
     }
 }
 
 impl Extensible for SchemaDefinition {
-    fn read(&mut self, reader: &mut Reader<'_>, origin: ComponentOrigin) -> Result<(), RowError> {
+    fn add(&mut self, reader: &mut Reader<'_>, origin: ComponentOrigin) -> Result<(), RowError> {
         add_directives(reader, &mut self.directives, origin)?;
         add_roots(reader, self, origin)
     }
@@ -248,72 +265,6 @@ fn add_names(
     Err(RowError::TooLong)
 }
 
-/// Reads the definitions of fields in braces, if there are any.
-fn add_fields(
-    reader: &mut Reader<'_>,
-    fields: &mut IndexMap<Name, Component<FieldDefinition>>,
-    origin: ComponentOrigin,
-) -> Result<(), RowError> {
-    if !reader.takes("{") {
-        return Ok(());
-    }
-    for _ in 0..LONGEST {
-        if reader.takes("}") {
-            return Ok(());
-        }
-        let node = field(reader)?;
-        let key = node.value.name.clone()?;
-        if fields.insert(key, Component { origin, node })?.is_some() {
-            return Err(RowError::RepeatedName);
-        }
-    }
-    Err(RowError::TooLong)
-}
-
-/// Reads the definitions of the values of an enum in braces, if there are any.
-fn add_values(
-    reader: &mut Reader<'_>,
-    values: &mut IndexMap<Name, Component<EnumValueDefinition>>,
-    origin: ComponentOrigin,
-) -> Result<(), RowError> {
-    if !reader.takes("{") {
-        return Ok(());
-    }
-    for _ in 0..LONGEST {
-        if reader.takes("}") {
-            return Ok(());
-        }
-        let node = enum_value(reader)?;
-        let key = node.value.value.clone()?;
-        if values.insert(key, Component { origin, node })?.is_some() {
-            return Err(RowError::RepeatedName);
-        }
-    }
-    Err(RowError::TooLong)
-}
-
-/// Reads the definitions of the fields of an input object in braces, if there are any.
-fn add_input_fields(
-    reader: &mut Reader<'_>,
-    fields: &mut IndexMap<Name, Component<InputValueDefinition>>,
-    origin: ComponentOrigin,
-) -> Result<(), RowError> {
-    if !reader.takes("{") {
-        return Ok(());
-    }
-    for _ in 0..LONGEST {
-        if reader.takes("}") {
-            return Ok(());
-        }
-        let node = input(reader)?;
-        let key = node.value.name.clone()?;
-        if fields.insert(key, Component { origin, node })?.is_some() {
-            return Err(RowError::RepeatedName);
-        }
-    }
-    Err(RowError::TooLong)
-}
-
 /// Reads the roots of a schema in braces, if there are any.
 fn add_roots(
     reader: &mut Reader<'_>,
@@ -338,7 +289,7 @@ fn add_root(
     definition: &mut SchemaDefinition,
     origin: ComponentOrigin,
 ) -> Result<(), RowError> {
-    let operation_type = operation_type(reader.word())?;
+    let operation_type = operation_type(reader)?;
     reader.expect(":")?;
     let name = reader.name()?;
     let root = Some(ComponentName { origin, name });

@@ -32,6 +32,12 @@ pub const ROWS: &[Row] = &[
         lines: "- the argument `arg` is not supported by `Query.id`\n",
     },
     Row {
+        id: "1d",
+        schema: ORGANIZATIONS,
+        subject: Subject::FieldSet("{ ...F }"),
+        lines: "- cannot find fragment `F` in this document\n",
+    },
+    Row {
         id: "2",
         schema: QUERY_OF_ITSELF,
         subject: Subject::DocumentInFile("{ x: a x: b }"),

@@ -2,16 +2,10 @@ use Rattle.std.proofs.Common.{◌+◌, ◌*◌}
 use Rattle.graphql_rows.proofs.build.literals.+value.Given as goal
 
 abbrev pub decreases-nested_value : goal.decreases-nested_value
-decreases-nested_value l = 4 * l.depth
+decreases-nested_value l = 2 * l.depth
 
-abbrev pub decreases-item : goal.decreases-item
-decreases-item l = 4 * l.depth + 1
+abbrev pub decreases-add_fields : goal.decreases-add_fields
+decreases-add_fields l = 2 * l.depth + 1
 
-abbrev pub decreases-object_field : goal.decreases-object_field
-decreases-object_field l = 4 * l.depth + 2
-
-abbrev pub decreases-object_fields : goal.decreases-object_fields
-decreases-object_fields l = 4 * l.depth + 3
-
-abbrev pub decreases-list_items : goal.decreases-list_items
-decreases-list_items l = 4 * l.depth + 2
+abbrev pub decreases-add_items : goal.decreases-add_items
+decreases-add_items l = 2 * l.depth + 1

@@ -1,0 +1,31 @@
+//! Worked examples of whole documents, behind those of `graphql_rows`, and the tables of both.
+#![tactic(auto)]
+
+ghost use Rattle.std.specs.Prelude.{◌≡◌, IfSome};
+
+pub mod from_38;
+pub mod up_to_32;
+
+use graphql_rows::rows::{up_to_12, up_to_19, up_to_26};
+use graphql_rows::{Row, find_row};
+
+/// All examples, in order of their names.
+pub const TABLES: [&[Row]; 5] = [
+    up_to_12::ROWS,
+    up_to_19::ROWS,
+    up_to_26::ROWS,
+    up_to_32::ROWS,
+    from_38::ROWS,
+];
+
+/// The example of this name.
+pub fn find(id: &str) -> Option<&'static Row>
+    ensures { IfSome result (λ row. row.now.id.now ≡ id.now) }
+{
+    for rows in TABLES {
+        if let Some(row) = find_row(rows, id) {
+            return Some(row);
+        }
+    }
+    None
+}
