@@ -14,8 +14,10 @@ pub const RUNNING: &[&str] = &["1a", "1b", "1c"];
 pub fn report_case<O: Write>(alloc: Global, id: &str, output: &mut O) -> Result<bool, Fault> {
     let row = running_row(id).ok_or(Fault::BadArguments)?;
     let case = build_case(alloc, row)?;
-    let reported = report(alloc, &case, output);
+    let mut diagnostics = DiagnosticList::new(alloc);
+    let reported = report(&mut diagnostics, &case, output);
     drop(case);
+    drop(diagnostics);
     reported
 }
 
@@ -27,9 +29,12 @@ fn running_row(id: &str) -> Option<&'static Row> {
     }
 }
 
-fn report<O: Write>(alloc: Global, case: &Case, output: &mut O) -> Result<bool, Fault> {
-    let mut diagnostics = DiagnosticList::new(alloc);
-    validate(&mut diagnostics, case)?;
+fn report<O: Write>(
+    diagnostics: &mut DiagnosticList,
+    case: &Case,
+    output: &mut O,
+) -> Result<bool, Fault> {
+    validate(diagnostics, case)?;
     for entry in diagnostics.iter() {
         print_entry(entry, output)?;
     }

@@ -3,8 +3,8 @@
 
 ghost use Rattle.std.specs.Prelude.{◌≡◌, IfSome};
 
-pub mod from_38;
 pub mod up_to_32;
+pub mod up_to_38;
 
 use graphql_rows::rows::{up_to_12, up_to_19, up_to_26};
 use graphql_rows::{Row, find_row};
@@ -15,7 +15,7 @@ pub const TABLES: [&[Row]; 5] = [
     up_to_19::ROWS,
     up_to_26::ROWS,
     up_to_32::ROWS,
-    from_38::ROWS,
+    up_to_38::ROWS,
 ];
 
 /// The example of this name.

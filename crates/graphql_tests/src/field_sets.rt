@@ -1,15 +1,32 @@
-use super::fixtures::example_reports;
+use super::fixtures::{reports, schema_of};
+use graphql_documents::diagnostics::DiagnosticList;
+use graphql_rows::build::field_set;
+use graphql_rows::{Row, Subject};
+use graphql_rows_more::find;
+use graphql_validation::entry::validate_field_set;
+use std::alloc::Global;
+use std::process::Abort;
 
-#[test]
-fn field_sets_give_their_lines(rt: HostRuntime) {
-    for id in ["1a", "1b", "1c"] {
-        example_reports(&rt, rt.alloc(), id);
-    }
+/// The examples whose selections can stand in a field set.
+const FIELD_SETS: [&str; 14] = [
+    "1a", "1b", "1c", "17a", "17b", "17c", "17d", "17e", "18a", "18b", "18c", "19a", "19b", "19c",
+];
+
+/// The selections of the example, as a field set on `Query`, bring the example's lines.
+fn gives_its_lines(rt: &impl Abort, alloc: Global, row: &Row) {
+    let (Subject::FieldSet(selections) | Subject::Document(selections)) = row.subject else {
+        panic!(rt; "{} has no selections", row.id);
+    };
+    let schema = schema_of(rt, alloc, row.schema);
+    let set = field_set(alloc, &schema.0, "Query", selections).expect(rt, "a field set");
+    let mut diagnostics = DiagnosticList::new(alloc);
+    validate_field_set(&mut diagnostics, &schema, &set).expect(rt, "memory for reports");
+    reports(rt, alloc, &diagnostics, row.lines);
 }
 
 #[test]
-fn arguments_of_selections_give_their_lines(rt: HostRuntime) {
-    for id in ["19a", "19b", "19c"] {
-        example_reports(&rt, rt.alloc(), id);
+fn field_sets_give_their_lines(rt: HostRuntime) {
+    for id in FIELD_SETS {
+        gives_its_lines(&rt, rt.alloc(), find(id).expect(&rt, "an example"));
     }
 }

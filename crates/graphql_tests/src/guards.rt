@@ -1,21 +1,8 @@
-ghost use Rattle.std.specs.Prelude.{◌≡◌, ◌≤◌, false};
-ghost use Rattle.graphql_guards.specs.Guards.{path_of};
-ghost use Rattle.graphql_documents.specs.Names.{stands_on};
+ghost use Rattle.std.specs.Prelude.{◌≤◌};
 
 use super::fixtures::name;
-use graphql_documents::diagnostics::RecursionLimitError;
-use graphql_documents::documents::{Name, Type};
-use graphql_guards::{
-    CycleError, DEFAULT_RECURSION_LIMIT, DepthCounter, LimitCounter, RecursionGuard, RecursionStack,
-};
-
-/// Whether the guard's path takes the name. The path is the same afterwards.
-fn takes(guard: &mut RecursionGuard<'_>, name: &Name) -> bool
-    requires { stands_on (path_of guard.old.stack.now) name.now ≡ false }
-    ensures { path_of guard.new.stack.now ≡ path_of guard.old.stack.now }
-{
-    guard.stack.push::<Type>(name).is_ok()
-}
+use graphql_documents::documents::Type;
+use graphql_guards::{CycleError, DepthCounter, LimitCounter, RecursionStack};
 
 #[test]
 fn a_path_holds_as_many_names_as_its_limit(rt: HostRuntime) {
@@ -31,8 +18,6 @@ fn a_path_holds_as_many_names_as_its_limit(rt: HostRuntime) {
         _ => panic!(rt; "a third name"),
     }
     assert!(rt; child.contains(&b));
-    assert!(rt; !child.contains(&c));
-    assert_eq!(rt; child.first(), Some(&name(&rt, rt.alloc(), "a")));
 }
 
 #[test]
@@ -55,18 +40,11 @@ fn names_are_entered_and_left(rt: HostRuntime) {
     assert!(rt; stack.contains(&a));
     stack.leave();
     assert!(rt; !stack.contains(&a));
-    assert!(rt; takes(&mut stack.guard(), &a));
 }
 
 #[test]
 fn a_walk_goes_as_deep_as_its_limit(rt: HostRuntime) {
     assert_eq!(rt; steps(&mut DepthCounter::new().with_limit(2), 3), 2);
-}
-
-#[test]
-fn thirty_two_steps_are_the_default(rt: HostRuntime) {
-    assert_eq!(rt; DEFAULT_RECURSION_LIMIT, 32);
-    assert_eq!(rt; steps(&mut DepthCounter::new(), 40), 32);
 }
 
 /// How many of these steps the counter takes.
@@ -87,10 +65,6 @@ fn a_count_stops_at_its_limit(rt: HostRuntime) {
     let mut count = LimitCounter::new(2);
     assert!(rt; !count.check_and_increment());
     assert!(rt; !count.check_and_increment());
-    assert_eq!(rt; count.high(), 2);
     assert!(rt; count.check_and_increment());
-    assert_eq!(rt; count.high(), 3);
-    count.decrement();
-    assert!(rt; !count.check_and_increment());
     assert_eq!(rt; count.high(), 3);
 }

@@ -12,8 +12,6 @@ mod documents;
 #[cfg(test)]
 mod examples;
 #[cfg(test)]
-mod executables;
-#[cfg(test)]
 mod field_sets;
 #[cfg(test)]
 mod fixtures;
@@ -21,8 +19,6 @@ mod fixtures;
 mod fragment_cycles;
 #[cfg(test)]
 mod guards;
-#[cfg(test)]
-mod input_objects;
 #[cfg(test)]
 mod messages;
 #[cfg(test)]
@@ -33,8 +29,6 @@ mod numbers;
 mod schemas;
 #[cfg(test)]
 mod spans;
-#[cfg(test)]
-mod type_references;
 #[cfg(test)]
 mod usages;
 #[cfg(test)]

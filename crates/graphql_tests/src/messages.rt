@@ -1,12 +1,12 @@
 //! The texts of reports, each written out in full.
-use super::fixtures::{name, node, text};
+use super::fixtures::{is_text, name, node, text};
 use graphql_documents::diagnostics::{
-    BuildError, Details, DiagnosticData, NameOrAnon, RecursionLimitError,
+    BuildError, Details, DiagnosticData, NameOrAnon, RecursionLimitError, ValidationError,
 };
 use graphql_documents::documents::{
     DirectiveArgumentCoordinate, DirectiveCoordinate, DirectiveLocation, FieldArgumentCoordinate,
-    FileId, IntValue, Name, Node, OperationType, SchemaCoordinate, SourceSpan, Type,
-    TypeAttributeCoordinate, Value,
+    FileId, Name, Node, OperationType, SchemaCoordinate, SourceSpan, Type, TypeAttributeCoordinate,
+    Value,
 };
 use std::alloc::Global;
 use std::fmt::Display;
@@ -60,12 +60,9 @@ impl<R: Abort> TestData<'_, R> {
 
     /// What is shown prints this text.
     fn prints<T: Display + Drop>(&self, shown: T, expected: &str) {
-        let printed = shown
-            .to_string(self.alloc)
-            .expect(self.rt, "memory for a text");
-        if printed.as_str() != expected {
-            panic!(self.rt; "{expected} was expected, not {printed}");
-        }
+        let printed = shown.to_string(self.alloc);
+        let printed = printed.expect(self.rt, "memory for a text");
+        is_text(self.rt, printed.as_str(), expected);
     }
 }
 
@@ -567,17 +564,12 @@ fn names_or_words(rt: HostRuntime) {
         if_none: "inline fragment",
     };
     given.prints(anonymous, "inline fragment");
-    let number = NameOrAnon {
-        name: Some(&7u8),
-        if_some_prefix: "case",
-        if_none: "no case",
-    };
-    given.prints(number, "case `7`");
 }
 
 #[test]
 fn details_show_messages_and_names(rt: HostRuntime) {
     let given = test_data(&rt);
+    given.prints(ValidationError::OutOfMemory, "out of memory");
     given.prints(RecursionLimitError, "too much recursion");
     given.prints(
         Details::RecursionLimit(RecursionLimitError),
@@ -607,30 +599,8 @@ fn details_show_messages_and_names(rt: HostRuntime) {
     given.prints(Details::Build(conflict), "ConflictingFieldType");
 }
 
-/// The value is called this.
-fn is_called(rt: &impl Abort, value: Value, expected: &str) {
-    if value.describe() != expected {
-        panic!(rt; "{expected} was expected, not {}", value.describe());
-    }
-}
-
 #[test]
-fn kinds_of_values(rt: HostRuntime) {
-    let given = test_data(&rt);
-    let integer = IntValue::new(given.text("1")).expect(&rt, "an integer");
-    is_called(&rt, Value::Null, "null");
-    is_called(&rt, Value::Enum(given.name("E")), "an enum");
-    is_called(&rt, Value::Variable(given.name("v")), "a variable");
-    is_called(&rt, Value::String(given.text("s")), "a string");
-    is_called(&rt, Value::Int(integer), "an integer");
-    is_called(&rt, Value::Boolean(true), "a boolean");
-    is_called(&rt, Value::List(Vec::new(given.alloc)), "a list");
-    is_called(&rt, Value::Object(Vec::new(given.alloc)), "an input object");
-}
-
-#[test]
-fn locations_of_directives(rt: HostRuntime) {
-    let given = test_data(&rt);
+fn words_of_locations_and_operations(rt: HostRuntime) {
     for (location, expected) in [
         (DirectiveLocation::Query, "QUERY"),
         (DirectiveLocation::Mutation, "MUTATION"),
@@ -655,14 +625,13 @@ fn locations_of_directives(rt: HostRuntime) {
             "INPUT_FIELD_DEFINITION",
         ),
     ] {
-        given.prints(location, expected);
+        is_text(&rt, location.name(), expected);
     }
-}
-
-#[test]
-fn keywords_of_operations(rt: HostRuntime) {
-    let given = test_data(&rt);
-    given.prints(OperationType::Query, "query");
-    given.prints(OperationType::Mutation, "mutation");
-    given.prints(OperationType::Subscription, "subscription");
+    for (operation_type, expected) in [
+        (OperationType::Query, "query"),
+        (OperationType::Mutation, "mutation"),
+        (OperationType::Subscription, "subscription"),
+    ] {
+        is_text(&rt, operation_type.name(), expected);
+    }
 }

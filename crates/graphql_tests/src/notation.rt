@@ -3,7 +3,7 @@ use graphql_documents::documents::{
     ComponentOrigin, DirectiveLocation, ExtendedType, FileId, ObjectType, Schema,
 };
 use graphql_rows::RowError;
-use graphql_rows::build::{arguments, document, field_set, schema};
+use graphql_rows::build::{document, schema};
 use std::alloc::Global;
 use std::process::Abort;
 
@@ -29,26 +29,19 @@ fn extensions_add_parts_of_their_own_origin(rt: HostRuntime) {
     let origins = fields.values().map(|field| is_extension(field.origin));
     assert!(rt; origins.eq([false, true]));
     let roots = &schema.schema_definition.value;
-    let query = roots.query.as_ref().expect(&rt, "a root");
     let mutation = roots.mutation.as_ref().expect(&rt, "a root");
-    assert!(rt; !is_extension(query.origin));
     assert!(rt; is_extension(mutation.origin));
-    assert!(rt; roots.subscription.is_none());
+    assert!(rt; roots.query.is_some() && roots.subscription.is_none());
 }
 
 #[test]
 fn directives_are_defined_with_their_locations(rt: HostRuntime) {
     let alloc = rt.alloc();
-    let schema = schema_of(
-        &rt,
-        alloc,
-        "directive @d(a: Int = 1) repeatable on SCHEMA | FIELD",
-    )
-    .0;
+    let written = "directive @d(a: Int = 1) repeatable on SCHEMA | FIELD";
+    let schema = schema_of(&rt, alloc, written).0;
     let found = schema.directive_definitions.get(&name(&rt, alloc, "d"));
     let definition = &found.expect(&rt, "a definition").value;
-    assert!(rt; definition.repeatable);
-    assert_eq!(rt; definition.arguments.len(), 1);
+    assert!(rt; definition.repeatable && definition.arguments.len() == 1);
     let locations = [DirectiveLocation::Schema, DirectiveLocation::Field];
     assert_eq!(rt; definition.locations.as_slice(), locations.as_slice());
 }
@@ -72,34 +65,45 @@ fn fault_of_schema(alloc: Global, written: &str) -> Option<RowError> {
 }
 
 #[test]
-fn faults_of_texts_are_told_apart(rt: HostRuntime) {
-    let alloc = rt.alloc();
-    let faults = [
+fn faults_of_schemas_are_told_apart(rt: HostRuntime) {
+    for (written, fault) in [
         ("type Query { f: Int f: Int }", RowError::RepeatedName),
         ("scalar Int", RowError::RepeatedName),
-        ("type Query { f: [Int }", RowError::NotATypeReference),
+        ("type Query { f: [Int }", RowError::NotInNotation),
         ("type Query { : Int }", RowError::NotAName),
         ("type Query { f Int }", RowError::NotInNotation),
+        ("scalar A extend scalar B @d", RowError::NotInNotation),
         ("directive @d on NOWHERE", RowError::NotALocation),
         ("<1-2 scalar A%>", RowError::NotARepetition),
-    ];
-    for (written, fault) in faults {
-        assert_eq!(rt; fault_of_schema(alloc, written), Some(fault), "{written}");
+    ] {
+        assert_eq!(rt;
+            fault_of_schema(rt.alloc(), written),
+            Some(fault),
+            "{written}"
+        );
     }
 }
 
+/// Why the text is no document over a query of itself, if it is none.
+fn fault_of_document(alloc: Global, schema: &Schema, written: &str) -> Option<RowError> {
+    document(alloc, schema, written).err()
+}
+
 #[test]
-fn faults_of_selections_and_values_are_told_apart(rt: HostRuntime) {
+fn faults_of_documents_are_told_apart(rt: HostRuntime) {
     let alloc = rt.alloc();
     let schema = query_of_itself(&rt, alloc).0;
-    let no_field = field_set(alloc, &schema, "Query", "{ x }").err();
-    assert_eq!(rt; no_field, Some(RowError::NoSuchField));
-    let no_type = field_set(alloc, &schema, "X", "{ x }").err();
-    assert_eq!(rt; no_type, Some(RowError::NoSuchType));
-    let no_root = document(alloc, &schema, "mutation { x }").err();
-    assert_eq!(rt; no_root, Some(RowError::NoSuchRoot));
-    let no_number = arguments(alloc, "(x: 1e)").err();
-    assert_eq!(rt; no_number, Some(RowError::NotANumber));
-    let too_deep = field_set(alloc, &schema, "Query", "<1-520:{ q >{ a }<1-520: }>").err();
-    assert_eq!(rt; too_deep, Some(RowError::TooDeep));
+    for (written, fault) in [
+        ("{ x }", RowError::NoSuchField),
+        ("fragment F on X { x }", RowError::NoSuchType),
+        ("mutation { x }", RowError::NoSuchRoot),
+        ("{ a(x: 1e) }", RowError::NotANumber),
+        ("<1-520:{ q >{ a }<1-520: }>", RowError::TooDeep),
+    ] {
+        assert_eq!(rt;
+            fault_of_document(alloc, &schema, written),
+            Some(fault),
+            "{written}"
+        );
+    }
 }

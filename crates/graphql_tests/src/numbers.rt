@@ -1,48 +1,38 @@
 use super::fixtures::text;
 use graphql_documents::documents::{FloatValue, IntValue};
-use std::alloc::Global;
-use std::process::Abort;
 
-/// The number that the text of an integer writes, if 32 bits hold it.
-fn number(rt: &impl Abort, alloc: Global, written: &str) -> Option<i32> {
-    let value = IntValue::new(text(rt, alloc, written)).expect(rt, "an integer");
-    value.try_to_i32()
-}
-
-#[test]
-fn integers_fit_32_bits_or_not(rt: HostRuntime) {
-    let rows = [
-        ("-0", Some(0)),
-        ("7", Some(7)),
-        ("2147483647", Some(2147483647)),
-        ("2147483648", None),
-        ("-2147483648", Some(-2147483648)),
-        ("-2147483649", None),
-        ("99999999999999999999", None),
-    ];
-    for (written, expected) in rows {
-        assert!(rt; number(&rt, rt.alloc(), written) == expected, "{written}");
-    }
-}
-
-#[test]
-fn other_texts_are_no_integers(rt: HostRuntime) {
-    for written in ["01", "-", "", "1.5", "1e3", "+1"] {
-        let value = IntValue::new(text(&rt, rt.alloc(), written));
-        assert!(rt; value.is_none(), "{written}");
-    }
-}
+/// Texts, and whether each writes an integer and a float.
+const TEXTS: [(&str, bool, bool); 22] = [
+    ("-0", true, false),
+    ("7", true, false),
+    ("99999999999999999999", true, false),
+    ("01", false, false),
+    ("-", false, false),
+    ("", false, false),
+    ("+1", false, false),
+    ("1.5", false, true),
+    ("1e3", false, true),
+    ("-0.0", false, true),
+    ("6.02e+23", false, true),
+    ("12E-7", false, true),
+    ("1.", false, false),
+    (".5", false, false),
+    ("01.5", false, false),
+    ("1e", false, false),
+    ("1e+", false, false),
+    ("1.e3", false, false),
+    ("1.5.2", false, false),
+    ("1e3.5", false, false),
+    ("-.5", false, false),
+    ("1 ", false, false),
+];
 
 #[test]
-fn floats_have_a_fraction_or_an_exponent(rt: HostRuntime) {
-    for written in ["1.5", "1e3", "-0.0", "6.02e+23", "12E-7"] {
-        let value = FloatValue::new(text(&rt, rt.alloc(), written));
-        assert!(rt; value.is_some(), "{written}");
-    }
-    for written in [
-        "1.", ".5", "01.5", "1", "", "1e", "1e+", "1.e3", "1.5.2", "1e3.5", "-.5",
-    ] {
-        let value = FloatValue::new(text(&rt, rt.alloc(), written));
-        assert!(rt; value.is_none(), "{written}");
+fn texts_write_integers_floats_or_neither(rt: HostRuntime) {
+    for (written, is_integer, is_float) in TEXTS {
+        let integer = IntValue::new(text(&rt, rt.alloc(), written));
+        assert_eq!(rt; integer.is_some(), is_integer, "{written}");
+        let float = FloatValue::new(text(&rt, rt.alloc(), written));
+        assert_eq!(rt; float.is_some(), is_float, "{written}");
     }
 }

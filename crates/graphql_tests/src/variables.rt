@@ -1,71 +1,50 @@
-use super::fixtures::{query_of_itself, reports, schema_of};
+use super::fixtures::{is_text, query_of_itself, reports};
 use graphql_documents::diagnostics::DiagnosticList;
 use graphql_documents::documents::{ExecutableDocument, FileId, SourceSpan, Value};
-use graphql_rows::build::{arguments, document, document_in_file, variables};
+use graphql_rows::build::{arguments, document, document_in_file, schema, variables};
 use graphql_values::directive::validate_variable_definitions;
 use graphql_values::variable::{validate_unused_variables, variables_in_value};
 use std::alloc::Global;
 use std::process::Abort;
 
-const NO_INPUT_TYPE: &str = "`$v` variable must be of an input type\n";
-
-const NO_TYPE: &str = "cannot find type `X` in this document\n";
-
-const WRONG_DEFAULT: &str = "expected value of type Int, found a string\n";
-
-const DEFINED_AGAIN: &str = "the variable `$v` is declared multiple times\n";
-
-const MISPLACED: &str = "skip directive is not supported for VARIABLE_DEFINITION location\n";
-
-const UNUSED: &str = "unused variable: `$b`\nunused variable: `$a`\n";
-
-/// What the definitions of these variables bring.
-fn check(rt: &impl Abort, alloc: Global, defined: &str, expected: &str) {
-    let schema = query_of_itself(rt, alloc);
-    let built = variables(alloc, defined).expect(rt, "variables");
-    let mut diagnostics = DiagnosticList::new(alloc);
-    validate_variable_definitions(&mut diagnostics, Some(&schema.0), &built).expect(
-        rt,
-        "memory for reports",
-    );
-    reports(rt, alloc, &diagnostics, expected);
-}
+/// Definitions of variables, and what is reported of them.
+const DEFINITIONS: [(&str, &str); 5] = [
+    ("($v: Query)", "- `$v` variable must be of an input type\n"),
+    ("($v: X)", "- cannot find type `X` in this document\n"),
+    (
+        "($v: Int = \"1\")",
+        "- expected value of type Int, found a string\n",
+    ),
+    (
+        "($v: Int, $v: Int)",
+        "- the variable `$v` is declared multiple times\n",
+    ),
+    (
+        "($v: Int @skip(if: true))",
+        "- skip directive is not supported for VARIABLE_DEFINITION location\n",
+    ),
+];
 
 #[test]
-fn variables_are_of_input_types(rt: HostRuntime) {
-    check(&rt, rt.alloc(), "($v: Query)", NO_INPUT_TYPE);
-}
-
-#[test]
-fn types_of_variables_are_defined(rt: HostRuntime) {
-    check(&rt, rt.alloc(), "($v: X)", NO_TYPE);
-}
-
-#[test]
-fn defaults_are_accepted_for_their_types(rt: HostRuntime) {
-    check(&rt, rt.alloc(), "($v: Int = \"1\")", WRONG_DEFAULT);
-}
-
-#[test]
-fn variables_have_distinct_names(rt: HostRuntime) {
-    check(&rt, rt.alloc(), "($v: Int, $v: Int)", DEFINED_AGAIN);
-}
-
-#[test]
-fn directives_of_variables_are_looked_at(rt: HostRuntime) {
-    check(&rt, rt.alloc(), "($v: Int @skip(if: true))", MISPLACED);
+fn definitions_of_variables_are_checked(rt: HostRuntime) {
+    let alloc = rt.alloc();
+    let schema = query_of_itself(&rt, alloc);
+    for (written, expected) in DEFINITIONS {
+        let built = variables(alloc, written).expect(&rt, "variables");
+        let mut found = DiagnosticList::new(alloc);
+        let answer = validate_variable_definitions(&mut found, Some(&schema.0), &built);
+        answer.expect(&rt, "memory");
+        reports(&rt, alloc, &found, expected);
+    }
 }
 
 /// What the uses of variables bring in the one operation of the document.
 fn uses(rt: &impl Abort, alloc: Global, document: &ExecutableDocument) -> DiagnosticList {
     let operation = document.operations.anonymous.as_ref();
-    let operation = operation.expect(rt, "an operation");
-    let mut diagnostics = DiagnosticList::new(alloc);
-    validate_unused_variables(&mut diagnostics, document, &operation.value).expect(
-        rt,
-        "memory for reports",
-    );
-    diagnostics
+    let operation = &operation.expect(rt, "an operation").value;
+    let mut found = DiagnosticList::new(alloc);
+    validate_unused_variables(&mut found, document, operation).expect(rt, "memory");
+    found
 }
 
 /// The last `$b`, without its type.
@@ -81,24 +60,34 @@ fn unused_variables_come_in_order_of_first_definition(rt: HostRuntime) {
     let schema = query_of_itself(&rt, alloc);
     let written = "query ($b: Int, $a: Int, $b: Int) { a }";
     let document = document_in_file(alloc, &schema.0, written, FileId(1));
-    let diagnostics = uses(&rt, alloc, &document.expect(&rt, "a document"));
-    reports(&rt, alloc, &diagnostics, UNUSED);
-    let first = diagnostics.iter().next().expect(&rt, "a report");
+    let found = uses(&rt, alloc, &document.expect(&rt, "a document"));
+    reports(
+        &rt,
+        alloc,
+        &found,
+        "+ unused variable: `$b`\n+ unused variable: `$a`\n",
+    );
+    let first = found.iter().next().expect(&rt, "a report");
     assert_eq!(rt; first.location, Some(LAST));
 }
 
+const ON_FRAGMENTS: &str =
+    "type Query { q: Query a: Int } directive @onF(x: Boolean) on FRAGMENT_DEFINITION";
+
 #[test]
-fn a_directive_of_a_fragment_uses_a_variable(rt: HostRuntime) {
+fn uses_are_looked_for_in_directives_of_fragments_and_500_sets_deep(rt: HostRuntime) {
     let alloc = rt.alloc();
-    let schema = schema_of(
-        &rt,
-        alloc,
-        "type Query { a: Int } directive @onF(x: Boolean) on FRAGMENT_DEFINITION",
-    );
-    let written = "query ($v: Boolean) { ...F } fragment F on Query @onF(x: $v) { a }";
-    let document = document(alloc, &schema.0, written).expect(&rt, "a document");
-    let diagnostics = uses(&rt, alloc, &document);
-    reports(&rt, alloc, &diagnostics, "");
+    let schema = schema(alloc, ON_FRAGMENTS).expect(&rt, "a schema");
+    for (written, expected) in [
+        (
+            "query ($v: Boolean) { ...F } fragment F on Query @onF(x: $v) { a }",
+            "",
+        ),
+        ("{ <1-501:q { ><1-501:} >}", "- too much recursion\n"),
+    ] {
+        let document = document(alloc, &schema.0, written).expect(&rt, "a document");
+        reports(&rt, alloc, &uses(&rt, alloc, &document), expected);
+    }
 }
 
 /// The names of the variables in a value, one behind another.
@@ -115,5 +104,5 @@ fn variables_in_a_value_come_in_order(rt: HostRuntime) {
     let mut built = arguments(rt.alloc(), "(x: [$a, [$b], $a])").expect(&rt, "an argument");
     let argument = built.pop().expect(&rt, "an argument");
     let found = names_in(&rt, rt.alloc(), &argument.value.value.value);
-    assert_eq!(rt; found.as_str(), "aba");
+    is_text(&rt, found.as_str(), "aba");
 }

@@ -1,3 +1,4 @@
+use super::parts::both;
 use crate::errors::RowError;
 use graphql_documents::documents::{FileId, Name, Node, SourceSpan};
 use std::alloc::Global;
@@ -123,8 +124,8 @@ impl<'a> Reader<'a> {
 
     /// Takes the name and the colon that have to come next.
     pub(super) fn label(&mut self) -> Result<Name, RowError> {
-        let name = self.name();
-        self.expect(":").and(name)
+        let (name, ()) = both(self.name(), self.expect(":"))?;
+        Ok(name)
     }
 
     /// Takes `key Name` if it comes next, and gives the place of the name.

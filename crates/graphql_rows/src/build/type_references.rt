@@ -1,4 +1,4 @@
-use super::parts::Part;
+use super::parts::{Part, both};
 use super::reader::{DEEPEST, Reader};
 use crate::errors::RowError;
 use graphql_documents::documents::Type;
@@ -16,7 +16,7 @@ fn nested_type(reader: &mut Reader<'_>, depth: u32) -> Result<Type, RowError> {
     }
     if reader.takes("[") {
         let item = nested_type(reader, depth - 1);
-        let item = reader.expect("]").and(item)?;
+        let (item, ()) = both(item, reader.expect("]"))?;
         list_type(reader, item)
     } else {
         named_type(reader)

@@ -3,7 +3,7 @@ use graphql_rows::{Row, Subject};
 /// A query below the query.
 const QUERY_OF_ITSELF: &str = "type Query { q: Query a: Int b: Int }";
 
-/// The examples of 38 that are documents. No builder makes these with their schemas.
+/// The examples 38f to 38k. Some of these documents no builder makes with their schemas.
 pub const ROWS: &[Row] = &[
     Row {
         id: "38f",
