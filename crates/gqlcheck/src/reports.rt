@@ -3,12 +3,18 @@ use crate::places::Place;
 use graphql_documents::diagnostics::{DiagnosticEntry, DiagnosticList};
 use graphql_rows::{Case, Row, Validated, build_case};
 use graphql_rows_more::find;
-use graphql_validation::entry::validate_field_set;
+use graphql_validation::entry::{
+    validate_executable_document, validate_field_set, validate_standalone_executable,
+};
 use std::alloc::Global;
 use std::io::Write;
 
 /// The examples that run: those whose calls are there.
-pub const RUNNING: &[&str] = &["1a", "1b", "1c"];
+pub const RUNNING: &[&str] = &[
+    "1a", "1b", "1c", "1d", "6", "7", "8", "17a", "17b", "17c", "17d", "17e", "18a", "18b", "18c",
+    "19a", "19b", "19c", "20a", "20b", "21a", "21b", "22a", "22b", "23b", "25a", "27a", "27b",
+    "27c", "27d", "28a", "28b", "28c", "32a", "32b",
+];
 
 /// Validates the example of this name, and prints a line for each report. Whether there was one.
 pub fn report_case<O: Write>(alloc: Global, id: &str, output: &mut O) -> Result<bool, Fault> {
@@ -43,12 +49,16 @@ fn report<O: Write>(
 
 /// Validates the example, if the call is there that does.
 fn validate(diagnostics: &mut DiagnosticList, case: &Case) -> Result<(), Fault> {
-    match &case.validated {
-        Validated::FieldSet(set) => Ok(validate_field_set(diagnostics, &case.schema, set)?),
-        Validated::Document(_) | Validated::Standalone(_) | Validated::Schema => {
-            Err(Fault::BadArguments)
+    let schema = &case.schema;
+    let validated = match &case.validated {
+        Validated::FieldSet(set) => validate_field_set(diagnostics, schema, set),
+        Validated::Document(document) => {
+            validate_executable_document(diagnostics, &schema.0, document)
         }
-    }
+        Validated::Standalone(document) => validate_standalone_executable(diagnostics, document),
+        Validated::Schema => return Err(Fault::BadArguments),
+    };
+    Ok(validated?)
 }
 
 fn print_entry<O: Write>(entry: &DiagnosticEntry, output: &mut O) -> Result<(), Fault> {

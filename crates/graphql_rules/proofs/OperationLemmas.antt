@@ -1,5 +1,5 @@
 -- What is said of an operation, part by part, and of several.
-use Rattle.std.proofs.Common.{ℕ, ◌<◌, Bor, get_or, length, map, ◌≡◌, ◌⊎◌, ◌↔◌, inl, inr, List, [], ◌∷◌, ◌++◌, Option, Some, None, refl, sym, ap, ◌∙◌, subst, All, Contains}
+use Rattle.std.proofs.Common.{ℕ, ◌<◌, Bor, get_or, length, map, ◌≡◌, ◌⊎◌, ◌↔◌, inl, inr, List, [], ◌∷◌, Option, refl, sym, ◌∙◌, subst, All, Contains}
 use Rattle.std.proofs.lemmas.List.{append_cancel_left}
 use Rattle.std.proofs.lemmas.List.Elements.{All-cons, All-contains, All-contains_itself, All-head, All-map, All-nil, All-tail, All-weaker, Contains-get_or}
 use Rattle.graphql_documents.specs.Defer.{operations_of}
@@ -12,7 +12,7 @@ use Rattle.graphql_documents.specs.Fields.{PlacedSelectionsHold}
 use Rattle.graphql_documents.specs.Limits.{OperationLimit, OperationsLimit, one_passes, spread_passes, variable_walk_passes}
 use Rattle.graphql_documents.specs.Names.{NameText, SameName}
 use Rattle.graphql_documents.specs.Reports.{Appends, KeepsReports, Reports, ReportsWithin}
-use Rattle.graphql_documents.specs.Selections.{Fragments, fragments_of, selections_of}
+use Rattle.graphql_documents.specs.Selections.{fragments_of, selections_of}
 use Rattle.graphql_documents.specs.VariableReports.{AreUnusedReports, AreUsesReports, IsBoundReport, IsUnusedReport, UsesReport, VariablesReport, are_unused, is_bound, no_name, unused_name, used_name}
 use Rattle.graphql_documents.specs.Variables.{UsesVariable, VariableDefinitionsHold, VariablesAreUsed}
 use Rattle.graphql_documents.specs.declared.diagnostics.data.DiagnosticData.{DiagnosticData}

@@ -1,12 +1,12 @@
 -- When all that is reached from selections holds: of one, of several, and of a fragment, also where a part was
 -- checked with more fragments gone into.
-use Rattle.std.proofs.Common.{◌≡◌, ◌⊎◌, ◌↔◌, inl, inr, List, [], ◌∷◌, ◌++◌, Option, Some, None, IsTrue, IsFalse, refl, sym, ap, ◌∙◌, subst, All, Contains}
-use Rattle.std.proofs.lemmas.Option.{none-some, same_Some}
+use Rattle.std.proofs.Common.{◌≡◌, ◌⊎◌, ◌↔◌, inl, inr, List, [], ◌∷◌, ◌++◌, Option, Some, None, IsTrue, IsFalse, refl, sym, ◌∙◌, subst, Contains}
+use Rattle.std.proofs.lemmas.Option.{same_Some}
 use Rattle.std.proofs.lemmas.List.Elements.{All-nil, All-cons, All-contains, Contains-append_cases, Contains-append_left, Contains-append_right, Contains-push}
 use Rattle.graphql_documents.specs.Fields.{FieldHolds, PlacedSelectionsHold}
 use Rattle.graphql_documents.specs.FragmentSpreads.{FragmentHolds, InlineFragmentHolds, SpreadHolds}
 use Rattle.graphql_documents.specs.Names.{NameText, SameName, stands_on}
-use Rattle.graphql_documents.specs.Selections.{Fragments, GoesInto, HasGoneInto, IsSpreadFrom, Placed, TypeBelow, placed_in_field, placed_in_inline_fragment, placed_in_spread, selections_of, standing_at, type_under, without}
+use Rattle.graphql_documents.specs.Selections.{Fragments, GoesInto, HasGoneInto, Placed, TypeBelow, placed_in_field, placed_in_inline_fragment, placed_in_spread, selections_of, standing_at, type_under, without}
 use Rattle.graphql_documents.specs.declared.documents.definitions.VariableDefinition.{VariableDefinition}
 use Rattle.graphql_documents.specs.declared.documents.nodes.Node.{Node}
 use Rattle.graphql_documents.specs.declared.documents.schemas.Schema.{Schema}

@@ -1,8 +1,8 @@
 -- What walks over selections say together: over several, over one with what is below it, and over the fragment
 -- of a spread.
-use Rattle.std.proofs.Common.{◌≡◌, ◌⊎◌, ◌↔◌, inl, inr, List, [], ◌∷◌, ◌++◌, Option, Some, None, Result, Ok, Err, IsTrue, IsFalse, refl, sym, ap, ◌∙◌, subst, All, Contains}
+use Rattle.std.proofs.Common.{◌≡◌, ◌⊎◌, ◌↔◌, inl, inr, List, [], ◌∷◌, ◌++◌, Option, Some, None, Result, Ok, Err, IsTrue, IsFalse, refl, sym, ap, ◌∙◌, subst, Contains}
 use Rattle.std.proofs.lemmas.List.{append-nil, append_assoc, append_cancel_left}
-use Rattle.std.proofs.lemmas.List.Elements.{All-nil, All-cons, All-weaker, Contains-append_left, Contains-append_right}
+use Rattle.std.proofs.lemmas.List.Elements.{All-cons, All-weaker, Contains-append_left, Contains-append_right}
 use Rattle.std.proofs.lemmas.Option.{none-some, same_Some}
 use Rattle.graphql_documents.specs.Diagnostics.{IsDiagnostic, IsLimitEntry}
 use Rattle.graphql_documents.specs.Fields.{FieldHolds, PlacedSelectionsHold}
@@ -11,7 +11,7 @@ use Rattle.graphql_documents.specs.Limits.{FragmentLimit}
 use Rattle.graphql_documents.specs.Names.{NameText, SameName, stands_on}
 use Rattle.graphql_documents.specs.Reports.{KeepsReports, Reports, ReportsWithin}
 use Rattle.graphql_documents.specs.SelectionReports.{SelectionReport, of_field_directives, of_field_form, of_field_values, of_inline_fragment_directives, of_inline_fragment, of_spread_directives, of_spread, of_fragment_directives, of_fragment}
-use Rattle.graphql_documents.specs.Selections.{Fragments, GoesInto, HasGoneInto, IsSpreadFrom, Placed, TypeBelow, placed_in_field, placed_in_inline_fragment, placed_in_spread, selections_of, standing_at, type_under, without}
+use Rattle.graphql_documents.specs.Selections.{Fragments, IsSpreadFrom, Placed, TypeBelow, placed_in_field, placed_in_inline_fragment, placed_in_spread, selections_of, standing_at, type_under, without}
 use Rattle.graphql_documents.specs.declared.diagnostics.data.DiagnosticData.{DiagnosticData}
 use Rattle.graphql_documents.specs.declared.diagnostics.lists.DiagnosticEntry.{DiagnosticEntry}
 use Rattle.graphql_documents.specs.declared.documents.definitions.VariableDefinition.{VariableDefinition}

@@ -30,7 +30,12 @@ fn brings(rt: &impl Abort, alloc: Global, written: &str, expected: &str) {
 fn only_a_fragment_on_a_cycle_is_reported(rt: HostRuntime) {
     let alloc = rt.alloc();
     let circle = "fragment A on Query { ...B } fragment B on Query { q { ...A } }";
-    brings(&rt, alloc, circle, "`A` fragment cannot reference itself\n");
+    brings(
+        &rt,
+        alloc,
+        circle,
+        "- `A` fragment cannot reference itself\n",
+    );
     let before = "fragment F on Query { ...A ...F2 ...None } fragment F2 on Query { ...B }
         fragment A on Query { ...B } fragment B on Query { q { ...A } }";
     brings(&rt, alloc, before, "");
@@ -42,7 +47,7 @@ fn paths_go_through_100_fragments(rt: HostRuntime) {
     let least = "<1-99:fragment F% on Query { ...F%+ } >fragment F100 on Query { a }";
     brings(&rt, alloc, least, "");
     let more = "<1-100:fragment F% on Query { ...F%+ } >fragment F101 on Query { a }";
-    brings(&rt, alloc, more, "`F1` contains too much nesting\n");
+    brings(&rt, alloc, more, "- `F1` contains too much nesting\n");
 }
 
 #[test]

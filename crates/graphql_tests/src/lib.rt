@@ -12,6 +12,8 @@ mod documents;
 #[cfg(test)]
 mod examples;
 #[cfg(test)]
+mod executables;
+#[cfg(test)]
 mod field_sets;
 #[cfg(test)]
 mod fixtures;

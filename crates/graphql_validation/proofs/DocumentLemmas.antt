@@ -2,7 +2,7 @@
 use Rattle.std.proofs.Common.{◌≡◌, ◌⊎◌, inl, inr, Bool, true, false, List, [], ◌∷◌, Option, Some, refl, subst, Contains}
 use Rattle.std.specs.Map.{lookup, values_of}
 use Rattle.std.proofs.lemmas.List.Elements.{Contains-append_left, Contains-append_right, Contains-push}
-use Rattle.graphql_documents.specs.Diagnostics.{IsDiagnostic, Says}
+use Rattle.graphql_documents.specs.Diagnostics.{Says}
 use Rattle.graphql_documents.specs.DocumentReports.{DocumentReport, FragmentUseReport, OperationsReport, of_one, of_operation}
 use Rattle.graphql_documents.specs.Limits.{DocumentLimit, FragmentLimit, FragmentWalkLimit, OperationsLimit, fragment_nests, one_passes, spread_passes, spreads_nest, variable_walk_passes, walk_of_variables}
 use Rattle.graphql_documents.specs.Names.{NameText, same_name}

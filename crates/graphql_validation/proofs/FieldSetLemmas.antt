@@ -1,9 +1,9 @@
 -- A field set has no fragments, so what a walk over it says comes without a limit.
-use Rattle.std.proofs.Common.{◌≡◌, ◌⊎◌, inl, inr, Bool, true, false, List, [], Option, Some, None, refl, sym, ap, ◌∙◌, subst, All}
+use Rattle.std.proofs.Common.{◌≡◌, inl, inr, Bool, true, false, List, [], Option, Some, refl, ap}
 use Rattle.std.specs.Map.{lookup}
 use Rattle.std.proofs.lemmas.Option.{none-some}
 use Rattle.std.proofs.lemmas.List.Elements.{All-weaker}
-use Rattle.graphql_documents.specs.Diagnostics.{IsDiagnostic, IsLimit, IsLimitEntry, Says, limit_of_depth, limit_of_path, limit_of_walk}
+use Rattle.graphql_documents.specs.Diagnostics.{IsLimit, IsLimitEntry, Says, limit_of_depth, limit_of_path, limit_of_walk}
 use Rattle.graphql_documents.specs.DirectiveReports.{ApplicationBreaks, ArgumentValuesBreak, DirectivesBreak, of_application, of_argument_values, of_misplaced_directive, of_missing_argument, of_repeated_argument, of_repeated_directive, of_undefined_directive, of_unknown_argument, of_usage, of_value}
 use Rattle.graphql_documents.specs.FieldReports.{FieldBreaks}
 use Rattle.graphql_documents.specs.FieldSets.{FieldSetHolds, NamesBrokenFieldSetRule}

@@ -12,9 +12,7 @@ ghost use Rattle.graphql_documents.specs.Reports.{Checks, ChecksWithin};
 ghost use Rattle.graphql_documents.specs.declared.documents.executables.Field.{Field};
 
 use graphql_documents::diagnostics::{DiagnosticList, ValidationError};
-use graphql_documents::documents::{
-    ExecutableDocument, FieldSet, OperationMap, Schema, Valid,
-};
+use graphql_documents::documents::{ExecutableDocument, FieldSet, OperationMap, Schema, Valid};
 use graphql_rules::operations::{
     OperationValidationContext, validate_fragments_used, validate_operation_definitions,
     validate_selection_set,
@@ -100,7 +98,13 @@ pub fn validate_field_set(
     let document = empty_document(alloc);
     let mut context = OperationValidationContext::new(alloc, Some(&schema.0), &[])?;
     let set = &field_set.selection_set;
-    validate_selection_set(diagnostics, &document, Some((&schema.0, &set.ty)), set, &mut context)
+    validate_selection_set(
+        diagnostics,
+        &document,
+        Some((&schema.0, &set.ty)),
+        set,
+        &mut context,
+    )
 }
 
 /// A document without operations and fragments.

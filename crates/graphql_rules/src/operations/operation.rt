@@ -89,7 +89,13 @@ fn check_operation<'a>(
     )?;
     validate_variable_definitions(diagnostics, context.schema, &operation.variables)?;
     validate_unused_variables(diagnostics, document, operation)?;
-    validate_selection_set(diagnostics, document, root, &operation.selection_set, context)
+    validate_selection_set(
+        diagnostics,
+        document,
+        root,
+        &operation.selection_set,
+        context,
+    )
 }
 
 /// Where the directives of an operation stand.

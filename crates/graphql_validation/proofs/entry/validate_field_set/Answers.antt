@@ -1,4 +1,4 @@
-use Rattle.std.proofs.Common.{[], Some, refl, ap, subst}
+use Rattle.std.proofs.Common.{[], Some, refl, subst}
 use Rattle.std.proofs.lemmas.Result.{MatchResult-from_err, MatchResult-weaker}
 use Rattle.graphql_documents.proofs.ReportLemmas.{kept}
 use Rattle.graphql_documents.specs.Diagnostics.{entries}

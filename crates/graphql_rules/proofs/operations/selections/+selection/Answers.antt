@@ -1,5 +1,5 @@
 -- Each exit of the walk over selections.
-use Rattle.std.proofs.Common.{rules, inl, ◌≡◌, ℕ, ◌+◌, ◌<◌, Bool, true, false, not, List, [], ◌∷◌, ◌++◌, Some, None, IsTrue, IsFalse, Contains, get_or, length, take, refl, sym, ap, ◌∙◌, subst, arith}
+use Rattle.std.proofs.Common.{rules, inl, ◌≡◌, ◌+◌, ◌<◌, Bool, true, false, not, [], ◌∷◌, ◌++◌, Some, None, IsTrue, IsFalse, Contains, get_or, length, take, refl, sym, ap, ◌∙◌, subst, arith}
 use Rattle.std.proofs.lemmas.List.{append-nil}
 use Rattle.std.proofs.lemmas.List.Elements.{All-contains, All-contains_itself, All-take}
 use Rattle.std.specs.Option.{option_copied}
@@ -19,7 +19,6 @@ use Rattle.graphql_documents.proofs.ReportLemmas.{kept_by, kept_wider, more_is}
 use Rattle.graphql_documents.proofs.SelectionLemmas.{one_fragment_found}
 use Rattle.graphql_rules.specs.Contexts.{IsAgainst, StaysAsItWas, entered_names, parent_of, schema_of, variables_of}
 use Rattle.graphql_rules.specs.SelectionSteps.{IsBelow, WalkAnswers, WalkStops, Walks}
-use Rattle.graphql_rules.specs.declared.operations.fields.Below.TheVariants.{Nowhere, On}
 use Rattle.graphql_rules.proofs.EnteredLemmas.{stands_still, was_new, was_there}
 use Rattle.graphql_rules.proofs.MeasureLemmas.{room_falls, room_stays, selection_is_smaller}
 use Rattle.graphql_rules.proofs.WalkLemmas.{field_says, inline_says, spread_says, stopped, stopped_then, stopped_wider, walked_before, walked_field_alone, walked_inline_alone, walked_none, walked_then, walked_undefined, walks_as, walks_definition, walks_field, walks_fragment, walks_inline}
