@@ -1,26 +1,12 @@
 -- Field sets: a selection set on a named type, without an operation.
-use Rattle.std.specs.Prelude.{◌≡◌, Some, []}
-use Rattle.graphql_documents.specs.Selections.{Written, no_fragments, selections_of}
+use Rattle.std.specs.Prelude.{Some, []}
+use Rattle.graphql_documents.specs.Selections.{no_fragments, selections_of}
 use Rattle.graphql_documents.specs.Fields.{PlacedSelectionsHold}
 use Rattle.graphql_documents.specs.Diagnostics.{IsDiagnostic}
 use Rattle.graphql_documents.specs.SelectionReports.{SelectionReport}
-use Rattle.graphql_documents.specs.declared.documents.nodes.Node.{Node}
 use Rattle.graphql_documents.specs.declared.documents.schemas.Schema.{Schema}
 use Rattle.graphql_documents.specs.declared.documents.executables.SelectionSet.{SelectionSet}
-use Rattle.graphql_documents.specs.declared.documents.executables.Selection.{Selection}
-use Rattle.graphql_documents.specs.declared.documents.executables.Field.{Field}
-use Rattle.graphql_documents.specs.declared.documents.executables.Selection.TheVariants as kind
 use Rattle.graphql_documents.specs.declared.diagnostics.lists.DiagnosticEntry.{DiagnosticEntry}
-
--- the selection is a field without directives
-pub record IsPlainField (s : Selection) : Type 0 where
-  pub field : Node Field
-  pub is_field : s ≡ kind.Field field
-  pub no_directives : field.value.value.directives.items ≡ []
-
--- no selection at any depth is a fragment or has a directive
-abbrev pub IsPlain : SelectionSet → Type 0
-IsPlain set = (s : Selection) → Written set s → IsPlainField s
 
 -- every selection that is reached holds, from the set's own type
 abbrev pub FieldSetHolds : Schema → SelectionSet → Type 0

@@ -8,8 +8,9 @@ use Rattle.graphql_documents.specs.FragmentSpreads.{FragmentHasNoCycle, Fragment
 use Rattle.graphql_documents.specs.Limits.{FragmentLimit}
 use Rattle.graphql_documents.specs.Names.{NameText}
 use Rattle.graphql_documents.specs.Reports.{KeepsReports, Reports, ReportsWithin}
-use Rattle.graphql_documents.specs.SelectionReports.{FragmentBreaks, ImpossibleReport, InlineFragmentBreaks, InvalidTargetReport, SpreadBreaks, impossible_use, invalid_target}
+use Rattle.graphql_documents.specs.SelectionReports.{FragmentBreaks, ImpossibleReport, InlineFragmentBreaks, InvalidTargetReport, SpreadBreaks}
 use Rattle.graphql_documents.specs.Selections.{Fragments}
+use Rattle.graphql_documents.proofs.SelectionReportLemmas.{fragment_target, inline_impossible, inline_target, spread_impossible}
 use Rattle.graphql_documents.proofs.DiagnosticLemmas.{diagnostic_wider}
 use Rattle.graphql_documents.proofs.ReportLemmas.{ChecksList, checks_words, wider}
 use Rattle.graphql_documents.proofs.ReportWithinLemmas.{both_within, in_words_within, wider_within, within}
@@ -72,23 +73,16 @@ module _ (schema : Option Schema) (condition : NameText) where
 -- the condition of an inline fragment
 module _ (schema : Option Schema) (parent : Option NameText) (i : Node InlineFragment) (condition : NameText) (s : Schema)
     (has : schema ≡ Some s) (is : i.value.value.type_condition ≡ Some condition) where
-  of_target : (r : DiagnosticData) (at : Option SourceSpan) → InvalidTargetReport schema None condition i.location r at → InlineFragmentBreaks schema parent i r at
-  of_target r at (invalid_target wrong) = (condition, is, refl, wrong)
-
   pub names_target : (e : DiagnosticEntry) → IsDiagnostic (InvalidTargetReport (Some s) None condition i.location) e → IsDiagnostic (InlineFragmentBreaks schema parent i) e
   names_target e said =
-      diagnostic_wider (InvalidTargetReport schema None condition i.location) (InlineFragmentBreaks schema parent i) of_target e
+      diagnostic_wider (InvalidTargetReport schema None condition i.location) (InlineFragmentBreaks schema parent i) (inline_target parent i condition is) e
       (subst (λ o. IsDiagnostic (InvalidTargetReport o None condition i.location) e) (sym has) said)
 
   module _ (p : NameText) (around : parent ≡ Some p) where
-    of_impossible : (r : DiagnosticData) (at : Option SourceSpan) → ImpossibleReport schema None condition parent i.location i.location r at →
-        InlineFragmentBreaks schema parent i r at
-    of_impossible r at (impossible_use impossible) = (condition, is, refl, impossible)
-
     pub names_impossible : (e : DiagnosticEntry) → IsDiagnostic (ImpossibleReport (Some s) None condition (Some p) i.location i.location) e →
         IsDiagnostic (InlineFragmentBreaks schema parent i) e
     names_impossible e said =
-        diagnostic_wider (ImpossibleReport schema None condition parent i.location i.location) (InlineFragmentBreaks schema parent i) of_impossible e
+        diagnostic_wider (ImpossibleReport schema None condition parent i.location i.location) (InlineFragmentBreaks schema parent i) (inline_impossible parent i condition is) e
         (subst (λ o. IsDiagnostic (ImpossibleReport o None condition parent i.location i.location) e) (sym has)
         (subst (λ q. IsDiagnostic (ImpossibleReport (Some s) None condition q i.location i.location) e) (sym around) said))
 
@@ -183,16 +177,11 @@ module _ (schema : Option Schema) (fragments : Fragments) (variables : List (Nod
 module _ (schema : Option Schema) (fragments : Fragments) (parent : Option NameText) (p : Node FragmentSpread) (d : Node Fragment)
     (found : fragments p.value.value.fragment_name ≡ Some d) (s : Schema) (around condition : NameText)
     (has : schema ≡ Some s) (is : parent ≡ Some around) (same : condition ≡ d.value.value.selection_set.ty) where
-  of_use : (r : DiagnosticData) (at : Option SourceSpan) →
-      ImpossibleReport schema (Some p.value.value.fragment_name) d.value.value.selection_set.ty parent d.location p.location r at →
-      SpreadBreaks schema fragments parent p r at
-  of_use r at (impossible_use impossible) = (d, found, refl, impossible)
-
   names_use : (e : DiagnosticEntry) → IsDiagnostic (ImpossibleReport (Some s) (Some p.value.value.fragment_name) condition (Some around) d.location p.location) e →
       IsDiagnostic (SpreadBreaks schema fragments parent p) e
   names_use e said =
       let name = Some p.value.value.fragment_name in
-      diagnostic_wider (ImpossibleReport schema name d.value.value.selection_set.ty parent d.location p.location) (SpreadBreaks schema fragments parent p) of_use e
+      diagnostic_wider (ImpossibleReport schema name d.value.value.selection_set.ty parent d.location p.location) (SpreadBreaks schema fragments parent p) (spread_impossible fragments parent p d found) e
       (subst (λ o. IsDiagnostic (ImpossibleReport o name d.value.value.selection_set.ty parent d.location p.location) e) (sym has)
       (subst (λ q. IsDiagnostic (ImpossibleReport (Some s) name d.value.value.selection_set.ty q d.location p.location) e) (sym is)
       (subst (λ c. IsDiagnostic (ImpossibleReport (Some s) name c (Some around) d.location p.location) e) same said)))
@@ -214,14 +203,10 @@ module _ (schema : Option Schema) (fragments : Fragments) (parent : Option NameT
 -- the condition of a fragment
 module _ (schema : Option Schema) (fragments : Fragments) (d : Node Fragment) (s : Schema) (name condition : NameText) (has : schema ≡ Some s)
     (same_name : name ≡ d.value.value.name) (same : condition ≡ d.value.value.selection_set.ty) where
-  of_fragment_target : (r : DiagnosticData) (at : Option SourceSpan) →
-      InvalidTargetReport schema (Some d.value.value.name) d.value.value.selection_set.ty d.location r at → FragmentBreaks schema fragments d r at
-  of_fragment_target r at (invalid_target wrong) = (refl, wrong)
-
   names_fragment_target : (e : DiagnosticEntry) → IsDiagnostic (InvalidTargetReport (Some s) (Some name) condition d.location) e →
       IsDiagnostic (FragmentBreaks schema fragments d) e
   names_fragment_target e said =
-      diagnostic_wider (InvalidTargetReport schema (Some d.value.value.name) d.value.value.selection_set.ty d.location) (FragmentBreaks schema fragments d) of_fragment_target e
+      diagnostic_wider (InvalidTargetReport schema (Some d.value.value.name) d.value.value.selection_set.ty d.location) (FragmentBreaks schema fragments d) (fragment_target fragments d) e
       (subst (λ o. IsDiagnostic (InvalidTargetReport o (Some d.value.value.name) d.value.value.selection_set.ty d.location) e) (sym has)
       (subst (λ n. IsDiagnostic (InvalidTargetReport (Some s) (Some n) d.value.value.selection_set.ty d.location) e) same_name
       (subst (λ c. IsDiagnostic (InvalidTargetReport (Some s) (Some name) c d.location) e) same said)))

@@ -5,7 +5,6 @@ pub mod FieldLemmas
 pub mod FragmentLemmas
 pub mod FragmentRoomLemmas
 pub mod FragmentSearchLemmas
-mod FragmentUseLemmas
 pub mod MeasureLemmas
 pub mod OperationLemmas
 pub mod PlacedLemmas

@@ -1,4 +1,4 @@
-ghost use Rattle.std.specs.Prelude.{◌≡◌, Some, false, [], IfOk, MatchOption};
+ghost use Rattle.std.specs.Prelude.{◌≡◌, ◌↔◌, Some, false, [], IfOk, IsTrue, MatchOption};
 ghost use Rattle.std.specs.Option.{option_copied};
 ghost use Rattle.graphql_documents.specs.Diagnostics.{IsDiagnostic};
 ghost use Rattle.graphql_documents.specs.Directives.{ApplicationsHold};
@@ -113,9 +113,10 @@ pub fn validate_leaf_field_selection(
     ensures checks { Checks result (HasNeededSelection (Some schema.now) field.now.value.value field_type.now)
         (IsDiagnostic (SelectionIsMissing (Some schema.now) parent_type.now field.now field_type.now))
         diagnostics.old diagnostics.new }
+    ensures answer { IfOk result (λ silent. IsTrue silent ↔ HasNeededSelection (Some schema.now) field.now.value.value field_type.now) }
 
     // A field that was reported selects nothing.
-    ensures answer { IfOk result (λ silent. silent ≡ false → selections_of field.now.value.value.selection_set ≡ []) }
+    ensures empty { IfOk result (λ silent. silent ≡ false → selections_of field.now.value.value.selection_set ≡ []) }
 {
     let Some(type_definition) = type_without_selection(schema, &field.value, field_type) else {
         return Ok(true);

@@ -1,5 +1,6 @@
 use Rattle.std.proofs.Common.{Some, refl, rules}
 use Rattle.graphql_documents.specs.FieldReports.{is_missing}
+use Rattle.graphql_documents.specs.Fields.{HasNeededSelection}
 use Rattle.graphql_documents.proofs.ReportLemmas.{broken, holds}
 use Rattle.graphql_rules.specs.SelectionSteps.{IsUnselected}
 use Rattle.graphql_rules.proofs.operations.fields.validate_leaf_field_selection.Goals as goal
@@ -23,3 +24,16 @@ returns-clause-checks c =
       describe_is = search rules;
       at_is = refl;
     }))
+
+pub returns-in_default-clause-answer : goal.returns-in_default-clause-answer
+returns-in_default-clause-answer c =
+    let needed : HasNeededSelection (Some c.args.schema.now) c.args.field.now.value.value c.args.field_type.now = search rules in
+    (λ _. needed, λ _. refl)
+
+pub returns-clause-answer : goal.returns-clause-answer
+returns-clause-answer c =
+    let unselected : IsUnselected (Some c.args.schema.now) c.args.field.now.value.value c.args.field_type.now c.in-Some.type_definition.now =
+    search rules in (
+      λ silent. absurd (let is_false : ⊥ = cc in is_false),
+      λ needed. absurd (needed c.in-Some.type_definition.now unselected.is_defined unselected.composite unselected.empty),
+    )
