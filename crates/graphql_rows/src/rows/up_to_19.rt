@@ -58,8 +58,8 @@ pub const ROWS: &[Row] = &[
         schema: "type Query { f: Int } interface A implements B { x: Int } interface B implements \
             A { x: Int }",
         subject: Subject::Schema,
-        lines: "- interface `A` declares that it implements `B`, but to do so it must also implement `B`\n\
-            - interface `B` declares that it implements `A`, but to do so it must also implement `A`\n",
+        lines: "- interface `A` declares that it implements `B`, but to do so it must also implement `A`\n\
+            - interface `B` declares that it implements `A`, but to do so it must also implement `B`\n",
     },
     Row {
         id: "15a",
