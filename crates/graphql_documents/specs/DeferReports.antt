@@ -7,6 +7,8 @@ use Rattle.graphql_documents.specs.Selections.{Fragments, Inside, directives_of,
 use Rattle.graphql_documents.specs.Walks.{LabelsStandTooDeep}
 use Rattle.graphql_documents.specs.declared.diagnostics.build_errors.BuildError.TheVariants as build
 use Rattle.graphql_documents.specs.declared.diagnostics.build_errors.BuildError.{BuildError}
+use Rattle.graphql_documents.specs.declared.diagnostics.details.Details.TheVariants as details
+use Rattle.graphql_documents.specs.declared.diagnostics.details.Details.{Details}
 use Rattle.graphql_documents.specs.declared.documents.definitions.OperationType.TheVariants as operation
 use Rattle.graphql_documents.specs.declared.documents.definitions.OperationType.{OperationType}
 use Rattle.graphql_documents.specs.declared.documents.directives.Directive.{Directive}
@@ -84,3 +86,8 @@ DeferBreaks document (build.DeferOnRootMutationOrSubscriptionField operation_typ
 DeferBreaks document build.DeferInSubscriptionMustBeConditional at =
     (o : Node Operation) × Contains (operations_of document) o × HasFixedDefer (fragments_of document) o.value.value at
 DeferBreaks document _ at = ⊥
+
+-- the same of an entry of a list of reports
+pub data DeferReport (document : ExecutableDocument) : Details → Option SourceSpan → Type 0 where
+  of_defer : {e : BuildError} {at : Option SourceSpan} →
+      DeferBreaks document e at → DeferReport document (details.Build e) at

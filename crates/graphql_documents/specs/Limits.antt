@@ -128,6 +128,23 @@ pub data OperationsLimit (document : ExecutableDocument) : Details → Option So
   one_passes : {o : Node Operation} {said : Details} {at : Option SourceSpan} →
       Contains (operations_of document) o → OperationLimit document o.value.value said at → OperationsLimit document said at
 
+-- a report of a limit is true of a subscription: the walk over its root passes its bound; reported without
+-- a place
+pub data SubscriptionLimit (fragments : Fragments) (o : Operation) : Details → Option SourceSpan → Type 0 where
+  subscription_walk_passes : PassesDepth fragments root_walk o.selection_set →
+      SubscriptionLimit fragments o (details.Diagnostic report.RecursionError) None
+
+-- a report of a limit is true of a walk that seeks `@defer`: for labels, at a root, or for conditions;
+-- reported without a place
+pub data DeferLimit (document : ExecutableDocument) : Details → Option SourceSpan → Type 0 where
+  label_walk_passes : LabelsStandTooDeep document → DeferLimit document (details.Diagnostic report.RecursionError) None
+  defer_root_walk_passes : {o : Node Operation} →
+      Contains (operations_of document) o → PassesDepth (fragments_of document) root_walk o.value.value.selection_set →
+      DeferLimit document (details.Diagnostic report.RecursionError) None
+  condition_walk_passes : {o : Node Operation} →
+      Contains (operations_of document) o → PassesDepth (fragments_of document) open_walk o.value.value.selection_set →
+      DeferLimit document (details.Diagnostic report.RecursionError) None
+
 -- a report of a limit is true of a document: reported without a place, but for merging
 pub data DocumentLimit (same : Field → Field → Bool) (schema : Option Schema) (document : ExecutableDocument) : Details → Option SourceSpan → Type 0 where
   fragment_nests : {d : Node Fragment} {name : NameText} {describe : Bor (List ℕ)} {at : Option SourceSpan} →

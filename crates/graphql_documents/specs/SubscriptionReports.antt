@@ -5,6 +5,9 @@ use Rattle.graphql_documents.specs.Selections.{Fragments, Inside, directives_of,
 use Rattle.graphql_documents.specs.Subscriptions.{HasOneRootField, WalkedFields, is_conditional, is_introspection}
 use Rattle.graphql_documents.specs.declared.diagnostics.build_errors.BuildError.TheVariants as build
 use Rattle.graphql_documents.specs.declared.diagnostics.build_errors.BuildError.{BuildError}
+use Rattle.graphql_documents.specs.declared.diagnostics.details.Details.TheVariants as details
+use Rattle.graphql_documents.specs.declared.diagnostics.details.Details.{Details}
+use Rattle.graphql_documents.specs.declared.documents.definitions.OperationType.TheVariants as operation
 use Rattle.graphql_documents.specs.declared.documents.directives.Directive.{Directive}
 use Rattle.graphql_documents.specs.declared.documents.executables.Field.{Field}
 use Rattle.graphql_documents.specs.declared.documents.executables.Operation.{Operation}
@@ -47,3 +50,9 @@ SubscriptionBreaks fragments o (build.SubscriptionUsesIntrospection name field) 
 SubscriptionBreaks fragments o (build.SubscriptionUsesConditionalSelection name) at = HasConditionalSelection fragments o name at
 SubscriptionBreaks fragments o (build.SubscriptionUsesMultipleFields name fields) at = HasSeveralRootFields fragments o name fields.items at
 SubscriptionBreaks fragments o _ at = ⊥
+
+-- the report names a rule of subscriptions that an operation, which is one, breaks
+pub data SubscriptionReport (fragments : Fragments) (o : Node Operation) : Details → Option SourceSpan → Type 0 where
+  of_subscription : {e : BuildError} {at : Option SourceSpan} →
+      o.value.value.operation_type ≡ operation.Subscription → SubscriptionBreaks fragments o e at →
+      SubscriptionReport fragments o (details.Build e) at
