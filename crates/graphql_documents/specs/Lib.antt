@@ -25,6 +25,7 @@ pub mod Implementers
 pub mod InputCoercion
 pub mod Limits
 pub mod MergedFields
+pub mod MergedGroups
 pub mod Merging
 pub mod MergingReports
 pub mod Messages

@@ -108,6 +108,12 @@ pub record MergingNestsTooDeep (same : Field → Field → Bool) (schema : Schem
   pub passes : MergingPasses same schema fragments deep.value.value.selection_set
   pub at_is : at ≡ o.location
 
+-- a report of a limit is true of an operation that is merged after these
+pub data MergingLimit (same : Field → Field → Bool) (schema : Schema) (fragments : Fragments) (before : List (Node Operation)) (o : Node Operation) : Details → Option SourceSpan → Type 0 where
+  merging_nests : {limit : RecursionLimitError} {at : Option SourceSpan} →
+      MergingNestsTooDeep same schema fragments before o at →
+      MergingLimit same schema fragments before o (details.RecursionLimit limit) at
+
 -- a report of a limit is true of the walk that seeks used fragments: some operation passes its bound;
 -- reported without a place
 pub data FragmentWalkLimit (document : ExecutableDocument) : Details → Option SourceSpan → Type 0 where

@@ -1,6 +1,7 @@
 -- What a report says of two fields that cannot be merged. Specification: draft, 5.3.2 Field Selection Merging.
 use Rattle.std.specs.Prelude.{◌≡◌, List, is_some, IsSomeAnd, IsNone, Option, None, Some}
 use Rattle.graphql_documents.specs.Arguments.{argument_named}
+use Rattle.graphql_documents.specs.Expansion.{Pass, field_pass, shape_pass}
 use Rattle.graphql_documents.specs.Merging.{FieldSelection, OverlapThroughout, SameShape, Together, type_of}
 use Rattle.graphql_documents.specs.Names.{DifferentNames, NameText, SameName}
 use Rattle.graphql_documents.specs.Selections.{Fragments, response_key}
@@ -23,15 +24,8 @@ use Rattle.graphql_documents.specs.declared.documents.values.Value.{Value}
 abbrev pub coordinate_of : FieldSelection → TypeAttributeCoordinate
 coordinate_of x = record { ty = x.parent; attribute = x.field.value.value.name }
 
--- two fields with one key have different names, where their parents overlap throughout: reported at
--- the second
-pub record HaveDifferentFields (schema : Schema) (fragments : Fragments) (set : SelectionSet) (alias : NameText) (original_location : Option SourceSpan) (original : TypeAttributeCoordinate) (conflicting_location : Option SourceSpan) (conflicting : TypeAttributeCoordinate) (at : Option SourceSpan) : Type 0 where
-  pub xs : List FieldSelection
-  pub ys : List FieldSelection
-  pub x : FieldSelection
-  pub y : FieldSelection
-  pub together : Together fragments set xs ys x y
-  pub overlap : OverlapThroughout schema xs ys x y
+-- two fields with one key have different names: reported at the second
+pub record HaveDifferentFields (x y : FieldSelection) (alias : NameText) (original_location : Option SourceSpan) (original : TypeAttributeCoordinate) (conflicting_location : Option SourceSpan) (conflicting : TypeAttributeCoordinate) (at : Option SourceSpan) : Type 0 where
   pub differ : DifferentNames x.field.value.value.name y.field.value.value.name
   pub alias_is : SameName alias (response_key x.field.value.value)
   pub original_location_is : original_location ≡ x.field.location
@@ -52,16 +46,10 @@ DisagreeOn name a b =
     ((x y : Node Argument) → argument_named name a.arguments.items ≡ Some x → argument_named name b.arguments.items ≡ Some y →
     SameValue x.value.value.value.value.value y.value.value.value.value.value))
 
--- two fields of one name and key have different arguments, where their parents overlap throughout:
--- reported at the second, with the values of one such argument
-pub record HaveDifferentArguments (schema : Schema) (fragments : Fragments) (set : SelectionSet) (alias : NameText) (original_location : Option SourceSpan) (original : FieldArgumentCoordinate) (original_value : Option Value) (conflicting_location : Option SourceSpan) (conflicting : FieldArgumentCoordinate) (conflicting_value : Option Value) (at : Option SourceSpan) : Type 0 where
-  pub xs : List FieldSelection
-  pub ys : List FieldSelection
-  pub x : FieldSelection
-  pub y : FieldSelection
+-- two fields of one name and key have different arguments: reported at the second, with the values of one
+-- such argument
+pub record HaveDifferentArguments (x y : FieldSelection) (alias : NameText) (original_location : Option SourceSpan) (original : FieldArgumentCoordinate) (original_value : Option Value) (conflicting_location : Option SourceSpan) (conflicting : FieldArgumentCoordinate) (conflicting_value : Option Value) (at : Option SourceSpan) : Type 0 where
   pub argument : NameText
-  pub together : Together fragments set xs ys x y
-  pub overlap : OverlapThroughout schema xs ys x y
   pub same_field : SameName x.field.value.value.name y.field.value.value.name
   pub differ : DisagreeOn argument x.field.value.value y.field.value.value
   pub alias_is : SameName alias x.field.value.value.name
@@ -74,12 +62,7 @@ pub record HaveDifferentArguments (schema : Schema) (fragments : Fragments) (set
   pub at_is : at ≡ y.field.location
 
 -- two fields with one key have types of different shapes: reported at the second
-pub record HaveDifferentShapes (schema : Schema) (fragments : Fragments) (set : SelectionSet) (alias : NameText) (original_location : Option SourceSpan) (original : TypeAttributeCoordinate) (original_type : «Type») (conflicting_location : Option SourceSpan) (conflicting : TypeAttributeCoordinate) (conflicting_type : «Type») (at : Option SourceSpan) : Type 0 where
-  pub xs : List FieldSelection
-  pub ys : List FieldSelection
-  pub x : FieldSelection
-  pub y : FieldSelection
-  pub together : Together fragments set xs ys x y
+pub record HaveDifferentShapes (schema : Schema) (x y : FieldSelection) (alias : NameText) (original_location : Option SourceSpan) (original : TypeAttributeCoordinate) (original_type : «Type») (conflicting_location : Option SourceSpan) (conflicting : TypeAttributeCoordinate) (conflicting_type : «Type») (at : Option SourceSpan) : Type 0 where
   pub differ : ¬ SameShape schema (type_of x) (type_of y)
   pub alias_is : SameName alias (response_key x.field.value.value)
   pub original_location_is : original_location ≡ x.field.location
@@ -90,12 +73,28 @@ pub record HaveDifferentShapes (schema : Schema) (fragments : Fragments) (set : 
   pub conflicting_type_is : IsTypeCopy (type_of y) conflicting_type
   pub at_is : at ≡ y.field.location
 
--- the report names two fields of an operation that cannot be merged
-abbrev pub MergingBreaks : Schema → Fragments → SelectionSet → BuildError → Option SourceSpan → Type 0
-MergingBreaks schema fragments set (build.ConflictingFieldName alias original_location original conflicting_location conflicting) at =
-    HaveDifferentFields schema fragments set alias original_location original conflicting_location conflicting at
-MergingBreaks schema fragments set (build.ConflictingFieldArgument alias original_location original original_value conflicting_location conflicting conflicting_value) at =
-    HaveDifferentArguments schema fragments set alias original_location original original_value conflicting_location conflicting conflicting_value at
-MergingBreaks schema fragments set (build.ConflictingFieldType alias original_location original original_type conflicting_location conflicting conflicting_type) at =
-    HaveDifferentShapes schema fragments set alias original_location original original_type conflicting_location conflicting conflicting_type at
-MergingBreaks schema fragments set _ at = ⊥
+-- two fields that were put together in a pass do not agree, and the report names them
+abbrev pub Conflict : Schema → Pass → FieldSelection → FieldSelection → BuildError → Option SourceSpan → Type 0
+Conflict schema field_pass x y (build.ConflictingFieldName alias original_location original conflicting_location conflicting) at =
+    HaveDifferentFields x y alias original_location original conflicting_location conflicting at
+Conflict schema field_pass x y (build.ConflictingFieldArgument alias original_location original original_value conflicting_location conflicting conflicting_value) at =
+    HaveDifferentArguments x y alias original_location original original_value conflicting_location conflicting conflicting_value at
+Conflict schema shape_pass x y (build.ConflictingFieldType alias original_location original original_type conflicting_location conflicting conflicting_type) at =
+    HaveDifferentShapes schema x y alias original_location original original_type conflicting_location conflicting conflicting_type at
+Conflict schema _ x y _ at = ⊥
+
+-- two fields come together in an operation: at the ends of two chains with the same keys, and where names and
+-- arguments are compared, with parents that overlap throughout
+abbrev pub ComeTogether : Schema → Fragments → Pass → SelectionSet → FieldSelection → FieldSelection → Type 0
+ComeTogether schema fragments shape_pass set x y =
+    (xs : List FieldSelection) × (ys : List FieldSelection) × Together fragments set xs ys x y
+ComeTogether schema fragments field_pass set x y =
+    (xs : List FieldSelection) × (ys : List FieldSelection) × Together fragments set xs ys x y × OverlapThroughout schema xs ys x y
+
+-- the report names two fields of an operation that come together and cannot be merged
+pub record MergingBreaks (schema : Schema) (fragments : Fragments) (set : SelectionSet) (e : BuildError) (at : Option SourceSpan) : Type 0 where
+  pub pass : Pass
+  pub x : FieldSelection
+  pub y : FieldSelection
+  pub together : ComeTogether schema fragments pass set x y
+  pub conflict : Conflict schema pass x y e at
