@@ -29,7 +29,7 @@ or_assoc : (a b c : Bool) → ((a || b) || c) ≡ (a || (b || c))
 or_assoc true b c = refl
 or_assoc false b c = refl
 
-neither : (a b : Bool) → (a || b) ≡ false → (a ≡ false) × (b ≡ false)
+pub neither : (a b : Bool) → (a || b) ≡ false → (a ≡ false) × (b ≡ false)
 neither true b e = absurd (let h : ⊥ = cc in h)
 neither false b e = (refl, e)
 
@@ -46,7 +46,7 @@ and_true true = refl
 and_true false = refl
 
 -- names are the same in either order
-same_swapped : (a b : NameText) → same_name a b ≡ same_name b a
+pub same_swapped : (a b : NameText) → same_name a b ≡ same_name b a
 same_swapped a b = nat_list_eq_equiv.symm a.text b.text
 
 -- the same names stand in a list
@@ -73,7 +73,7 @@ stands_folded known (x ∷ xs) n =
     or_assoc (stands_on known n) (same_name n x) (stands_on xs n)
 
 -- no name stands twice
-abbrev Apart : List NameText → Type 0
+abbrev pub Apart : List NameText → Type 0
 Apart [] = Unit {0}
 Apart (x ∷ xs) = (stands_on xs x ≡ false) × Apart xs
 
@@ -89,7 +89,7 @@ apart_with xs n apart = by (stands_on xs n) refl where
   by true known = rw known apart
   by false unknown = rw unknown (apart_push xs n unknown apart)
 
-apart_folded : (known names : List NameText) → Apart known → Apart (fold with_name known names)
+pub apart_folded : (known names : List NameText) → Apart known → Apart (fold with_name known names)
 apart_folded known [] apart = apart
 apart_folded known (x ∷ xs) apart = apart_folded (with_name known x) xs (apart_with known x apart)
 
@@ -137,7 +137,7 @@ module _ {V : Type 0} (f g : NameText → V) (n : NameText) (step : V → V) (no
         rw other (ap (λ v. (x, v) ∷ insert_entry same_name (map before xs) n (stepped_value xs)) (sym (others x other)) ∙
         ap (λ l. (x, g x) ∷ l) (behind there'))
 
-  inserted : (names : List NameText) → Apart names → (stands_on names n ≡ false → f n ≡ none) →
+  pub inserted : (names : List NameText) → Apart names → (stands_on names n ≡ false → f n ≡ none) →
       insert_entry same_name (map before names) n (stepped_value names) ≡ map after (with_name names n)
   inserted names apart absent = by (stands_on names n) refl where
     by : (b : Bool) → stands_on names n ≡ b → insert_entry same_name (map before names) n (stepped_value names) ≡ map after (with_name names n)

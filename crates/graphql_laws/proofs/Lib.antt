@@ -10,6 +10,7 @@ pub mod MergedListLaws
 pub mod MergingLaws
 pub mod MetNameLemmas
 pub mod OneExpansionLaws
+pub mod OrderedGroupLaws
 pub mod ReportLaws
 pub mod SchemaLaws
 pub mod SeenListLaws

@@ -7,6 +7,7 @@ pub mod expansion;
 pub mod fragments;
 pub mod merged_sets;
 pub mod merging;
+pub mod ordered_groups;
 pub mod reports;
 pub mod schemas;
 pub mod seen_lists;
