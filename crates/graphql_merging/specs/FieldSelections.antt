@@ -1,0 +1,28 @@
+-- Fields of the code, in the words of the definitions on merging.
+use Rattle.std.specs.Prelude.{Bool, List, Vec, map}
+use Rattle.std.specs.declared.alloc.Global.{Global}
+use Rattle.graphql_documents.specs.Merging as merging
+use Rattle.graphql_documents.specs.contracts.documents.executables.FieldPartialEq.TheImpl as field_impl
+use Rattle.graphql_documents.specs.declared.documents.executables.Field.{Field}
+use Rattle.graphql_merging.specs.contracts.field_selections.FieldSelectionPartialEq.TheImpl as selection_impl
+use Rattle.graphql_merging.specs.declared.field_selections.FieldSelection.{FieldSelection}
+
+-- the field, with the name of the type of its set
+abbrev pub selection_of : FieldSelection → merging.FieldSelection
+selection_of x = record { parent = x.parent_type.now; field = x.field.now }
+
+-- the same of each of a list
+abbrev pub listed : List FieldSelection → List merging.FieldSelection
+listed fields = map selection_of fields
+
+-- the same of each list
+abbrev pub lists_of : List (Vec FieldSelection Global) → List (List merging.FieldSelection)
+lists_of lists = map (λ fields. listed fields.items) lists
+
+-- the two have the same contents, wherever they stand
+abbrev pub same_field : Field → Field → Bool
+same_field = field_impl.ghosts.eq
+
+-- the two have the same contents, on types of the same names
+abbrev pub same_selection : FieldSelection → FieldSelection → Bool
+same_selection = selection_impl.ghosts.eq
