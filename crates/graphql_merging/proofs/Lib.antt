@@ -1,1 +1,4 @@
 pub mod FieldSelectionLemmas
+pub mod PassLemmas
+pub mod PassStepLemmas
+pub mod SameFieldLemmas

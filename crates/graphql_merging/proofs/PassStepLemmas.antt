@@ -1,0 +1,107 @@
+-- The facts that the code of a pass has at each step, in the words of passes.
+use Rattle.std.proofs.Common.{rules, ◌≡◌, ◌↔◌, ℕ, ◌<◌, ◌≤◌, ◌+◌, ◌-◌, List, [], ◌∷◌, arith, length, map, take, refl, sym, ◌∙◌, ap, subst, All, Contains}
+use Rattle.std.proofs.lemmas.List.{nil_from_length}
+use Rattle.std.proofs.lemmas.List.Elements.{All-contains}
+use Rattle.std.specs.Prelude.{Bool, true, false, ◌==◌, ◌≢◌, Vec, IsTrue, IsFalse, if◌then◌else◌, max, sum_by}
+use Rattle.std.specs.List.{Any, list_any}
+use Rattle.std.specs.Cmp.Lexicographic.{pointwise}
+use Rattle.std.specs.Vec.{vec_len}
+use Rattle.std.specs.declared.alloc.Global.{Global}
+use Rattle.graphql_documents.specs.Expansion.{Expansion, IsGroup, MergedSet, Pass, field_pass, nested_sets, shape_pass}
+use Rattle.graphql_documents.specs.MergedFields.{ExpansionIsSeen}
+use Rattle.graphql_documents.specs.MergedGroups.{comparisons_of, groups_of}
+use Rattle.graphql_documents.specs.Merging as merging
+use Rattle.graphql_documents.specs.Reports.{KeepsReports}
+use Rattle.graphql_documents.specs.Selections.{Fragments}
+use Rattle.graphql_documents.specs.declared.diagnostics.lists.DiagnosticEntry.{DiagnosticEntry}
+use Rattle.graphql_documents.specs.declared.documents.executables.Operation.{Operation}
+use Rattle.graphql_documents.specs.declared.documents.executables.SelectionSet.{SelectionSet}
+use Rattle.graphql_documents.specs.declared.documents.nodes.Node.{Node}
+use Rattle.graphql_documents.specs.declared.documents.schemas.Schema.{Schema}
+use Rattle.graphql_documents.proofs.ListLemmas.{each_standing, stands_mapped}
+use Rattle.graphql_documents.proofs.ReportLemmas.{kept_wider}
+use Rattle.graphql_laws.proofs.OrderedGroupLaws.{comparisons_of_groups, groups_listed}
+use Rattle.graphql_values.proofs.UseLemmas.{any_has, has_any}
+use Rattle.graphql_merging.specs.FieldSelections.{listed, lists_of, same_field, same_selection}
+use Rattle.graphql_merging.proofs.FieldSelectionLemmas.{compared_with_any}
+use Rattle.graphql_merging.specs.Passes.{IsConflict, IsConflictAmong, IsNew, counted}
+use Rattle.graphql_merging.specs.declared.field_selections.FieldSelection.{FieldSelection}
+
+-- the groups of the code are those of its list
+module _ (schema : Schema) (pass : Pass) (list : List merging.FieldSelection) (groups : List (Vec FieldSelection Global))
+    (are : lists_of groups ≡ groups_of schema pass list) where
+  pub each_group : All (IsGroup schema list pass) (lists_of groups)
+  each_group =
+      subst (All (IsGroup schema list pass)) (sym are)
+      (each_standing (IsGroup schema list pass) (groups_of schema pass list) (λ group stands. (groups_listed schema list pass group).0 stands))
+
+  pub conflicts_true : (fragments : Fragments) (operations : List (Node Operation)) {old new : List DiagnosticEntry} →
+      MergedSet schema fragments operations pass list → KeepsReports (IsConflictAmong schema pass (lists_of groups)) old new →
+      KeepsReports (IsConflict schema fragments operations pass) old new
+  conflicts_true fragments operations merged kept =
+      kept_wider (λ e conflict. record { list = list; merged = merged; conflict = subst (λ g. IsConflictAmong schema pass g e) are conflict }) kept
+
+-- each group of a list stands among them
+pub group_among : (P : List merging.FieldSelection → Type 0) (groups : List (Vec FieldSelection Global)) (group : Vec FieldSelection Global) →
+    All P (lists_of groups) → Contains groups group → P (listed group.items)
+group_among P groups group all stands =
+    All-contains P (lists_of groups) (listed group.items) all (stands_mapped (λ g. listed g.items) groups group stands)
+
+-- how often the groups of a list are compared
+pub counted_groups : (schema : Schema) (pass : Pass) (list : List merging.FieldSelection) (n : ℕ) →
+    counted pass n (sum_by (λ group. length group - 1) (groups_of schema pass list)) ≡ counted pass n (comparisons_of list)
+counted_groups schema shape_pass list n = ap (counted shape_pass n) (comparisons_of_groups schema list)
+counted_groups schema field_pass list n = refl
+
+-- a list that is not among the known is new
+pub new_unknown : (known : List (List merging.FieldSelection)) (list : List merging.FieldSelection) →
+    ¬ Any (merging.SameFields same_field list) known → IsNew known list
+new_unknown known list unknown =
+    each_standing (λ l. ¬ merging.SameFields same_field list l) known (λ l stands same. unknown (has_any (merging.SameFields same_field list) known l stands same))
+
+-- what was examined has the same fields as an expansion
+pub expansion_known : (fragments : Fragments) (known : List (List merging.FieldSelection)) (sets : List SelectionSet) (list : List merging.FieldSelection) →
+    Expansion fragments sets list → Any (merging.SameFields same_field list) known → ExpansionIsSeen same_field fragments known sets
+expansion_known fragments known sets list expansion any =
+    let h = any_has (merging.SameFields same_field list) known any in
+    record { fields = list; known = h.0; expansion = expansion; is_seen = h.1; same_fields = h.2 }
+
+-- a vector that says that it is empty has no items, and another has
+pub no_items : {X : Type 0} (v : Vec X Global) (b : Bool) → b ≡ (vec_len v == 0) → IsTrue b → v.items ≡ []
+no_items v b is empty = nil_from_length v.items (search rules)
+
+pub some_items : {X Y : Type 0} (f : X → Y) (v : Vec X Global) (b : Bool) → b ≡ (vec_len v == 0) → IsFalse b → map f v.items ≢ []
+some_items {X} f v b is filled none = from v.items refl where
+  from : (items : List X) → v.items ≡ items → ⊥
+  from [] empty = let answered : IsTrue b = search rules in let no : ⊥ = cc in no
+  from (x ∷ xs) has = let some : map f (x ∷ xs) ≡ [] = ap (map f) (sym has) ∙ none in let no : ⊥ = cc in no
+
+-- what a count says where its limit was reached, and where it was not
+pub count_at_limit : (b : Bool) (old new limit before highest : ℕ) → new ≡ (if b then old else old + 1) → highest ≡ (if b then limit + 1 else max before new) → IsTrue b →
+    (new ≡ old) × (highest ≡ limit + 1)
+count_at_limit b old new limit before highest count high is = (
+  count ∙ ap (λ (x : Bool). if x then old else old + 1) is,
+  high ∙ ap (λ (x : Bool). if x then limit + 1 else max before new) is,
+)
+
+pub count_below_limit : (b : Bool) (old new limit before highest : ℕ) → new ≡ (if b then old else old + 1) → highest ≡ (if b then limit + 1 else max before new) → IsFalse b →
+    (new ≡ old + 1) × (highest ≡ max before new)
+count_below_limit b old new limit before highest count high is = (
+  count ∙ ap (λ (x : Bool). if x then old else old + 1) is,
+  high ∙ ap (λ (x : Bool). if x then limit + 1 else max before new) is,
+)
+
+pub not_reached : (b : Bool) (count limit : ℕ) {bound : ℕ} → IsTrue b ↔ (count ≡ limit) → IsFalse b → count ≤ limit → limit ≡ bound → count < bound
+not_reached b count limit reached other within is =
+    let apart = λ (at : count ≡ limit). (let true' = reached.1 at in let no : ⊥ = cc in no) in
+    omega (arith, apart, within, is)
+
+-- the code's test of a new list finds no known one
+pub not_known : (fields : List FieldSelection) (known : List (Vec FieldSelection Global)) → IsNew (lists_of known) (listed fields) →
+    IsFalse (list_any (λ k. pointwise same_selection fields k.items) known)
+not_known fields known is_new = by (list_any (λ k. pointwise same_selection fields k.items) known) refl where
+  by : (b : Bool) → list_any (λ k. pointwise same_selection fields k.items) known ≡ b → IsFalse (list_any (λ k. pointwise same_selection fields k.items) known)
+  by false other = other
+  by true found =
+      let h = any_has (merging.SameFields same_field (listed fields)) (lists_of known) ((compared_with_any fields known).0 found) in
+      absurd (All-contains (λ l. ¬ merging.SameFields same_field (listed fields) l) (lists_of known) h.0 is_new h.1 h.2)

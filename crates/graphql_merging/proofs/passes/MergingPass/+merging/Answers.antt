@@ -1,0 +1,193 @@
+-- Each exit of the examination of a list, and of what is below a group.
+use Rattle.std.proofs.Common.{rules, length, ◌≡◌, ◌+◌, ◌*◌, ◌-◌, ◌<◌, ◌≤◌, ◌∷◌, ◌++◌, ◌≢◌, [], List, map, take, refl, sym, ◌∙◌, ap, subst, All, arith}
+use Rattle.std.proofs.lemmas.List.{take_all, map-append}
+use Rattle.std.proofs.lemmas.List.Elements.{All-cons, All-contains, All-nil}
+use Rattle.std.specs.Prelude.{max, sum_by}
+use Rattle.graphql_documents.specs.Diagnostics.{entries}
+use Rattle.graphql_documents.specs.Expansion.{Expansion, IsGroup, MergedSet, merged_below, nested_sets}
+use Rattle.graphql_documents.specs.Limits.{merging_bound}
+use Rattle.graphql_documents.specs.MergedGroups.{AreConflicts, comparisons_of, groups_of}
+use Rattle.graphql_documents.specs.Reports.{Appends, KeepsReports}
+use Rattle.graphql_documents.specs.Selections.{fragments_of}
+use Rattle.graphql_documents.proofs.ListLemmas.{stands_mapped}
+use Rattle.graphql_documents.proofs.ReportLemmas.{kept, kept_then, kept_wider, more_is}
+use Rattle.graphql_guards.specs.Guards.{count_limit, count_of}
+use Rattle.graphql_laws.proofs.OrderedGroupLaws.{comparisons_of_groups, groups_listed}
+use Rattle.graphql_merging.specs.FieldSelections.{listed, lists_of}
+use Rattle.graphql_merging.specs.Groups.{pass_of}
+use Rattle.graphql_merging.specs.Passes.{Examines, GoesBelow, IsConflict, IsConflictAmong, IsNew, counted}
+use Rattle.graphql_merging.specs.Stages.{examined_lists, stage_of}
+use Rattle.graphql_merging.proofs.PassLemmas.{below_cut, below_examined, below_known, below_leaves, below_none, below_then, list_examined}
+use Rattle.graphql_merging.proofs.PassStepLemmas.{conflicts_true, count_at_limit, count_below_limit, counted_groups, each_group, expansion_known, group_among, new_unknown, no_items, not_reached, some_items}
+use Rattle.graphql_merging.proofs.SameFieldLemmas.{same_fields_itself}
+use Rattle.graphql_merging.proofs.passes.MergingPass.+merging.Goals as goal
+
+pub examine-loop-group-init : goal.examine-loop-group-init
+examine-loop-group-init t c =
+    let self = c.args.self.now in
+    record {
+      limit = refl;
+      below = below_none self.schema.now (fragments_of self.document.now) (pass_of self.pass)
+      (stage_of c.compare_groups.new.examined c.args.depth.now c.compare_groups.new.diagnostics) c.compare_groups.new.examined.small;
+      truth = λ operations above merged groups.
+      kept (IsConflict self.schema.now (fragments_of self.document.now) operations (pass_of self.pass)) (entries c.compare_groups.new.diagnostics);
+    }
+
+pub examine-returns-in_err-examine_below-clause-truth :
+    goal.examine-returns-in_err-examine_below-clause-truth
+examine-returns-in_err-examine_below-clause-truth t c operations merged =
+    let self = c.args.self.now in
+    let S = self.schema.now in
+    let F = fragments_of self.document.now in
+    let pass = pass_of self.pass in
+    let list = listed c.args.fields.items in
+    let are = ap lists_of c.deref-2.ensures.value ∙ c.in_ok-groups.ensures ∙ ap (λ l. groups_of S pass (listed l)) c.deref.ensures.value in
+    let walked = ap lists_of c.deref-group-items.ensures.value ∙ c.in_ok-groups.ensures ∙ ap (λ l. groups_of S pass (listed l)) c.deref.ensures.value in
+    let all = each_group S pass list c.deref-group-items.result.now walked in
+    kept_then (conflicts_true S pass list c.deref-2.result.now are F operations merged c.in_ok-compare_groups.ensures.truth)
+    (kept_then (c.loop-group.invariant.truth operations list merged all)
+    (c.examine_below.ensures.truth operations list merged
+    (subst (λ l. IsGroup S list pass (listed l)) (sym c.deref-in-loop-group.ensures.value)
+    (group_among (IsGroup S list pass) c.deref-group-items.result.now c.group-item.result all (c.loop-group.group-index, c.loop-group-test.true, sym c.group-item.is)))))
+
+pub examine-loop-group-preserved : goal.examine-loop-group-preserved
+examine-loop-group-preserved t c =
+    let self = c.args.self.now in
+    let S = self.schema.now in
+    let F = fragments_of self.document.now in
+    let pass = pass_of self.pass in
+    let groups = c.deref-group-items.result.now in
+    let i = c.loop-group.group-index in
+    let item = c.group-item.result in
+    let one = more_is groups i item c.loop-group-test.true c.group-item.is in
+    record {
+      limit = c.in_ok-examine_below.ensures.limit ∙ c.loop-group.invariant.limit;
+      below = subst (λ g. GoesBelow S F pass g (stage_of c.compare_groups.new.examined c.args.depth.now c.compare_groups.new.diagnostics)
+      (stage_of c.examine_below.new.examined c.examine_below.new.depth c.examine_below.new.diagnostics))
+      (sym (ap lists_of one ∙ map-append (λ g. listed g.items) (take i groups) (item ∷ [])))
+      (below_then S F pass (lists_of (take i groups)) (listed item.items ∷ []) c.loop-group.invariant.below
+      (subst (λ l. GoesBelow S F pass (listed l ∷ []) (stage_of c.loop-group.examined c.loop-group.depth c.loop-group.diagnostics)
+      (stage_of c.examine_below.new.examined c.examine_below.new.depth c.examine_below.new.diagnostics)) c.deref-in-loop-group.ensures.value c.in_ok-examine_below.ensures.examines));
+      truth = λ operations above merged all.
+      kept_then (c.loop-group.invariant.truth operations above merged all)
+      (c.in_ok-examine_below.ensures.truth operations above merged
+      (subst (λ l. IsGroup S above pass (listed l)) (sym c.deref-in-loop-group.ensures.value)
+      (group_among (IsGroup S above pass) groups item all (i, c.loop-group-test.true, sym c.group-item.is))));
+    }
+
+pub examine-returns-clause-examines : goal.examine-returns-clause-examines
+examine-returns-clause-examines t c =
+    let self = c.args.self.now in
+    let S = self.schema.now in
+    let F = fragments_of self.document.now in
+    let pass = pass_of self.pass in
+    let list = listed c.args.fields.items in
+    let old = stage_of c.args.examined.now c.args.depth.now c.args.diagnostics.now in
+    let mid = stage_of c.compare_groups.new.examined c.args.depth.now c.compare_groups.new.diagnostics in
+    let new = stage_of c.loop-group.examined c.loop-group.depth c.loop-group.diagnostics in
+    let are = ap lists_of c.deref-2.ensures.value ∙ c.in_ok-groups.ensures ∙ ap (λ l. groups_of S pass (listed l)) c.deref.ensures.value in
+    let walked = ap lists_of c.deref-group-items.ensures.value ∙ c.in_ok-groups.ensures ∙ ap (λ l. groups_of S pass (listed l)) c.deref.ensures.value in
+    list_examined S F pass (λ fields group. groups_listed S fields pass group) list old mid new c.requires.is_new
+    (c.in_ok-compare_groups.ensures.lists ∙ c.in_ok-add.ensures.lists)
+    (c.in_ok-compare_groups.ensures.comparisons ∙ ap (λ g. counted pass c.add.new.self.comparisons (sum_by (λ group. length group - 1) g)) are ∙
+    counted_groups S pass list c.add.new.self.comparisons ∙ ap (λ n. counted pass n (comparisons_of list)) c.in_ok-add.ensures.comparisons)
+    refl refl
+    (subst (λ g. Appends (AreConflicts S pass g) old.reports mid.reports) are c.in_ok-compare_groups.ensures.conflicts)
+    (subst (λ g. GoesBelow S F pass g mid new) (ap lists_of (take_all c.loop-group.group-index c.deref-group-items.result.now c.loop-group-test.false) ∙ walked) c.loop-group.invariant.below)
+
+pub examine-returns-clause-truth : goal.examine-returns-clause-truth
+examine-returns-clause-truth t c operations merged =
+    let self = c.args.self.now in
+    let S = self.schema.now in
+    let F = fragments_of self.document.now in
+    let pass = pass_of self.pass in
+    let list = listed c.args.fields.items in
+    let are = ap lists_of c.deref-2.ensures.value ∙ c.in_ok-groups.ensures ∙ ap (λ l. groups_of S pass (listed l)) c.deref.ensures.value in
+    let walked = ap lists_of c.deref-group-items.ensures.value ∙ c.in_ok-groups.ensures ∙ ap (λ l. groups_of S pass (listed l)) c.deref.ensures.value in
+    kept_then (conflicts_true S pass list c.deref-2.result.now are F operations merged c.in_ok-compare_groups.ensures.truth)
+    (c.loop-group.invariant.truth operations list merged (each_group S pass list c.deref-group-items.result.now walked))
+
+pub examine_below-returns-then-is_empty-clause-examines :
+    goal.examine_below-returns-then-is_empty-clause-examines
+examine_below-returns-then-is_empty-clause-examines t c =
+    let self = c.args.self.now in
+    let empty = no_items c.in_ok-sets.sets c.is_empty.result c.is_empty.ensures c.if-is_empty.true in
+    below_leaves self.schema.now (fragments_of self.document.now) (pass_of self.pass) (listed c.args.group.now) (stage_of c.args.examined.now c.args.depth.now c.args.diagnostics.now)
+    c.args.examined.now.small (sym c.in_ok-sets.ensures ∙ ap (map (λ set. set.now)) empty)
+
+pub examine_below-returns-then-knows-clause-examines :
+    goal.examine_below-returns-then-knows-clause-examines
+examine_below-returns-then-knows-clause-examines t c =
+    let self = c.args.self.now in
+    let F = fragments_of self.document.now in
+    let group = listed c.args.group.now in
+    let stage = stage_of c.args.examined.now c.args.depth.now c.args.diagnostics.now in
+    let sets = ap (map (λ set. set.now)) c.deref.ensures.value ∙ c.in_ok-sets.ensures in
+    below_known self.schema.now F (pass_of self.pass) group stage c.args.examined.now.small
+    (expansion_known F stage.lists (nested_sets group) (listed c.in_ok-fields.fields.items) (subst (λ s. Expansion F s (listed c.in_ok-fields.fields.items)) sets c.in_ok-fields.ensures)
+    (c.knows.ensures.0 c.if-knows.true))
+
+pub examine_below-returns-then-check_and_increment-clause-examines : goal.examine_below-returns-then-check_and_increment-clause-examines
+examine_below-returns-then-check_and_increment-clause-examines t c =
+    let self = c.args.self.now in
+    let F = fragments_of self.document.now in
+    let group = listed c.args.group.now in
+    let list = listed c.in_ok-fields.fields.items in
+    let old = stage_of c.args.examined.now c.args.depth.now c.args.diagnostics.now in
+    let new = stage_of c.args.examined.now c.check_and_increment.new.self c.args.diagnostics.now in
+    let at = count_at_limit c.check_and_increment.result old.depth new.depth (count_limit c.args.depth.now) old.highest new.highest
+    c.check_and_increment.ensures.count c.check_and_increment.ensures.high c.if-check_and_increment.true in
+    let sets = ap (map (λ set. set.now)) c.deref.ensures.value ∙ c.in_ok-sets.ensures in
+    below_cut self.schema.now F (pass_of self.pass) group list old new c.args.examined.now.small
+    (subst (λ n. n ≢ []) c.in_ok-sets.ensures (some_items (λ set. set.now) c.in_ok-sets.sets c.is_empty.result c.is_empty.ensures c.if-is_empty.false)) (subst (λ s. Expansion F s list) sets c.in_ok-fields.ensures) (new_unknown old.lists list (λ any. let known = c.knows.ensures.1 any in let no : ⊥ = cc in no))
+    (c.check_and_increment.ensures.reached.0 c.if-check_and_increment.true ∙ c.requires) refl refl at.0 (at.1 ∙ ap (λ n. n + 1) c.requires) refl
+
+pub examine_below-examine-requires : goal.examine_below-examine-requires
+examine_below-examine-requires t c =
+    let old = stage_of c.args.examined.now c.args.depth.now c.args.diagnostics.now in
+    let down = stage_of c.args.examined.now c.check_and_increment.new.self c.args.diagnostics.now in
+    let below = count_below_limit c.check_and_increment.result old.depth down.depth (count_limit c.args.depth.now) old.highest down.highest
+    c.check_and_increment.ensures.count c.check_and_increment.ensures.high c.if-check_and_increment.false in
+    let step = below.0 in
+    let within : old.depth < merging_bound = not_reached c.check_and_increment.result old.depth (count_limit c.args.depth.now) c.check_and_increment.ensures.reached c.if-check_and_increment.false c.args.depth.now.within c.requires in
+    (omega (arith, step, within, c.decreases), (c.check_and_increment.ensures.limit ∙ c.requires, new_unknown (examined_lists c.args.examined.now) (listed c.in_ok-fields.fields.items)
+    (λ any. let known = c.knows.ensures.1 any in let no : ⊥ = cc in no)))
+
+pub examine_below-returns-in_err-examine-clause-truth :
+    goal.examine_below-returns-in_err-examine-clause-truth
+examine_below-returns-in_err-examine-clause-truth t c operations above merged is_group =
+    let sets = ap (map (λ set. set.now)) c.deref.ensures.value ∙ c.in_ok-sets.ensures in
+    c.examine.ensures.truth operations (merged_below merged record {
+      group = listed c.args.group.now;
+      is_group = is_group;
+      nested = subst (λ n. n ≢ []) c.in_ok-sets.ensures (some_items (λ set. set.now) c.in_ok-sets.sets c.is_empty.result c.is_empty.ensures c.if-is_empty.false);
+      expansion = subst (λ s. Expansion (fragments_of c.args.self.now.document.now) s (listed c.in_ok-fields.fields.items)) sets c.in_ok-fields.ensures;
+    })
+
+pub examine_below-returns-clause-examines : goal.examine_below-returns-clause-examines
+examine_below-returns-clause-examines t c =
+    let self = c.args.self.now in
+    let F = fragments_of self.document.now in
+    let group = listed c.args.group.now in
+    let list = listed c.in_ok-fields.fields.items in
+    let old = stage_of c.args.examined.now c.args.depth.now c.args.diagnostics.now in
+    let down = stage_of c.args.examined.now c.check_and_increment.new.self c.args.diagnostics.now in
+    let up = stage_of c.examine.new.examined c.examine.new.depth c.examine.new.diagnostics in
+    let new = stage_of c.examine.new.examined c.decrement.new.self c.examine.new.diagnostics in
+    let sets = ap (map (λ set. set.now)) c.deref.ensures.value ∙ c.in_ok-sets.ensures in
+    let below = count_below_limit c.check_and_increment.result old.depth down.depth (count_limit c.args.depth.now) old.highest down.highest
+    c.check_and_increment.ensures.count c.check_and_increment.ensures.high c.if-check_and_increment.false in
+    let within = not_reached c.check_and_increment.result old.depth (count_limit c.args.depth.now) c.check_and_increment.ensures.reached c.if-check_and_increment.false c.args.depth.now.within c.requires in
+    below_examined self.schema.now F (pass_of self.pass) same_fields_itself group list old down up new
+    (subst (λ n. n ≢ []) c.in_ok-sets.ensures (some_items (λ set. set.now) c.in_ok-sets.sets c.is_empty.result c.is_empty.ensures c.if-is_empty.false)) (subst (λ s. Expansion F s list) sets c.in_ok-fields.ensures) within refl refl below.0 below.1 refl c.in_ok-examine.ensures.examines
+    refl refl c.decrement.ensures.count c.decrement.ensures.high refl
+
+pub examine_below-returns-clause-truth : goal.examine_below-returns-clause-truth
+examine_below-returns-clause-truth t c operations above merged is_group =
+    let sets = ap (map (λ set. set.now)) c.deref.ensures.value ∙ c.in_ok-sets.ensures in
+    c.in_ok-examine.ensures.truth operations (merged_below merged record {
+      group = listed c.args.group.now;
+      is_group = is_group;
+      nested = subst (λ n. n ≢ []) c.in_ok-sets.ensures (some_items (λ set. set.now) c.in_ok-sets.sets c.is_empty.result c.is_empty.ensures c.if-is_empty.false);
+      expansion = subst (λ s. Expansion (fragments_of c.args.self.now.document.now) s (listed c.in_ok-fields.fields.items)) sets c.in_ok-fields.ensures;
+    })

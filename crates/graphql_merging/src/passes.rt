@@ -1,0 +1,140 @@
+ghost use Rattle.std.specs.Prelude.{◌≡◌, ◌≤◌, ◌+◌, ◌*◌, ◌-◌, ◌∷◌, [], IfOk, List, OnOk, filter, map};
+ghost use Rattle.graphql_documents.specs.Diagnostics.{entries};
+ghost use Rattle.graphql_documents.specs.Expansion.{Expansion, IsGroup, MergedSet, nested_sets};
+ghost use Rattle.graphql_documents.specs.Limits.{merging_bound};
+ghost use Rattle.graphql_documents.specs.Merging as merging;
+ghost use Rattle.graphql_documents.specs.Reports.{KeepsReports};
+ghost use Rattle.graphql_documents.specs.Selections.{fragments_of};
+ghost use Rattle.graphql_documents.specs.declared.documents.executables.Operation.{Operation};
+ghost use Rattle.graphql_documents.specs.declared.documents.nodes.Node.{Node};
+ghost use Rattle.graphql_guards.specs.Guards.{count_limit, count_of};
+ghost use Rattle.graphql_merging.specs.FieldSelections.{listed};
+ghost use Rattle.graphql_merging.specs.Groups.{pass_of};
+ghost use Rattle.graphql_merging.specs.Passes.{Examines, ExaminesSet, GoesBelow, IsConflict, IsNew};
+ghost use Rattle.graphql_merging.specs.Stages.{examined_lists, stage_of};
+
+use super::conflicts::compare_groups;
+use super::examined::Examined;
+use super::expansion::expand_selections;
+use super::field_selections::FieldSelection;
+use super::groups::{Pass, groups_of};
+use graphql_documents::diagnostics::{DiagnosticList, ValidationError};
+use graphql_documents::documents::{ExecutableDocument, Schema, SelectionSet};
+use graphql_guards::LimitCounter;
+use std::alloc::Global;
+
+/// A pass over the fields of operations.
+#[derive(Drop)]
+pub(crate) struct MergingPass<'s, 'doc> {
+    pub(crate) schema: &'s Schema,
+    pub(crate) document: &'doc ExecutableDocument,
+    pub(crate) pass: Pass,
+}
+
+impl<'s, 'doc> MergingPass<'s, 'doc> {
+    /// Examines the fields of a set, and what is merged below them, unless the same fields were examined
+    /// before.
+    pub(crate) fn examine_set(
+        &self,
+        diagnostics: &mut DiagnosticList,
+        examined: &mut Examined<'doc>,
+        depth: &mut LimitCounter,
+        set: &'doc SelectionSet,
+    ) -> Result<(), ValidationError>
+        requires { count_limit depth.old ≡ merging_bound }
+        ensures examines { OnOk result (ExaminesSet self.now.schema.now (fragments_of self.now.document.now) (pass_of self.now.pass) set.now
+            (stage_of examined.old depth.old diagnostics.old) (stage_of examined.new depth.new diagnostics.new)) }
+        ensures truth { (operations : List (Node Operation)) →
+            ((fields : List merging.FieldSelection) → Expansion (fragments_of self.now.document.now) (set.now ∷ []) fields →
+            MergedSet self.now.schema.now (fragments_of self.now.document.now) operations (pass_of self.now.pass) fields) →
+            KeepsReports (IsConflict self.now.schema.now (fragments_of self.now.document.now) operations (pass_of self.now.pass)) (entries diagnostics.old) (entries diagnostics.new) }
+        ensures limit { OnOk result (count_limit depth.new ≡ count_limit depth.old) }
+    {
+        let fields = expand_selections(diagnostics.allocator(), &self.document.fragments, &[set])?;
+        if examined.knows(&fields) {
+            return Ok(());
+        }
+        self.examine(diagnostics, examined, depth, fields)
+    }
+
+    /// Examines a list of fields that was not examined before: compares them group by group, and then
+    /// examines what is merged below each group.
+    #[cycle(merging)]
+    fn examine(
+        &self,
+        diagnostics: &mut DiagnosticList,
+        examined: &mut Examined<'doc>,
+        depth: &mut LimitCounter,
+        fields: Vec<FieldSelection<'doc>>,
+    ) -> Result<(), ValidationError>
+        requires limit { count_limit depth.old ≡ merging_bound }
+        requires is_new { IsNew (examined_lists examined.old) (listed fields.items) }
+        ensures examines { OnOk result (Examines self.now.schema.now (fragments_of self.now.document.now) (pass_of self.now.pass) (listed fields.entry.items)
+            (stage_of examined.old depth.old diagnostics.old) (stage_of examined.new depth.new diagnostics.new)) }
+        ensures truth { (operations : List (Node Operation)) →
+            MergedSet self.now.schema.now (fragments_of self.now.document.now) operations (pass_of self.now.pass) (listed fields.entry.items) →
+            KeepsReports (IsConflict self.now.schema.now (fragments_of self.now.document.now) operations (pass_of self.now.pass)) (entries diagnostics.old) (entries diagnostics.new) }
+        ensures limit { OnOk result (count_limit depth.new ≡ count_limit depth.old) }
+    {
+        let groups = groups_of(diagnostics.allocator(), self.schema, self.pass, &fields)?;
+        examined.add(fields)?;
+        compare_groups(diagnostics, examined, self.schema, self.pass, &groups)?;
+        for group in &groups {
+            self.examine_below(diagnostics, examined, depth, group)?;
+        }
+        Ok(())
+    }
+
+    /// Examines what is merged below a group of fields, one step deeper, unless it was examined before or
+    /// is too deep.
+    #[cycle(merging)]
+    fn examine_below(
+        &self,
+        diagnostics: &mut DiagnosticList,
+        examined: &mut Examined<'doc>,
+        depth: &mut LimitCounter,
+        group: &[FieldSelection<'doc>],
+    ) -> Result<(), ValidationError>
+        requires { count_limit depth.old ≡ merging_bound }
+        ensures examines { OnOk result (GoesBelow self.now.schema.now (fragments_of self.now.document.now) (pass_of self.now.pass) (listed group.now ∷ [])
+            (stage_of examined.old depth.old diagnostics.old) (stage_of examined.new depth.new diagnostics.new)) }
+        ensures truth { (operations : List (Node Operation)) (above : List merging.FieldSelection) →
+            MergedSet self.now.schema.now (fragments_of self.now.document.now) operations (pass_of self.now.pass) above →
+            IsGroup self.now.schema.now above (pass_of self.now.pass) (listed group.now) →
+            KeepsReports (IsConflict self.now.schema.now (fragments_of self.now.document.now) operations (pass_of self.now.pass)) (entries diagnostics.old) (entries diagnostics.new) }
+        ensures limit { OnOk result (count_limit depth.new ≡ count_limit depth.old) }
+    {
+        let alloc = diagnostics.allocator();
+        let sets = nested_sets_of(alloc, group)?;
+        if sets.is_empty() {
+            return Ok(());
+        }
+        let fields = expand_selections(alloc, &self.document.fragments, &sets)?;
+        if examined.knows(&fields) {
+            return Ok(());
+        }
+        if depth.check_and_increment() {
+            return Ok(());
+        }
+        self.examine(diagnostics, examined, depth, fields)?;
+        depth.decrement();
+        Ok(())
+    }
+}
+
+/// The sets of the fields that select something.
+fn nested_sets_of<'doc>(
+    alloc: Global,
+    group: &[FieldSelection<'doc>],
+) -> Result<Vec<&'doc SelectionSet>, ValidationError>
+    ensures { IfOk result (λ sets. map (λ set. set.now) sets.items ≡ nested_sets (listed group.now)) }
+{
+    let mut sets = Vec::new(alloc);
+    for field in group {
+        let set = &field.field.value.selection_set;
+        if !set.selections.is_empty() {
+            sets.push(set)?;
+        }
+    }
+    Ok(sets)
+}
