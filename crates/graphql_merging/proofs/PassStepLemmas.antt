@@ -1,8 +1,8 @@
 -- The facts that the code of a pass has at each step, in the words of passes.
-use Rattle.std.proofs.Common.{rules, ◌≡◌, ◌↔◌, ℕ, ◌<◌, ◌≤◌, ◌+◌, ◌-◌, List, [], ◌∷◌, arith, length, map, take, refl, sym, ◌∙◌, ap, subst, All, Contains}
-use Rattle.std.proofs.lemmas.List.{nil_from_length}
-use Rattle.std.proofs.lemmas.List.Elements.{All-contains}
-use Rattle.std.specs.Prelude.{Bool, true, false, ◌==◌, ◌≢◌, Vec, IsTrue, IsFalse, if◌then◌else◌, max, sum_by}
+use Rattle.std.proofs.Common.{rules, ◌≡◌, ◌↔◌, ℕ, ◌<◌, ◌≤◌, ◌+◌, ◌-◌, List, [], ◌∷◌, arith, get_or, length, map, take, refl, sym, ◌∙◌, ap, subst, All, Contains}
+use Rattle.std.proofs.lemmas.List.{append-nil, map-append, nil_from_length}
+use Rattle.std.proofs.lemmas.List.Elements.{All-contains, filter-append}
+use Rattle.std.specs.Prelude.{filter, is_some, not, slice_get, ◌++◌, Bool, true, false, ◌==◌, ◌≢◌, Vec, IsTrue, IsFalse, if◌then◌else◌, max, sum_by}
 use Rattle.std.specs.List.{Any, list_any}
 use Rattle.std.specs.Cmp.Lexicographic.{pointwise}
 use Rattle.std.specs.Vec.{vec_len}
@@ -12,17 +12,18 @@ use Rattle.graphql_documents.specs.MergedFields.{ExpansionIsSeen}
 use Rattle.graphql_documents.specs.MergedGroups.{comparisons_of, groups_of}
 use Rattle.graphql_documents.specs.Merging as merging
 use Rattle.graphql_documents.specs.Reports.{KeepsReports}
-use Rattle.graphql_documents.specs.Selections.{Fragments}
+use Rattle.graphql_documents.specs.Selections.{Fragments, selections_of}
 use Rattle.graphql_documents.specs.declared.diagnostics.lists.DiagnosticEntry.{DiagnosticEntry}
 use Rattle.graphql_documents.specs.declared.documents.executables.Operation.{Operation}
+use Rattle.graphql_documents.specs.declared.documents.executables.Selection.{Selection}
 use Rattle.graphql_documents.specs.declared.documents.executables.SelectionSet.{SelectionSet}
 use Rattle.graphql_documents.specs.declared.documents.nodes.Node.{Node}
 use Rattle.graphql_documents.specs.declared.documents.schemas.Schema.{Schema}
 use Rattle.graphql_documents.proofs.ListLemmas.{each_standing, stands_mapped}
-use Rattle.graphql_documents.proofs.ReportLemmas.{kept_wider}
+use Rattle.graphql_documents.proofs.ReportLemmas.{kept_wider, more_is}
 use Rattle.graphql_laws.proofs.OrderedGroupLaws.{comparisons_of_groups, groups_listed}
 use Rattle.graphql_values.proofs.UseLemmas.{any_has, has_any}
-use Rattle.graphql_merging.specs.FieldSelections.{listed, lists_of, same_field, same_selection}
+use Rattle.graphql_merging.specs.FieldSelections.{listed, lists_of, same_field, same_selection, selection_of}
 use Rattle.graphql_merging.proofs.FieldSelectionLemmas.{compared_with_any}
 use Rattle.graphql_merging.specs.Passes.{IsConflict, IsConflictAmong, IsNew, counted}
 use Rattle.graphql_merging.specs.declared.field_selections.FieldSelection.{FieldSelection}
@@ -105,3 +106,29 @@ not_known fields known is_new = by (list_any (λ k. pointwise same_selection fie
   by true found =
       let h = any_has (merging.SameFields same_field (listed fields)) (lists_of known) ((compared_with_any fields known).0 found) in
       absurd (All-contains (λ l. ¬ merging.SameFields same_field (listed fields) l) (lists_of known) h.0 is_new h.1 h.2)
+
+-- the sets of one field more: its own behind the others, if it selects something
+nested_more : (fields : List FieldSelection) (x : FieldSelection) →
+    nested_sets (listed (fields ++ x ∷ [])) ≡ nested_sets (listed fields) ++ nested_sets (listed (x ∷ []))
+nested_more fields x =
+    let selects = λ (set : SelectionSet). is_some (slice_get (selections_of set) 0) in
+    ap (λ l. filter selects (map merging.set_of l)) (map-append selection_of fields (x ∷ [])) ∙
+    ap (filter selects) (map-append merging.set_of (listed fields) (listed (x ∷ []))) ∙
+    filter-append selects (map merging.set_of (listed fields)) (map merging.set_of (listed (x ∷ [])))
+
+selects_something : (set : SelectionSet) (b : Bool) → b ≡ (vec_len set.selections == 0) → is_some (slice_get (selections_of set) 0) ≡ not b
+selects_something set b is = from set.selections.items refl where
+  from : (items : List Selection) → set.selections.items ≡ items → is_some (slice_get (selections_of set) 0) ≡ not b
+  from [] none = let e : b ≡ true = search rules in rw (none, e) refl
+  from (x ∷ xs) some = let e : b ≡ false = search rules in rw (some, e) refl
+
+pub nested_one_more : (sets : List SelectionSet) (group : List FieldSelection) (i : ℕ) (x : FieldSelection) (b : Bool) → i < length group → x ≡ get_or group i x →
+    b ≡ (vec_len x.field.now.value.value.selection_set.selections == 0) → sets ≡ nested_sets (listed (take i group)) →
+    (IsFalse b → sets ++ x.field.now.value.value.selection_set ∷ [] ≡ nested_sets (listed (take (i + 1) group))) ×
+    (IsTrue b → sets ≡ nested_sets (listed (take (i + 1) group)))
+nested_one_more sets group i x b within item is known =
+    let more = ap (λ l. nested_sets (listed l)) (more_is group i x within item) ∙ nested_more (take i group) x in
+    let one = selects_something x.field.now.value.value.selection_set b is in (
+      λ other. sym (more ∙ ap (λ l. l ++ nested_sets (listed (x ∷ []))) (sym known) ∙ ap (λ l. sets ++ l) (rw (one ∙ ap not other) refl)),
+      λ empty. sym (more ∙ ap (λ l. l ++ nested_sets (listed (x ∷ []))) (sym known) ∙ ap (λ l. sets ++ l) (rw (one ∙ ap not empty) refl) ∙ append-nil sets),
+    )
