@@ -1,4 +1,2 @@
 pub mod FieldSelectionLemmas
-pub mod PassLemmas
-pub mod PassStepLemmas
-pub mod SameFieldLemmas
+pub mod GroupLemmas

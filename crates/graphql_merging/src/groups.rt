@@ -1,21 +1,33 @@
-ghost use Rattle.std.specs.Prelude.{◌≡◌, IfOk};
-ghost use Rattle.graphql_documents.specs.MergedGroups.{groups_of};
-ghost use Rattle.graphql_merging.specs.FieldSelections.{listed, lists_of};
-ghost use Rattle.graphql_merging.specs.Groups.{pass_of};
+//! The groups in which the fields of a list are put together.
 
-use super::field_selections::FieldSelection;
+ghost use Rattle.std.specs.Prelude.{◌≡◌, ◌++◌, ◌∷◌, [], IfOk, OnOk, flat_map};
+ghost use Rattle.graphql_documents.specs.Expansion.{is_abstract, with_parents};
+ghost use Rattle.graphql_documents.specs.MergedGroups.{groups_of, groups_on, objects_of};
+ghost use Rattle.graphql_merging.specs.FieldSelections.{listed, lists_of, selection_of};
+ghost use Rattle.graphql_merging.specs.Groups.{by_keys, by_objects, named_fields, pass_of, with_field, with_owned};
+
+use crate::field_selections::FieldSelection;
 use graphql_documents::diagnostics::ValidationError;
-use graphql_documents::documents::Schema;
+use graphql_documents::documents::{ExtendedType, Name, Schema};
+use indexmap::IndexMap;
 use std::alloc::Global;
 
 /// Which fields of a list are put together, and what is asked of them.
-#[derive(Clone, Copy)]
+///
+/// Specification: 5.3.2 Field Selection Merging.
+#[derive(Clone, Copy, Debug, PartialEq, Eq)]
 pub(crate) enum Pass {
+    /// All with one response key, which must have one shape (SameResponseShape).
     Shapes,
+    /// Those with one response key whose parents may overlap, which must be one field with the same
+    /// arguments (FieldsInSetCanMerge).
     NamesAndArguments,
 }
 
-/// The groups of a list of fields, in order.
+/// The groups of a list of fields, in order of first field. Fields that stand on no object, interface or
+/// union are in no group for names and arguments. The only error is want of memory.
+///
+/// Specification: 5.3.2 Field Selection Merging.
 pub(crate) fn groups_of<'doc>(
     alloc: Global,
     schema: &Schema,
@@ -24,5 +36,145 @@ pub(crate) fn groups_of<'doc>(
 ) -> Result<Vec<Vec<FieldSelection<'doc>>>, ValidationError>
     ensures { IfOk result (λ groups. lists_of groups.items ≡ groups_of schema.now (pass_of pass) (listed fields.now)) }
 {
-    Err(ValidationError::OutOfMemory)
+    let fields_by_key = fields_by_key(alloc, fields)?;
+    match pass {
+        Pass::Shapes => Ok(fields_by_key.into_values().collect(alloc)?),
+        Pass::NamesAndArguments => groups_by_types(alloc, schema, &fields_by_key),
+    }
+}
+
+/// The groups, by types, of the fields under each key.
+fn groups_by_types<'doc>(
+    alloc: Global,
+    schema: &Schema,
+    fields_by_key: &IndexMap<&'doc Name, Vec<FieldSelection<'doc>>>,
+) -> Result<Vec<Vec<FieldSelection<'doc>>>, ValidationError>
+    ensures { IfOk result (λ groups. lists_of groups.items ≡
+        flat_map (λ entry. groups_on schema.now entry.1 (objects_of schema.now entry.1)) (named_fields fields_by_key.now.entries)) }
+{
+    let mut groups = Vec::new(alloc);
+    for fields in fields_by_key.values() {
+        push_groups(&mut groups, alloc, schema, fields)?;
+    }
+    Ok(groups)
+}
+
+/// The fields of a list by their response keys.
+fn fields_by_key<'doc>(
+    alloc: Global,
+    fields: &[FieldSelection<'doc>],
+) -> Result<IndexMap<&'doc Name, Vec<FieldSelection<'doc>>>, ValidationError>
+    ensures { IfOk result (λ found. named_fields found.entries ≡ by_keys (listed fields.now)) }
+{
+    let mut fields_by_key = IndexMap::new(alloc);
+    for field in fields {
+        push_under(
+            &mut fields_by_key,
+            alloc,
+            field.field.value.response_key(),
+            *field,
+        )?;
+    }
+    Ok(fields_by_key)
+}
+
+/// Puts the field behind those under the name.
+fn push_under<'name, 'doc>(
+    fields_by_name: &mut IndexMap<&'name Name, Vec<FieldSelection<'doc>>>,
+    alloc: Global,
+    name: &'name Name,
+    field: FieldSelection<'doc>,
+) -> Result<(), ValidationError>
+    ensures { OnOk result (named_fields fields_by_name.new.entries ≡
+        with_field (named_fields fields_by_name.old.entries) name.now (selection_of field.entry)) }
+{
+    match fields_by_name.get_mut(&name) {
+        Some(fields) => fields.push(field)?,
+        None => {
+            let mut fields = Vec::new(alloc);
+            fields.push(field)?;
+            fields_by_name.insert(name, fields)?;
+        }
+    }
+    Ok(())
+}
+
+/// Adds the groups of fields with one response key: for each object type the fields on it, and then those
+/// on abstract types; or the latter alone, where none is on an object type.
+fn push_groups<'doc>(
+    groups: &mut Vec<Vec<FieldSelection<'doc>>>,
+    alloc: Global,
+    schema: &Schema,
+    fields: &[FieldSelection<'doc>],
+) -> Result<(), ValidationError>
+    ensures { OnOk result (lists_of groups.new.items ≡
+        lists_of groups.old.items ++ groups_on schema.now (listed fields.now) (objects_of schema.now (listed fields.now))) }
+{
+    let FieldsOnTypes {
+        on_objects,
+        on_abstract,
+    } = FieldsOnTypes::of(alloc, schema, fields)?;
+    if on_objects.is_empty() {
+        if !on_abstract.is_empty() {
+            groups.push(on_abstract)?;
+        }
+        return Ok(());
+    }
+    for mut group in on_objects.into_values() {
+        group.extend_from_slice(&on_abstract)?;
+        groups.push(group)?;
+    }
+    Ok(())
+}
+
+/// Fields by the types on which they stand: those on each object type, by its own name, and those on
+/// interfaces and unions.
+#[derive(Drop)]
+struct FieldsOnTypes<'schema, 'doc> {
+    on_objects: IndexMap<&'schema Name, Vec<FieldSelection<'doc>>>,
+    on_abstract: Vec<FieldSelection<'doc>>,
+}
+
+impl<'schema, 'doc> FieldsOnTypes<'schema, 'doc> {
+    fn of(
+        alloc: Global,
+        schema: &'schema Schema,
+        fields: &[FieldSelection<'doc>],
+    ) -> Result<FieldsOnTypes<'schema, 'doc>, ValidationError>
+        ensures objects { IfOk result (λ found. named_fields found.on_objects.entries ≡ by_objects schema.now (listed fields.now)) }
+        ensures on_abstract { IfOk result (λ found. listed found.on_abstract.items ≡ with_parents schema.now is_abstract (listed fields.now)) }
+    {
+        let mut fields_on_types = FieldsOnTypes {
+            on_objects: IndexMap::new(alloc),
+            on_abstract: Vec::new(alloc),
+        };
+        for field in fields {
+            fields_on_types.add(alloc, schema, *field)?;
+        }
+        Ok(fields_on_types)
+    }
+
+    /// Adds the field to those of its type, unless this is undefined or has no fields to select.
+    fn add(
+        &mut self,
+        alloc: Global,
+        schema: &'schema Schema,
+        field: FieldSelection<'doc>,
+    ) -> Result<(), ValidationError>
+        ensures objects { OnOk result (named_fields self.new.on_objects.entries ≡
+            with_owned schema.now (named_fields self.old.on_objects.entries) (selection_of field.entry)) }
+        ensures on_abstract { OnOk result (listed self.new.on_abstract.items ≡
+            listed self.old.on_abstract.items ++ with_parents schema.now is_abstract (selection_of field.entry ∷ [])) }
+    {
+        match schema.types.get(field.parent_type) {
+            Some(ExtendedType::Object(object)) => {
+                push_under(&mut self.on_objects, alloc, &object.value.name, field)?;
+            }
+            Some(ExtendedType::Interface(_) | ExtendedType::Union(_)) => {
+                self.on_abstract.push(field)?;
+            }
+            _ => {}
+        }
+        Ok(())
+    }
 }

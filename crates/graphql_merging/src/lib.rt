@@ -7,4 +7,3 @@ mod examined;
 mod expansion;
 pub mod field_selections;
 mod groups;
-mod passes;

@@ -1,0 +1,11 @@
+use Rattle.std.proofs.Common.{◌≡◌, [], fold, take}
+use Rattle.graphql_documents.specs.Expansion.{is_abstract, with_parents}
+use Rattle.graphql_merging.specs.FieldSelections.{listed}
+use Rattle.graphql_merging.specs.Groups.{named_fields, with_owned}
+use Rattle.graphql_merging.proofs.groups.FieldsOnTypes.of.Given as goal
+
+abbrev pub invariant-loop-field : goal.invariant-loop-field
+invariant-loop-field l = record {
+  objects : named_fields l.fields_on_types.on_objects.entries ≡ fold (with_owned l.schema) [] (listed (take l.field-index l.fields));
+  on_abstract : listed l.fields_on_types.on_abstract.items ≡ with_parents l.schema is_abstract (listed (take l.field-index l.fields));
+}
