@@ -1,2 +1,4 @@
+pub mod ExpansionSizeLemmas
+pub mod ExpansionStepLemmas
 pub mod FieldSelectionLemmas
 pub mod GroupLemmas

@@ -1,14 +1,28 @@
+//! The fields of sets, with those of the fragments in them.
+
 ghost use Rattle.std.specs.Prelude.{◌∷◌, [], IfOk, OnOk, map};
 ghost use Rattle.graphql_documents.specs.Expansion.{Expansion};
-ghost use Rattle.graphql_merging.specs.ExpansionSteps.{fragments_in};
+ghost use Rattle.graphql_documents.specs.Names.{NameText};
+ghost use Rattle.graphql_documents.specs.Selections.{selections_of};
+ghost use Rattle.graphql_documents.specs.declared.documents.executables.Selection.TheVariants as kind;
+ghost use Rattle.graphql_merging.specs.ExpansionSteps.{Expands, fragments_in};
 ghost use Rattle.graphql_merging.specs.FieldSelections.{listed};
 
 use super::field_selections::FieldSelection;
 use graphql_documents::diagnostics::ValidationError;
-use graphql_documents::documents::{Fragment, Name, Node, SelectionSet};
-use indexmap::IndexMap;
+use graphql_documents::documents::{
+    Fragment, FragmentSpread, Name, NamedType, Node, Selection, SelectionSet,
+};
+use indexmap::{IndexMap, IndexSet};
 use std::alloc::Global;
+use std::collections::VecDeque;
 
+/// Lists the fields of these sets, and those of the fragments in them, each with the type of the set in
+/// which it stands. The fields of one set stand together, in order; the sets of its fragments come behind
+/// the sets that are still to be listed. Each named fragment is gone into once, and an undefined one gives
+/// nothing. The only error is want of memory.
+///
+/// Specification: 5.3.2 Field Selection Merging, "including visiting fragments and inline fragments".
 pub fn expand_selections<'doc>(
     alloc: Global,
     fragments: &'doc IndexMap<Name, Node<Fragment>>,
@@ -16,5 +30,67 @@ pub fn expand_selections<'doc>(
 ) -> Result<Vec<FieldSelection<'doc>>, ValidationError>
     ensures { IfOk result (λ fields. Expansion (fragments_in fragments.now) (map (λ set. set.now) sets.now) (listed fields.items)) }
 {
-    Err(ValidationError::OutOfMemory)
+    let sets: Vec<&SelectionSet> = sets.iter().copied().collect(alloc)?;
+    let mut expansion = FieldExpansion {
+        fragments,
+        fields: Vec::new(alloc),
+        met: IndexSet::new(alloc),
+        queue: VecDeque::from(sets),
+    };
+    while let Some(set) = expansion.queue.pop_front() {
+        expansion.expand_set(set)?;
+    }
+    Ok(expansion.fields)
+}
+
+/// What was found so far: the fields, the names of the fragments that were met, and the sets whose fields
+/// are still to be listed.
+#[derive(Drop)]
+struct FieldExpansion<'doc> {
+    fragments: &'doc IndexMap<Name, Node<Fragment>>,
+    fields: Vec<FieldSelection<'doc>>,
+    met: IndexSet<&'doc Name>,
+    queue: VecDeque<&'doc SelectionSet>,
+}
+
+impl<'doc> FieldExpansion<'doc> {
+    /// Lists the fields of a set, and puts the sets of the fragments in it behind the others.
+    fn expand_set(&mut self, set: &'doc SelectionSet) -> Result<(), ValidationError>
+        ensures { OnOk result (Expands self.old self.new set.now.ty (selections_of set.now)) }
+    {
+        for selection in &set.selections {
+            self.expand_selection(&set.ty, selection)?;
+        }
+        Ok(())
+    }
+
+    /// The same of a selection of a set of this type.
+    fn expand_selection(
+        &mut self,
+        parent_type: &'doc NamedType,
+        selection: &'doc Selection,
+    ) -> Result<(), ValidationError>
+        ensures { OnOk result (Expands self.old self.new parent_type.now (selection.now ∷ [])) }
+    {
+        match selection {
+            Selection::Field(field) => Ok(self.fields.push(FieldSelection { parent_type, field })?),
+            Selection::FragmentSpread(spread) => self.expand_spread(spread),
+            Selection::InlineFragment(inline) => {
+                Ok(self.queue.push_back(&inline.value.selection_set)?)
+            }
+        }
+    }
+
+    /// The same of a spread.
+    fn expand_spread(&mut self, spread: &'doc Node<FragmentSpread>) -> Result<(), ValidationError>
+        ensures { OnOk result ((parent : NameText) → Expands self.old self.new parent (kind.FragmentSpread spread.now ∷ [])) }
+    {
+        let name = &spread.value.fragment_name;
+        if self.met.insert(name)? {
+            if let Some(fragment) = self.fragments.get(name) {
+                self.queue.push_back(&fragment.value.selection_set)?;
+            }
+        }
+        Ok(())
+    }
 }
