@@ -132,3 +132,8 @@ nested_one_more sets group i x b within item is known =
       λ other. sym (more ∙ ap (λ l. l ++ nested_sets (listed (x ∷ []))) (sym known) ∙ ap (λ l. sets ++ l) (rw (one ∙ ap not other) refl)),
       λ empty. sym (more ∙ ap (λ l. l ++ nested_sets (listed (x ∷ []))) (sym known) ∙ ap (λ l. sets ++ l) (rw (one ∙ ap not empty) refl) ∙ append-nil sets),
     )
+
+-- a known list with the same fields
+pub known_with : (known : List (List merging.FieldSelection)) (list : List merging.FieldSelection) → Any (merging.SameFields same_field list) known →
+    (l : List merging.FieldSelection) × Contains known l × merging.SameFields same_field list l
+known_with known list any = any_has (merging.SameFields same_field list) known any

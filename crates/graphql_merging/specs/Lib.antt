@@ -1,3 +1,5 @@
 pub mod ExpansionSteps
 pub mod FieldSelections
 pub mod Groups
+pub mod Passes
+pub mod Stages

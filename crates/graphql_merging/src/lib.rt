@@ -2,6 +2,9 @@
 //! for lists of fields that are put together, from an operation's set down.
 #![tactic(auto)]
 
+mod conflicts;
+mod examined;
 pub mod expansion;
 pub mod field_selections;
 mod groups;
+mod passes;
