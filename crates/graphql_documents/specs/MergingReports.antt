@@ -9,6 +9,8 @@ use Rattle.graphql_documents.specs.TypeReferences.{IsTypeCopy}
 use Rattle.graphql_documents.specs.Values.{IsCopy, SameValue}
 use Rattle.graphql_documents.specs.declared.diagnostics.build_errors.BuildError.TheVariants as build
 use Rattle.graphql_documents.specs.declared.diagnostics.build_errors.BuildError.{BuildError}
+use Rattle.graphql_documents.specs.declared.diagnostics.details.Details.TheVariants as details
+use Rattle.graphql_documents.specs.declared.diagnostics.details.Details.{Details}
 use Rattle.graphql_documents.specs.declared.documents.coordinates.FieldArgumentCoordinate.{FieldArgumentCoordinate}
 use Rattle.graphql_documents.specs.declared.documents.coordinates.TypeAttributeCoordinate.{TypeAttributeCoordinate}
 use Rattle.graphql_documents.specs.declared.documents.directives.Argument.{Argument}
@@ -98,3 +100,8 @@ pub record MergingBreaks (schema : Schema) (fragments : Fragments) (set : Select
   pub y : FieldSelection
   pub together : ComeTogether schema fragments pass set x y
   pub conflict : Conflict schema pass x y e at
+
+-- the same of an entry of a list of reports
+pub data MergingReport (schema : Schema) (fragments : Fragments) (set : SelectionSet) : Details → Option SourceSpan → Type 0 where
+  of_conflict : {e : BuildError} {at : Option SourceSpan} →
+      MergingBreaks schema fragments set e at → MergingReport schema fragments set (details.Build e) at
