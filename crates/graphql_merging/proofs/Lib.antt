@@ -1,7 +1,9 @@
+pub mod ConflictLemmas
 pub mod ExpansionSizeLemmas
 pub mod ExpansionStepLemmas
 pub mod FieldSelectionLemmas
 pub mod GroupLemmas
+pub mod MergedOperationLemmas
 pub mod PassLemmas
 pub mod PassStepLemmas
 pub mod SameFieldLemmas

@@ -21,7 +21,7 @@ use Rattle.graphql_merging.specs.FieldSelections.{same_field}
 use Rattle.graphql_merging.specs.Passes.{AreNew, DescendsBeyond, Examines, ExaminesMore, ExaminesSet, GoesBelow, HasPassed, IsClosedIn, IsKnownBelow, IsNew, Stage, counted, next_new, no_new}
 
 -- what is new behind some lists, and then behind those too
-new_then : {known a b : List (List FieldSelection)} → AreNew known a → AreNew (known ++ a) b → AreNew known (a ++ b)
+pub new_then : {known a b : List (List FieldSelection)} → AreNew known a → AreNew (known ++ a) b → AreNew known (a ++ b)
 new_then {known} {b = b} no_new second = subst (λ l. AreNew l b) (append-nil known) second
 new_then {known} {b = b} (next_new {list = list} {rest = rest} here behind) second =
     next_new here (new_then behind (subst (λ l. AreNew l b) (sym (append_assoc known (list ∷ []) rest)) second))
@@ -56,11 +56,11 @@ conflicts_then {old = old} {mid = mid} {new = new} x y = record {
 sum_of_both : (xs ys : List (List FieldSelection)) → sum_by comparisons_of (xs ++ ys) ≡ sum_by comparisons_of xs + sum_by comparisons_of ys
 sum_of_both xs ys = sum_by-append comparisons_of xs ys
 
-counted_then : (pass : Pass) (n a b : ℕ) → counted pass (counted pass n a) b ≡ counted pass n (a + b)
+pub counted_then : (pass : Pass) (n a b : ℕ) → counted pass (counted pass n a) b ≡ counted pass n (a + b)
 counted_then shape_pass n a b = omega arith
 counted_then field_pass n a b = refl
 
-counted_none : (pass : Pass) (n : ℕ) → n < 2 ^ 64 → counted pass n 0 ≡ n
+pub counted_none : (pass : Pass) (n : ℕ) → n < 2 ^ 64 → counted pass n 0 ≡ n
 counted_none shape_pass n small = omega (arith, small)
 counted_none field_pass n small = refl
 
@@ -90,7 +90,7 @@ first_new : {known rest : List (List FieldSelection)} {list : List FieldSelectio
 first_new (next_new here behind) = here
 
 -- what is known stays known
-seen_further : {fragments : Fragments} {known : List (List FieldSelection)} {sets : List SelectionSet} (further : List (List FieldSelection)) →
+pub seen_further : {fragments : Fragments} {known : List (List FieldSelection)} {sets : List SelectionSet} (further : List (List FieldSelection)) →
     ExpansionIsSeen same_field fragments known sets → ExpansionIsSeen same_field fragments (known ++ further) sets
 seen_further {known = known} further e = record {
   fields = e.fields;
@@ -101,7 +101,7 @@ seen_further {known = known} further e = record {
 }
 
 module _ (schema : Schema) (fragments : Fragments) (pass : Pass) where
-  closed_further : (known further lists : List (List FieldSelection)) → All (IsClosedIn schema fragments pass known) lists → All (IsClosedIn schema fragments pass (known ++ further)) lists
+  pub closed_further : (known further lists : List (List FieldSelection)) → All (IsClosedIn schema fragments pass known) lists → All (IsClosedIn schema fragments pass (known ++ further)) lists
   closed_further known further lists closed =
       All-weaker (IsClosedIn schema fragments pass known) (IsClosedIn schema fragments pass (known ++ further))
       (λ list here group is_group nested. seen_further further (here group is_group nested)) lists closed

@@ -7,4 +7,5 @@ mod examined;
 pub mod expansion;
 pub mod field_selections;
 mod groups;
+pub mod merging;
 mod passes;

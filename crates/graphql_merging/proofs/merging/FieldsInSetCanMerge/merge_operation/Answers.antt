@@ -1,0 +1,99 @@
+use Rattle.std.proofs.Common.{◌≡◌, ◌↔◌, ◌<◌, ◌++◌, ◌∷◌, ◌||◌, [], IsTrue, length, map, nat_lt, ◌∙◌, ap, sym, subst, inl}
+use Rattle.std.proofs.lemmas.List.{map-append}
+use Rattle.graphql_documents.specs.Diagnostics.{entries}
+use Rattle.graphql_documents.specs.Reports.{Appends}
+use Rattle.graphql_documents.specs.Selections.{fragments_of}
+use Rattle.graphql_documents.proofs.ReportLemmas.{kept_then, kept_wider, on_ok}
+use Rattle.graphql_documents.proofs.SelectionLemmas.{one_fragment_found}
+use Rattle.graphql_merging.specs.MergedOperations.{AreLimits, HasMerged, MergesOneMore}
+use Rattle.graphql_merging.specs.Mergers.{document_of, merging_of, schema_of}
+use Rattle.graphql_merging.proofs.ConflictLemmas.{limit_reported}
+use Rattle.graphql_merging.proofs.MergedOperationLemmas.{always, longer, merged_next, one_more, too_deep_so_far}
+use Rattle.graphql_merging.proofs.merging.FieldsInSetCanMerge.merge_operation.Goals as goal
+
+pub returns-clause-merges : goal.returns-clause-merges
+returns-clause-merges c =
+    let m = c.args.self.now in
+    let S = schema_of m in
+    let F = fragments_of (document_of m) in
+    let o = c.args.operation.now in
+    let conflicts = nat_lt c.len-reports.result c.len.result in
+    let deep = c.in_ok-deep.deep in
+    let held = c.examine_operation.new.self in
+    let new = merging_of (record {
+      schema = held.schema;
+      document = held.document;
+      operations = held.operations;
+      shapes = held.shapes;
+      fields = held.fields;
+      conflicting = held.conflicting || conflicts;
+      too_deep = held.too_deep || deep;
+      refused = held.refused;
+    }) in
+    let before = entries c.args.diagnostics.now in
+    let mid = entries c.examine_operation.new.diagnostics in
+    let operations = c.in_ok-deep.ensures.operations ∙ ap (map (λ o. o.now)) c.in_ok-push.ensures.items ∙ map-append (λ o. o.now) m.operations.items _ in
+    let conflicting = ap (λ b. b || conflicts) c.in_ok-deep.ensures.conflicting in
+    let too_deep = ap (λ b. b || deep) c.in_ok-deep.ensures.too_deep in
+    let conflicts_is : IsTrue conflicts ↔ (length before < length mid) = longer c.len-reports.result c.len.result before mid c.len-reports.ensures c.len.ensures in
+    on_ok c.report_limit.result (Appends (AreLimits o new.too_deep) mid (entries c.report_limit.new.diagnostics))
+    (MergesOneMore S o (merging_of m) new before (entries c.report_limit.new.diagnostics))
+    (one_more S F (one_fragment_found (document_of m)) o (merging_of m) new deep conflicts c.in_ok-deep.ensures.examines operations conflicting too_deep conflicts_is)
+    c.report_limit.ensures.limits
+
+pub returns-clause-merged : goal.returns-clause-merged
+returns-clause-merged c =
+    let m = c.args.self.now in
+    let S = schema_of m in
+    let F = fragments_of (document_of m) in
+    let o = c.args.operation.now in
+    let conflicts = nat_lt c.len-reports.result c.len.result in
+    let deep = c.in_ok-deep.deep in
+    let held = c.examine_operation.new.self in
+    let new = merging_of (record {
+      schema = held.schema;
+      document = held.document;
+      operations = held.operations;
+      shapes = held.shapes;
+      fields = held.fields;
+      conflicting = held.conflicting || conflicts;
+      too_deep = held.too_deep || deep;
+      refused = held.refused;
+    }) in
+    let before = entries c.args.diagnostics.now in
+    let mid = entries c.examine_operation.new.diagnostics in
+    let operations = c.in_ok-deep.ensures.operations ∙ ap (map (λ o. o.now)) c.in_ok-push.ensures.items ∙ map-append (λ o. o.now) m.operations.items _ in
+    let conflicting = ap (λ b. b || conflicts) c.in_ok-deep.ensures.conflicting in
+    let too_deep = ap (λ b. b || deep) c.in_ok-deep.ensures.too_deep in
+    let conflicts_is : IsTrue conflicts ↔ (length before < length mid) = longer c.len-reports.result c.len.result before mid c.len-reports.ensures c.len.ensures in
+    always c.report_limit.result
+    (merged_next S F (one_fragment_found (document_of m)) o (merging_of m) new deep conflicts c.in_ok-deep.ensures.examines operations conflicting too_deep conflicts_is)
+
+pub returns-clause-truth : goal.returns-clause-truth
+returns-clause-truth c was =
+    let m = c.args.self.now in
+    let S = schema_of m in
+    let F = fragments_of (document_of m) in
+    let o = c.args.operation.now in
+    let conflicts = nat_lt c.len-reports.result c.len.result in
+    let deep = c.in_ok-deep.deep in
+    let held = c.examine_operation.new.self in
+    let new = merging_of (record {
+      schema = held.schema;
+      document = held.document;
+      operations = held.operations;
+      shapes = held.shapes;
+      fields = held.fields;
+      conflicting = held.conflicting || conflicts;
+      too_deep = held.too_deep || deep;
+      refused = held.refused;
+    }) in
+    let before = entries c.args.diagnostics.now in
+    let mid = entries c.examine_operation.new.diagnostics in
+    let operations = c.in_ok-deep.ensures.operations ∙ ap (map (λ o. o.now)) c.in_ok-push.ensures.items ∙ map-append (λ o. o.now) m.operations.items _ in
+    let conflicting = ap (λ b. b || conflicts) c.in_ok-deep.ensures.conflicting in
+    let too_deep = ap (λ b. b || deep) c.in_ok-deep.ensures.too_deep in
+    let conflicts_is : IsTrue conflicts ↔ (length before < length mid) = longer c.len-reports.result c.len.result before mid c.len-reports.ensures c.len.ensures in
+    kept_then (kept_wider (λ e says. inl says) c.in_ok-deep.ensures.truth)
+    (limit_reported c.report_limit.result S F (merging_of m).operations o new.too_deep mid (entries c.report_limit.new.diagnostics) c.report_limit.ensures.limits c.report_limit.ensures.err
+    (too_deep_so_far S F (one_fragment_found (document_of m)) o (merging_of m) new deep conflicts c.in_ok-deep.ensures.examines operations conflicting too_deep conflicts_is was))

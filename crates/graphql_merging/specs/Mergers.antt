@@ -1,0 +1,34 @@
+-- What contracts see of a value that merges operations.
+use Rattle.std.specs.Prelude.{Bool, IsFalse, map}
+use Rattle.graphql_documents.specs.Selections.{fragments_of}
+use Rattle.graphql_documents.specs.declared.documents.executables.ExecutableDocument.{ExecutableDocument}
+use Rattle.graphql_documents.specs.declared.documents.schemas.Schema.{Schema}
+use Rattle.graphql_merging.specs.MergedOperations.{HasMerged, Merging}
+use Rattle.graphql_merging.specs.Stages.{examined_lists}
+use Rattle.graphql_merging.specs.declared.merging.FieldsInSetCanMerge.{FieldsInSetCanMerge}
+
+-- the schema and the document
+abbrev pub schema_of : FieldsInSetCanMerge → Schema
+schema_of m = m.schema.now
+
+abbrev pub document_of : FieldsInSetCanMerge → ExecutableDocument
+document_of m = m.document.now
+
+-- what is kept of the operations that were merged
+abbrev pub merging_of : FieldsInSetCanMerge → Merging
+merging_of m = record {
+  operations = map (λ o. o.now) m.operations.items;
+  shapes = examined_lists m.shapes;
+  fields = examined_lists m.fields;
+  comparisons = m.shapes.comparisons;
+  conflicting = m.conflicting;
+  too_deep = m.too_deep;
+}
+
+-- memory was refused to a call
+abbrev pub has_refused : FieldsInSetCanMerge → Bool
+has_refused m = m.refused
+
+-- unless memory was refused, its operations were merged
+abbrev pub IsSound : FieldsInSetCanMerge → Type 0
+IsSound m = IsFalse m.refused → HasMerged m.schema.now (fragments_of m.document.now) (merging_of m)
