@@ -69,27 +69,28 @@ module _ (same : FieldDefinition → FieldDefinition → Bool) (schema : Schema)
         sets = λ s written. inner s (set_in_field here.stands written);
       }
 
-  built_merged : {pass : Pass} {fields : List FieldSelection} → MergedSet schema (fragments_of document) (operations_of document) pass fields →
-      (x : FieldSelection) → Contains fields x → BuiltField x
-  built_merged (merged_operation {o = o} {fields = fields} stands expands) x in_x =
-      let set = o.value.value.selection_set in
-      let from = (lists_what_is_inside (fragments_of document) (one_fragment_found document) (set ∷ []) fields expands x).0 in_x in
-      let operation = All-contains (λ (p : Node Operation). OperationIsBuilt same schema p.value.value) (operations_of document) o built.operations stands in
-      built_field set x operation.sets (subst (λ s. FieldInside (fragments_of document) s x) (only_one set from.0 from.1) from.2)
-  built_merged {pass} (merged_below {fields = fields} {below = below} above step) x in_x =
-      let from = (below_lists_what_is_inside (fragments_of document) (one_fragment_found document) step.group below step.expansion x).0 in_x in
-      built_field (set_of from.0) x (built_merged above from.0 (in_list schema fields step.is_group from.0 from.1)).sets from.2
+  module _ (operations : List (Node Operation)) (own : All (Contains (operations_of document)) operations) where
+    built_merged : {pass : Pass} {fields : List FieldSelection} → MergedSet schema (fragments_of document) operations pass fields →
+        (x : FieldSelection) → Contains fields x → BuiltField x
+    built_merged (merged_operation {o = o} {fields = fields} stands expands) x in_x =
+        let set = o.value.value.selection_set in
+        let from = (lists_what_is_inside (fragments_of document) (one_fragment_found document) (set ∷ []) fields expands x).0 in_x in
+        let operation = All-contains (λ (p : Node Operation). OperationIsBuilt same schema p.value.value) (operations_of document) o built.operations (All-contains (Contains (operations_of document)) operations o own stands) in
+        built_field set x operation.sets (subst (λ s. FieldInside (fragments_of document) s x) (only_one set from.0 from.1) from.2)
+    built_merged {pass} (merged_below {fields = fields} {below = below} above step) x in_x =
+        let from = (below_lists_what_is_inside (fragments_of document) (one_fragment_found document) step.group below step.expansion x).0 in_x in
+        built_field (set_of from.0) x (built_merged above from.0 (in_list schema fields step.is_group from.0 from.1)).sets from.2
 
-  pub built_output : {pass : Pass} (fields : List FieldSelection) → MergedSet schema (fragments_of document) (operations_of document) pass fields →
-      (x : FieldSelection) → Contains fields x → NamesKind schema is_output_type (inner_named_type (type_of x))
-  built_output fields merged x in_x = (built_merged merged x in_x).output
+    pub built_output : {pass : Pass} (fields : List FieldSelection) → MergedSet schema (fragments_of document) operations pass fields →
+        (x : FieldSelection) → Contains fields x → NamesKind schema is_output_type (inner_named_type (type_of x))
+    built_output fields merged x in_x = (built_merged merged x in_x).output
 
-  pub document_merging_by_groups : ((o : Node Operation) → Contains (operations_of document) o → Merges schema (fragments_of document) o.value.value.selection_set) ↔ (
-      ((fields group : List FieldSelection) (first : FieldSelection) (rest : List FieldSelection) → MergedSet schema (fragments_of document) (operations_of document) shape_pass fields →
-      IsGroup schema fields shape_pass group → group ≡ first ∷ rest → All (λ z. SameShape schema (type_of first) (type_of z)) rest) ×
-      ((fields group : List FieldSelection) (first : FieldSelection) (rest : List FieldSelection) → MergedSet schema (fragments_of document) (operations_of document) field_pass fields →
-      IsGroup schema fields field_pass group → group ≡ first ∷ rest → All (λ z. SameNameAndArguments first.field.value.value z.field.value.value) rest)
-      )
-  document_merging_by_groups =
-      merging_by_groups schema (fragments_of document) (one_fragment_found document) (operations_of document) (has_expansion document)
-      (λ fields merged x in_x. (built_merged merged x in_x).output)
+    pub document_merging_by_groups : ((o : Node Operation) → Contains operations o → Merges schema (fragments_of document) o.value.value.selection_set) ↔ (
+        ((fields group : List FieldSelection) (first : FieldSelection) (rest : List FieldSelection) → MergedSet schema (fragments_of document) operations shape_pass fields →
+        IsGroup schema fields shape_pass group → group ≡ first ∷ rest → All (λ z. SameShape schema (type_of first) (type_of z)) rest) ×
+        ((fields group : List FieldSelection) (first : FieldSelection) (rest : List FieldSelection) → MergedSet schema (fragments_of document) operations field_pass fields →
+        IsGroup schema fields field_pass group → group ≡ first ∷ rest → All (λ z. SameNameAndArguments first.field.value.value z.field.value.value) rest)
+        )
+    document_merging_by_groups =
+        merging_by_groups schema (fragments_of document) (one_fragment_found document) operations (has_expansion document)
+        (λ fields merged x in_x. (built_merged merged x in_x).output)

@@ -182,29 +182,29 @@ module _ (same : Field → Field → Bool) (schema : Schema) (fragments : Fragme
         (agree s.known s.is_seen s.x' s.y' s.in_x s.in_y (key_alike x y s.x' s.y' s.first s.second key) (parents_alike pass x y s.x' s.y' s.first s.second parents))
 
 pub seen_lists_decide : (same_definition : FieldDefinition → FieldDefinition → Bool) (same : Field → Field → Bool) (schema : Schema) (document : ExecutableDocument) →
-    IsBuilt same_definition schema document → ComparesContents (fragments_of document) same → (shapes fields : List (List FieldSelection)) →
-    HasSeen same schema (fragments_of document) (operations_of document) shape_pass shapes → HasSeen same schema (fragments_of document) (operations_of document) field_pass fields →
-    ((o : Node Operation) → Contains (operations_of document) o → Merges schema (fragments_of document) o.value.value.selection_set) ↔
+    IsBuilt same_definition schema document → ComparesContents (fragments_of document) same →
+    (operations : List (Node Operation)) → All (Contains (operations_of document)) operations → (shapes fields : List (List FieldSelection)) →
+    HasSeen same schema (fragments_of document) operations shape_pass shapes → HasSeen same schema (fragments_of document) operations field_pass fields →
+    ((o : Node Operation) → Contains operations o → Merges schema (fragments_of document) o.value.value.selection_set) ↔
     (All (ListPasses schema shape_pass) shapes × All (ListPasses schema field_pass) fields)
-seen_lists_decide same_definition same schema document built compares shapes fields seen_shapes seen_fields = (all_pass, all_merge) where
-  all_pass : ((o : Node Operation) → Contains (operations_of document) o → Merges schema (fragments_of document) o.value.value.selection_set) →
+seen_lists_decide same_definition same schema document built compares operations own shapes fields seen_shapes seen_fields = (all_pass, all_merge) where
+  all_pass : ((o : Node Operation) → Contains operations o → Merges schema (fragments_of document) o.value.value.selection_set) →
       All (ListPasses schema shape_pass) shapes × All (ListPasses schema field_pass) fields
   all_pass merges =
-      let agree = (document_merging_by_groups same_definition schema document built).0 merges in (
+      let agree = (document_merging_by_groups same_definition schema document built operations own).0 merges in (
         each_standing (ListPasses schema shape_pass) shapes (λ known is_seen group first rest.
-            agree.0 known group first rest (All-contains (MergedSet schema (fragments_of document) (operations_of document) shape_pass) shapes known seen_shapes.merged is_seen)),
+            agree.0 known group first rest (All-contains (MergedSet schema (fragments_of document) operations shape_pass) shapes known seen_shapes.merged is_seen)),
         each_standing (ListPasses schema field_pass) fields (λ known is_seen group first rest.
-            agree.1 known group first rest (All-contains (MergedSet schema (fragments_of document) (operations_of document) field_pass) fields known seen_fields.merged is_seen)),
+            agree.1 known group first rest (All-contains (MergedSet schema (fragments_of document) operations field_pass) fields known seen_fields.merged is_seen)),
       )
 
   all_merge : All (ListPasses schema shape_pass) shapes × All (ListPasses schema field_pass) fields →
-      (o : Node Operation) → Contains (operations_of document) o → Merges schema (fragments_of document) o.value.value.selection_set
+      (o : Node Operation) → Contains operations o → Merges schema (fragments_of document) o.value.value.selection_set
   all_merge passes =
       let fragments = fragments_of document in
       let respects = one_fragment_found document in
-      let operations = operations_of document in
       let output = λ (known : List FieldSelection) (is_seen : Contains shapes known).
-      built_output same_definition schema document built known (All-contains (MergedSet schema fragments operations shape_pass) shapes known seen_shapes.merged is_seen) in
+      built_output same_definition schema document built operations own known (All-contains (MergedSet schema fragments operations shape_pass) shapes known seen_shapes.merged is_seen) in
       (document_merging_by_lists schema document operations).1 (
         λ list merged x y in_x in_y key.
             all_merged_agree same schema fragments respects compares operations shape_pass shapes seen_shapes

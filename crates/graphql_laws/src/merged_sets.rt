@@ -140,20 +140,21 @@ pub fn first_of_each_group_decides_names_and_arguments()
         SameNameAndArguments x.field.value.value y.field.value.value) }
 {}
 
-/// The operations of a document that was built against its schema merge exactly where, in each group of each
-/// merged list, the first field agrees with the rest.
+/// Operations of a document that was built against its schema, all of them or some, merge exactly where, in
+/// each group of each merged list, the first field agrees with the rest.
 ///
 /// Specification: 5.3.2 Field Selection Merging.
 pub fn operations_merge_where_the_first_of_each_group_agrees_with_the_rest()
     ensures { (same_definition : FieldDefinition → FieldDefinition → Bool) (schema : Schema) (document : ExecutableDocument) →
         IsBuilt same_definition schema document →
-        ((o : Node Operation) → Contains (operations_of document) o → Merges schema (fragments_of document) o.value.value.selection_set) ↔
+        (operations : List (Node Operation)) → All (Contains (operations_of document)) operations →
+        ((o : Node Operation) → Contains operations o → Merges schema (fragments_of document) o.value.value.selection_set) ↔
         (((fields group : List FieldSelection) (first : FieldSelection) (rest : List FieldSelection) →
-        MergedSet schema (fragments_of document) (operations_of document) shape_pass fields →
+        MergedSet schema (fragments_of document) operations shape_pass fields →
         IsGroup schema fields shape_pass group → group ≡ first ∷ rest →
         All (λ z. SameShape schema (type_of first) (type_of z)) rest) ×
         ((fields group : List FieldSelection) (first : FieldSelection) (rest : List FieldSelection) →
-        MergedSet schema (fragments_of document) (operations_of document) field_pass fields →
+        MergedSet schema (fragments_of document) operations field_pass fields →
         IsGroup schema fields field_pass group → group ≡ first ∷ rest →
         All (λ z. SameNameAndArguments first.field.value.value z.field.value.value) rest)) }
 {}

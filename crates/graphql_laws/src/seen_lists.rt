@@ -14,19 +14,20 @@ ghost use Rattle.graphql_documents.specs.declared.documents.nodes.Node.{Node};
 ghost use Rattle.graphql_documents.specs.declared.documents.schemas.Schema.{Schema};
 ghost use Rattle.graphql_documents.specs.MergedFields.{ComparesContents, HasSeen, ListPasses};
 
-/// The operations of a document that was built against its schema merge exactly where, in each group of each
-/// list that two walks have seen, the first field agrees with the rest: one walk over the lists that are
-/// merged for shapes, and one over those for names and arguments. A walk may pass over a list whose fields
-/// have the contents of those of a list that it has seen.
+/// Operations of a document that was built against its schema, all of them or some, merge exactly where, in
+/// each group of each list that two walks have seen, the first field agrees with the rest: one walk over the
+/// lists that are merged for shapes, and one over those for names and arguments. A walk may pass over a list
+/// whose fields have the contents of those of a list that it has seen.
 ///
 /// Specification: 5.3.2 Field Selection Merging.
 pub fn lists_that_were_seen_decide_merging()
     ensures { (same_definition : FieldDefinition → FieldDefinition → Bool) (same : Field → Field → Bool)
         (schema : Schema) (document : ExecutableDocument) →
         IsBuilt same_definition schema document → ComparesContents (fragments_of document) same →
+        (operations : List (Node Operation)) → All (Contains (operations_of document)) operations →
         (shapes fields : List (List FieldSelection)) →
-        HasSeen same schema (fragments_of document) (operations_of document) shape_pass shapes →
-        HasSeen same schema (fragments_of document) (operations_of document) field_pass fields →
-        ((o : Node Operation) → Contains (operations_of document) o → Merges schema (fragments_of document) o.value.value.selection_set) ↔
+        HasSeen same schema (fragments_of document) operations shape_pass shapes →
+        HasSeen same schema (fragments_of document) operations field_pass fields →
+        ((o : Node Operation) → Contains operations o → Merges schema (fragments_of document) o.value.value.selection_set) ↔
         (All (ListPasses schema shape_pass) shapes × All (ListPasses schema field_pass) fields) }
 {}
