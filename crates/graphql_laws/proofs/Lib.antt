@@ -3,6 +3,7 @@ pub mod DescentLaws
 pub mod ExpandedListLaws
 pub mod ExpansionExistsLaws
 pub mod ExpansionLaws
+pub mod FieldContentsLaws
 pub mod FirstOfGroupLaws
 pub mod FragmentLaws
 pub mod GroupLaws
@@ -18,6 +19,7 @@ pub mod SelectionLaws
 pub mod SizeLemmas
 pub mod SubscriptionLaws
 pub mod TypeMapLaws
+pub mod ValueContentsLaws
 pub mod ValueLaws
 pub mod VariableLaws
 pub mod WalkExistsLaws

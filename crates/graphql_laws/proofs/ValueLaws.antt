@@ -109,7 +109,7 @@ roll_same (Open.Object a) (Open.Object b) e = rw (literal.rolls-Object a, litera
 roll_same _ _ e = absurd e
 
 -- what a look-up found in a map of it
-under_map : {X Y : Type 0} (f : X → Y) (o : Option X) (y : Y) → option_map f o ≡ Some y → (x : X) × (o ≡ Some x) × (f x ≡ y)
+pub under_map : {X Y : Type 0} (f : X → Y) (o : Option X) (y : Y) → option_map f o ≡ Some y → (x : X) × (o ≡ Some x) × (f x ≡ y)
 under_map f None y e = absurd (let h : ⊥ = cc in h)
 under_map f (Some x) y e = (x, refl, cc)
 

@@ -4,6 +4,7 @@
 #![tactic(auto)]
 
 pub mod expansion;
+pub mod field_contents;
 pub mod fragments;
 pub mod merged_sets;
 pub mod merging;
