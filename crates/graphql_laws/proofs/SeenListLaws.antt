@@ -25,7 +25,9 @@ use Rattle.graphql_documents.proofs.NameLemmas.{same_text, same_name_back, same_
 use Rattle.graphql_documents.proofs.ListLemmas.{none_stands, only_one, stands_first, stands_behind, each_standing}
 use Rattle.graphql_documents.proofs.SelectionLemmas.{one_fragment_found}
 use Rattle.graphql_documents.specs.MergedFields.{ComparesContents, ExpansionIsSeen, HasSeen, Agree, ListPasses}
+use Rattle.graphql_laws.specs.Equality.{field_equality}
 use Rattle.graphql_laws.proofs.MergingLaws.{same_shape_back}
+use Rattle.graphql_laws.proofs.FieldContentsLaws.{field_equality_compares_contents}
 use Rattle.graphql_laws.proofs.ExpandedListLaws.{lists_what_is_inside, below_lists_what_is_inside, nested_of_group}
 use Rattle.graphql_laws.proofs.MergedListLaws.{ParentsIn, group_has, has_group}
 use Rattle.graphql_laws.proofs.FirstOfGroupLaws.{first_shape_decides, first_field_decides, one_field_back, one_field_then}
@@ -217,3 +219,12 @@ seen_lists_decide same_definition same schema document built compares operations
             (first_field_decides schema known).0 (All-contains (ListPasses schema field_pass) fields known passes.1 is_seen))
             list merged x y in_x in_y key parents,
       )
+
+-- so with the fields' own equality
+pub lists_seen_by_contents_decide : (same_definition : FieldDefinition → FieldDefinition → Bool) (schema : Schema) (document : ExecutableDocument) →
+    IsBuilt same_definition schema document → (operations : List (Node Operation)) → All (Contains (operations_of document)) operations → (shapes fields : List (List FieldSelection)) →
+    HasSeen field_equality schema (fragments_of document) operations shape_pass shapes → HasSeen field_equality schema (fragments_of document) operations field_pass fields →
+    ((o : Node Operation) → Contains operations o → Merges schema (fragments_of document) o.value.value.selection_set) ↔
+    (All (ListPasses schema shape_pass) shapes × All (ListPasses schema field_pass) fields)
+lists_seen_by_contents_decide same_definition schema document built =
+    seen_lists_decide same_definition field_equality schema document built (field_equality_compares_contents document)

@@ -1,30 +1,28 @@
 -- What the equality of values and of arguments compares: those that it takes for equal are the same.
-use Rattle.std.proofs.Common.{◌≡◌, ℕ, zero, suc, String, Bool, true, false, ◌&&◌, List, [], ◌∷◌, length, map, Option, Some, None, Vec, cond, find, get_or, All, refl, sym, ◌∙◌, ap, subst}
+use Rattle.std.proofs.Common.{◌≡◌, ℕ, zero, suc, Bool, true, false, ◌&&◌, List, [], ◌∷◌, map, Option, Some, None, cond, find, get_or, All, refl, sym, ◌∙◌, ap, subst}
 use Rattle.std.specs.Prelude.{IsTrue, option_map, is_some, slice_get, string_bytes, string_eq}
 use Rattle.std.specs.Str.{bytes_eq}
 use Rattle.std.proofs.lemmas.List.Elements.{All-head, All-tail, All-map}
 use Rattle.std.proofs.lemmas.Slice.Eq.{bytes_eq-Decides}
 use denote.Enum.Compared.{Each, by}
 use denote.Hole.Carrier.{Values}
-use denote.Hole.Compared.{compared_is}
 use denote.Hole.Holds
 use lib.Pointwise.{pointwise, pointwise_long}
 use mathlib.Core.Bool.{beq}
 use Rattle.graphql_documents.specs.Names.{NameText, SameName, same_name}
 use Rattle.graphql_documents.specs.Values.{SameValue, entry_named}
-use Rattle.graphql_documents.specs.Arguments.{argument_named}
 use Rattle.graphql_documents.specs.Merging.{SameArguments}
 use Rattle.graphql_documents.specs.contracts.documents.directives.ArgumentPartialEq.TheImpl as argument_impl
 use Rattle.graphql_documents.specs.contracts.documents.values.Value as value_type
-use Rattle.graphql_documents.specs.contracts.documents.values.ValuePartialEq.TheImpl as value_impl
 use Rattle.graphql_documents.specs.contracts.documents.values.ValuePartialEq.TheImpl.Laws as value_laws
 use Rattle.graphql_documents.specs.declared.documents.directives.Argument.{Argument}
 use Rattle.graphql_documents.specs.declared.documents.nodes.Node.{Node}
 use Rattle.graphql_documents.specs.declared.documents.values.Value.{Value, out-Value, roll-Value, out-roll-Value}
-use Rattle.graphql_documents.specs.declared.documents.values.Value.TheBlock.{the_family, the_members, the_sigs, the_carrier, the_depth, member-Value, split-Value}
+use Rattle.graphql_documents.specs.declared.documents.values.Value.TheBlock.{the_family, the_members, the_sigs, the_carrier, member-Value, split-Value}
 use Rattle.graphql_documents.specs.declared.documents.values.Value.TheFolds.{ind-Value, map-Value, claims}
 use Rattle.graphql_documents.specs.declared.documents.values.Value.TheOpen as Open
 use Rattle.graphql_documents.proofs.NameLemmas.{same_text}
+use Rattle.graphql_laws.specs.Equality.{value_equality}
 use Rattle.graphql_laws.proofs.ValueLaws.{SameOpen, closed, found_holds, under_map}
 
 -- each of two answers
@@ -72,11 +70,8 @@ module _ {X : Type 0} (name_of : X → NameText) (same : X → X → Bool) (name
 
 -- ==== values
 
-abbrev equal_values : Value → Value → Bool
-equal_values = value_impl.ghosts.eq
-
 abbrev equal_items : Node Value → Node Value → Bool
-equal_items x y = equal_values x.value.value y.value.value
+equal_items x y = value_equality x.value.value y.value.value
 
 abbrev equal_entries : NameText × Node Value → NameText × Node Value → Bool
 equal_entries x y = same_name x.0 y.0 && equal_items x.1 y.1
@@ -130,12 +125,12 @@ equal_open (Open.List a) (Open.List b) h = h
 equal_open (Open.Object a) (Open.Object b) h = h
 equal_open _ _ h = absurd (let no : ⊥ = cc in no)
 
-opened : (v w : Value) → IsTrue (equal_values v w) → EqualOpen (out-Value v) (out-Value w)
+opened : (v w : Value) → IsTrue (value_equality v w) → EqualOpen (out-Value v) (out-Value w)
 opened v w h = equal_open (out-Value v) (out-Value w) (subst IsTrue (value_laws.is v w) h)
 
 -- what is equal to the value is the same
 abbrev Follows : Value → Type 0
-Follows v = (w : Value) → IsTrue (equal_values v w) → SameValue v w
+Follows v = (w : Value) → IsTrue (value_equality v w) → SameValue v w
 
 abbrev Kept : Type 0
 Kept = denote.Hole.Holds.Such the_family (claims Follows) member-Value
@@ -208,7 +203,7 @@ same_open (Open.Object a) (Open.Object b) h =
     entries_follow (map named_item a.items) b.items (All-map (λ e. Follows e.1.value.value) named_item a.items (λ k d in'. (get_or a.items k d).1.value.value.1)) h
 same_open _ _ h = absurd h
 
-pub equal_values_are_same : (v w : Value) → IsTrue (value_impl.ghosts.eq v w) → SameValue v w
+pub equal_values_are_same : (v w : Value) → IsTrue (value_equality v w) → SameValue v w
 equal_values_are_same = ind-Value Follows (λ x y e w h.
     closed (roll-Value x) w
     (subst (λ z. SameOpen z (out-Value w)) (e ∙ sym (out-roll-Value x))
@@ -226,7 +221,7 @@ argument_parts : (a b : Node Argument) → IsTrue (equal_arguments a b) → Same
 argument_parts a b h =
     let v = a.value.value.value.value.value in
     let w = b.value.value.value.value.value in
-    let parts = both (same_name (argument_name a) (argument_name b)) (equal_values v w) h in
+    let parts = both (same_name (argument_name a) (argument_name b)) (value_equality v w) h in
     (parts.0, equal_values_are_same v w parts.1)
 
 pub equal_arguments_are_same : (xs ys : List (Node Argument)) → IsTrue (pointwise equal_arguments xs ys) → SameArguments xs ys

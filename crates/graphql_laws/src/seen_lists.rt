@@ -8,26 +8,25 @@ ghost use Rattle.graphql_documents.specs.Merging.{FieldSelection, Merges};
 ghost use Rattle.graphql_documents.specs.Expansion.{shape_pass, field_pass};
 ghost use Rattle.graphql_documents.specs.declared.documents.definitions.FieldDefinition.{FieldDefinition};
 ghost use Rattle.graphql_documents.specs.declared.documents.executables.ExecutableDocument.{ExecutableDocument};
-ghost use Rattle.graphql_documents.specs.declared.documents.executables.Field.{Field};
 ghost use Rattle.graphql_documents.specs.declared.documents.executables.Operation.{Operation};
 ghost use Rattle.graphql_documents.specs.declared.documents.nodes.Node.{Node};
 ghost use Rattle.graphql_documents.specs.declared.documents.schemas.Schema.{Schema};
-ghost use Rattle.graphql_documents.specs.MergedFields.{ComparesContents, HasSeen, ListPasses};
+ghost use Rattle.graphql_documents.specs.MergedFields.{HasSeen, ListPasses};
+ghost use Rattle.graphql_laws.specs.Equality.{field_equality};
 
 /// Operations of a document that was built against its schema, all of them or some, merge exactly where, in
 /// each group of each list that two walks have seen, the first field agrees with the rest: one walk over the
 /// lists that are merged for shapes, and one over those for names and arguments. A walk may pass over a list
-/// whose fields have the contents of those of a list that it has seen.
+/// whose fields are equal, by `==`, to those of a list that it has seen.
 ///
 /// Specification: 5.3.2 Field Selection Merging.
 pub fn lists_that_were_seen_decide_merging()
-    ensures { (same_definition : FieldDefinition → FieldDefinition → Bool) (same : Field → Field → Bool)
-        (schema : Schema) (document : ExecutableDocument) →
-        IsBuilt same_definition schema document → ComparesContents (fragments_of document) same →
+    ensures { (same_definition : FieldDefinition → FieldDefinition → Bool) (schema : Schema) (document : ExecutableDocument) →
+        IsBuilt same_definition schema document →
         (operations : List (Node Operation)) → All (Contains (operations_of document)) operations →
         (shapes fields : List (List FieldSelection)) →
-        HasSeen same schema (fragments_of document) operations shape_pass shapes →
-        HasSeen same schema (fragments_of document) operations field_pass fields →
+        HasSeen field_equality schema (fragments_of document) operations shape_pass shapes →
+        HasSeen field_equality schema (fragments_of document) operations field_pass fields →
         ((o : Node Operation) → Contains operations o → Merges schema (fragments_of document) o.value.value.selection_set) ↔
         (All (ListPasses schema shape_pass) shapes × All (ListPasses schema field_pass) fields) }
 {}
