@@ -2,8 +2,5 @@ pub mod ConflictLemmas
 pub mod ExpansionSizeLemmas
 pub mod ExpansionStepLemmas
 pub mod FieldSelectionLemmas
-pub mod GroupLemmas
-pub mod MergedOperationLemmas
-pub mod PassLemmas
-pub mod PassStepLemmas
-pub mod SameFieldLemmas
+pub mod FirstNamedLemmas
+pub mod ValueComparisonLemmas

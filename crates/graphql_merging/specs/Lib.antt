@@ -1,3 +1,4 @@
+pub mod Comparisons
 pub mod ExpansionSteps
 pub mod FieldSelections
 pub mod Groups

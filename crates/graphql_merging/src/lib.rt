@@ -2,8 +2,7 @@
 //! for lists of fields that are put together, from an operation's set down.
 #![tactic(auto)]
 
-mod conflicts;
-mod examined;
+pub mod comparisons;
 pub mod expansion;
 pub mod field_selections;
 mod groups;
