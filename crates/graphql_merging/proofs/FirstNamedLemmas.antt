@@ -56,6 +56,11 @@ module _ {X : Type 0} (name_of : X → NameText) where
   pub first_of_name : (xs : List X) (i : ℕ) (x : X) → i < length xs → x ≡ get_or xs i x → first_named (name_of x) (take i xs) ≡ None → first_named (name_of x) xs ≡ Some x
   first_of_name xs i x within item none = find_first (λ y. same_name (name_of y) (name_of x)) xs i x within item none (same_name_itself (name_of x))
 
+  pub first_behind : (before after : List X) (x : X) → first_named (name_of x) before ≡ None → first_named (name_of x) (before ++ x ∷ after) ≡ Some x
+  first_behind before after x none =
+      let itself : same_name (name_of x) (name_of x) ≡ true = same_name_itself (name_of x) in
+      find-append (λ y. same_name (name_of y) (name_of x)) before (x ∷ after) ∙ rw (none, itself) refl
+
   -- what is asked of the first element of each name
   module _ (Has : NameText → X → Type 0) (alike : (a b : NameText) (x : X) → SameName a b → Has a x → Has b x) where
     abbrev pub EachFirst : List X → Type 0

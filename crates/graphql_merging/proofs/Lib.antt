@@ -1,4 +1,4 @@
-pub mod ConflictLemmas
+pub mod ArgumentComparisonLemmas
 pub mod ExpansionSizeLemmas
 pub mod ExpansionStepLemmas
 pub mod FieldSelectionLemmas

@@ -1,8 +1,13 @@
 -- What two values, shapes, and lists of arguments have in common, part by part, for the contracts of the
 -- comparisons.
-use Rattle.std.specs.Prelude.{◌≡◌, ℕ, List, Some, IsSome, find, length, slice_get}
-use Rattle.graphql_documents.specs.Names.{NameText, same_name}
+use Rattle.std.specs.Prelude.{◌≡◌, ◌∷◌, ◌++◌, ℕ, List, None, Some, All, IsSome, find, length, slice_get}
+use Rattle.graphql_documents.specs.Names.{DifferentNames, NameText, SameName, same_name}
+use Rattle.graphql_documents.specs.Arguments.{argument_named}
 use Rattle.graphql_documents.specs.Values.{SameValue, entry_named}
+use Rattle.graphql_documents.specs.declared.documents.directives.Argument.{Argument}
+use Rattle.graphql_documents.specs.declared.documents.executables.Field.{Field}
+use Rattle.graphql_merging.specs.declared.comparisons.arguments.FieldConflict.{FieldConflict}
+use Rattle.graphql_merging.specs.declared.comparisons.arguments.FieldConflict.TheVariants.{Names, FirstAlone, SecondAlone, Both}
 use Rattle.graphql_documents.specs.declared.documents.nodes.Node.{Node}
 use Rattle.graphql_documents.specs.declared.documents.values.Value.{Value}
 
@@ -29,3 +34,46 @@ HasKeysOf entries others = (name : NameText) → IsSome (entry_named name others
 -- the same keys, and under each first entries of one value
 abbrev pub SameEntries : List (NameText × Node Value) → List (NameText × Node Value) → Type 0
 SameEntries a b = HasKeysOf a b × StandIn a b
+
+-- the first argument of the name has the same value
+abbrev pub HasArgument : List (Node Argument) → NameText → Node Argument → Type 0
+HasArgument others name x =
+    (y : Node Argument) × (argument_named name others ≡ Some y) × SameValue x.value.value.value.value.value y.value.value.value.value.value
+
+-- under each name the first of the arguments has the value of that among the others
+abbrev pub StandAmong : List (Node Argument) → List (Node Argument) → Type 0
+StandAmong arguments others = (name : NameText) (x : Node Argument) → argument_named name arguments ≡ Some x → HasArgument others name x
+
+-- each of the arguments has its name among the others
+abbrev pub AreNamedAmong : List (Node Argument) → List (Node Argument) → Type 0
+AreNamedAmong arguments others = All (λ x. IsSome (argument_named x.value.value.name others)) arguments
+
+-- the argument is the first of its name, and this holds of those before it
+pub record IsReached (Holds : List (Node Argument) → Type 0) (arguments : List (Node Argument)) (x : Node Argument) : Type 0 where
+  pub before : List (Node Argument)
+  pub after : List (Node Argument)
+  pub stands : arguments ≡ before ++ x ∷ after
+  pub holds : Holds before
+  pub first : argument_named x.value.value.name arguments ≡ Some x
+
+-- the conflict names this argument, and the others lack it or have another value
+abbrev pub ArgumentConflicts : List (Node Argument) → Node Argument → FieldConflict → Type 0
+ArgumentConflicts others x (FirstAlone y) = (y.now ≡ x) × (argument_named x.value.value.name others ≡ None)
+ArgumentConflicts others x (Both y z) =
+    (y.now ≡ x) × (argument_named x.value.value.name others ≡ Some z.now) ×
+    ¬ SameValue x.value.value.value.value.value z.now.value.value.value.value.value
+ArgumentConflicts others x _ = ⊥
+
+-- the same of the first argument of which it is true
+pub record ArgumentsConflict (arguments others : List (Node Argument)) (conflict : FieldConflict) : Type 0 where
+  pub argument : Node Argument
+  pub reached : IsReached (λ before. StandAmong before others) arguments argument
+  pub conflicts : ArgumentConflicts others argument conflict
+
+-- the two fields disagree on what the conflict names, and on nothing before that
+abbrev pub Conflicts : Field → Field → FieldConflict → Type 0
+Conflicts a b Names = DifferentNames a.name b.name
+Conflicts a b (SecondAlone y) =
+    SameName a.name b.name × StandAmong a.arguments.items b.arguments.items ×
+    IsReached (λ before. AreNamedAmong before a.arguments.items) b.arguments.items y.now × (argument_named y.now.value.value.name a.arguments.items ≡ None)
+Conflicts a b conflict = SameName a.name b.name × ArgumentsConflict a.arguments.items b.arguments.items conflict

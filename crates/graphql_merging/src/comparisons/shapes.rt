@@ -11,7 +11,7 @@ use graphql_documents::documents::{ExtendedType, NamedType, Schema, Type};
 ///
 /// Specification: 5.3.2 Field Selection Merging, SameResponseShape.
 pub fn same_output_type_shape(schema: &Schema, a: FieldSelection, b: FieldSelection) -> bool
-    ensures { IsTrue result ↔ SameShape schema.now (type_of (selection_of a)) (type_of (selection_of b)) }
+    ensures { IsTrue result ↔ SameShape schema.now (type_of (selection_of a.entry)) (type_of (selection_of b.entry)) }
 {
     let first = &a.field.value.definition.value.ty;
     let second = &b.field.value.definition.value.ty;
