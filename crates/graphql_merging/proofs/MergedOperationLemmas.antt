@@ -8,9 +8,9 @@ use Rattle.graphql_documents.specs.Expansion.{Expansion, IsGroup, MergedSet, Mer
 use Rattle.graphql_documents.specs.Limits.{MergingDescent, MergingNestsTooDeep, MergingPasses, merging_bound}
 use Rattle.graphql_documents.specs.MergedFields.{Agree, ExpansionIsSeen, HasSeen, ListPasses}
 use Rattle.graphql_documents.specs.MergedGroups.{AreConflicts, ConflictsWith, SaysConflict, agreeing_field, comparisons_of, conflicting_field, empty_group, groups_of, groups_of_lists, next_group, no_field, no_groups}
-use Rattle.graphql_documents.specs.Merging.{FieldSelection, SameFields}
+use Rattle.graphql_documents.specs.Merging.{FieldSelection, Merges, SameFields}
 use Rattle.graphql_documents.specs.Names.{NameText, SameName}
-use Rattle.graphql_documents.specs.Selections.{Fragments}
+use Rattle.graphql_documents.specs.Selections.{Fragments, fragments_of}
 use Rattle.graphql_documents.specs.declared.diagnostics.lists.DiagnosticEntry.{DiagnosticEntry}
 use Rattle.graphql_documents.specs.declared.documents.executables.Operation.{Operation}
 use Rattle.graphql_documents.specs.declared.documents.executables.SelectionSet.{SelectionSet}
@@ -31,7 +31,12 @@ use Rattle.graphql_documents.specs.Reports.{Appends}
 use Rattle.graphql_merging.specs.MergedOperations.{AreLimits, ExaminesInBoth, HasExamined, HasMerged, Merging, MergesOneMore}
 use Rattle.graphql_merging.specs.Passes.{AreNew, DescendsBeyond, ExaminesSet, HasPassed, IsClosedIn, IsNew, Stage, counted, next_new, no_new}
 use Rattle.graphql_merging.proofs.PassLemmas.{closed_further, counted_none, counted_then, new_then, seen_further}
-use Rattle.graphql_merging.proofs.SameFieldLemmas.{same_fields_back}
+use Rattle.graphql_laws.proofs.FieldContentsLaws.{field_equality_compares_contents, same_fields_back}
+use Rattle.graphql_laws.proofs.SeenListLaws.{seen_lists_decide}
+use Rattle.graphql_documents.specs.Built.{IsBuilt}
+use Rattle.graphql_documents.specs.Defer.{operations_of}
+use Rattle.graphql_documents.specs.declared.documents.definitions.FieldDefinition.{FieldDefinition}
+use Rattle.graphql_documents.specs.declared.documents.executables.ExecutableDocument.{ExecutableDocument}
 
 abbrev Differ : List FieldSelection → List FieldSelection → Type 0
 Differ a b = ¬ SameFields same_field a b
@@ -316,6 +321,11 @@ module _ (schema : Schema) (fragments : Fragments) (respects : (a b : NameText) 
     are_of_shapes = x.of_shapes.more.reports.are;
     are_of_fields = x.of_fields.more.reports.are;
     are_limits = limits.are;
+    conflicting = (
+      λ h. let parts = (or_false old.conflicting conflicts).0 (sym conflicting ∙ h) in let none = none_conflict.0 parts.1 in (parts.0, none.0, none.1),
+      λ p. conflicting ∙ (or_false old.conflicting conflicts).1 (p.0, none_conflict.1 (p.1, p.2)),
+    );
+    too_deep = λ h. too_deep ∙ ap (λ b. b || deep) h;
   }
 
   -- one of the operations so far nests too deep, if it is said so
@@ -356,3 +366,14 @@ longer n m xs ys is_n is_m = (
   λ h. (let less : n < m = search rules in omega (arith, less, is_n, is_m)),
   λ more. (let less : n < m = omega (arith, more, is_n, is_m) in search rules),
 )
+
+-- where the document was built, and no operation nests too deep, there is no conflict exactly where all merge
+pub conflicts_decide : (same_definition : FieldDefinition → FieldDefinition → Bool) (schema : Schema) (document : ExecutableDocument) (m : Merging) →
+    IsBuilt same_definition schema document → All (Contains (operations_of document)) m.operations → HasMerged schema (fragments_of document) m → IsFalse m.too_deep →
+    IsFalse m.conflicting ↔ All (λ o. Merges schema (fragments_of document) o.value.value.selection_set) m.operations
+conflicts_decide same_definition schema document m built own was shallow =
+    let Merging' = λ (o : Node Operation). Merges schema (fragments_of document) o.value.value.selection_set in
+    let decide = seen_lists_decide same_definition same_field schema document built (field_equality_compares_contents document) m.operations own m.shapes m.fields (was.shapes.all shallow) (was.fields.all shallow) in (
+      λ h. each_standing Merging' m.operations (λ o stands. decide.1 (was.silent.0 h) o stands),
+      λ all. was.silent.1 (decide.0 (λ o stands. All-contains Merging' m.operations o all stands)),
+    )

@@ -64,6 +64,8 @@ pub record MergesOneMore (schema : Schema) (o : Node Operation) (old new : Mergi
   pub are_of_shapes : AreConflicts schema shape_pass (groups_of_lists schema shape_pass shapes) of_shapes
   pub are_of_fields : AreConflicts schema field_pass (groups_of_lists schema field_pass fields) of_fields
   pub are_limits : AreLimits o new.too_deep limits
+  pub conflicting : IsFalse new.conflicting ↔ (IsFalse old.conflicting × (of_shapes ≡ []) × (of_fields ≡ []))
+  pub too_deep : IsTrue old.too_deep → IsTrue new.too_deep
 
 -- both passes have examined the fields of a set, one after the other, and answered whether it nests too deep
 pub record ExaminesInBoth (schema : Schema) (fragments : Fragments) (set : SelectionSet)

@@ -3,8 +3,11 @@
 #![tactic(auto)]
 
 pub mod comparisons;
+mod conflicts;
+mod examined;
 pub mod expansion;
 pub mod field_selections;
 mod groups;
+pub mod laws;
 pub mod merging;
 mod passes;

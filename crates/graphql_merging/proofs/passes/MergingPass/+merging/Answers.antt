@@ -19,7 +19,7 @@ use Rattle.graphql_merging.specs.Passes.{Examines, GoesBelow, IsConflict, IsConf
 use Rattle.graphql_merging.specs.Stages.{examined_lists, stage_of}
 use Rattle.graphql_merging.proofs.PassLemmas.{below_cut, below_examined, below_known, below_leaves, below_none, below_then, list_examined}
 use Rattle.graphql_merging.proofs.PassStepLemmas.{conflicts_true, count_at_limit, count_below_limit, counted_groups, each_group, expansion_known, group_among, new_unknown, no_items, not_reached, some_items}
-use Rattle.graphql_merging.proofs.SameFieldLemmas.{same_fields_itself}
+use Rattle.graphql_laws.proofs.FieldContentsLaws.{same_fields_itself}
 use Rattle.graphql_merging.proofs.passes.MergingPass.+merging.Goals as goal
 
 pub examine-loop-group-init : goal.examine-loop-group-init

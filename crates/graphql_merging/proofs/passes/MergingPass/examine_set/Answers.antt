@@ -7,7 +7,7 @@ use Rattle.graphql_merging.specs.Passes.{Examines, ExaminesSet}
 use Rattle.graphql_merging.specs.Stages.{examined_lists, stage_of}
 use Rattle.graphql_merging.proofs.PassLemmas.{set_examined, set_known}
 use Rattle.graphql_merging.proofs.PassStepLemmas.{known_with}
-use Rattle.graphql_merging.proofs.SameFieldLemmas.{same_fields_itself}
+use Rattle.graphql_laws.proofs.FieldContentsLaws.{same_fields_itself}
 use Rattle.graphql_merging.proofs.passes.MergingPass.examine_set.Goals as goal
 
 pub returns-then-knows-clause-examines : goal.returns-then-knows-clause-examines
