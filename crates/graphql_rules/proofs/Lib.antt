@@ -11,5 +11,6 @@ pub mod PlacedLemmas
 mod PossibleTypeLemmas
 pub mod SeenNameLemmas
 pub mod SelectionHoldLemmas
+pub mod SubscriptionLemmas
 pub mod UsedFragmentLemmas
 pub mod WalkLemmas

@@ -4,4 +4,5 @@ pub mod FragmentSearches
 pub mod FragmentUses
 pub mod PossibleTypes
 pub mod SelectionSteps
+pub mod Subscriptions
 pub mod UsedFragments
