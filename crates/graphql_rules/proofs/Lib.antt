@@ -1,5 +1,7 @@
 pub mod AppliedLemmas
 pub mod CycleLemmas
+pub mod DeferLabelLemmas
+pub mod DeferWalkLemmas
 pub mod EnteredLemmas
 pub mod FieldLemmas
 pub mod FragmentLemmas
@@ -14,3 +16,4 @@ pub mod SelectionHoldLemmas
 pub mod SubscriptionLemmas
 pub mod UsedFragmentLemmas
 pub mod WalkLemmas
+pub mod WrittenDeferLemmas

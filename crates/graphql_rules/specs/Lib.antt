@@ -1,5 +1,6 @@
 pub mod Contexts
 pub mod CycleSearches
+pub mod DeferLabels
 pub mod FragmentSearches
 pub mod FragmentUses
 pub mod PossibleTypes

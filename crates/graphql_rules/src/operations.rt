@@ -1,7 +1,7 @@
 //! Operations, with the selections and fragments that they reach.
 
 mod context;
-mod directive_names;
+mod defer;
 mod fields;
 mod fragment_cycles;
 mod fragments;
@@ -14,10 +14,11 @@ mod subscription;
 mod type_conditions;
 
 pub use context::OperationValidationContext;
-pub use directive_names::{DEFER_DIRECTIVE_NAME, INCLUDE_DIRECTIVE_NAME, SKIP_DIRECTIVE_NAME};
+pub use defer::DEFER_DIRECTIVE_NAME;
 pub use fields::validate_leaf_field_selection;
 pub use fragment_cycles::validate_fragment_cycles;
 pub use fragments_used::validate_fragments_used;
+pub use graphql_values::conditions::{INCLUDE_DIRECTIVE_NAME, SKIP_DIRECTIVE_NAME};
 pub use operation::{validate_operation, validate_operation_definitions};
 pub use selections::{
     validate_field, validate_fragment_definition, validate_fragment_spread,

@@ -10,13 +10,13 @@ ghost use Rattle.graphql_documents.specs.Subscriptions.{HasOneRootField, WalkedF
 ghost use Rattle.graphql_documents.specs.declared.documents.definitions.OperationType.TheVariants.{Subscription};
 ghost use Rattle.graphql_rules.specs.Subscriptions.{ChecksAtRoot, IsNoIntrospection, IsUnconditional, RootSelectionHolds, SaysOfSubscription};
 
-use super::directive_names::{INCLUDE_DIRECTIVE_NAME, SKIP_DIRECTIVE_NAME};
 use graphql_documents::diagnostics::{
     BuildError, Details, DiagnosticData, DiagnosticList, ValidationError,
 };
 use graphql_documents::documents::{
     Directive, ExecutableDocument, Field, Name, Node, Operation, OperationType, Selection,
 };
+use graphql_values::conditions::{INCLUDE_DIRECTIVE_NAME, SKIP_DIRECTIVE_NAME, directives_of};
 use graphql_values::variable::walk_selections;
 use std::alloc::Global;
 
@@ -158,17 +158,6 @@ fn is_conditional(name: &Name) -> bool
 {
     let text = name.as_str();
     text == SKIP_DIRECTIVE_NAME || text == INCLUDE_DIRECTIVE_NAME
-}
-
-/// The directives of a selection.
-fn directives_of(selection: &Selection) -> &[Node<Directive>]
-    ensures { result.now ≡ directives_of selection.now }
-{
-    match selection {
-        Selection::Field(field) => &field.value.directives,
-        Selection::FragmentSpread(spread) => &spread.value.directives,
-        Selection::InlineFragment(fragment) => &fragment.value.directives,
-    }
 }
 
 /// Reports a subscription for which more than one field was met, among all its root selections.
