@@ -8,6 +8,7 @@ pub mod FragmentLemmas
 pub mod FragmentRoomLemmas
 pub mod FragmentSearchLemmas
 pub mod MeasureLemmas
+pub mod OperationDeferLemmas
 pub mod OperationLemmas
 pub mod PlacedLemmas
 mod PossibleTypeLemmas

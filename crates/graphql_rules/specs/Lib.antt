@@ -3,6 +3,7 @@ pub mod CycleSearches
 pub mod DeferLabels
 pub mod FragmentSearches
 pub mod FragmentUses
+pub mod OperationDefers
 pub mod PossibleTypes
 pub mod SelectionSteps
 pub mod Subscriptions
