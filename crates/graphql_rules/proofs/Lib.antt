@@ -1,6 +1,7 @@
 pub mod AppliedLemmas
 pub mod CycleLemmas
 pub mod DeferLabelLemmas
+pub mod DeferLemmas
 pub mod DeferWalkLemmas
 pub mod EnteredLemmas
 pub mod FieldLemmas

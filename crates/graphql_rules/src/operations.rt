@@ -14,7 +14,7 @@ mod subscription;
 mod type_conditions;
 
 pub use context::OperationValidationContext;
-pub use defer::DEFER_DIRECTIVE_NAME;
+pub use defer::{DEFER_DIRECTIVE_NAME, validate_defer};
 pub use fields::validate_leaf_field_selection;
 pub use fragment_cycles::validate_fragment_cycles;
 pub use fragments_used::validate_fragments_used;

@@ -13,7 +13,7 @@ use graphql_documents::documents::{ExecutableDocument, Operation};
 ///
 /// Specification: the incremental delivery proposal, Defer And Stream Directives Are Used On Valid Root
 /// Field, and In Valid Operations.
-pub(in crate::operations) fn check_operation_defer(
+pub(super) fn check_operation_defer(
     diagnostics: &mut DiagnosticList,
     document: &ExecutableDocument,
     operation: &Operation,
