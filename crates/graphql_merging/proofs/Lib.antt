@@ -1,11 +1,11 @@
 pub mod ArgumentComparisonLemmas
-pub mod ConflictLemmas
 pub mod ExpansionSizeLemmas
 pub mod ExpansionStepLemmas
 pub mod FieldSelectionLemmas
 pub mod FirstNamedLemmas
 pub mod GroupLemmas
 pub mod MergedOperationLemmas
+pub mod MergingReportLemmas
 pub mod PassLemmas
 pub mod PassStepLemmas
 pub mod ValueComparisonLemmas

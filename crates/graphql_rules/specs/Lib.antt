@@ -1,7 +1,10 @@
 pub mod Contexts
 pub mod CycleSearches
+pub mod DeferLabels
 pub mod FragmentSearches
 pub mod FragmentUses
+pub mod OperationDefers
 pub mod PossibleTypes
 pub mod SelectionSteps
+pub mod Subscriptions
 pub mod UsedFragments

@@ -14,7 +14,7 @@ use Rattle.graphql_documents.proofs.NameLemmas.{same_name_back, same_name_itself
 use Rattle.graphql_documents.proofs.ReportLemmas.{more_is}
 use Rattle.graphql_documents.specs.Names.{DifferentNames, NameText, SameName, same_name, stands_on, with_name}
 use Rattle.graphql_documents.specs.Selections.{Fragments, fragments_of, selections_of}
-use Rattle.graphql_documents.specs.Walks.{descent_ends, descent_into_field, descent_into_fragment, descent_into_inline_fragment}
+use Rattle.graphql_documents.specs.Walks.{Walk, descent_ends, descent_into_field, descent_into_fragment, descent_into_inline_fragment}
 use Rattle.graphql_documents.specs.declared.documents.executables.Field.{Field}
 use Rattle.graphql_documents.specs.declared.documents.executables.Fragment.{Fragment}
 use Rattle.graphql_documents.specs.declared.documents.executables.FragmentSpread.{FragmentSpread}
@@ -26,7 +26,9 @@ use Rattle.graphql_documents.specs.declared.documents.nodes.Node.{Node}
 use Rattle.graphql_values.proofs.ObjectLemmas.{split_at}
 use Rattle.graphql_values.proofs.SearchLemmas.{finds_nothing, searched_before, finds_from_more, searched_words, finds_then, searched_then, finds_below, searched_below}
 use Rattle.graphql_values.specs.Searches.{Finds, Searched}
-use Rattle.graphql_values.specs.WalkSteps.{Stop, at_selection, at_name, IsAmong, IsInSet, IsName, Step, into_field, into_inline_fragment, to_name, into_fragment, entered_names, listed_of, IsMet, StepOf, PassesFrom, HasWalked}
+use Rattle.graphql_values.specs.WalkSteps.{Stop, at_selection, at_name, walk_of, IsInSet, IsName, BeginsIn, GoesThrough, Step, into_field, into_inline_fragment, to_name, into_fragment, entered_names, listed_of, IsMet, StepOf, PassesFrom, HasWalked}
+use Rattle.graphql_values.specs.declared.variable.walks.Extent.TheVariants as extent
+use Rattle.graphql_values.specs.declared.variable.walks.Extent.{Extent}
 use Rattle.graphql_values.specs.declared.variable.walks.Met.{Met}
 use Rattle.graphql_values.specs.declared.variable.walks.SelectionWalk.{SelectionWalk}
 
@@ -36,25 +38,25 @@ same_selection s t e = cc
 selection_no_name : (s : Selection) (name : NameText) → ¬ (at_name name ≡ at_selection s)
 selection_no_name s name e = let h : ⊥ = cc in h
 
-module _ {fragments : Fragments} {into_fields : Bool} where
+module _ {fragments : Fragments} {walk : Walk} where
   -- where a step from a field leads, from an inline fragment, from a spread and from a name
-  pub from_field : {a x : Stop} → Step fragments into_fields a x → (f : Node Field) → a ≡ at_selection (kind.Field f) →
-      IsTrue into_fields × IsInSet f.value.value.selection_set x
+  pub from_field : {a x : Stop} → Step fragments walk a x → (f : Node Field) → a ≡ at_selection (kind.Field f) →
+      IsTrue walk.into_fields × IsInSet walk f.value.value.selection_set x
   from_field {x = x} (into_field g into stands) f e =
-      (into, subst (λ (h : Node Field). IsInSet h.value.value.selection_set x) (same_field f g (same_selection (kind.Field g) (kind.Field f) e)) stands)
+      (into, subst (λ (h : Node Field). IsInSet walk h.value.value.selection_set x) (same_field f g (same_selection (kind.Field g) (kind.Field f) e)) stands)
   from_field (into_inline_fragment i stands) f e = absurd (not_inline f i (same_selection (kind.InlineFragment i) (kind.Field f) e))
   from_field (to_name p named) f e = absurd (not_spread f p (same_selection (kind.FragmentSpread p) (kind.Field f) e))
   from_field (into_fragment {name = name} found stands) f e = absurd (selection_no_name (kind.Field f) name e)
 
-  pub from_inline_fragment : {a x : Stop} → Step fragments into_fields a x → (i : Node InlineFragment) → a ≡ at_selection (kind.InlineFragment i) →
-      IsInSet i.value.value.selection_set x
+  pub from_inline_fragment : {a x : Stop} → Step fragments walk a x → (i : Node InlineFragment) → a ≡ at_selection (kind.InlineFragment i) →
+      IsInSet walk i.value.value.selection_set x
   from_inline_fragment (into_field f into stands) i e = absurd (not_inline f i (sym (same_selection (kind.Field f) (kind.InlineFragment i) e)))
   from_inline_fragment {x = x} (into_inline_fragment j stands) i e =
-      subst (λ (h : Node InlineFragment). IsInSet h.value.value.selection_set x) (same_inline j i (same_selection (kind.InlineFragment j) (kind.InlineFragment i) e)) stands
+      subst (λ (h : Node InlineFragment). IsInSet walk h.value.value.selection_set x) (same_inline j i (same_selection (kind.InlineFragment j) (kind.InlineFragment i) e)) stands
   from_inline_fragment (to_name p named) i e = absurd (spread_not_inline i p (same_selection (kind.FragmentSpread p) (kind.InlineFragment i) e))
   from_inline_fragment (into_fragment {name = name} found stands) i e = absurd (selection_no_name (kind.InlineFragment i) name e)
 
-  pub from_spread : {a x : Stop} → Step fragments into_fields a x → (p : Node FragmentSpread) → a ≡ at_selection (kind.FragmentSpread p) →
+  pub from_spread : {a x : Stop} → Step fragments walk a x → (p : Node FragmentSpread) → a ≡ at_selection (kind.FragmentSpread p) →
       IsName p.value.value.fragment_name x
   from_spread (into_field f into stands) p e = absurd (not_spread f p (sym (same_selection (kind.Field f) (kind.FragmentSpread p) e)))
   from_spread (into_inline_fragment i stands) p e = absurd (spread_not_inline i p (sym (same_selection (kind.InlineFragment i) (kind.FragmentSpread p) e)))
@@ -62,8 +64,8 @@ module _ {fragments : Fragments} {into_fields : Bool} where
       subst (λ (h : Node FragmentSpread). IsName h.value.value.fragment_name x) (same_spread q p (same_selection (kind.FragmentSpread q) (kind.FragmentSpread p) e)) named
   from_spread (into_fragment {name = name} found stands) p e = absurd (selection_no_name (kind.FragmentSpread p) name e)
 
-  pub from_name : {a x : Stop} → Step fragments into_fields a x → (name : NameText) → a ≡ at_name name →
-      (d : Node Fragment) × (fragments name ≡ Some d) × IsInSet d.value.value.selection_set x
+  pub from_name : {a x : Stop} → Step fragments walk a x → (name : NameText) → a ≡ at_name name →
+      (d : Node Fragment) × (fragments name ≡ Some d) × IsInSet walk d.value.value.selection_set x
   from_name (into_field f into stands) name e = absurd (selection_no_name (kind.Field f) name (sym e))
   from_name (into_inline_fragment i stands) name e = absurd (selection_no_name (kind.InlineFragment i) name (sym e))
   from_name (to_name p named) name e = absurd (selection_no_name (kind.FragmentSpread p) name (sym e))
@@ -233,31 +235,37 @@ passes_here met limit depth deep = record {
   passes = omega arith;
 }
 
+-- each walk goes into fragments, and that of what stands inside a set through each selection
+goes_into_fragments : (e : Extent) → IsTrue (walk_of e).into_fragments
+goes_into_fragments extent.Inside = refl
+goes_into_fragments extent.Reached = refl
+goes_into_fragments extent.Open = refl
+
 module _ {walk : SelectionWalk} {met : Met} {limit depth : ℕ} {set : SelectionSet} where
   -- a descent from one step deeper, with that step
-  pub passes_by_field : (f : Node Field) → IsTrue walk.into_fields → Contains (selections_of set) (kind.Field f) →
+  pub passes_by_field : (f : Node Field) → IsTrue (walk_of walk.extent).into_fields → BeginsIn walk set (at_selection (kind.Field f)) →
       PassesFrom walk met limit (depth + 1) f.value.value.selection_set → PassesFrom walk met limit depth set
   passes_by_field f into stands p = record {
     steps = suc p.steps;
     names = p.names;
-    descent = descent_into_field into stands refl p.descent;
+    descent = descent_into_field into stands.0 stands.1 p.descent;
     once = p.once;
     fresh = p.fresh;
     passes = omega (arith, p.passes);
   }
 
-  pub passes_by_inline_fragment : (i : Node InlineFragment) → Contains (selections_of set) (kind.InlineFragment i) →
+  pub passes_by_inline_fragment : (i : Node InlineFragment) → BeginsIn walk set (at_selection (kind.InlineFragment i)) →
       PassesFrom walk met limit (depth + 1) i.value.value.selection_set → PassesFrom walk met limit depth set
   passes_by_inline_fragment i stands p = record {
     steps = suc p.steps;
     names = p.names;
-    descent = descent_into_inline_fragment stands refl p.descent;
+    descent = descent_into_inline_fragment stands.0 stands.1 p.descent;
     once = p.once;
     fresh = p.fresh;
     passes = omega (arith, p.passes);
   }
 
-  pub passes_by_spread : (p : Node FragmentSpread) (d : Node Fragment) {after : Met} → Contains (selections_of set) (kind.FragmentSpread p) →
+  pub passes_by_spread : (p : Node FragmentSpread) (d : Node Fragment) {after : Met} → BeginsIn walk set (at_selection (kind.FragmentSpread p)) →
       fragments_of walk.document.now p.value.value.fragment_name ≡ Some d →
       Entered p.value.value.fragment_name met after →
       PassesFrom walk after limit (depth + 1) d.value.value.selection_set → PassesFrom walk met limit depth set
@@ -266,7 +274,7 @@ module _ {walk : SelectionWalk} {met : Met} {limit depth : ℕ} {set : Selection
       record {
         steps = suc passing.steps;
         names = name ∷ passing.names;
-        descent = descent_into_fragment refl stands refl found passing.descent;
+        descent = descent_into_fragment (goes_into_fragments walk.extent) stands.0 stands.1 found passing.descent;
         once = AllPairs-cons DifferentNames name passing.names
             (All-weaker (λ n. IsFalse (stands_on (entered_names after) n)) (DifferentNames name) (λ n fresh.
             not_true (same_name name n) (λ same. both_not (stands_on (entered_names after) n) (entered_is_met e (at_name n) same) fresh)) passing.names passing.fresh)
@@ -279,17 +287,17 @@ module _ {walk : SelectionWalk} {met : Met} {limit depth : ℕ} {set : Selection
 
 -- the bounds of walks over a set and below a selection
 abbrev pub PassesBelow : SelectionWalk → Met → ℕ → ℕ → Selection → Type 0
-PassesBelow walk met limit depth s = (set : SelectionSet) → Contains (selections_of set) s → PassesFrom walk met limit depth set
+PassesBelow walk met limit depth s = (set : SelectionSet) → BeginsIn walk set (at_selection s) → PassesFrom walk met limit depth set
 
 module _ (walk : SelectionWalk) (p : Node FragmentSpread) where
   -- a step from a name in the set that it finds
   next_of : (d : Node Fragment) → fragments_of walk.document.now p.value.value.fragment_name ≡ Some d →
-      (x y : Stop) → IsName p.value.value.fragment_name x → StepOf walk x y → IsInSet d.value.value.selection_set y
+      (x y : Stop) → IsName p.value.value.fragment_name x → StepOf walk x y → BeginsIn walk d.value.value.selection_set y
   next_of d found (at_selection s) y named step = absurd named
   next_of d found (at_name name) y named step =
       let there = from_name step name refl in
       let same : there.0 ≡ d = same_Some there.0 d (sym there.1 ∙ sym (one_fragment_found walk.document.now p.value.value.fragment_name name named) ∙ found) in
-      subst (λ (e : Node Fragment). IsInSet e.value.value.selection_set y) same there.2
+      subst (λ (e : Node Fragment). BeginsIn walk e.value.value.selection_set y) same there.2
 
   nothing_next : fragments_of walk.document.now p.value.value.fragment_name ≡ None →
       (x y : Stop) → IsName p.value.value.fragment_name x → StepOf walk x y → ⊥
@@ -301,7 +309,7 @@ module _ (walk : SelectionWalk) (p : Node FragmentSpread) where
 module _ {walk : SelectionWalk} where
   -- the walk is at its limit
   pub walked_to_limit : (set : SelectionSet) (limit depth : ℕ) (met : Met) → limit ≤ depth →
-      HasWalked walk (IsInSet set) (PassesFrom walk met limit (depth + 1) set) met met false
+      HasWalked walk (BeginsIn walk set) (PassesFrom walk met limit (depth + 1) set) met met false
   walked_to_limit set limit depth met deep = record {
     finds = finds_nothing;
     searched = λ h. absurd (both_not false h refl);
@@ -319,24 +327,24 @@ module _ {walk : SelectionWalk} where
   }
 
   -- below a field that is gone into, and below an inline fragment
-  pub walked_field : {s : Selection} (f : Node Field) {limit depth : ℕ} {old new : Met} {complete : Bool} → s ≡ kind.Field f → IsTrue walk.into_fields →
-      HasWalked walk (IsInSet f.value.value.selection_set) (PassesFrom walk old limit (depth + 1) f.value.value.selection_set) old new complete →
+  pub walked_field : {s : Selection} (f : Node Field) {limit depth : ℕ} {old new : Met} {complete : Bool} → s ≡ kind.Field f → IsTrue (walk_of walk.extent).into_fields →
+      HasWalked walk (BeginsIn walk f.value.value.selection_set) (PassesFrom walk old limit (depth + 1) f.value.value.selection_set) old new complete →
       HasWalked walk (StepOf walk (at_selection s)) (PassesBelow walk old limit depth s) old new complete
   walked_field f {limit = limit} {depth = depth} {old = old} is into w =
       walked_words
       (λ x stands. subst (λ t. StepOf walk (at_selection t) x) (sym is) (into_field f into stands))
       (λ x step. (from_field step f (ap at_selection is)).1)
-      (λ passes set stands. passes_by_field f into (subst (Contains (selections_of set)) is stands) passes)
+      (λ passes set stands. passes_by_field f into (subst (λ t. BeginsIn walk set (at_selection t)) is stands) passes)
       w
 
   pub walked_inline_fragment : {s : Selection} (i : Node InlineFragment) {limit depth : ℕ} {old new : Met} {complete : Bool} → s ≡ kind.InlineFragment i →
-      HasWalked walk (IsInSet i.value.value.selection_set) (PassesFrom walk old limit (depth + 1) i.value.value.selection_set) old new complete →
+      HasWalked walk (BeginsIn walk i.value.value.selection_set) (PassesFrom walk old limit (depth + 1) i.value.value.selection_set) old new complete →
       HasWalked walk (StepOf walk (at_selection s)) (PassesBelow walk old limit depth s) old new complete
   walked_inline_fragment i {limit = limit} {depth = depth} {old = old} is w =
       walked_words
       (λ x stands. subst (λ t. StepOf walk (at_selection t) x) (sym is) (into_inline_fragment i stands))
       (λ x step. from_inline_fragment step i (ap at_selection is))
-      (λ passes set stands. passes_by_inline_fragment i (subst (Contains (selections_of set)) is stands) passes)
+      (λ passes set stands. passes_by_inline_fragment i (subst (λ t. BeginsIn walk set (at_selection t)) is stands) passes)
       w
 
   module _ (p : Node FragmentSpread) {limit depth : ℕ} where
@@ -363,11 +371,11 @@ module _ {walk : SelectionWalk} where
     -- a spread of a fragment that is gone into
     pub walked_fragment : (d : Node Fragment) {old mid new : Met} {complete : Bool} → Entered p.value.value.fragment_name old mid →
         fragments_of walk.document.now p.value.value.fragment_name ≡ Some d →
-        HasWalked walk (IsInSet d.value.value.selection_set) (PassesFrom walk mid limit (depth + 1) d.value.value.selection_set) mid new complete →
+        HasWalked walk (BeginsIn walk d.value.value.selection_set) (PassesFrom walk mid limit (depth + 1) d.value.value.selection_set) mid new complete →
         HasWalked walk (StepOf walk (at_selection (kind.FragmentSpread p))) (PassesBelow walk old limit depth (kind.FragmentSpread p)) old new complete
     walked_fragment d {old = old} {mid = mid} e found w =
         let name : NameText = p.value.value.fragment_name in
-        let from : (y : Stop) → IsInSet d.value.value.selection_set y → (x : Stop) × IsName name x × StepOf walk x y =
+        let from : (y : Stop) → BeginsIn walk d.value.value.selection_set y → (x : Stop) × IsName name x × StepOf walk x y =
         λ y stands. (at_name name, same_name_itself name, into_fragment found stands) in
         walked_words
         (λ x named. to_name p named)
@@ -398,7 +406,7 @@ module _ {walk : SelectionWalk} where
 
 -- a walk over the first selections of a set, and then over the next
 module _ (walk : SelectionWalk) (xs : List Selection) (i : ℕ) (s : Selection) (old new : Met) {mid pushed : Met}
-    (within : i < length xs) (item : s ≡ get_or xs i s) (e : Listed s mid pushed) where
+    (within : i < length xs) (item : s ≡ get_or xs i s) (through : IsTrue ((walk_of walk.extent).goes_through s)) (e : Listed s mid pushed) where
   next_from : (y : Stop) → StepOf walk (at_selection s) y → (x : Stop) × (x ≡ at_selection s) × StepOf walk x y
   next_from y step = (at_selection s, refl, step)
 
@@ -410,32 +418,34 @@ module _ (walk : SelectionWalk) (xs : List Selection) (i : ℕ) (s : Selection) 
       subst (λ l. Contains l s) (sym (split_at xs i s within item))
       (Contains-append_right (take i xs) (s ∷ drop (i + 1) xs) s (stands_first s (drop (i + 1) xs)))
 
-  among_all : (x : Stop) → IsAmong (take i xs) x ⊎ (x ≡ at_selection s) → IsAmong xs x
+  among_all : (x : Stop) → GoesThrough walk (take i xs) x ⊎ (x ≡ at_selection s) → GoesThrough walk xs x
   among_all (at_selection t) h = elim h [
-    | inl before ↦ subst (λ l. Contains l t) (sym (split_at xs i s within item)) (Contains-append_left (take i xs) (s ∷ drop (i + 1) xs) t before)
-    | inr same ↦ subst (Contains xs) (sym (same_selection t s same)) stands_at
+    | inl before ↦
+        (subst (λ l. Contains l t) (sym (split_at xs i s within item)) (Contains-append_left (take i xs) (s ∷ drop (i + 1) xs) t before.0), before.1)
+    | inr same ↦ subst (λ (u : Selection). GoesThrough walk xs (at_selection u)) (sym (same_selection t s same)) (stands_at, through)
   ]
   among_all (at_name name) h = elim h [ inl before ↦ before | inr same ↦ selection_no_name s name same ]
 
-  among_more : (x : Stop) → IsAmong (take i xs) x ⊎ (x ≡ at_selection s) → IsAmong (take (i + 1) xs) x
+  among_more : (x : Stop) → GoesThrough walk (take i xs) x ⊎ (x ≡ at_selection s) → GoesThrough walk (take (i + 1) xs) x
   among_more (at_selection t) h =
-      subst (λ l. Contains l t) (sym (more_is xs i s within item)) (elim h [
-        | inl before ↦ Contains-append_left (take i xs) (s ∷ []) t before
-        | inr same ↦ Contains-append_right (take i xs) (s ∷ []) t (subst (Contains (s ∷ [])) (sym (same_selection t s same)) (stands_first s []))
+      subst (λ l. GoesThrough walk l (at_selection t)) (sym (more_is xs i s within item)) (elim h [
+        | inl before ↦ (Contains-append_left (take i xs) (s ∷ []) t before.0, before.1)
+        | inr same ↦ subst (λ (u : Selection). GoesThrough walk (take i xs ++ s ∷ []) (at_selection u)) (sym (same_selection t s same))
+            (Contains-append_right (take i xs) (s ∷ []) s (stands_first s []), through)
       ])
   among_more (at_name name) h = elim h [ inl before ↦ before | inr same ↦ selection_no_name s name same ]
 
-  among_either : (x : Stop) → IsAmong (take (i + 1) xs) x → IsAmong (take i xs) x ⊎ (x ≡ at_selection s)
+  among_either : (x : Stop) → GoesThrough walk (take (i + 1) xs) x → GoesThrough walk (take i xs) x ⊎ (x ≡ at_selection s)
   among_either (at_selection t) h =
-      elim (Contains-append_cases (take i xs) (s ∷ []) t (subst (λ l. Contains l t) (more_is xs i s within item) h)) [
-        | inl before ↦ inl before
+      elim (Contains-append_cases (take i xs) (s ∷ []) t (subst (λ l. Contains l t) (more_is xs i s within item) h.0)) [
+        | inl before ↦ inl (before, h.1)
         | inr last ↦ inr (ap at_selection (only_one s t last))
       ]
   among_either (at_name name) h = absurd h
 
-  pub searched_next : Searched (StepOf walk) (IsAmong (take i xs)) (IsMet old) (IsMet mid) →
+  pub searched_next : Searched (StepOf walk) (GoesThrough walk (take i xs)) (IsMet old) (IsMet mid) →
       Searched (StepOf walk) (StepOf walk (at_selection s)) (IsMet pushed) (IsMet new) →
-      Searched (StepOf walk) (IsAmong (take (i + 1) xs)) (IsMet old) (IsMet new)
+      Searched (StepOf walk) (GoesThrough walk (take (i + 1) xs)) (IsMet old) (IsMet new)
   searched_next a b =
       let is : Stop → Type 0 = λ x. x ≡ at_selection s in
       searched_words among_more among_either
@@ -445,26 +455,46 @@ module _ (walk : SelectionWalk) (xs : List Selection) (i : ℕ) (s : Selection) 
 
   -- the walk stops below it
   pub walked_part : {set : SelectionSet} {limit depth : ℕ} → xs ≡ selections_of set →
-      Searched (StepOf walk) (IsAmong (take i xs)) (IsMet old) (IsMet mid) →
+      Searched (StepOf walk) (GoesThrough walk (take i xs)) (IsMet old) (IsMet mid) →
       HasWalked walk (StepOf walk (at_selection s)) (PassesBelow walk pushed limit depth s) pushed new false →
-      HasWalked walk (IsInSet set) (PassesFrom walk old limit depth set) old new false
+      HasWalked walk (BeginsIn walk set) (PassesFrom walk old limit depth set) old new false
   walked_part {set = set} same a w =
       let is : Stop → Type 0 = λ x. x ≡ at_selection s in
       record {
         finds = finds_from_more
-            (λ x h. subst (λ l. IsAmong l x) same (among_all x h))
+            (λ x h. subst (λ l. GoesThrough walk l x) same (among_all x h))
             (finds_then a.finds
             (finds_below {begins = is}
             (listed_grows e) (listed_only e) next_from w.finds));
         searched = λ h. absurd (both_not false h refl);
         bound = λ h. passes_before (λ x before. listed_grows e x (a.finds.grows x before))
-            (w.bound refl set (subst (λ l. Contains l s) same stands_at));
+            (w.bound refl set (subst (λ l. Contains l s) same stands_at, through));
       }
+
+-- a selection that the walk does not go through
+module _ (walk : SelectionWalk) (xs : List Selection) (i : ℕ) (s : Selection) (within : i < length xs) (item : s ≡ get_or xs i s) where
+  more_among : (x : Stop) → GoesThrough walk (take i xs) x → GoesThrough walk (take (i + 1) xs) x
+  more_among (at_selection t) h =
+      (subst (λ l. Contains l t) (sym (more_is xs i s within item)) (Contains-append_left (take i xs) (s ∷ []) t h.0), h.1)
+  more_among (at_name name) h = h
+
+  no_more_among : IsFalse ((walk_of walk.extent).goes_through s) → (x : Stop) → GoesThrough walk (take (i + 1) xs) x → GoesThrough walk (take i xs) x
+  no_more_among past (at_selection t) h =
+      elim (Contains-append_cases (take i xs) (s ∷ []) t (subst (λ l. Contains l t) (more_is xs i s within item) h.0)) [
+        | inl before ↦ (before, h.1)
+        | inr last ↦ absurd (both_not ((walk_of walk.extent).goes_through t) h.1 (subst (λ u. IsFalse ((walk_of walk.extent).goes_through u)) (sym (only_one s t last)) past))
+      ]
+  no_more_among past (at_name name) h = h
+
+  pub searched_past : (old new : Met) → IsFalse ((walk_of walk.extent).goes_through s) →
+      Searched (StepOf walk) (GoesThrough walk (take i xs)) (IsMet old) (IsMet new) →
+      Searched (StepOf walk) (GoesThrough walk (take (i + 1) xs)) (IsMet old) (IsMet new)
+  searched_past old new past a = searched_words more_among (no_more_among past) a
 
 -- the walk has come to the end of a set
 pub walked_whole : (walk : SelectionWalk) {Passes : Type 0} {xs ys : List Selection} (i : ℕ) (old new : Met) → length xs ≤ i → xs ≡ ys →
-    Searched (StepOf walk) (IsAmong (take i xs)) (IsMet old) (IsMet new) → HasWalked walk (IsAmong ys) Passes old new true
+    Searched (StepOf walk) (GoesThrough walk (take i xs)) (IsMet old) (IsMet new) → HasWalked walk (GoesThrough walk ys) Passes old new true
 walked_whole walk {xs = xs} {ys = ys} i old new past same a =
-    let whole : Searched (StepOf walk) (IsAmong ys) (IsMet old) (IsMet new) =
-    subst (λ l. Searched (StepOf walk) (IsAmong l) (IsMet old) (IsMet new)) (take_all i xs past ∙ same) a in
+    let whole : Searched (StepOf walk) (GoesThrough walk ys) (IsMet old) (IsMet new) =
+    subst (λ l. Searched (StepOf walk) (GoesThrough walk l) (IsMet old) (IsMet new)) (take_all i xs past ∙ same) a in
     record { finds = whole.finds; searched = λ h. whole; bound = λ h. absurd (both_not true refl h) }

@@ -3,6 +3,7 @@
 #![tactic(auto)]
 
 pub mod argument;
+pub mod conditions;
 pub mod directive;
 pub mod first_places;
 pub mod value;

@@ -10,4 +10,6 @@ pub use by_name::VariablesByName;
 pub use unused::validate_unused_variables;
 pub use usage::{check_variable_usage, is_variable_usage_allowed, validate_variable_usage};
 pub use uses::variables_in_value;
-pub use walks::{Walked, walk_selections, walk_selections_with_deduped_fragments};
+pub use walks::{
+    Walked, walk_open_selections, walk_selections, walk_selections_with_deduped_fragments,
+};

@@ -1,14 +1,17 @@
 //! Walks over the selections of an operation.
 
-ghost use Rattle.std.specs.Prelude.{◌≡◌, ◌+◌, List, [], map, not, IfOk, IsFalse, IsTrue, OnOk};
+ghost use Rattle.std.specs.Prelude.{◌≡◌, ◌+◌, List, [], map, not, IfOk, IsTrue, OnOk};
 ghost use Rattle.graphql_guards.specs.Guards.{depth_limit, depth_of};
 ghost use Rattle.graphql_documents.specs.Names.{NameText, stands_on, with_name};
 ghost use Rattle.graphql_documents.specs.Selections.{Inside, Reached, fragments_of, selections_of};
+ghost use Rattle.graphql_documents.specs.Defer.{Open};
 ghost use Rattle.graphql_documents.specs.Subscriptions.{WalkedFields, fields_among};
-ghost use Rattle.graphql_documents.specs.Walks.{HasListed, PassesDepth, full_walk, root_walk};
+ghost use Rattle.graphql_documents.specs.Walks.{HasListed, PassesDepth, full_walk, open_walk, root_walk};
 ghost use Rattle.graphql_documents.specs.declared.documents.executables.Selection.TheVariants as kind;
-ghost use Rattle.graphql_values.specs.WalkSteps.{MetFrom, OrderBelow, OrderOver, WalksBelow, WalksOver, listed_of, entered_names, walk_into};
+ghost use Rattle.graphql_values.specs.WalkSteps.{MetFrom, OrderBelow, OrderOver, WalksBelow, WalksOver, listed_of, entered_names, walk_of};
+ghost use Rattle.graphql_values.specs.declared.variable.walks.Extent.TheVariants as extent;
 
+use crate::conditions::can_be_excluded;
 use graphql_documents::diagnostics::ValidationError;
 use graphql_documents::documents::{
     ExecutableDocument, FragmentSpread, Name, Node, Selection, SelectionSet,
@@ -49,7 +52,7 @@ pub fn walk_selections<'doc>(
 {
     let walk = SelectionWalk {
         document,
-        into_fields: false,
+        extent: Extent::Inside,
     };
     walk.over(alloc, selection_set)
 }
@@ -68,16 +71,69 @@ pub fn walk_selections_with_deduped_fragments<'doc>(
 {
     let walk = SelectionWalk {
         document,
-        into_fields: true,
+        extent: Extent::Reached,
     };
     walk.over(alloc, selection_set)
 }
 
-/// What a walk goes over, and whether it goes into the sets of fields.
+/// The same, but only over the selections that are met whatever the conditions: a selection that may be
+/// left out by `@skip` or `@include` is neither listed nor gone into. A fragment that is spread there is
+/// gone into at the first spread that can't be left out.
+///
+/// Specification: the incremental delivery proposal, Defer And Stream Directives Are Used In Valid
+/// Operations.
+pub fn walk_open_selections<'doc>(
+    alloc: Global,
+    document: &'doc ExecutableDocument,
+    selection_set: &'doc SelectionSet,
+) -> Result<Walked<'doc>, ValidationError>
+    ensures { IfOk result (λ walked. HasListed (Open (fragments_of document.now) selection_set.now)
+        (PassesDepth (fragments_of document.now) open_walk selection_set.now)
+        (map (λ s. s.now) walked.selections.items) walked.complete) }
+{
+    let walk = SelectionWalk {
+        document,
+        extent: Extent::Open,
+    };
+    walk.over(alloc, selection_set)
+}
+
+/// Which selections a walk goes through: those inside a set, those that are reached from it, or those of
+/// them that are met whatever the conditions.
+#[derive(Clone, Copy)]
+enum Extent {
+    Inside,
+    Reached,
+    Open,
+}
+
+impl Extent {
+    /// Whether the walk goes into the sets of fields.
+    fn goes_into_fields(self) -> bool
+        ensures { result ≡ (walk_of self).into_fields }
+    {
+        match self {
+            Extent::Inside => false,
+            Extent::Reached | Extent::Open => true,
+        }
+    }
+
+    /// Whether the walk goes through a selection.
+    fn goes_through(self, selection: &Selection) -> bool
+        ensures { result ≡ (walk_of self).goes_through selection.now }
+    {
+        match self {
+            Extent::Inside | Extent::Reached => true,
+            Extent::Open => !can_be_excluded(selection),
+        }
+    }
+}
+
+/// What a walk goes over, and how far.
 #[derive(Drop)]
 struct SelectionWalk<'doc> {
     document: &'doc ExecutableDocument,
-    into_fields: bool,
+    extent: Extent,
 }
 
 /// What a walk has met: the names of the fragments that it has gone into, and the selections.
@@ -101,10 +157,10 @@ impl<'doc> Met<'doc> {
 impl<'doc> SelectionWalk<'doc> {
     /// Walks over a set.
     fn over(&self, alloc: Global, set: &'doc SelectionSet) -> Result<Walked<'doc>, ValidationError>
-        ensures listed { IfOk result (λ walked. HasListed (MetFrom (fragments_of self.now.document.now) self.now.into_fields set.now)
-            (PassesDepth (fragments_of self.now.document.now) (walk_into self.now.into_fields) set.now)
+        ensures listed { IfOk result (λ walked. HasListed (MetFrom (fragments_of self.now.document.now) (walk_of self.now.extent) set.now)
+            (PassesDepth (fragments_of self.now.document.now) (walk_of self.now.extent) set.now)
             (map (λ s. s.now) walked.selections.items) walked.complete) }
-        ensures ordered { IfOk result (λ walked. IsTrue walked.complete → IsFalse self.now.into_fields → (met : List NameText) ×
+        ensures ordered { IfOk result (λ walked. IsTrue walked.complete → self.now.extent ≡ extent.Inside → (met : List NameText) ×
             WalkedFields (fragments_of self.now.document.now) [] (selections_of set.now)
             (fields_among (map (λ s. s.now) walked.selections.items)) met) }
     {
@@ -134,6 +190,9 @@ impl<'doc> SelectionWalk<'doc> {
         ensures limit { OnOk result (depth_limit depth.new ≡ depth_limit depth.old) }
     {
         for selection in &set.selections {
+            if !self.extent.goes_through(selection) {
+                continue;
+            }
             met.selections.push(selection)?;
             if !self.walk_below(selection, met, depth)? {
                 return Ok(false);
@@ -156,7 +215,7 @@ impl<'doc> SelectionWalk<'doc> {
         ensures limit { OnOk result (depth_limit depth.new ≡ depth_limit depth.old) }
     {
         match selection {
-            Selection::Field(field) if self.into_fields => {
+            Selection::Field(field) if self.extent.goes_into_fields() => {
                 self.walk_deeper(&field.value.selection_set, met, depth)
             }
             Selection::Field(_) => Ok(true),

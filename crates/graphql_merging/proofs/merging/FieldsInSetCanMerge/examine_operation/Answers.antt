@@ -6,7 +6,7 @@ use Rattle.graphql_documents.proofs.ListLemmas.{stands_first}
 use Rattle.graphql_documents.proofs.ReportLemmas.{kept_then}
 use Rattle.graphql_documents.proofs.SelectionLemmas.{one_fragment_found}
 use Rattle.graphql_merging.specs.Mergers.{document_of, schema_of}
-use Rattle.graphql_merging.proofs.ConflictLemmas.{conflicts_reported}
+use Rattle.graphql_merging.proofs.MergingReportLemmas.{conflicts_reported}
 use Rattle.graphql_merging.proofs.merging.FieldsInSetCanMerge.examine_operation.Goals as goal
 
 pub returns-in_err-examine_set-clause-truth : goal.returns-in_err-examine_set-clause-truth

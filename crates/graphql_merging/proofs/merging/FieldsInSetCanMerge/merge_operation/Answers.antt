@@ -7,7 +7,7 @@ use Rattle.graphql_documents.proofs.ReportLemmas.{kept_then, kept_wider, on_ok}
 use Rattle.graphql_documents.proofs.SelectionLemmas.{one_fragment_found}
 use Rattle.graphql_merging.specs.MergedOperations.{AreLimits, HasMerged, MergesOneMore}
 use Rattle.graphql_merging.specs.Mergers.{document_of, merging_of, schema_of}
-use Rattle.graphql_merging.proofs.ConflictLemmas.{limit_reported}
+use Rattle.graphql_merging.proofs.MergingReportLemmas.{limit_reported}
 use Rattle.graphql_merging.proofs.MergedOperationLemmas.{always, longer, merged_next, one_more, too_deep_so_far}
 use Rattle.graphql_merging.proofs.merging.FieldsInSetCanMerge.merge_operation.Goals as goal
 

@@ -1,8 +1,9 @@
-use Rattle.std.proofs.Common.{List, [], map, IsTrue, false, refl}
+use Rattle.std.proofs.Common.{List, [], map, IsTrue, refl}
 use Rattle.std.proofs.lemmas.Result.{IfOk-weaker}
 use Rattle.graphql_documents.proofs.SelectionLemmas.{one_fragment_found}
 use Rattle.graphql_documents.specs.Selections.{Inside, fragments_of, selections_of}
 use Rattle.graphql_documents.specs.Names.{NameText}
+use Rattle.graphql_documents.specs.Walks.{root_walk}
 use Rattle.graphql_documents.specs.Subscriptions.{WalkedFields, fields_among}
 use Rattle.graphql_values.specs.declared.variable.walks.Walked.{Walked}
 use Rattle.graphql_values.proofs.WalkedLemmas.{listed_words, met_inside}
@@ -13,7 +14,7 @@ pub returns-clause-listed : goal.returns-clause-listed
 returns-clause-listed c =
     let fragments = fragments_of c.args.document.now in
     let set = c.args.selection_set.now in
-    IfOk-weaker _ _ _ (λ walked. listed_words {P = MetFrom fragments false set} {Q = Inside fragments set}
+    IfOk-weaker _ _ _ (λ walked. listed_words {P = MetFrom fragments root_walk set} {Q = Inside fragments set}
     (met_inside fragments (one_fragment_found c.args.document.now) set)) c.over.ensures.listed
 
 pub returns-clause-ordered : goal.returns-clause-ordered

@@ -1,6 +1,6 @@
 -- Each exit of the walk over selections.
 use Rattle.std.proofs.lemmas.Result.{IfOk-weaker}
-use Rattle.graphql_values.proofs.SelectionWalkLemmas.{walked_field, stood_there, was_entered, PassesBelow, walked_inline_fragment, walked_to_limit, walked_fragment, walked_entered, walked_undefined, walked_part, searched_next, walked_whole, Entered, Listed}
+use Rattle.graphql_values.proofs.SelectionWalkLemmas.{walked_field, stood_there, was_entered, PassesBelow, walked_inline_fragment, walked_to_limit, walked_fragment, walked_entered, walked_undefined, walked_part, searched_next, searched_past, walked_whole, Entered, Listed}
 use Rattle.std.proofs.Common.{rules, ◌≡◌, subst, IsTrue, Some, None, refl, sym, ap, ◌∙◌, ◌+◌, map, ℕ, Bool, true, false, [], IsFalse}
 use Rattle.graphql_guards.specs.Guards.{depth_limit, depth_of}
 use Rattle.graphql_documents.specs.Names.{stands_on}
@@ -9,16 +9,19 @@ use Rattle.graphql_values.specs.declared.variable.walks.Met.{Met}
 use Rattle.graphql_documents.specs.declared.documents.executables.Selection.TheVariants as kind
 use Rattle.graphql_documents.specs.Selections.{fragments_of, selections_of}
 use Rattle.graphql_values.proofs.WalkOrderLemmas.{ordered_entered, ordered_field, ordered_fragment, ordered_inline_fragment, ordered_next, ordered_none, ordered_undefined, ordered_whole}
-use Rattle.graphql_values.specs.WalkSteps.{HasWalked, ListsInOrder, OrderBelow, StepOf, WalksOver, at_selection, entered_names}
+use Rattle.graphql_values.specs.WalkSteps.{HasWalked, ListsInOrder, OrderBelow, StepOf, WalksOver, at_selection, entered_names, walk_of}
+use Rattle.graphql_documents.specs.declared.documents.executables.Selection.{Selection}
+use Rattle.graphql_values.specs.declared.variable.walks.Extent.TheVariants as extent
+use Rattle.graphql_values.specs.declared.variable.walks.Extent.{Extent}
 use Rattle.graphql_values.proofs.variable.walks.SelectionWalk.+walk.Goals as goal
 
--- a walk goes into fields, or does not
-into_and_not : (into : Bool) → into ≡ true → IsFalse into → ⊥
-into_and_not into goes stays = let no : ⊥ = cc in no
+-- a walk over what stands inside a set goes through each selection
+goes_on : (e : Extent) (s : Selection) → IsFalse ((walk_of e).goes_through s) → e ≡ extent.Inside → ⊥
+goes_on e s past is = let no : true ≡ false = subst (λ x. IsFalse ((walk_of x).goes_through s)) is past in let none : ⊥ = cc in none
 
 pub walk_below-returns-in-Field-clause-walks : goal.walk_below-returns-in-Field-clause-walks
 walk_below-returns-in-Field-clause-walks t c =
-    IfOk-weaker _ _ _ (λ complete w. walked_field c.in-Field.field c.in-Field.is c.if-self.true
+    IfOk-weaker _ _ _ (λ complete w. walked_field c.in-Field.field c.in-Field.is (sym c.goes_into_fields.ensures ∙ c.if-goes_into_fields.true)
     (subst (λ f. WalksOver c.args.self.now c.args.depth.now (depth_of c.args.depth.now + 1) f.selection_set c.args.met.now c.walk_deeper.new.met complete) c.deref.ensures w))
     c.walk_deeper.ensures.walks
 
@@ -68,11 +71,23 @@ walk_set-returns-then-not-branch-clause-walks t c =
     let listed : Listed c.selection-item.result c.loop-selection.met pushed =
     record { names = refl; listed = ap (map (λ s. s.now)) c.in_ok-push.ensures.items ∙ map-append (λ s. s.now) _ _ } in
     walked_part c.args.self.now c.deref-selection-items.result.now c.loop-selection.selection-index c.selection-item.result c.args.met.now c.walk_below.new.met
-    c.loop-selection-test.true c.selection-item.is listed
+    c.loop-selection-test.true c.selection-item.is (sym c.goes_through.ensures ∙ c.if-not-goes_through.false) listed
     c.deref-selection-items.ensures.value c.loop-selection.invariant.searched
     (subst (λ limit. Bounded limit (depth_of c.args.depth.now) false) c.loop-selection.invariant.limit
     (subst (λ depth. Bounded (depth_limit c.loop-selection.depth) depth false) c.loop-selection.invariant.depth
     (subst (Bounded (depth_limit c.loop-selection.depth) (depth_of c.loop-selection.depth)) c.if-not-branch.true c.in_ok-walk_below.ensures.walks)))
+
+pub walk_set-loop-selection-preserved-then-not-goes_through :
+    goal.walk_set-loop-selection-preserved-then-not-goes_through
+walk_set-loop-selection-preserved-then-not-goes_through t c =
+    let past = sym c.goes_through.ensures ∙ c.if-not-goes_through.true in
+    record {
+      depth = c.loop-selection.invariant.depth;
+      limit = c.loop-selection.invariant.limit;
+      searched = searched_past c.args.self.now c.deref-selection-items.result.now c.loop-selection.selection-index c.selection-item.result
+          c.loop-selection-test.true c.selection-item.is c.args.met.now c.loop-selection.met past c.loop-selection.invariant.searched;
+      ordered = λ kept. absurd (goes_on c.args.self.now.extent c.selection-item.result past kept);
+    }
 
 pub walk_set-loop-selection-preserved : goal.walk_set-loop-selection-preserved
 walk_set-loop-selection-preserved t c =
@@ -85,16 +100,12 @@ walk_set-loop-selection-preserved t c =
     record {
       depth = search rules;
       limit = search rules;
-      searched = searched_next c.args.self.now xs i s c.args.met.now c.walk_below.new.met c.loop-selection-test.true c.selection-item.is listed c.loop-selection.invariant.searched
+      searched = searched_next c.args.self.now xs i s c.args.met.now c.walk_below.new.met c.loop-selection-test.true c.selection-item.is
+          (sym c.goes_through.ensures ∙ c.if-not-goes_through.false) listed c.loop-selection.invariant.searched
           (c.in_ok-walk_below.ensures.walks.searched c.if-not-branch.false);
       ordered = λ kept. ordered_next xs i s c.loop-selection-test.true c.selection-item.is listed (c.loop-selection.invariant.ordered kept)
           (c.in_ok-walk_below.ensures.order c.if-not-branch.false kept);
     }
-
-pub walk_below-returns-in-Field-clause-order : goal.walk_below-returns-in-Field-clause-order
-walk_below-returns-in-Field-clause-order t c =
-    IfOk-weaker _ _ (OrderBelow c.args.self.now c.args.selection.now c.args.met.now c.walk_deeper.new.met)
-    (λ complete o done kept. absurd (into_and_not c.args.self.now.into_fields c.if-self.true kept)) c.walk_deeper.ensures.order
 
 pub walk_below-returns-in-Field-2-clause-order : goal.walk_below-returns-in-Field-2-clause-order
 walk_below-returns-in-Field-2-clause-order t c = λ done kept.

@@ -1,10 +1,11 @@
 -- The walk goes on while it is below its limit, has searched what it has passed, and has listed its
 -- fields in order.
-use Rattle.std.proofs.Common.{◌≡◌, ◌+◌, ◌-◌, ◌*◌, [], IsFalse, take}
+use Rattle.std.proofs.Common.{◌≡◌, ◌+◌, ◌-◌, ◌*◌, [], take}
 use Rattle.graphql_guards.specs.Guards.{depth_limit, depth_of}
 use Rattle.graphql_documents.specs.Selections.{fragments_of}
 use Rattle.graphql_values.specs.Searches.{Searched}
-use Rattle.graphql_values.specs.WalkSteps.{IsAmong, IsMet, ListsInOrder, StepOf}
+use Rattle.graphql_values.specs.WalkSteps.{GoesThrough, IsMet, ListsInOrder, StepOf}
+use Rattle.graphql_values.specs.declared.variable.walks.Extent.TheVariants as extent
 use Rattle.graphql_values.proofs.variable.walks.SelectionWalk.+walk.Given as goal
 
 abbrev pub decreases-walk_set : goal.decreases-walk_set
@@ -23,8 +24,8 @@ abbrev pub invariant-walk_set-loop-selection : goal.invariant-walk_set-loop-sele
 invariant-walk_set-loop-selection l = record {
   depth : depth_of l.depth ≡ depth_of l.initial.depth;
   limit : depth_limit l.depth ≡ depth_limit l.initial.depth;
-  searched : Searched (StepOf l.self) (IsAmong (take l.selection-index l.selection-items))
+  searched : Searched (StepOf l.self) (GoesThrough l.self (take l.selection-index l.selection-items))
       (IsMet l.initial.met) (IsMet l.met);
-  ordered : IsFalse l.self.into_fields →
+  ordered : l.self.extent ≡ extent.Inside →
       ListsInOrder (fragments_of l.self.document.now) (take l.selection-index l.selection-items) [] l.initial.met l.met;
 }

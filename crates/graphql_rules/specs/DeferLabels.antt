@@ -1,0 +1,112 @@
+-- The steps of the check of the labels of `@defer`, for the contracts of its private functions.
+use Rattle.std.specs.Prelude.{◌≡◌, ◌⊎◌, ◌+◌, ◌<◌, ℕ, Bool, false, List, [], ◌∷◌, ◌++◌, Option, All, AllPairs, Contains, IsFalse, IsTrue, Result, MatchResult, codes, find, option_map, string_bytes}
+use Rattle.std.specs.Borrow.{Bor}
+use Rattle.std.specs.Option.{option_and_then, option_map_or}
+use Rattle.std.specs.Str.{bytes_eq}
+use Rattle.indexmap.specs.IndexMap.{IndexMap, get_by}
+use Rattle.graphql_documents.specs.Defer.{DefersIn, DefersOn, HasFixedLabel, HaveDifferentLabels, argument_value}
+use Rattle.graphql_documents.specs.DeferReports.{DeferReport}
+use Rattle.graphql_documents.specs.Diagnostics.{IsLimitEntry, entries}
+use Rattle.graphql_documents.specs.Limits.{DeferLimit}
+use Rattle.graphql_documents.specs.Reports.{KeepsReports, ReportsWithin}
+use Rattle.graphql_documents.specs.Selections.{Fragments, selections_of}
+use Rattle.graphql_documents.specs.Walks.{Descent, LabelsStandTooDeep, PassesDepth, written_walk}
+use Rattle.graphql_documents.specs.declared.diagnostics.lists.DiagnosticEntry.{DiagnosticEntry}
+use Rattle.graphql_documents.specs.declared.diagnostics.lists.DiagnosticList.{DiagnosticList}
+use Rattle.graphql_documents.specs.declared.documents.directives.Directive.{Directive}
+use Rattle.graphql_documents.specs.declared.documents.executables.ExecutableDocument.{ExecutableDocument}
+use Rattle.graphql_documents.specs.declared.documents.executables.Selection.{Selection}
+use Rattle.graphql_documents.specs.declared.documents.executables.SelectionSet.{SelectionSet}
+use Rattle.graphql_documents.specs.declared.documents.nodes.Node.{Node}
+use Rattle.graphql_documents.specs.declared.documents.spans.SourceSpan.{SourceSpan}
+use Rattle.graphql_documents.specs.declared.documents.values.Value.{Value}
+use Rattle.graphql_documents.specs.declared.documents.values.Value.TheVariants as literal
+
+-- a descent from a set with these selections goes beyond the limit of a walk over what is written, which
+-- stands so deep
+abbrev pub GoesBeyond : ℕ → ℕ → List Selection → Type 0
+GoesBeyond limit depth selections =
+    (fragments : Fragments) (set : SelectionSet) → ((s : Selection) → Contains selections s → Contains (selections_of set) s) →
+    (steps : ℕ) × Descent fragments written_walk set steps [] × (limit < steps + depth)
+
+-- behind those that it had met, a walk that stands so deep has met these `@defer` applications; with
+-- those that it missed they are all that stand on the selections and below them. It missed some only
+-- where it did not come to its end
+pub record MeetsDefers (limit depth : ℕ) (selections : List Selection) (old new : List (Node Directive)) (complete : Bool) : Type 0 where
+  pub met : List (Node Directive)
+  pub missed : List (Node Directive)
+  pub appended : new ≡ old ++ met
+  pub order : DefersOn selections (met ++ missed)
+  pub all : IsTrue complete → missed ≡ []
+  pub bound : IsFalse complete → GoesBeyond limit depth selections
+
+-- a whole walk over a set has met these
+pub record HasMetDefers (set : SelectionSet) (met : List (Node Directive)) (complete : Bool) : Type 0 where
+  pub missed : List (Node Directive)
+  pub order : DefersOn (selections_of set) (met ++ missed)
+  pub all : IsTrue complete → missed ≡ []
+  pub bound : IsFalse complete → (fragments : Fragments) → PassesDepth fragments written_walk set
+
+-- the value is this text
+abbrev pub is_text : List ℕ → Value → Bool
+is_text text (literal.String s) = bytes_eq (string_bytes s) text
+is_text text _ = false
+
+-- the label of a `@defer`
+abbrev pub label_of : Node Directive → Option (Node Value)
+label_of d = argument_value (codes "label") d.value.value
+
+-- the label is this text
+abbrev pub has_text : List ℕ → Node Directive → Bool
+has_text text d = option_map_or (λ value. is_text text value.value.value) (label_of d) false
+
+-- where the label stands
+abbrev pub label_place : Node Directive → Option SourceSpan
+label_place d = option_and_then (λ value. value.location) (label_of d)
+
+-- where the first of these with this label has it
+abbrev pub first_place_in : List (Node Directive) → List ℕ → Option (Option SourceSpan)
+first_place_in met text = option_map label_place (find (has_text text) met)
+
+-- the map has for each text the place of the first label
+pub record RemembersLabels {S : Type 0} (labels : IndexMap (Bor (List ℕ)) (Option SourceSpan) S) (met : List (Node Directive)) : Type 0 where
+  pub look_up : (text : List ℕ) → get_by (λ k. bytes_eq text k.now) labels ≡ first_place_in met text
+
+-- these are the others but for some that were missed, and none was missed but where labels stand too deep
+pub data AreMetOf (Deep : Type 0) : List (Node Directive) → List (Node Directive) → Type 0 where
+  none_met : AreMetOf Deep [] []
+  one_met : {met all : List (Node Directive)} (d : Node Directive) → AreMetOf Deep met all → AreMetOf Deep (d ∷ met) (d ∷ all)
+  one_missed : {met all : List (Node Directive)} (d : Node Directive) → Deep → AreMetOf Deep met all → AreMetOf Deep met (d ∷ all)
+
+-- the labels of these are texts and differ
+abbrev pub LabelsHoldAmong : List (Node Directive) → Type 0
+LabelsHoldAmong applications = AllPairs HaveDifferentLabels applications × All HasFixedLabel applications
+
+-- an entry is a report of `@defer`, or one of a limit
+abbrev pub DeferTruth : ExecutableDocument → DiagnosticEntry → Type 0
+DeferTruth document e = DeferReport document e.details e.location ⊎ DeferLimit document e.details e.location
+
+-- the check of labels has passed these applications, the first of the document: it has met them, or
+-- reported that a walk passes its bound, remembers the labels that it has met, and has reported what is
+-- wrong with them
+pub record LabelsSoFar {S : Type 0} (document : ExecutableDocument) (passed : List (Node Directive)) (labels : IndexMap (Bor (List ℕ)) (Option SourceSpan) S) (old new : List DiagnosticEntry) : Type 0 where
+  pub met : List (Node Directive)
+  pub are_met : AreMetOf (LabelsStandTooDeep document) met passed
+  pub remembered : RemembersLabels labels met
+  pub reported : ReportsWithin IsLimitEntry (LabelsHoldAmong met) (DeferTruth document) old new
+  pub whole : (added : List DiagnosticEntry) → new ≡ old ++ added → All (λ e. ¬ IsLimitEntry e) added → met ≡ passed
+
+-- a call that checks the labels of further applications, which stand in the document behind those that
+-- were passed
+abbrev pub PassesLabelsIn : {S T E : Type 0} → Result T E → ExecutableDocument → List (Node Directive) → IndexMap (Bor (List ℕ)) (Option SourceSpan) S → IndexMap (Bor (List ℕ)) (Option SourceSpan) S → DiagnosticList → DiagnosticList → Type 0
+PassesLabelsIn result document applications labels labels' old new =
+    (passed after : List (Node Directive)) (first : List DiagnosticEntry) →
+    DefersIn document (passed ++ (applications ++ after)) → LabelsSoFar document passed labels first (entries old) →
+    MatchResult result
+    (λ _. LabelsSoFar document (passed ++ applications) labels' first (entries new))
+    (λ _. KeepsReports (DeferTruth document) first (entries new))
+
+-- the same, whatever the document is
+abbrev pub PassesLabels : {S T E : Type 0} → Result T E → List (Node Directive) → IndexMap (Bor (List ℕ)) (Option SourceSpan) S → IndexMap (Bor (List ℕ)) (Option SourceSpan) S → DiagnosticList → DiagnosticList → Type 0
+PassesLabels result applications labels labels' old new =
+    (document : ExecutableDocument) → PassesLabelsIn result document applications labels labels' old new
