@@ -1,2 +1,3 @@
 pub mod DocumentLemmas
 pub mod FieldSetLemmas
+pub mod MergingStepLemmas

@@ -1,0 +1,136 @@
+-- How operations are validated by the rules that need a schema, one after another.
+use Rattle.std.proofs.Common.{◌≡◌, ◌↔◌, ◌⊎◌, inl, inr, Bool, List, [], ◌∷◌, ◌++◌, Some, refl, sym, ◌∙◌, ap, subst, All, Contains}
+use Rattle.std.proofs.lemmas.List.{append-nil, append_assoc, append_cancel_left}
+use Rattle.std.proofs.lemmas.List.Elements.{All-append, All-cons, All-contains_itself, All-head, All-nil}
+use Rattle.std.specs.Prelude.{IsFalse, IsTrue, Option}
+use Rattle.graphql_documents.specs.Built.{IsBuilt}
+use Rattle.graphql_documents.specs.Defer.{operations_of}
+use Rattle.graphql_documents.specs.Diagnostics.{IsLimitEntry, limit_of_depth}
+use Rattle.graphql_documents.specs.DocumentReports as document_report
+use Rattle.graphql_documents.specs.DocumentReports.{DocumentReport}
+use Rattle.graphql_documents.specs.Documents.{OperationSubscriptionHolds}
+use Rattle.graphql_documents.specs.Limits.{DocumentLimit, MergingLimit, merging_limit, merging_nests}
+use Rattle.graphql_documents.specs.Merging.{Merges}
+use Rattle.graphql_documents.specs.MergingReports.{MergingReport, of_conflict}
+use Rattle.graphql_documents.specs.Reports.{KeepsReports, ReportsWithin}
+use Rattle.graphql_documents.specs.Selections.{fragments_of}
+use Rattle.graphql_documents.specs.declared.diagnostics.details.Details.{Details}
+use Rattle.graphql_documents.specs.declared.diagnostics.lists.DiagnosticEntry.{DiagnosticEntry}
+use Rattle.graphql_documents.specs.declared.documents.definitions.FieldDefinition.{FieldDefinition}
+use Rattle.graphql_documents.specs.declared.documents.executables.ExecutableDocument.{ExecutableDocument}
+use Rattle.graphql_documents.specs.declared.documents.executables.Operation.{Operation}
+use Rattle.graphql_documents.specs.declared.documents.nodes.Node.{Node}
+use Rattle.graphql_documents.specs.declared.documents.schemas.Schema.{Schema}
+use Rattle.graphql_documents.specs.declared.documents.spans.SourceSpan.{SourceSpan}
+use Rattle.graphql_documents.proofs.ReportLemmas.{All-append_left, All-append_right, appended_then, both_nil}
+use Rattle.graphql_merging.specs.FieldSelections.{same_field}
+use Rattle.graphql_merging.specs.MergedOperations.{AreLimits, HasMerged, MergesOneMore, Merging, beyond_bound, within_bound}
+use Rattle.graphql_merging.proofs.MergedOperationLemmas.{conflicts_decide}
+use Rattle.graphql_validation.proofs.DocumentLemmas.{DocumentTruth}
+
+-- a report of merging, as one of the document
+module _ (schema : Schema) (document : ExecutableDocument) (before after : List (Node Operation)) (o : Node Operation) (split : operations_of document ≡ before ++ o ∷ after) where
+  by_merging : {d : Details} {at : Option SourceSpan} → Contains (operations_of document) o → MergingReport schema (fragments_of document) o.value.value.selection_set d at →
+      DocumentReport (Some schema) document d at
+  by_merging stands (of_conflict broken) = document_report.of_merging refl stands broken
+
+  by_merging_limit : {d : Details} {at : Option SourceSpan} → MergingLimit same_field schema (fragments_of document) before o d at → DocumentLimit same_field (Some schema) document d at
+  by_merging_limit (merging_nests nests) = merging_limit after refl split nests
+
+  pub of_merged : Contains (operations_of document) o → (e : DiagnosticEntry) →
+      MergingReport schema (fragments_of document) o.value.value.selection_set e.details e.location ⊎
+      MergingLimit same_field schema (fragments_of document) before o e.details e.location → DocumentTruth same_field (Some schema) document e
+  of_merged stands e (inl says) = inl (by_merging stands says)
+  of_merged stands e (inr limit) = inr (by_merging_limit limit)
+
+abbrev IsNoLimit : DiagnosticEntry → Type 0
+IsNoLimit e = ¬ IsLimitEntry e
+
+-- these operations were validated: nothing was reported exactly where they hold as subscriptions and no
+-- conflict was found, unless a limit was reported
+pub record ValidatedSoFar (schema : Schema) (document : ExecutableDocument) (done : List (Node Operation)) (m : Merging) (old now : List DiagnosticEntry) : Type 0 where
+  pub added : List DiagnosticEntry
+  pub appended : now ≡ old ++ added
+  pub each : All (DocumentTruth same_field (Some schema) document) added
+  pub silent : All IsNoLimit added → (added ≡ []) ↔ (All (λ o. OperationSubscriptionHolds document o.value.value) done × IsFalse m.conflicting)
+  pub shallow : All IsNoLimit added → IsFalse m.too_deep
+
+-- where no limit was reported, none was passed
+no_limits : (o : Node Operation) (too_deep : Bool) {reports : List DiagnosticEntry} → AreLimits o too_deep reports → All IsNoLimit reports → (reports ≡ []) × IsFalse too_deep
+no_limits o too_deep (within_bound within) none = (refl, within)
+no_limits o too_deep (beyond_bound beyond) none = absurd (All-head IsNoLimit _ [] none limit_of_depth)
+
+module _ (schema : Schema) (document : ExecutableDocument) where
+  abbrev Truth : DiagnosticEntry → Type 0
+  Truth = DocumentTruth same_field (Some schema) document
+
+  abbrev Sub : Node Operation → Type 0
+  Sub o = OperationSubscriptionHolds document o.value.value
+
+  pub validated_none : (m : Merging) (old : List DiagnosticEntry) → IsFalse m.conflicting → IsFalse m.too_deep → ValidatedSoFar schema document [] m old old
+  validated_none m old silent shallow = record {
+    added = [];
+    appended = sym (append-nil old);
+    each = All-nil Truth;
+    silent = λ none. (λ e. (All-nil Sub, silent), λ p. refl);
+    shallow = λ none. shallow;
+  }
+
+  pub validated_more : (done : List (Node Operation)) (o : Node Operation) (m m' : Merging) {old now mid after : List DiagnosticEntry} →
+      ValidatedSoFar schema document done m old now → ReportsWithin IsLimitEntry (Sub o) Truth now mid →
+      MergesOneMore schema o m m' mid after → KeepsReports Truth mid after → ValidatedSoFar schema document (done ++ o ∷ []) m' old after
+  validated_more done o m m' {old} {now} {mid} {after} so_far sub merged kept = record {
+    added = so_far.added ++ (sub.added ++ reports);
+    appended = appended_then old now after so_far.added (sub.added ++ reports) so_far.appended (appended_then now mid after sub.added reports sub.appended merged.appended);
+    each = All-append Truth so_far.added (sub.added ++ reports) so_far.each
+    (All-append Truth sub.added reports sub.each (subst (All Truth) (append_cancel_left mid kept.added reports (sym kept.appended ∙ merged.appended)) kept.each));
+    silent = λ none. (
+      λ e.
+          let first = (both_nil so_far.added (sub.added ++ reports)).0 e in
+          let second = (both_nil sub.added reports).0 first.1 in
+          let third = (both_nil merged.of_shapes (merged.of_fields ++ merged.limits)).0 second.1 in
+          let fourth = (both_nil merged.of_fields merged.limits).0 third.1 in
+          let before = (so_far.silent (earlier none)).0 first.0 in
+          let now' = (sub.silent (of_sub none)).0 second.0 in
+          (All-append Sub done (o ∷ []) before.0 (All-cons Sub o [] now' (All-nil Sub)), merged.conflicting.1 (before.1, third.0, fourth.0)),
+      λ p.
+          let parts = merged.conflicting.0 p.1 in
+          let before = (so_far.silent (earlier none)).1 (All-append_left Sub done (o ∷ []) p.0, parts.0) in
+          let now' = (sub.silent (of_sub none)).1 (All-head Sub o [] (All-append_right Sub done (o ∷ []) p.0)) in
+          let last = (no_limits o m'.too_deep merged.are_limits (of_limits none)).0 in
+          (both_nil so_far.added (sub.added ++ reports)).1 (before, (both_nil sub.added reports).1 (now',
+          (both_nil merged.of_shapes (merged.of_fields ++ merged.limits)).1 (parts.1, (both_nil merged.of_fields merged.limits).1 (parts.2, last)))),
+    );
+    shallow = λ none. (no_limits o m'.too_deep merged.are_limits (of_limits none)).1;
+  } where
+    reports : List DiagnosticEntry
+    reports = merged.of_shapes ++ (merged.of_fields ++ merged.limits)
+
+    earlier : All IsNoLimit (so_far.added ++ (sub.added ++ reports)) → All IsNoLimit so_far.added
+    earlier none = All-append_left IsNoLimit so_far.added (sub.added ++ reports) none
+
+    of_sub : All IsNoLimit (so_far.added ++ (sub.added ++ reports)) → All IsNoLimit sub.added
+    of_sub none = All-append_left IsNoLimit sub.added reports (All-append_right IsNoLimit so_far.added (sub.added ++ reports) none)
+
+    of_limits : All IsNoLimit (so_far.added ++ (sub.added ++ reports)) → All IsNoLimit merged.limits
+    of_limits none =
+        All-append_right IsNoLimit merged.of_fields merged.limits
+        (All-append_right IsNoLimit merged.of_shapes (merged.of_fields ++ merged.limits)
+        (All-append_right IsNoLimit sub.added reports (All-append_right IsNoLimit so_far.added (sub.added ++ reports) none)))
+
+  -- all operations of a document that was built were validated
+  pub validated_all : (same_definition : FieldDefinition → FieldDefinition → Bool) (m : Merging) {old new : List DiagnosticEntry} → IsBuilt same_definition schema document →
+      m.operations ≡ operations_of document → HasMerged schema (fragments_of document) m → ValidatedSoFar schema document (operations_of document) m old new →
+      ReportsWithin IsLimitEntry (All Sub (operations_of document) × All (λ o. Merges schema (fragments_of document) o.value.value.selection_set) (operations_of document)) Truth old new
+  validated_all same_definition m built operations was so_far = record {
+    added = so_far.added;
+    appended = so_far.appended;
+    silent = λ none.
+        let s = so_far.silent none in
+        let merge = conflicts_decide same_definition schema document m built (subst (All (Contains (operations_of document))) (sym operations) (All-contains_itself (operations_of document))) was (so_far.shallow none) in
+        let all = λ (l : List (Node Operation)). All (λ o. Merges schema (fragments_of document) o.value.value.selection_set) l in (
+          λ e. let p = s.0 e in (p.0, subst all operations (merge.0 p.1)),
+          λ p. s.1 (p.0, merge.1 (subst all (sym operations) p.1)),
+        );
+    each = so_far.each;
+  }
