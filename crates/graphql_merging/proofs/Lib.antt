@@ -1,4 +1,7 @@
 pub mod ArgumentComparisonLemmas
+pub mod ConflictLemmas
+pub mod ConflictReportLemmas
+pub mod CopyLemmas
 pub mod ExpansionSizeLemmas
 pub mod ExpansionStepLemmas
 pub mod FieldSelectionLemmas

@@ -45,7 +45,7 @@ all_conflicts (empty_group first) second = empty_group (all_conflicts first seco
 all_conflicts {schema} {pass} {b = b} {ys = ys} (next_group {first = first} {rest = rest} {groups = groups} {here = here} {reports = reports} one more) second =
     subst (AreConflicts schema pass ((first ∷ rest) ∷ (groups ++ b))) (sym (append_assoc here reports ys)) (next_group one (all_conflicts more second))
 
-conflicts_then : {schema : Schema} {pass : Pass} {a b : List (List FieldSelection)} {old mid new : List DiagnosticEntry} →
+pub conflicts_then : {schema : Schema} {pass : Pass} {a b : List (List FieldSelection)} {old mid new : List DiagnosticEntry} →
     Appends (AreConflicts schema pass a) old mid → Appends (AreConflicts schema pass b) mid new → Appends (AreConflicts schema pass (a ++ b)) old new
 conflicts_then {old = old} {mid = mid} {new = new} x y = record {
   added = x.added ++ y.added;

@@ -1,4 +1,5 @@
 pub mod Comparisons
+pub mod Conflicts
 pub mod ExpansionSteps
 pub mod FieldSelections
 pub mod Groups

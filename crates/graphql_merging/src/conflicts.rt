@@ -1,13 +1,19 @@
-ghost use Rattle.std.specs.Prelude.{◌≡◌, Contains, OnErr, OnOk, length, sum_by, ◌-◌};
+//! The conflicts in groups of fields: of each group the first field is compared with the rest.
+
+ghost use Rattle.std.specs.Prelude.{◌≡◌, ◌↔◌, ◌-◌, ◌∷◌, [], IsTrue, OnOk, length, sum_by};
 ghost use Rattle.graphql_documents.specs.Diagnostics.{entries};
-ghost use Rattle.graphql_documents.specs.MergedGroups.{AreConflicts, SaysConflict};
-ghost use Rattle.graphql_documents.specs.Merging.{FieldSelection};
+ghost use Rattle.graphql_documents.specs.Expansion.{shape_pass};
+ghost use Rattle.graphql_documents.specs.MergedGroups.{AreConflicts};
+ghost use Rattle.graphql_documents.specs.Merging.{SameShape, type_of};
 ghost use Rattle.graphql_documents.specs.Reports.{Appends, KeepsReports};
-ghost use Rattle.graphql_merging.specs.FieldSelections.{listed, lists_of};
+ghost use Rattle.graphql_merging.specs.Conflicts.{ComparesField};
+ghost use Rattle.graphql_merging.specs.FieldSelections.{listed, lists_of, selection_of};
 ghost use Rattle.graphql_merging.specs.Groups.{pass_of};
 ghost use Rattle.graphql_merging.specs.Passes.{IsConflictAmong, counted};
 ghost use Rattle.graphql_merging.specs.Stages.{examined_lists};
 
+use super::comparisons::{same_name_and_arguments, same_output_type_shape};
+use super::conflict_reports::{report_conflict, report_types};
 use super::examined::Examined;
 use super::field_selections::FieldSelection;
 use super::groups::Pass;
@@ -27,5 +33,72 @@ pub(crate) fn compare_groups<'doc>(
     ensures lists { examined_lists examined.new ≡ examined_lists examined.old }
     ensures truth { KeepsReports (IsConflictAmong schema.now (pass_of pass) (lists_of groups.now)) (entries diagnostics.old) (entries diagnostics.new) }
 {
-    Err(ValidationError::OutOfMemory)
+    for group in groups {
+        compare_group(diagnostics, examined, schema, pass, group)?;
+    }
+    Ok(())
+}
+
+/// The same of one group.
+fn compare_group<'doc>(
+    diagnostics: &mut DiagnosticList,
+    examined: &mut Examined<'doc>,
+    schema: &Schema,
+    pass: Pass,
+    group: &[FieldSelection<'doc>],
+) -> Result<(), ValidationError>
+    ensures conflicts { OnOk result (Appends (AreConflicts schema.now (pass_of pass) (listed group.now ∷ [])) (entries diagnostics.old) (entries diagnostics.new)) }
+    ensures comparisons { OnOk result (examined.new.comparisons ≡ counted (pass_of pass) examined.old.comparisons (length (listed group.now) - 1)) }
+    ensures lists { examined_lists examined.new ≡ examined_lists examined.old }
+    ensures truth { KeepsReports (IsConflictAmong schema.now (pass_of pass) (listed group.now ∷ [])) (entries diagnostics.old) (entries diagnostics.new) }
+{
+    let Some((first, rest)) = group.split_first() else {
+        return Ok(());
+    };
+    for field in rest {
+        compare(diagnostics, examined, schema, pass, *first, *field)?;
+    }
+    Ok(())
+}
+
+/// Compares a field with the first of its group, and reports it if they do not agree.
+fn compare<'doc>(
+    diagnostics: &mut DiagnosticList,
+    examined: &mut Examined<'doc>,
+    schema: &Schema,
+    pass: Pass,
+    first: FieldSelection<'doc>,
+    field: FieldSelection<'doc>,
+) -> Result<(), ValidationError>
+    ensures reports { ComparesField result schema.now (pass_of pass) (selection_of first.entry) (selection_of field.entry) diagnostics.old diagnostics.new }
+    ensures comparisons { examined.new.comparisons ≡ counted (pass_of pass) examined.old.comparisons 1 }
+    ensures lists { examined_lists examined.new ≡ examined_lists examined.old }
+{
+    match pass {
+        Pass::Shapes => {
+            if have_one_shape(examined, schema, first, field) {
+                return Ok(());
+            }
+            report_types(diagnostics, first, field)
+        }
+        Pass::NamesAndArguments => match same_name_and_arguments(first, field) {
+            None => Ok(()),
+            Some(conflict) => report_conflict(diagnostics, first, field, conflict),
+        },
+    }
+}
+
+/// Whether the types of two fields have one shape. Each call is counted.
+fn have_one_shape<'doc>(
+    examined: &mut Examined<'doc>,
+    schema: &Schema,
+    first: FieldSelection<'doc>,
+    field: FieldSelection<'doc>,
+) -> bool
+    ensures answer { IsTrue result ↔ SameShape schema.now (type_of (selection_of first.entry)) (type_of (selection_of field.entry)) }
+    ensures comparisons { examined.new.comparisons ≡ counted shape_pass examined.old.comparisons 1 }
+    ensures lists { examined_lists examined.new ≡ examined_lists examined.old }
+{
+    examined.comparisons = examined.comparisons.saturating_add(1);
+    same_output_type_shape(schema, first, field)
 }

@@ -3,7 +3,9 @@
 #![tactic(auto)]
 
 pub mod comparisons;
+mod conflict_reports;
 mod conflicts;
+mod copies;
 mod examined;
 pub mod expansion;
 pub mod field_selections;

@@ -1,0 +1,23 @@
+-- What a report of two fields says.
+use Rattle.std.proofs.Common.{◌≡◌, List, [], ◌∷◌, ◌++◌, subst}
+use Rattle.std.specs.Prelude.{Result, Ok, Err, MatchResult, OnErr, OnOk}
+use Rattle.graphql_documents.proofs.NameLemmas.{same_name_itself}
+use Rattle.graphql_documents.specs.Expansion.{Pass}
+use Rattle.graphql_documents.specs.MergedGroups.{SaysConflict}
+use Rattle.graphql_documents.specs.Merging.{FieldSelection}
+use Rattle.graphql_documents.specs.Names.{NameText, SameName}
+use Rattle.graphql_documents.specs.declared.diagnostics.lists.DiagnosticEntry.{DiagnosticEntry}
+use Rattle.graphql_documents.specs.declared.documents.schemas.Schema.{Schema}
+
+-- a report was pushed that says so
+pub conflict_pushed : {T E : Type 0} (r : Result T E) (schema : Schema) (pass : Pass) (x y : FieldSelection) (old new : List DiagnosticEntry) (e : DiagnosticEntry) →
+    OnOk r (new ≡ old ++ e ∷ []) → OnErr r (new ≡ old) → SaysConflict schema pass x y e.details e.location →
+    MatchResult r
+    (λ _. (entry : DiagnosticEntry) × (new ≡ old ++ entry ∷ []) × SaysConflict schema pass x y entry.details entry.location)
+    (λ _. new ≡ old)
+conflict_pushed (Ok v) schema pass x y old new e ok err says = (e, ok, says)
+conflict_pushed (Err v) schema pass x y old new e ok err says = err
+
+-- a copy has the name
+pub copied_name : (copy name : NameText) → copy ≡ name → SameName copy name
+copied_name copy name same = subst (SameName copy) same (same_name_itself copy)

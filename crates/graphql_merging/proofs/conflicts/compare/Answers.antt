@@ -1,0 +1,45 @@
+use Rattle.std.proofs.Common.{◌∷◌, [], ◌∙◌, subst, sym}
+use Rattle.graphql_documents.specs.Diagnostics.{entries}
+use Rattle.graphql_documents.specs.Expansion.{field_pass, shape_pass}
+use Rattle.graphql_documents.specs.MergedGroups.{ConflictsWith}
+use Rattle.graphql_documents.specs.Reports.{Appends}
+use Rattle.graphql_merging.proofs.ConflictLemmas.{compared_alike, compared_apart}
+use Rattle.graphql_merging.specs.Conflicts.{ComparesField}
+use Rattle.graphql_merging.specs.FieldSelections.{selection_of}
+use Rattle.graphql_merging.specs.Groups.{pass_of}
+use Rattle.graphql_merging.proofs.conflicts.compare.Goals as goal
+
+pub returns-then-have_one_shape-clause-reports : goal.returns-then-have_one_shape-clause-reports
+returns-then-have_one_shape-clause-reports c =
+    let schema = c.args.schema.now in
+    let x = selection_of c.args.first in
+    let y = selection_of c.args.field in
+    let reports = entries c.args.diagnostics.now in
+    subst (λ pass. Appends (ConflictsWith schema (pass_of pass) x (y ∷ [])) reports reports) (sym c.in-Shapes.is)
+    (compared_alike schema shape_pass x y reports (c.have_one_shape.ensures.answer.0 c.if-have_one_shape.true))
+
+pub returns-else-have_one_shape-clause-reports : goal.returns-else-have_one_shape-clause-reports
+returns-else-have_one_shape-clause-reports c =
+    let schema = c.args.schema.now in
+    let x = selection_of c.args.first in
+    let y = selection_of c.args.field in
+    subst (λ pass. ComparesField c.report_types.result schema (pass_of pass) x y c.args.diagnostics.now c.report_types.new.diagnostics) (sym c.in-Shapes.is)
+    (compared_apart schema shape_pass c.report_types.result x y _ _ (c.report_types.ensures schema
+    (λ same. let no = sym (c.have_one_shape.ensures.answer.1 same) ∙ c.if-have_one_shape.false in let no : ⊥ = cc in no)))
+
+pub returns-in-None-clause-reports : goal.returns-in-None-clause-reports
+returns-in-None-clause-reports c =
+    let schema = c.args.schema.now in
+    let x = selection_of c.args.first in
+    let y = selection_of c.args.field in
+    let reports = entries c.args.diagnostics.now in
+    subst (λ pass. Appends (ConflictsWith schema (pass_of pass) x (y ∷ [])) reports reports) (sym c.in-NamesAndArguments.is)
+    (compared_alike schema field_pass x y reports c.in-None.ensures)
+
+pub returns-in-Some-clause-reports : goal.returns-in-Some-clause-reports
+returns-in-Some-clause-reports c =
+    let schema = c.args.schema.now in
+    let x = selection_of c.args.first in
+    let y = selection_of c.args.field in
+    subst (λ pass. ComparesField c.report_conflict.result schema (pass_of pass) x y c.args.diagnostics.now c.report_conflict.new.diagnostics) (sym c.in-NamesAndArguments.is)
+    (compared_apart schema field_pass c.report_conflict.result x y _ _ (c.report_conflict.ensures schema c.in-Some.ensures))

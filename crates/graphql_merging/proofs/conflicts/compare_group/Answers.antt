@@ -1,0 +1,87 @@
+use Rattle.std.proofs.Common.{◌≡◌, ℕ, ◌+◌, ◌∷◌, ◌++◌, [], List, ap, arith, drop, length, refl, subst, sym, take, ◌∙◌}
+use Rattle.std.proofs.lemmas.List.{length-append, map-append, take-append-drop, take_all}
+use Rattle.graphql_documents.proofs.ReportLemmas.{more_is}
+use Rattle.graphql_documents.specs.Diagnostics.{entries}
+use Rattle.graphql_documents.specs.MergedGroups.{AreConflicts, ConflictsWith}
+use Rattle.graphql_documents.specs.Reports.{Appends, KeepsReports}
+use Rattle.graphql_merging.proofs.ConflictLemmas.{compared_none, compared_then, empty_compared, group_compared, truly_compared}
+use Rattle.graphql_merging.proofs.PassLemmas.{counted_none, counted_then}
+use Rattle.graphql_merging.specs.FieldSelections.{listed, selection_of}
+use Rattle.graphql_merging.specs.Groups.{pass_of}
+use Rattle.graphql_merging.specs.Passes.{IsConflictAmong, counted}
+use Rattle.graphql_merging.specs.declared.field_selections.FieldSelection.{FieldSelection}
+use Rattle.graphql_merging.proofs.conflicts.compare_group.Goals as goal
+
+-- what is done and what is left of the rest
+parts : (i : ℕ) (rest : List FieldSelection) → listed rest ≡ listed (take i rest) ++ listed (drop i rest)
+parts i rest = ap listed (sym (take-append-drop i rest)) ∙ map-append selection_of (take i rest) (drop i rest)
+
+no_fields : (fields : List FieldSelection) → length fields ≡ 0 → listed fields ≡ []
+no_fields [] none = refl
+no_fields (x ∷ xs) none = absurd (omega arith)
+
+pub returns-in_default-clause-conflicts : goal.returns-in_default-clause-conflicts
+returns-in_default-clause-conflicts c =
+    let schema = c.args.schema.now in
+    let pass = pass_of c.args.pass in
+    let reports = entries c.args.diagnostics.now in
+    subst (λ group. Appends (AreConflicts schema pass (group ∷ [])) reports reports) (sym (no_fields c.args.group.now c.in_default.ensures.cases))
+    (empty_compared schema pass reports)
+
+pub loop-field-init : goal.loop-field-init
+loop-field-init c = record {
+  reports = compared_none c.args.schema.now (pass_of c.args.pass) (selection_of c.in-Some.first.now) (entries c.args.diagnostics.now);
+  comparisons = sym (counted_none (pass_of c.args.pass) c.args.examined.now.comparisons c.args.examined.now.small);
+  lists = refl;
+}
+
+pub returns-in_err-compare-clause-truth : goal.returns-in_err-compare-clause-truth
+returns-in_err-compare-clause-truth c =
+    let schema = c.args.schema.now in
+    let pass = pass_of c.args.pass in
+    let first = selection_of c.in-Some.first.now in
+    let rest = c.in-Some.rest.now in
+    let i = c.loop-field.field-index in
+    let group = ap listed c.in-Some.ensures.cases.0 ∙ ap (λ l. first ∷ l) (parts i rest) in
+    subst (KeepsReports (IsConflictAmong schema pass (listed c.args.group.now ∷ [])) (entries c.args.diagnostics.now)) (sym c.in_err-compare.ensures.reports)
+    (truly_compared schema pass first (listed (take i rest)) (listed (drop i rest)) (listed c.args.group.now) _ _ group c.loop-field.invariant.reports)
+
+pub loop-field-preserved : goal.loop-field-preserved
+loop-field-preserved c =
+    let schema = c.args.schema.now in
+    let pass = pass_of c.args.pass in
+    let first = selection_of c.in-Some.first.now in
+    let rest = c.in-Some.rest.now in
+    let i = c.loop-field.field-index in
+    let x = c.field-item.result in
+    let done = listed (take i rest) in
+    let one : listed (take (i + 1) rest) ≡ done ++ selection_of x ∷ [] =
+    ap listed (more_is rest i x c.loop-field-test.true c.field-item.is) ∙ map-append selection_of (take i rest) (x ∷ []) in
+    record {
+      reports = subst (λ l. Appends (ConflictsWith schema pass first l) (entries c.args.diagnostics.now) (entries c.compare.new.diagnostics)) (sym one)
+          (compared_then schema pass c.loop-field.invariant.reports c.in_ok-compare.ensures.reports);
+      comparisons = c.compare.ensures.comparisons ∙ ap (λ n. counted pass n 1) c.loop-field.invariant.comparisons ∙
+          counted_then pass c.args.examined.now.comparisons (length done) 1 ∙
+          ap (counted pass c.args.examined.now.comparisons) (sym (ap length one ∙ length-append done (selection_of x ∷ [])));
+      lists = c.compare.ensures.lists ∙ c.loop-field.invariant.lists;
+    }
+
+pub returns-clause-conflicts : goal.returns-clause-conflicts
+returns-clause-conflicts c =
+    let schema = c.args.schema.now in
+    let pass = pass_of c.args.pass in
+    let first = selection_of c.in-Some.first.now in
+    let rest = c.in-Some.rest.now in
+    let old = entries c.args.diagnostics.now in
+    let new = entries c.loop-field.diagnostics in
+    subst (λ group. Appends (AreConflicts schema pass (group ∷ [])) old new) (sym (ap listed c.in-Some.ensures.cases.0))
+    (group_compared schema pass first (listed rest) old new
+    (subst (λ l. Appends (ConflictsWith schema pass first (listed l)) old new) (take_all c.loop-field.field-index rest c.loop-field-test.false) c.loop-field.invariant.reports))
+
+pub returns-clause-truth : goal.returns-clause-truth
+returns-clause-truth c =
+    let first = selection_of c.in-Some.first.now in
+    let rest = c.in-Some.rest.now in
+    let i = c.loop-field.field-index in
+    let group = ap listed c.in-Some.ensures.cases.0 ∙ ap (λ l. first ∷ l) (parts i rest) in
+    truly_compared c.args.schema.now (pass_of c.args.pass) first (listed (take i rest)) (listed (drop i rest)) (listed c.args.group.now) _ _ group c.loop-field.invariant.reports

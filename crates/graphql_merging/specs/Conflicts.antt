@@ -1,0 +1,26 @@
+-- What is reported of two fields that were put together, for the contracts of the comparisons of groups.
+use Rattle.std.specs.Prelude.{◌≡◌, [], ◌∷◌, ◌++◌, Result, MatchResult}
+use Rattle.graphql_documents.specs.Diagnostics.{entries}
+use Rattle.graphql_documents.specs.Expansion.{Pass}
+use Rattle.graphql_documents.specs.MergedGroups.{ConflictsWith, SaysConflict}
+use Rattle.graphql_documents.specs.Merging.{FieldSelection}
+use Rattle.graphql_documents.specs.Reports.{Appends}
+use Rattle.graphql_documents.specs.declared.diagnostics.lists.DiagnosticEntry.{DiagnosticEntry}
+use Rattle.graphql_documents.specs.declared.diagnostics.lists.DiagnosticList.{DiagnosticList}
+use Rattle.graphql_documents.specs.declared.documents.schemas.Schema.{Schema}
+
+-- a call that reports the conflict of two fields: where it answers there is one report more, which says so;
+-- where memory is refused there is none
+abbrev pub ReportsConflict : {T E : Type 0} → Result T E → Schema → Pass → FieldSelection → FieldSelection → DiagnosticList → DiagnosticList → Type 0
+ReportsConflict result schema pass x y old new =
+    MatchResult result
+    (λ _. (entry : DiagnosticEntry) × (entries new ≡ entries old ++ entry ∷ []) × SaysConflict schema pass x y entry.details entry.location)
+    (λ _. entries new ≡ entries old)
+
+-- a call that compares a field with the first of its group: where it answers there is one report more if
+-- they do not agree, and none otherwise; where memory is refused there is none
+abbrev pub ComparesField : {T E : Type 0} → Result T E → Schema → Pass → FieldSelection → FieldSelection → DiagnosticList → DiagnosticList → Type 0
+ComparesField result schema pass first x old new =
+    MatchResult result
+    (λ _. Appends (ConflictsWith schema pass first (x ∷ [])) (entries old) (entries new))
+    (λ _. entries new ≡ entries old)
