@@ -11,9 +11,10 @@ use std::io::Write;
 
 /// The examples that run: those whose calls are there.
 pub const RUNNING: &[&str] = &[
-    "1a", "1b", "1c", "1d", "6", "7", "8", "17a", "17b", "17c", "17d", "17e", "18a", "18b", "18c",
-    "19a", "19b", "19c", "20a", "20b", "21a", "21b", "22a", "22b", "23b", "25a", "27a", "27b",
-    "27c", "27d", "28a", "28b", "28c", "32a", "32b",
+    "1a", "1b", "1c", "1d", "6", "7", "8", "12a", "12b", "15a", "15b", "17a", "17b", "17c", "17d",
+    "17e", "18a", "18b", "18c", "19a", "19b", "19c", "20a", "20b", "21a", "21b", "22a", "22b",
+    "23b", "24a", "24b", "24c", "24d", "24e", "24f", "25a", "27a", "27b", "27c", "27d", "28a",
+    "28b", "28c", "32a", "32b", "33a", "33b", "33c", "33d", "33e", "33f", "33g", "33h", "33i",
 ];
 
 /// Validates the example of this name, and prints a line for each report. Whether there was one.

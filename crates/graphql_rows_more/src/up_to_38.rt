@@ -1,10 +1,95 @@
+use graphql_rows::rows::up_to_19::SUBSCRIPTION;
+use graphql_rows::rows::up_to_26::DEFER;
 use graphql_rows::{Row, Subject};
 
 /// A query below the query.
 const QUERY_OF_ITSELF: &str = "type Query { q: Query a: Int b: Int }";
 
-/// The examples 38f to 38k. Some of these documents no builder makes with their schemas.
+/// The examples 33, 37b, 37c and 38f to 38k. Some of the last no builder makes with their schemas.
 pub const ROWS: &[Row] = &[
+    Row {
+        id: "33a",
+        schema: SUBSCRIPTION,
+        subject: Subject::Document("subscription { __typename }"),
+        lines: "- SubscriptionUsesIntrospection\n",
+    },
+    Row {
+        id: "33b",
+        schema: SUBSCRIPTION,
+        subject: Subject::Document("subscription { a @skip(if: true) }"),
+        lines: "- SubscriptionUsesConditionalSelection\n",
+    },
+    Row {
+        id: "33c",
+        schema: SUBSCRIPTION,
+        subject: Subject::Document("subscription { ... on Subscription { a } b }"),
+        lines: "- SubscriptionUsesMultipleFields\n",
+    },
+    Row {
+        id: "33d",
+        schema: DEFER,
+        subject: Subject::Document(
+            "mutation { ...F } fragment F on Mutation { ... @defer { a } }",
+        ),
+        lines: "- DeferOnRootMutationOrSubscriptionField\n",
+    },
+    Row {
+        id: "33e",
+        schema: DEFER,
+        subject: Subject::Document("subscription { s { ... @defer(if: true) { a } } }"),
+        lines: "- DeferInSubscriptionMustBeConditional\n",
+    },
+    Row {
+        id: "33f",
+        schema: DEFER,
+        subject: Subject::Document(
+            "subscription { s { ...F } } fragment F on Query { ... @defer { a } }",
+        ),
+        lines: "- DeferInSubscriptionMustBeConditional\n",
+    },
+    Row {
+        id: "33g",
+        schema: DEFER,
+        subject: Subject::Standalone("mutation <1-499:{ ... >{ a }<1-499: }>"),
+        lines: "",
+    },
+    Row {
+        id: "33h",
+        schema: DEFER,
+        subject: Subject::Standalone("mutation <1-500:{ ... >{ a }<1-500: }>"),
+        lines: "- too much recursion\n\
+            - RecursionLimitError\n\
+            - too much recursion\n",
+    },
+    Row {
+        id: "33i",
+        schema: DEFER,
+        subject: Subject::Standalone("mutation <1-501:{ ... >{ a }<1-501: }>"),
+        lines: "- too much recursion\n\
+            - RecursionLimitError\n\
+            - too much recursion\n\
+            - too much recursion\n",
+    },
+    Row {
+        id: "37b",
+        schema: SUBSCRIPTION,
+        subject: Subject::Document("subscription <1-500:{ ... >{ a }<1-500: }>"),
+        lines: "- too much recursion\n\
+            - RecursionLimitError\n\
+            - too much recursion\n\
+            - too much recursion\n",
+    },
+    Row {
+        id: "37c",
+        schema: SUBSCRIPTION,
+        subject: Subject::Document("subscription <1-501:{ ... >{ a }<1-501: }>"),
+        lines: "- too much recursion\n\
+            - RecursionLimitError\n\
+            - too much recursion\n\
+            - too much recursion\n\
+            - too much recursion\n\
+            - too much recursion\n",
+    },
     Row {
         id: "38f",
         schema: "type Query { f(n: X): Int }",

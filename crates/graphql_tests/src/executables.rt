@@ -1,7 +1,8 @@
 use super::fixtures::reports;
 use graphql_built::built_against;
 use graphql_documents::diagnostics::DiagnosticList;
-use graphql_rows::{Case, Row, Validated, build_case};
+use graphql_rows::rows::up_to_19::SUBSCRIPTION;
+use graphql_rows::{Case, Row, Subject, Validated, build_case};
 use graphql_rows_more::find;
 use graphql_validation::entry::{
     validate_executable_document, validate_field_set, validate_standalone_executable,
@@ -9,11 +10,13 @@ use graphql_validation::entry::{
 use std::alloc::Global;
 use std::process::Abort;
 
-/// The examples whose lines do not hang on merging, subscriptions or `@defer`.
-const EXAMPLES: [&str; 40] = [
-    "1a", "1b", "1c", "1d", "6", "7", "8", "17a", "17b", "17c", "17d", "17e", "18a", "18b", "18c",
-    "19a", "19b", "19c", "20a", "20b", "21a", "21b", "22a", "22b", "23b", "25a", "27a", "27b",
-    "27c", "27d", "28a", "28b", "28c", "32a", "32b", "38f", "38h", "38i", "38j", "38k",
+/// The examples whose lines do not hang on merging.
+const EXAMPLES: [&str; 61] = [
+    "1a", "1b", "1c", "1d", "6", "7", "8", "12a", "12b", "15a", "15b", "17a", "17b", "17c", "17d",
+    "17e", "18a", "18b", "18c", "19a", "19b", "19c", "20a", "20b", "21a", "21b", "22a", "22b",
+    "23b", "24a", "24b", "24c", "24d", "24e", "24f", "25a", "27a", "27b", "27c", "27d", "28a",
+    "28b", "28c", "32a", "32b", "33a", "33b", "33c", "33d", "33e", "33f", "33g", "33h", "33i",
+    "37b", "37c", "38f", "38h", "38i", "38j", "38k",
 ];
 
 /// Validates the example by its call.
@@ -42,6 +45,19 @@ fn examples_give_their_lines(rt: HostRuntime) {
     for id in EXAMPLES {
         gives_its_lines(&rt, rt.alloc(), find(id).expect(&rt, "an example"));
     }
+}
+
+/// A subscription as deep as all walks go.
+const DEEP_SUBSCRIPTION: Row = Row {
+    id: "",
+    schema: SUBSCRIPTION,
+    subject: Subject::Document("subscription <1-499:{ ... >{ a }<1-499: }>"),
+    lines: "",
+};
+
+#[test]
+fn walks_over_subscriptions_go_into_500_sets(rt: HostRuntime) {
+    gives_its_lines(&rt, rt.alloc(), &DEEP_SUBSCRIPTION);
 }
 
 /// Documents, and whether a builder could have made them with their schemas.

@@ -1,6 +1,8 @@
 //! What tests build and print. Where memory is refused, the test ends.
-use graphql_documents::diagnostics::DiagnosticList;
-use graphql_documents::documents::{InputValueDefinition, Name, Node, Schema, Valid};
+use graphql_documents::diagnostics::{BuildError, Details, DiagnosticList};
+use graphql_documents::documents::{
+    InputValueDefinition, Name, Node, Schema, SourceSpan, Valid,
+};
 use graphql_rows::build::{inputs, schema};
 use std::alloc::Global;
 use std::fmt::Write;
@@ -60,4 +62,73 @@ pub(crate) fn reports(
         written.expect(rt, "memory for a line");
     }
     is_text(rt, found.as_str(), expected);
+}
+
+/// The call brought these reports, each on a line: its place as `start-end`, what it says, and, of a
+/// rule of subscriptions or of `@defer`, its fields in order. `-` stands for no place and for no name.
+pub(crate) fn reports_in_full(
+    rt: &impl Abort,
+    alloc: Global,
+    diagnostics: &DiagnosticList,
+    expected: &str,
+) {
+    let mut found = String::new(alloc);
+    for entry in diagnostics.iter() {
+        show_place(rt, &mut found, entry.location);
+        show(rt, &mut found, " ");
+        write!(found, "{}", entry.details).expect(rt, "memory for a line");
+        if let Details::Build(broken) = &entry.details {
+            show_fields(rt, &mut found, broken);
+        }
+        show(rt, &mut found, "\n");
+    }
+    is_text(rt, found.as_str(), expected);
+}
+
+fn show(rt: &impl Abort, shown: &mut String, text: &str) {
+    shown.push_str(text).expect(rt, "memory for a line");
+}
+
+fn show_place(rt: &impl Abort, shown: &mut String, place: Option<SourceSpan>) {
+    match place {
+        Some(span) => {
+            let written = write!(shown, "{}-{}", span.start, span.end);
+            written.expect(rt, "memory for a line");
+        }
+        None => show(rt, shown, "-"),
+    }
+}
+
+fn show_name(rt: &impl Abort, shown: &mut String, name: Option<&Name>) {
+    show(rt, shown, " ");
+    show(rt, shown, name.map_or("-", |name| name.as_str()));
+}
+
+fn show_fields(rt: &impl Abort, shown: &mut String, broken: &BuildError) {
+    match broken {
+        BuildError::SubscriptionUsesIntrospection { name, field } => {
+            show_name(rt, shown, name.as_ref());
+            show_name(rt, shown, Some(field));
+        }
+        BuildError::SubscriptionUsesConditionalSelection { name } => {
+            show_name(rt, shown, name.as_ref());
+        }
+        BuildError::SubscriptionUsesMultipleFields { name, fields } => {
+            show_name(rt, shown, name.as_ref());
+            for field in fields {
+                show_name(rt, shown, Some(field));
+            }
+        }
+        BuildError::DuplicateDeferLabel {
+            label,
+            original_location,
+        } => {
+            write!(shown, " {label} ").expect(rt, "memory for a line");
+            show_place(rt, shown, *original_location);
+        }
+        BuildError::DeferOnRootMutationOrSubscriptionField { operation_type } => {
+            write!(shown, " {operation_type}").expect(rt, "memory for a line");
+        }
+        _ => {}
+    }
 }

@@ -4,6 +4,8 @@
 #[cfg(test)]
 mod arguments;
 #[cfg(test)]
+mod defer;
+#[cfg(test)]
 mod diagnostics;
 #[cfg(test)]
 mod directives;
@@ -31,6 +33,8 @@ mod numbers;
 mod schemas;
 #[cfg(test)]
 mod spans;
+#[cfg(test)]
+mod subscriptions;
 #[cfg(test)]
 mod usages;
 #[cfg(test)]

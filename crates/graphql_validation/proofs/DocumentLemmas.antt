@@ -1,12 +1,15 @@
--- What is said of operations and of fragments, as what is said of the document.
+-- What is said of operations, of fragments and of `@defer`, as what is said of the document.
 use Rattle.std.proofs.Common.{◌≡◌, ◌⊎◌, inl, inr, Bool, true, false, List, [], ◌∷◌, Option, Some, refl, subst, Contains}
 use Rattle.std.specs.Map.{lookup, values_of}
 use Rattle.std.proofs.lemmas.List.Elements.{Contains-append_left, Contains-append_right, Contains-push}
+use Rattle.graphql_documents.specs.Defer.{operations_of}
+use Rattle.graphql_documents.specs.DeferReports as defer
 use Rattle.graphql_documents.specs.Diagnostics.{Says}
-use Rattle.graphql_documents.specs.DocumentReports.{DocumentReport, FragmentUseReport, OperationsReport, of_one, of_operation}
-use Rattle.graphql_documents.specs.Limits.{DocumentLimit, FragmentLimit, FragmentWalkLimit, OperationsLimit, fragment_nests, one_passes, spread_passes, spreads_nest, variable_walk_passes, walk_of_variables}
+use Rattle.graphql_documents.specs.DocumentReports.{DocumentReport, FragmentUseReport, OperationsReport, of_defer, of_one, of_operation, of_subscription}
+use Rattle.graphql_documents.specs.Limits.{DeferLimit, DocumentLimit, FragmentLimit, FragmentWalkLimit, OperationsLimit, SubscriptionLimit, condition_walk_passes, defer_root_walk_passes, fragment_nests, label_walk_passes, one_passes, spread_passes, spreads_nest, subscription_walk_passes, variable_walk_passes, walk_of_conditions, walk_of_labels, walk_of_root, walk_of_variables}
 use Rattle.graphql_documents.specs.Names.{NameText, same_name}
 use Rattle.graphql_documents.specs.Selections.{fragments_of}
+use Rattle.graphql_documents.specs.SubscriptionReports as subscription
 use Rattle.graphql_documents.specs.declared.documents.executables.Fragment.{Fragment}
 use Rattle.graphql_documents.specs.declared.documents.nodes.Node.{Node}
 use Rattle.graphql_documents.specs.declared.diagnostics.details.Details.{Details}
@@ -14,6 +17,7 @@ use Rattle.graphql_documents.specs.declared.diagnostics.details.Details.TheVaria
 use Rattle.graphql_documents.specs.declared.diagnostics.lists.DiagnosticEntry.{DiagnosticEntry}
 use Rattle.graphql_documents.specs.declared.documents.executables.ExecutableDocument.{ExecutableDocument}
 use Rattle.graphql_documents.specs.declared.documents.executables.Field.{Field}
+use Rattle.graphql_documents.specs.declared.documents.executables.Operation.{Operation}
 use Rattle.graphql_documents.specs.declared.documents.schemas.Schema.{Schema}
 use Rattle.graphql_documents.specs.declared.documents.spans.SourceSpan.{SourceSpan}
 use Rattle.graphql_rules.proofs.OperationLemmas.{OperationsTruth}
@@ -54,3 +58,29 @@ module _ (same : Field → Field → Bool) (schema : Option Schema) (document : 
       FragmentUseReport document e.details e.location ⊎ FragmentWalkLimit document e.details e.location → DocumentTruth e
   of_used_fragments e (inl unused) = inl (is_document_report unused)
   of_used_fragments e (inr limit) = inr (is_document_limit limit)
+
+  by_defer : {d : Details} {at : Option SourceSpan} → defer.DeferReport document d at → DocumentReport schema document d at
+  by_defer (defer.of_defer b) = of_defer b
+
+  by_defer_limit : {d : Details} {at : Option SourceSpan} → DeferLimit document d at → DocumentLimit same schema document d at
+  by_defer_limit (label_walk_passes passes) = walk_of_labels passes
+  by_defer_limit (defer_root_walk_passes in' passes) = walk_of_root in' passes
+  by_defer_limit (condition_walk_passes in' passes) = walk_of_conditions in' passes
+
+  pub of_all_defer : (e : DiagnosticEntry) → defer.DeferReport document e.details e.location ⊎ DeferLimit document e.details e.location → DocumentTruth e
+  of_all_defer e (inl says) = inl (by_defer says)
+  of_all_defer e (inr limit) = inr (by_defer_limit limit)
+
+-- what is said of a subscription, with a schema
+module _ (same : Field → Field → Bool) (schema : Schema) (document : ExecutableDocument) (o : Node Operation) (in' : Contains (operations_of document) o) where
+  by_subscription : {d : Details} {at : Option SourceSpan} → subscription.SubscriptionReport (fragments_of document) o d at → DocumentReport (Some schema) document d at
+  by_subscription (subscription.of_subscription is b) = of_subscription refl in' is b
+
+  by_subscription_limit : {d : Details} {at : Option SourceSpan} → SubscriptionLimit (fragments_of document) o.value.value d at → DocumentLimit same (Some schema) document d at
+  by_subscription_limit (subscription_walk_passes passes) = walk_of_root in' passes
+
+  pub of_a_subscription : (e : DiagnosticEntry) →
+      subscription.SubscriptionReport (fragments_of document) o e.details e.location ⊎ SubscriptionLimit (fragments_of document) o.value.value e.details e.location →
+      DocumentTruth same (Some schema) document e
+  of_a_subscription e (inl says) = inl (by_subscription says)
+  of_a_subscription e (inr limit) = inr (by_subscription_limit limit)

@@ -3,30 +3,33 @@
 ghost use Rattle.indexmap.specs.IndexMap.{values};
 ghost use Rattle.std.specs.Option.{option_copied};
 ghost use Rattle.std.specs.Prelude.{◌≡◌, [], All, Bool, None, Some};
-ghost use Rattle.graphql_documents.specs.Defer.{operations_of};
+ghost use Rattle.graphql_documents.specs.Defer.{DeferHolds, operations_of};
 ghost use Rattle.graphql_documents.specs.DocumentReports.{DocumentReport};
-ghost use Rattle.graphql_documents.specs.Documents.{IsFragmentUsed, OperationHolds};
+ghost use Rattle.graphql_documents.specs.Documents.{DocumentHolds, IsFragmentUsed, OperationHolds, OperationSubscriptionHolds};
 ghost use Rattle.graphql_documents.specs.FieldSets.{FieldSetHolds, NamesBrokenFieldSetRule};
 ghost use Rattle.graphql_documents.specs.Limits.{DocumentLimit};
 ghost use Rattle.graphql_documents.specs.Reports.{Checks, ChecksWithin};
 ghost use Rattle.graphql_documents.specs.declared.documents.executables.Field.{Field};
+ghost use Rattle.graphql_documents.specs.declared.documents.schemas.Schema.{Schema};
 
 use graphql_documents::diagnostics::{DiagnosticList, ValidationError};
 use graphql_documents::documents::{ExecutableDocument, FieldSet, OperationMap, Schema, Valid};
 use graphql_rules::operations::{
-    OperationValidationContext, validate_fragments_used, validate_operation_definitions,
-    validate_selection_set,
+    OperationValidationContext, operations_of, validate_defer, validate_fragments_used,
+    validate_operation_definitions, validate_selection_set, validate_subscription,
 };
 use indexmap::IndexMap;
 use std::alloc::Global;
 
 /// Validates a document against a schema: each operation, with its directives, its variables and the
-/// selections and fragments that it reaches, and that each fragment is used. Merging, the rules of
-/// subscriptions and those of `@defer` are not looked at yet.
+/// selections and fragments that it reaches; that each fragment is used; the rules of `@defer`, and those
+/// of subscriptions. Merging is not looked at yet.
 ///
-/// Reports come in the order of the document: for each operation those of its directives, of the
-/// definitions of its variables, its unused variables, and those of its selections, each with what is
-/// below it; then the unused fragments. The only error is want of memory.
+/// Reports come in this order: for each operation those of its directives, of the definitions of its
+/// variables, its unused variables, and those of its selections, each with what is below it; then the
+/// unused fragments; then of `@defer` the labels of each operation and of each fragment, and for each
+/// mutation and subscription the roots and the conditions; last, for each operation, those of
+/// subscriptions. The only error is want of memory.
 ///
 /// Specification: 5 Validation.
 pub fn validate_executable_document(
@@ -36,25 +39,25 @@ pub fn validate_executable_document(
 ) -> Result<(), ValidationError>
     ensures { (same : Field → Field → Bool) → ChecksWithin result
         (All (λ o. OperationHolds (Some schema.now) document.now o.value.value) (operations_of document.now) ×
-        All (λ d. IsFragmentUsed document.now d.value.value) (values document.now.fragments))
+        All (λ d. IsFragmentUsed document.now d.value.value) (values document.now.fragments) × DeferHolds document.now ×
+        All (λ o. OperationSubscriptionHolds document.now o.value.value) (operations_of document.now))
         (λ e. DocumentReport (Some schema.now) document.now e.details e.location)
         (λ e. DocumentLimit same (Some schema.now) document.now e.details e.location)
         diagnostics.old diagnostics.new }
 {
-    validate_with_or_without_schema(diagnostics, Some(schema), document)
+    validate_with_or_without_schema(diagnostics, Some(schema), document)?;
+    validate_subscriptions(diagnostics, document)
 }
 
-/// Validates a document without a schema, by the rules that need none, in the same order. The only error
-/// is want of memory.
+/// Validates a document without a schema, by the rules that need none: all but those of subscriptions and
+/// merging. Reports come in the same order. The only error is want of memory.
 ///
 /// Specification: 5 Validation.
 pub fn validate_standalone_executable(
     diagnostics: &mut DiagnosticList,
     document: &ExecutableDocument,
 ) -> Result<(), ValidationError>
-    ensures { (same : Field → Field → Bool) → ChecksWithin result
-        (All (λ o. OperationHolds None document.now o.value.value) (operations_of document.now) ×
-        All (λ d. IsFragmentUsed document.now d.value.value) (values document.now.fragments))
+    ensures { (same : Field → Field → Bool) → ChecksWithin result (DocumentHolds None document.now)
         (λ e. DocumentReport None document.now e.details e.location)
         (λ e. DocumentLimit same None document.now e.details e.location)
         diagnostics.old diagnostics.new }
@@ -62,7 +65,7 @@ pub fn validate_standalone_executable(
     validate_with_or_without_schema(diagnostics, None, document)
 }
 
-/// Validates a document by the rules that need no schema, and with a schema by those that do.
+/// Validates a document by the rules that can be asked without a schema, against one if it is there.
 fn validate_with_or_without_schema(
     diagnostics: &mut DiagnosticList,
     schema: Option<&Schema>,
@@ -70,13 +73,32 @@ fn validate_with_or_without_schema(
 ) -> Result<(), ValidationError>
     ensures { (same : Field → Field → Bool) → ChecksWithin result
         (All (λ o. OperationHolds (option_copied schema.entry) document.now o.value.value) (operations_of document.now) ×
-        All (λ d. IsFragmentUsed document.now d.value.value) (values document.now.fragments))
+        All (λ d. IsFragmentUsed document.now d.value.value) (values document.now.fragments) × DeferHolds document.now)
         (λ e. DocumentReport (option_copied schema.entry) document.now e.details e.location)
         (λ e. DocumentLimit same (option_copied schema.entry) document.now e.details e.location)
         diagnostics.old diagnostics.new }
 {
     validate_operation_definitions(diagnostics, document, schema)?;
-    validate_fragments_used(diagnostics, document)
+    validate_fragments_used(diagnostics, document)?;
+    validate_defer(document, diagnostics)
+}
+
+/// Validates each operation of a document that is a subscription, by the rules that need a schema.
+fn validate_subscriptions(
+    diagnostics: &mut DiagnosticList,
+    document: &ExecutableDocument,
+) -> Result<(), ValidationError>
+    ensures { (same : Field → Field → Bool) (schema : Schema) → ChecksWithin result
+        (All (λ o. OperationSubscriptionHolds document.now o.value.value) (operations_of document.now))
+        (λ e. DocumentReport (Some schema) document.now e.details e.location)
+        (λ e. DocumentLimit same (Some schema) document.now e.details e.location)
+        diagnostics.old diagnostics.new }
+{
+    let operations = operations_of(diagnostics.allocator(), document)?;
+    for operation in &operations {
+        validate_subscription(document, operation, diagnostics)?;
+    }
+    Ok(())
 }
 
 /// Validates a field set against a schema: every selection that is reached holds at its place. There are

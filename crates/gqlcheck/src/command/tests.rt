@@ -147,23 +147,52 @@ fn limited_run(rt: &impl Abort, alloc: Global, texts: &[&str], writes: usize) ->
     (ended.number(), output.taken)
 }
 
+/// Whichever write fails, these words end with the status of that, behind a part of what they print.
+/// Where none fails they end with this status, and print this.
+fn ends_at_each_failed_write(
+    rt: &impl Abort,
+    alloc: Global,
+    texts: &[&str],
+    status: u8,
+    printed: &str,
+) {
+    let all = printed.as_bytes();
+    for writes in 0..1000 {
+        let (ended, taken) = limited_run(rt, alloc, texts, writes);
+        if ended != 4 {
+            assert_eq!(rt; ended, status, "{printed}");
+            assert_eq!(rt; taken.as_slice(), all, "{printed}");
+            return;
+        }
+        assert!(rt; all.starts_with(taken.as_slice()), "{printed}");
+        assert!(rt; taken.len() < all.len(), "{printed}");
+    }
+    panic!(rt; "no run came to its end")
+}
+
 #[test]
-fn ends_at_the_first_failed_write(rt: HostRuntime) {
+fn a_row_ends_at_the_first_failed_write(rt: HostRuntime) {
+    for id in RUNNING {
+        let row = find(id).expect(&rt, "an example");
+        let status = u8::from(!row.lines.is_empty());
+        ends_at_each_failed_write(&rt, rt.alloc(), &["row", row.id], status, row.lines);
+    }
+}
+
+/// In so many writes the first examples are printed, with their names.
+const FIRST_WRITES: usize = 30;
+
+#[test]
+fn rows_end_at_the_first_failed_write(rt: HostRuntime) {
     let alloc = rt.alloc();
     let printed = all_lines(&rt, alloc);
     let all = printed.as_str().as_bytes();
-    for writes in 0..1000 {
-        let (status, taken) = limited_run(&rt, alloc, &["rows"], writes);
-        if status == 0 {
-            assert_eq!(rt; taken.as_slice(), all);
-            assert!(rt; writes > 0);
-            return;
-        }
-        assert_eq!(rt; status, 4, "{writes}");
+    for writes in 0..FIRST_WRITES {
+        let (ended, taken) = limited_run(&rt, alloc, &["rows"], writes);
+        assert_eq!(rt; ended, 4, "{writes}");
         assert!(rt; all.starts_with(taken.as_slice()), "{writes}");
         assert!(rt; taken.len() < all.len(), "{writes}");
     }
-    panic!(rt; "no run came to its end")
 }
 
 #[test]

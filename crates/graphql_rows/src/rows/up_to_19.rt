@@ -1,7 +1,7 @@
 use super::{Row, Subject};
 
 /// A query and a subscription.
-const SUBSCRIPTION: &str = "type Query { a: Int } type Subscription { a: Int b: Int }";
+pub const SUBSCRIPTION: &str = "type Query { a: Int } type Subscription { a: Int b: Int }";
 
 /// A field that takes an integer and a list of them.
 const NUMBERS: &str = "type Query { f(n: Int l: [Int]): Int }";

@@ -1,7 +1,7 @@
 use super::{Row, Subject};
 
 /// All three roots, and `@defer`.
-const DEFER: &str =
+pub const DEFER: &str =
     "type Query { a: Int q: Query } type Mutation { a: Int } type Subscription { s: \
     Query } directive @defer(label: String, if: Boolean! = true) on FRAGMENT_SPREAD \
     | INLINE_FRAGMENT";

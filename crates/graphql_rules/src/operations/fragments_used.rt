@@ -46,8 +46,9 @@ pub fn validate_fragments_used(
     }
 }
 
-/// The operations of a document: the one without a name, then the others in order.
-pub(super) fn operations_of(
+/// The operations of a document: the one without a name, then the others in order. The only error is want
+/// of memory.
+pub fn operations_of(
     alloc: Global,
     document: &ExecutableDocument,
 ) -> Result<Vec<&Node<Operation>>, ValidationError>

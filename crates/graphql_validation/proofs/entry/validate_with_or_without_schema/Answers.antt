@@ -2,8 +2,8 @@ use Rattle.std.proofs.lemmas.Result.{MatchResult-from_err, MatchResult-weaker}
 use Rattle.std.specs.Option.{option_copied}
 use Rattle.graphql_documents.specs.Diagnostics.{IsLimitEntry}
 use Rattle.graphql_documents.proofs.ReportLemmas.{kept_then, kept_wider}
-use Rattle.graphql_documents.proofs.ReportWithinLemmas.{both_within, kept_within, wider_within}
-use Rattle.graphql_validation.proofs.DocumentLemmas.{of_operations, of_used_fragments}
+use Rattle.graphql_documents.proofs.ReportWithinLemmas.{both_within, in_words_within, kept_within, wider_within}
+use Rattle.graphql_validation.proofs.DocumentLemmas.{of_all_defer, of_operations, of_used_fragments}
 use Rattle.graphql_validation.proofs.entry.validate_with_or_without_schema.Goals as goal
 
 pub returns-in_err-validate_operation_definitions : goal.returns-in_err-validate_operation_definitions
@@ -11,10 +11,21 @@ returns-in_err-validate_operation_definitions c = λ same.
     MatchResult-from_err _ _ _ c.from_residual.ensures.0
     (λ y. kept_wider (of_operations same (option_copied c.args.schema) c.args.document.now) c.in_err-validate_operation_definitions.ensures)
 
-pub returns : goal.returns
-returns c = λ same.
+pub returns-in_err-validate_fragments_used : goal.returns-in_err-validate_fragments_used
+returns-in_err-validate_fragments_used c = λ same.
     let operations = wider_within IsLimitEntry (of_operations same (option_copied c.args.schema) c.args.document.now) c.in_ok-validate_operation_definitions.ensures in
     let used = of_used_fragments same (option_copied c.args.schema) c.args.document.now in
-    MatchResult-weaker c.validate_fragments_used.result c.validate_fragments_used.ensures.checks
-    (λ _ fragments. both_within IsLimitEntry operations (wider_within IsLimitEntry used fragments))
-    (λ _ kept. kept_then (kept_within IsLimitEntry operations) (kept_wider used kept))
+    MatchResult-from_err _ _ _ c.from_residual-in_err-validate_fragments_used.ensures.0
+    (λ y. kept_then (kept_within IsLimitEntry operations) (kept_wider used c.in_err-validate_fragments_used.ensures.checks))
+
+pub returns : goal.returns
+returns c = λ same.
+    let S = option_copied c.args.schema in
+    let D = c.args.document.now in
+    let operations = wider_within IsLimitEntry (of_operations same S D) c.in_ok-validate_operation_definitions.ensures in
+    let fragments = wider_within IsLimitEntry (of_used_fragments same S D) c.in_ok-validate_fragments_used.ensures.checks in
+    let both = both_within IsLimitEntry operations fragments in
+    MatchResult-weaker c.validate_defer.result c.validate_defer.ensures
+    (λ _ defer. in_words_within IsLimitEntry (λ p. (p.0.0, p.0.1, p.1), λ h. ((h.0, h.1), h.2))
+    (both_within IsLimitEntry both (wider_within IsLimitEntry (of_all_defer same S D) defer)))
+    (λ _ kept. kept_then (kept_within IsLimitEntry both) (kept_wider (of_all_defer same S D) kept))

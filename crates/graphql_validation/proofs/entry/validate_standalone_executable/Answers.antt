@@ -1,0 +1,20 @@
+use Rattle.std.proofs.lemmas.Option.{none-some}
+use Rattle.std.proofs.lemmas.Result.{MatchResult-weaker}
+use Rattle.graphql_documents.specs.Diagnostics.{IsLimitEntry}
+use Rattle.graphql_documents.proofs.ReportWithinLemmas.{in_words_within}
+use Rattle.graphql_validation.proofs.entry.validate_standalone_executable.Goals as goal
+
+pub returns : goal.returns
+returns c = λ same.
+    MatchResult-weaker c.validate_with_or_without_schema.result (c.validate_with_or_without_schema.ensures same)
+    (λ _ checked. in_words_within IsLimitEntry (
+      λ p. record {
+        operations = p.0;
+        fragments = p.1;
+        defer = p.2;
+        subscriptions = λ s is. absurd (none-some s is);
+        merging = λ s is. absurd (none-some s is);
+      },
+      λ h. (h.operations, h.fragments, h.defer),
+    ) checked)
+    (λ _ kept. kept)
