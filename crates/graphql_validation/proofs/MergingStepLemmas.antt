@@ -1,14 +1,16 @@
 -- How operations are validated by the rules that need a schema, one after another.
-use Rattle.std.proofs.Common.{◌≡◌, ◌↔◌, ◌⊎◌, inl, inr, Bool, List, [], ◌∷◌, ◌++◌, Some, refl, sym, ◌∙◌, ap, subst, All, Contains}
-use Rattle.std.proofs.lemmas.List.{append-nil, append_assoc, append_cancel_left}
-use Rattle.std.proofs.lemmas.List.Elements.{All-append, All-cons, All-contains_itself, All-head, All-nil}
+use Rattle.std.proofs.Common.{◌≡◌, ◌↔◌, ◌⊎◌, ℕ, ◌+◌, ◌<◌, Bor, drop, get_or, length, map, take, inl, inr, Bool, List, [], ◌∷◌, ◌++◌, Some, refl, sym, ◌∙◌, ap, subst, All, Contains}
+use Rattle.std.proofs.lemmas.List.{append-nil, append_assoc, append_cancel_left, map-append, take-append-drop}
+use Rattle.std.proofs.lemmas.List.Elements.{All-append, All-cons, All-contains_itself, All-head, All-nil, Contains-append_right}
 use Rattle.std.specs.Prelude.{IsFalse, IsTrue, Option}
 use Rattle.graphql_documents.specs.Built.{IsBuilt}
-use Rattle.graphql_documents.specs.Defer.{operations_of}
+use Rattle.graphql_documents.specs.Defer.{DeferHolds, operations_of}
 use Rattle.graphql_documents.specs.Diagnostics.{IsLimitEntry, limit_of_depth}
 use Rattle.graphql_documents.specs.DocumentReports as document_report
 use Rattle.graphql_documents.specs.DocumentReports.{DocumentReport}
-use Rattle.graphql_documents.specs.Documents.{OperationSubscriptionHolds}
+use Rattle.graphql_documents.specs.Documents.{DocumentHolds, IsFragmentUsed, OperationHolds, OperationSubscriptionHolds}
+use Rattle.indexmap.specs.IndexMap.{values}
+use Rattle.std.proofs.lemmas.Option.{same_Some}
 use Rattle.graphql_documents.specs.Limits.{DocumentLimit, MergingLimit, merging_limit, merging_nests}
 use Rattle.graphql_documents.specs.Merging.{Merges}
 use Rattle.graphql_documents.specs.MergingReports.{MergingReport, of_conflict}
@@ -22,7 +24,8 @@ use Rattle.graphql_documents.specs.declared.documents.executables.Operation.{Ope
 use Rattle.graphql_documents.specs.declared.documents.nodes.Node.{Node}
 use Rattle.graphql_documents.specs.declared.documents.schemas.Schema.{Schema}
 use Rattle.graphql_documents.specs.declared.documents.spans.SourceSpan.{SourceSpan}
-use Rattle.graphql_documents.proofs.ReportLemmas.{All-append_left, All-append_right, appended_then, both_nil}
+use Rattle.graphql_documents.proofs.ReportLemmas.{All-append_left, All-append_right, appended_then, both_nil, kept_wider, more_is}
+use Rattle.graphql_documents.proofs.ListLemmas.{stands_first}
 use Rattle.graphql_merging.specs.FieldSelections.{same_field}
 use Rattle.graphql_merging.specs.MergedOperations.{AreLimits, HasMerged, MergesOneMore, Merging, beyond_bound, within_bound}
 use Rattle.graphql_merging.proofs.MergedOperationLemmas.{conflicts_decide}
@@ -134,3 +137,53 @@ module _ (schema : Schema) (document : ExecutableDocument) where
         );
     each = so_far.each;
   }
+
+-- an operation of a list, with those before it and those behind
+pub split_at : (xs : List (Bor (Node Operation))) (i : ℕ) (x : Bor (Node Operation)) {operations : List (Node Operation)} → map (λ b. b.now) xs ≡ operations → i < length xs → x ≡ get_or xs i x →
+    operations ≡ map (λ b. b.now) (take i xs) ++ x.now ∷ map (λ b. b.now) (drop (i + 1) xs)
+split_at xs i x are within item =
+    sym are ∙ ap (map (λ b. b.now)) (sym (take-append-drop (i + 1) xs) ∙ ap (λ l. l ++ drop (i + 1) xs) (more_is xs i x within item) ∙ append_assoc (take i xs) (x ∷ []) (drop (i + 1) xs)) ∙
+    map-append (λ b. b.now) (take i xs) (x ∷ drop (i + 1) xs)
+
+-- what a call on a value that merges operations says, of a schema, a document and operations that are those
+-- of the value
+abbrev pub MergedTruth : Schema → ExecutableDocument → List (Node Operation) → Node Operation → DiagnosticEntry → Type 0
+MergedTruth schema document before o e =
+    MergingReport schema (fragments_of document) o.value.value.selection_set e.details e.location ⊎
+    MergingLimit same_field schema (fragments_of document) before o e.details e.location
+
+pub merged_kept : {schema schema' : Schema} {document document' : ExecutableDocument} {before before' : List (Node Operation)} (after : List (Node Operation)) (o : Node Operation) {old new : List DiagnosticEntry} →
+    schema' ≡ schema → document' ≡ document → before' ≡ before → operations_of document ≡ before ++ o ∷ after → KeepsReports (MergedTruth schema' document' before' o) old new →
+    KeepsReports (DocumentTruth same_field (Some schema) document) old new
+merged_kept {schema} {schema'} {document} {document'} {before} {before'} after o {old} {new} is_schema is_document is_before split kept =
+    let stands = subst (λ l. Contains l o) (sym split) (Contains-append_right before (o ∷ after) o (stands_first o after)) in
+    kept_wider (of_merged schema document before after o split stands)
+    (subst (λ b. KeepsReports (MergedTruth schema document b o) old new) is_before
+    (subst (λ d. KeepsReports (MergedTruth schema d before' o) old new) is_document
+    (subst (λ s. KeepsReports (MergedTruth s document' before' o) old new) is_schema kept)))
+
+pub merged_of : {schema schema' : Schema} {document document' : ExecutableDocument} {m : Merging} → schema' ≡ schema → document' ≡ document →
+    HasMerged schema' (fragments_of document') m → HasMerged schema (fragments_of document) m
+merged_of {schema} {schema'} {document} {document'} {m} is_schema is_document was =
+    subst (λ d. HasMerged schema (fragments_of d) m) is_document (subst (λ s. HasMerged s (fragments_of document') m) is_schema was)
+
+pub kept_so_far : (schema : Schema) (document : ExecutableDocument) {done : List (Node Operation)} {m : Merging} {old now : List DiagnosticEntry} →
+    ValidatedSoFar schema document done m old now → KeepsReports (DocumentTruth same_field (Some schema) document) old now
+kept_so_far schema document so_far = record { added = so_far.added; appended = so_far.appended; each = so_far.each }
+
+-- a document holds exactly where its parts do
+pub document_holds : (schema : Schema) (document : ExecutableDocument) →
+    ((All (λ o. OperationHolds (Some schema) document o.value.value) (operations_of document) × All (λ d. IsFragmentUsed document d.value.value) (values document.fragments) × DeferHolds document) ×
+    (All (λ o. OperationSubscriptionHolds document o.value.value) (operations_of document) ×
+    All (λ o. Merges schema (fragments_of document) o.value.value.selection_set) (operations_of document))) ↔
+    DocumentHolds (Some schema) document
+document_holds schema document = (
+  λ p. record {
+      operations = p.0.0;
+      fragments = p.0.1;
+      defer = p.0.2;
+      subscriptions = λ s is. p.1.0;
+      merging = λ s is. subst (λ z. All (λ o. Merges z (fragments_of document) o.value.value.selection_set) (operations_of document)) (same_Some schema s is) p.1.1;
+    },
+  λ h. ((h.operations, h.fragments, h.defer), (h.subscriptions schema refl, h.merging schema refl)),
+)

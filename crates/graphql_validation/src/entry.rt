@@ -2,18 +2,24 @@
 
 ghost use Rattle.indexmap.specs.IndexMap.{values};
 ghost use Rattle.std.specs.Option.{option_copied};
-ghost use Rattle.std.specs.Prelude.{◌≡◌, [], All, Bool, None, Some};
+ghost use Rattle.std.specs.Prelude.{◌≡◌, ◌⊎◌, [], All, Bool, None, OnOk, Some};
+ghost use Rattle.graphql_documents.specs.Built.{IsBuilt};
 ghost use Rattle.graphql_documents.specs.Defer.{DeferHolds, operations_of};
+ghost use Rattle.graphql_documents.specs.Diagnostics.{IsLimitEntry, entries};
 ghost use Rattle.graphql_documents.specs.DocumentReports.{DocumentReport};
 ghost use Rattle.graphql_documents.specs.Documents.{DocumentHolds, IsFragmentUsed, OperationHolds, OperationSubscriptionHolds};
 ghost use Rattle.graphql_documents.specs.FieldSets.{FieldSetHolds, NamesBrokenFieldSetRule};
 ghost use Rattle.graphql_documents.specs.Limits.{DocumentLimit};
-ghost use Rattle.graphql_documents.specs.Reports.{Checks, ChecksWithin};
+ghost use Rattle.graphql_documents.specs.Merging.{Merges};
+ghost use Rattle.graphql_documents.specs.Reports.{Checks, ChecksWithin, KeepsReports, ReportsWithin};
+ghost use Rattle.graphql_documents.specs.Selections.{fragments_of};
+ghost use Rattle.graphql_documents.specs.declared.documents.definitions.FieldDefinition.{FieldDefinition};
 ghost use Rattle.graphql_documents.specs.declared.documents.executables.Field.{Field};
-ghost use Rattle.graphql_documents.specs.declared.documents.schemas.Schema.{Schema};
+ghost use Rattle.graphql_merging.specs.FieldSelections.{same_field};
 
 use graphql_documents::diagnostics::{DiagnosticList, ValidationError};
 use graphql_documents::documents::{ExecutableDocument, FieldSet, OperationMap, Schema, Valid};
+use graphql_merging::merging::FieldsInSetCanMerge;
 use graphql_rules::operations::{
     OperationValidationContext, operations_of, validate_defer, validate_fragments_used,
     validate_operation_definitions, validate_selection_set, validate_subscription,
@@ -23,13 +29,14 @@ use std::alloc::Global;
 
 /// Validates a document against a schema: each operation, with its directives, its variables and the
 /// selections and fragments that it reaches; that each fragment is used; the rules of `@defer`, and those
-/// of subscriptions. Merging is not looked at yet.
+/// of subscriptions; and that all fields that come together in a response agree.
 ///
 /// Reports come in this order: for each operation those of its directives, of the definitions of its
 /// variables, its unused variables, and those of its selections, each with what is below it; then the
 /// unused fragments; then of `@defer` the labels of each operation and of each fragment, and for each
 /// mutation and subscription the roots and the conditions; last, for each operation, those of
-/// subscriptions. The only error is want of memory.
+/// subscriptions, then of fields whose shapes differ, of fields whose names or arguments do, and whether
+/// fields nest too deep to be merged. The only error is want of memory.
 ///
 /// Specification: 5 Validation.
 pub fn validate_executable_document(
@@ -37,16 +44,16 @@ pub fn validate_executable_document(
     schema: &Schema,
     document: &ExecutableDocument,
 ) -> Result<(), ValidationError>
-    ensures { (same : Field → Field → Bool) → ChecksWithin result
-        (All (λ o. OperationHolds (Some schema.now) document.now o.value.value) (operations_of document.now) ×
-        All (λ d. IsFragmentUsed document.now d.value.value) (values document.now.fragments) × DeferHolds document.now ×
-        All (λ o. OperationSubscriptionHolds document.now o.value.value) (operations_of document.now))
-        (λ e. DocumentReport (Some schema.now) document.now e.details e.location)
-        (λ e. DocumentLimit same (Some schema.now) document.now e.details e.location)
-        diagnostics.old diagnostics.new }
+    ensures holds { (same : FieldDefinition → FieldDefinition → Bool) → IsBuilt same schema.now document.now →
+        OnOk result (ReportsWithin IsLimitEntry (DocumentHolds (Some schema.now) document.now)
+        (λ e. DocumentReport (Some schema.now) document.now e.details e.location ⊎ DocumentLimit same_field (Some schema.now) document.now e.details e.location)
+        (entries diagnostics.old) (entries diagnostics.new)) }
+    ensures truth { KeepsReports
+        (λ e. DocumentReport (Some schema.now) document.now e.details e.location ⊎ DocumentLimit same_field (Some schema.now) document.now e.details e.location)
+        (entries diagnostics.old) (entries diagnostics.new) }
 {
     validate_with_or_without_schema(diagnostics, Some(schema), document)?;
-    validate_subscriptions(diagnostics, document)
+    validate_with_schema(diagnostics, schema, document)
 }
 
 /// Validates a document without a schema, by the rules that need none: all but those of subscriptions and
@@ -83,20 +90,29 @@ fn validate_with_or_without_schema(
     validate_defer(document, diagnostics)
 }
 
-/// Validates each operation of a document that is a subscription, by the rules that need a schema.
-fn validate_subscriptions(
+/// Validates the operations of a document by the rules that need a schema, one after another: those of
+/// subscriptions, and that all fields that come together in a response agree.
+fn validate_with_schema(
     diagnostics: &mut DiagnosticList,
+    schema: &Schema,
     document: &ExecutableDocument,
 ) -> Result<(), ValidationError>
-    ensures { (same : Field → Field → Bool) (schema : Schema) → ChecksWithin result
-        (All (λ o. OperationSubscriptionHolds document.now o.value.value) (operations_of document.now))
-        (λ e. DocumentReport (Some schema) document.now e.details e.location)
-        (λ e. DocumentLimit same (Some schema) document.now e.details e.location)
-        diagnostics.old diagnostics.new }
+    ensures holds { (same : FieldDefinition → FieldDefinition → Bool) → IsBuilt same schema.now document.now →
+        OnOk result (ReportsWithin IsLimitEntry
+        (All (λ o. OperationSubscriptionHolds document.now o.value.value) (operations_of document.now) ×
+        All (λ o. Merges schema.now (fragments_of document.now) o.value.value.selection_set) (operations_of document.now))
+        (λ e. DocumentReport (Some schema.now) document.now e.details e.location ⊎ DocumentLimit same_field (Some schema.now) document.now e.details e.location)
+        (entries diagnostics.old) (entries diagnostics.new)) }
+    ensures truth { KeepsReports
+        (λ e. DocumentReport (Some schema.now) document.now e.details e.location ⊎ DocumentLimit same_field (Some schema.now) document.now e.details e.location)
+        (entries diagnostics.old) (entries diagnostics.new) }
 {
-    let operations = operations_of(diagnostics.allocator(), document)?;
+    let alloc = diagnostics.allocator();
+    let operations = operations_of(alloc, document)?;
+    let mut merging = FieldsInSetCanMerge::new(alloc, schema, document);
     for operation in &operations {
         validate_subscription(document, operation, diagnostics)?;
+        merging.validate_operation(operation, diagnostics)?;
     }
     Ok(())
 }
