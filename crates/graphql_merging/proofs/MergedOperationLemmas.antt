@@ -1,11 +1,11 @@
 -- How the merging of one operation follows that of those before.
-use Rattle.std.proofs.Common.{rules, ◌≡◌, ◌↔◌, ℕ, ◌+◌, ◌<◌, ◌≤◌, Bool, true, false, ◌||◌, List, [], ◌∷◌, ◌++◌, arith, get_or, length, inl, inr, refl, sym, ◌∙◌, ap, subst, All, Contains}
-use Rattle.std.proofs.lemmas.List.{append-nil, append_assoc, length-append, nil_from_length}
+use Rattle.std.proofs.Common.{rules, ◌≡◌, ◌↔◌, ℕ, ◌<◌, Bool, true, false, ◌||◌, List, [], ◌∷◌, ◌++◌, arith, length, inl, inr, refl, sym, ◌∙◌, ap, subst, All, Contains}
+use Rattle.std.proofs.lemmas.List.{append_assoc, length-append, nil_from_length}
 use Rattle.std.proofs.lemmas.List.Sums.{sum_by-append}
 use Rattle.std.proofs.lemmas.List.Elements.{All-append, All-cons, All-contains, All-head, All-tail, All-nil, All-weaker, Contains-append_cases, Contains-append_left, Contains-append_right}
-use Rattle.std.specs.Prelude.{Err, Ok, OnOk, Result, nat_lt, ◌≢◌, ◌⊎◌, AllPairs, IsFalse, IsTrue, sum_by}
-use Rattle.graphql_documents.specs.Expansion.{Expansion, IsGroup, MergedSet, MergesBelow, Pass, field_pass, merged_below, merged_operation, nested_sets, shape_pass}
-use Rattle.graphql_documents.specs.Limits.{MergingDescent, MergingNestsTooDeep, MergingPasses, merging_bound}
+use Rattle.std.specs.Prelude.{Err, Ok, OnOk, Result, nat_lt, ◌⊎◌, AllPairs, IsFalse, IsTrue, sum_by}
+use Rattle.graphql_documents.specs.Expansion.{MergedSet, Pass, field_pass, merged_below, merged_operation, nested_sets, shape_pass}
+use Rattle.graphql_documents.specs.Limits.{MergingNestsTooDeep, MergingPasses}
 use Rattle.graphql_documents.specs.MergedFields.{Agree, ExpansionIsSeen, HasSeen, ListPasses}
 use Rattle.graphql_documents.specs.MergedGroups.{AreConflicts, ConflictsWith, SaysConflict, agreeing_field, comparisons_of, conflicting_field, empty_group, groups_of, groups_of_lists, next_group, no_field, no_groups}
 use Rattle.graphql_documents.specs.Merging.{FieldSelection, Merges, SameFields}
@@ -30,7 +30,7 @@ use Rattle.graphql_merging.specs.FieldSelections.{same_field}
 use Rattle.graphql_documents.specs.Reports.{Appends}
 use Rattle.graphql_merging.specs.MergedOperations.{AreLimits, ExaminesInBoth, HasExamined, HasMerged, Merging, MergesOneMore}
 use Rattle.graphql_merging.specs.Passes.{AreNew, DescendsBeyond, ExaminesSet, HasPassed, IsClosedIn, IsNew, Stage, counted, next_new, no_new}
-use Rattle.graphql_merging.proofs.PassLemmas.{closed_further, counted_none, counted_then, new_then, seen_further}
+use Rattle.graphql_merging.proofs.PassLemmas.{counted_none, counted_then, new_then, seen_further}
 use Rattle.graphql_laws.proofs.FieldContentsLaws.{field_equality_compares_contents, same_fields_back}
 use Rattle.graphql_laws.proofs.SeenListLaws.{seen_lists_decide}
 use Rattle.graphql_documents.specs.Built.{IsBuilt}
@@ -102,8 +102,8 @@ module _ (schema : Schema) (pass : Pass) where
       let at = none_with first one in
       let behind = none_in more in (
         λ e. let both = (both_nil here reports).0 e in
-          All-cons GroupPasses (first ∷ rest) groups
-          (λ x xs is. heads_agree x xs is (at.0 both.0)) (behind.0 both.1),
+            All-cons GroupPasses (first ∷ rest) groups
+            (λ x xs is. heads_agree x xs is (at.0 both.0)) (behind.0 both.1),
         λ all. (both_nil here reports).1 (at.1 (All-head GroupPasses (first ∷ rest) groups all first rest refl), behind.1 (All-tail GroupPasses (first ∷ rest) groups all)),
       )
 
@@ -113,13 +113,13 @@ module _ (schema : Schema) (pass : Pass) where
   lists_pass (list ∷ lists) =
       let behind = lists_pass lists in (
         λ all. All-cons (ListPasses schema pass) list lists
-          (λ group first rest is_group is. All-contains GroupPasses (groups_of schema pass list) group
-          (All-append_left GroupPasses (groups_of schema pass list) (groups_of_lists schema pass lists) all) ((groups_listed schema list pass group).1 is_group) first rest is)
-          (behind.0 (All-append_right GroupPasses (groups_of schema pass list) (groups_of_lists schema pass lists) all)),
+            (λ group first rest is_group is. All-contains GroupPasses (groups_of schema pass list) group
+            (All-append_left GroupPasses (groups_of schema pass list) (groups_of_lists schema pass lists) all) ((groups_listed schema list pass group).1 is_group) first rest is)
+            (behind.0 (All-append_right GroupPasses (groups_of schema pass list) (groups_of_lists schema pass lists) all)),
         λ all. All-append GroupPasses (groups_of schema pass list) (groups_of_lists schema pass lists)
-          (each_standing GroupPasses (groups_of schema pass list) (λ group stands first rest is.
-          All-head (ListPasses schema pass) list lists all group first rest ((groups_listed schema list pass group).0 stands) is))
-          (behind.1 (All-tail (ListPasses schema pass) list lists all)),
+            (each_standing GroupPasses (groups_of schema pass list) (λ group stands first rest is.
+            All-head (ListPasses schema pass) list lists all group first rest ((groups_listed schema list pass group).0 stands) is))
+            (behind.1 (All-tail (ListPasses schema pass) list lists all)),
       )
 
   -- there is no report of the lists exactly where they pass
@@ -228,7 +228,7 @@ module _ (schema : Schema) (fragments : Fragments) (respects : (a b : NameText) 
       let b = x.of_fields.more.reports.added in
       let long = ap length both_reported ∙ length-append before (a ++ b) in (
         λ h. (both_nil a b).0 (nil_from_length (a ++ b)
-          (let none = λ (more : length before < length mid). (let yes' = conflicts_is.1 more in let no : ⊥ = cc in no) in omega (arith, long, none))),
+            (let none = λ (more : length before < length mid). (let yes' = conflicts_is.1 more in let no : ⊥ = cc in no) in omega (arith, long, none))),
         λ p. elim (false_or_true conflicts) [
           | inl h ↦ h
           | inr h ↦ absurd (let more = conflicts_is.0 h in let none = ap length ((both_nil a b).1 p) in omega (arith, long, more, none))
@@ -258,33 +258,33 @@ module _ (schema : Schema) (fragments : Fragments) (respects : (a b : NameText) 
   pub merged_next : HasMerged schema fragments old → HasMerged schema fragments new
   merged_next was = record {
     shapes = subst (λ ops. HasExamined schema fragments ops shape_pass new.too_deep new.shapes) (sym operations)
-    (subst (HasExamined schema fragments (old.operations ++ o ∷ []) shape_pass new.too_deep) x.shapes_new
-    (examined_more schema fragments shape_pass old.operations o old.too_deep new.too_deep x.shapes_before x.shapes_after
-    (subst (HasExamined schema fragments old.operations shape_pass old.too_deep) (sym x.shapes_old) was.shapes) x.of_shapes
-    (λ kept. let w = within_both kept in (w.0, w.1))));
+        (subst (HasExamined schema fragments (old.operations ++ o ∷ []) shape_pass new.too_deep) x.shapes_new
+        (examined_more schema fragments shape_pass old.operations o old.too_deep new.too_deep x.shapes_before x.shapes_after
+        (subst (HasExamined schema fragments old.operations shape_pass old.too_deep) (sym x.shapes_old) was.shapes) x.of_shapes
+        (λ kept. let w = within_both kept in (w.0, w.1))));
     fields = subst (λ ops. HasExamined schema fragments ops field_pass new.too_deep new.fields) (sym operations)
-    (subst (HasExamined schema fragments (old.operations ++ o ∷ []) field_pass new.too_deep) x.fields_new
-    (examined_more schema fragments field_pass old.operations o old.too_deep new.too_deep x.fields_before x.fields_after
-    (subst (HasExamined schema fragments old.operations field_pass old.too_deep) (sym x.fields_old) was.fields) x.of_fields
-    (λ kept. let w = within_both kept in (w.0, w.2))));
+        (subst (HasExamined schema fragments (old.operations ++ o ∷ []) field_pass new.too_deep) x.fields_new
+        (examined_more schema fragments field_pass old.operations o old.too_deep new.too_deep x.fields_before x.fields_after
+        (subst (HasExamined schema fragments old.operations field_pass old.too_deep) (sym x.fields_old) was.fields) x.of_fields
+        (λ kept. let w = within_both kept in (w.0, w.2))));
     silent = (
       λ h. let parts = (or_false old.conflicting conflicts).0 (sym conflicting ∙ h) in
-        let earlier = was.silent.0 parts.0 in
-        let none = none_conflict.0 parts.1 in (
-          (lists_pass_more shape_pass old.shapes x.of_shapes.added new.shapes same_shapes).1 (earlier.0, of_shapes.0 none.0),
-          (lists_pass_more field_pass old.fields x.of_fields.added new.fields same_fields).1 (earlier.1, of_fields.0 none.1),
-        ),
+          let earlier = was.silent.0 parts.0 in
+          let none = none_conflict.0 parts.1 in (
+            (lists_pass_more shape_pass old.shapes x.of_shapes.added new.shapes same_shapes).1 (earlier.0, of_shapes.0 none.0),
+            (lists_pass_more field_pass old.fields x.of_fields.added new.fields same_fields).1 (earlier.1, of_fields.0 none.1),
+          ),
       λ p. let s = (lists_pass_more shape_pass old.shapes x.of_shapes.added new.shapes same_shapes).0 p.0 in
-        let f = (lists_pass_more field_pass old.fields x.of_fields.added new.fields same_fields).0 p.1 in
-        conflicting ∙ (or_false old.conflicting conflicts).1 (was.silent.1 (s.0, f.0), none_conflict.1 (of_shapes.1 s.1, of_fields.1 f.1)),
+          let f = (lists_pass_more field_pass old.fields x.of_fields.added new.fields same_fields).0 p.1 in
+          conflicting ∙ (or_false old.conflicting conflicts).1 (was.silent.1 (s.0, f.0), none_conflict.1 (of_shapes.1 s.1, of_fields.1 f.1)),
     );
     deep = λ h. elim (or_true old.too_deep deep (sym too_deep ∙ h)) [
       | inl earlier ↦ let d = was.deep earlier in (d.0, subst (λ l. Contains l d.0) (sym operations) (Contains-append_left old.operations (o ∷ []) d.0 d.1), d.2)
       | inr now ↦ (o, subst (λ l. Contains l o) (sym operations) (Contains-append_right old.operations (o ∷ []) o (stands_first o [])), nests (x.deep_is.0 now))
     ];
     comparisons = sym x.comparisons_new ∙ x.of_shapes.more.comparisons ∙ ap (λ n. counted shape_pass n (sum_by comparisons_of x.of_shapes.added)) (x.comparisons_old ∙ was.comparisons) ∙
-    counted_then shape_pass 0 (sum_by comparisons_of old.shapes) (sum_by comparisons_of x.of_shapes.added) ∙
-    ap (counted shape_pass 0) (sym (ap (sum_by comparisons_of) same_shapes ∙ sum_by-append comparisons_of old.shapes x.of_shapes.added));
+        counted_then shape_pass 0 (sum_by comparisons_of old.shapes) (sum_by comparisons_of x.of_shapes.added) ∙
+        ap (counted shape_pass 0) (sym (ap (sum_by comparisons_of) same_shapes ∙ sum_by-append comparisons_of old.shapes x.of_shapes.added));
   } where
     of_shapes : (x.of_shapes.more.reports.added ≡ []) ↔ All (ListPasses schema shape_pass) x.of_shapes.added
     of_shapes = none_reported schema shape_pass x.of_shapes.added x.of_shapes.more.reports.added x.of_shapes.more.reports.are
@@ -316,8 +316,8 @@ module _ (schema : Schema) (fragments : Fragments) (respects : (a b : NameText) 
     shapes_are = same_shapes;
     fields_are = same_fields;
     appended = limits.appended ∙ ap (λ l. l ++ limits.added) both_reported ∙
-    append_assoc before (x.of_shapes.more.reports.added ++ x.of_fields.more.reports.added) limits.added ∙
-    ap (λ l. before ++ l) (append_assoc x.of_shapes.more.reports.added x.of_fields.more.reports.added limits.added);
+        append_assoc before (x.of_shapes.more.reports.added ++ x.of_fields.more.reports.added) limits.added ∙
+        ap (λ l. before ++ l) (append_assoc x.of_shapes.more.reports.added x.of_fields.more.reports.added limits.added);
     are_of_shapes = x.of_shapes.more.reports.are;
     are_of_fields = x.of_fields.more.reports.are;
     are_limits = limits.are;

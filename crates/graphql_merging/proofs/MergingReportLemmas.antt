@@ -1,7 +1,7 @@
 -- What a report of a conflict says of an operation.
-use Rattle.std.proofs.Common.{◌≡◌, Bool, List, [], ◌∷◌, ◌++◌, inl, inr, sym, ap, subst, All, Contains}
+use Rattle.std.proofs.Common.{◌≡◌, Bool, List, [], ◌∷◌, inr, sym, subst, All}
 use Rattle.std.proofs.lemmas.List.Elements.{All-cons, All-nil}
-use Rattle.std.specs.Prelude.{◌⊎◌, Err, IsFalse, IsTrue, Ok, OnErr, OnOk, Option, Result}
+use Rattle.std.specs.Prelude.{◌⊎◌, Err, IsTrue, Ok, OnErr, OnOk, Option, Result}
 use Rattle.graphql_documents.specs.Expansion.{Pass, field_pass, shape_pass}
 use Rattle.graphql_documents.specs.Limits.{MergingLimit, MergingNestsTooDeep, merging_nests}
 use Rattle.graphql_documents.specs.MergedGroups.{SaysConflict}

@@ -1,14 +1,14 @@
 -- How the steps of a pass over lists of fields compose.
-use Rattle.std.proofs.Common.{◌≡◌, ◌↔◌, ℕ, ◌+◌, ◌<◌, ◌≤◌, List, [], ◌∷◌, ◌++◌, length, inl, inr, refl, sym, ◌∙◌, ap, subst, All, Contains, arith}
+use Rattle.std.proofs.Common.{◌≡◌, ◌↔◌, ℕ, ◌+◌, ◌<◌, List, [], ◌∷◌, ◌++◌, length, inl, inr, refl, sym, ◌∙◌, ap, subst, All, Contains, arith}
 use Rattle.std.proofs.lemmas.List.{append-nil, append_assoc}
-use Rattle.std.proofs.lemmas.List.Elements.{All-nil, All-append, All-cons, All-head, All-more, All-weaker, All-contains, Contains-append_left, Contains-append_right}
+use Rattle.std.proofs.lemmas.List.Elements.{All-nil, All-append, All-cons, All-head, All-weaker, All-contains, Contains-append_left, Contains-append_right}
 use Rattle.std.proofs.lemmas.Grind.{flat_map-append}
 use Rattle.std.proofs.lemmas.List.Sums.{sum_by-append, sum_by-cons}
-use Rattle.std.specs.Prelude.{◌≢◌, ◌⊎◌, ◌^◌, flat_map, max, min, sum_by}
+use Rattle.std.specs.Prelude.{◌≢◌, ◌^◌, max, sum_by}
 use Rattle.graphql_documents.specs.Expansion.{Expansion, IsGroup, MergedSet, MergesBelow, Pass, merged_below, field_pass, nested_sets, shape_pass}
-use Rattle.graphql_documents.specs.Limits.{MergingDescent, merging_bound, merging_ends, merging_steps}
+use Rattle.graphql_documents.specs.Limits.{merging_bound, merging_ends, merging_steps}
 use Rattle.graphql_documents.specs.MergedFields.{ExpansionIsSeen}
-use Rattle.graphql_documents.specs.MergedGroups.{AreConflicts, comparisons_of, empty_group, groups_of, groups_of_lists, next_group, no_groups}
+use Rattle.graphql_documents.specs.MergedGroups.{AreConflicts, comparisons_of, empty_group, groups_of, next_group, no_groups}
 use Rattle.graphql_documents.specs.Merging.{FieldSelection, SameFields}
 use Rattle.graphql_documents.specs.Reports.{Appends}
 use Rattle.graphql_documents.specs.Selections.{Fragments}
@@ -31,8 +31,8 @@ new_fewer : {known more a : List (List FieldSelection)} → ((list : List FieldS
 new_fewer fewer no_new = no_new
 new_fewer {known} {more} fewer (next_new {list = list} here behind) =
     next_new (fewer list here) (new_fewer (λ l is_new.
-        let P = λ (k : List FieldSelection). ¬ SameFields same_field l k in
-        All-append P known (list ∷ []) (fewer l (All-append_left P more (list ∷ []) is_new)) (All-append_right P more (list ∷ []) is_new)) behind)
+    let P = λ (k : List FieldSelection). ¬ SameFields same_field l k in
+    All-append P known (list ∷ []) (fewer l (All-append_left P more (list ∷ []) is_new)) (All-append_right P more (list ∷ []) is_new)) behind)
 
 new_before : (known further : List (List FieldSelection)) {a : List (List FieldSelection)} → AreNew (known ++ further) a → AreNew known a
 new_before known further new = new_fewer (λ list is_new. All-append_left (λ k. ¬ SameFields same_field list k) known further is_new) new
@@ -81,7 +81,7 @@ module _ (schema : Schema) (pass : Pass) where
     are_new = new_then x.are_new (subst (λ l. AreNew l b) x.lists_are y.are_new);
     reports = subst (λ g. Appends (AreConflicts schema pass g) old.reports new.reports) (sym (flat_map-append (groups_of schema pass) a b)) (conflicts_then x.reports y.reports);
     comparisons = y.comparisons ∙ ap (λ n. counted pass n (sum_by comparisons_of b)) x.comparisons ∙
-    counted_then pass old.comparisons (sum_by comparisons_of a) (sum_by comparisons_of b) ∙ ap (counted pass old.comparisons) (sym (sum_of_both a b));
+        counted_then pass old.comparisons (sum_by comparisons_of a) (sum_by comparisons_of b) ∙ ap (counted pass old.comparisons) (sym (sum_of_both a b));
     depth = y.depth ∙ x.depth;
     passed = λ passed. y.passed (x.passed passed);
   }
@@ -124,9 +124,9 @@ module _ (schema : Schema) (fragments : Fragments) (pass : Pass) where
     added = x.added ++ y.added;
     more = more_then schema pass x.more y.more;
     merged = λ operations above merged groups.
-    All-append (MergedSet schema fragments operations pass) x.added y.added
-    (x.merged operations above merged (All-append_left (IsGroup schema above pass) a b groups))
-    (y.merged operations above merged (All-append_right (IsGroup schema above pass) a b groups));
+        All-append (MergedSet schema fragments operations pass) x.added y.added
+        (x.merged operations above merged (All-append_left (IsGroup schema above pass) a b groups))
+        (y.merged operations above merged (All-append_right (IsGroup schema above pass) a b groups));
     known = λ within. both_known (x.known (λ passed. within (over passed))) (y.known within);
     passes = λ passed. elim (y.passes passed) [
       | inl before ↦ elim (x.passes before) [
@@ -144,9 +144,9 @@ module _ (schema : Schema) (fragments : Fragments) (pass : Pass) where
         All (IsClosedIn schema fragments pass new.lists) (x.added ++ y.added) × All (IsKnownBelow fragments new.lists) (a ++ b)
     both_known first second = (
       All-append (IsClosedIn schema fragments pass new.lists) x.added y.added
-      (subst (λ l. All (IsClosedIn schema fragments pass l) x.added) (sym y.more.lists_are) (closed_further mid.lists y.added x.added first.0)) second.0,
+          (subst (λ l. All (IsClosedIn schema fragments pass l) x.added) (sym y.more.lists_are) (closed_further mid.lists y.added x.added first.0)) second.0,
       All-append (IsKnownBelow fragments new.lists) a b
-      (subst (λ l. All (IsKnownBelow fragments l) a) (sym y.more.lists_are) (known_further mid.lists y.added a first.1)) second.1,
+          (subst (λ l. All (IsKnownBelow fragments l) a) (sym y.more.lists_are) (known_further mid.lists y.added a first.1)) second.1,
     )
 
     earlier : (above : List FieldSelection) → DescendsBeyond schema fragments pass mid.lists mid.depth above → DescendsBeyond schema fragments pass old.lists old.depth above
@@ -234,13 +234,13 @@ module _ (schema : Schema) (fragments : Fragments) (pass : Pass) where
         passed = λ passed. up_passed (e.more.passed (let h = highest in omega (arith, h, passed)));
       };
       merged = λ operations above merged groups.
-      let here = merged_below merged (step_below above group below groups nested expansion) in
-      All-cons (MergedSet schema fragments operations pass) below e.below here (e.merged operations here);
+          let here = merged_below merged (step_below above group below groups nested expansion) in
+          All-cons (MergedSet schema fragments operations pass) below e.below here (e.merged operations here);
       known = λ kept.
-      let closed = e.known (λ passed. kept (let h = highest' in omega (arith, h, passed))) in (
-        subst (λ l. All (IsClosedIn schema fragments pass l) (below ∷ e.below)) (sym lists') closed,
-        All-cons (IsKnownBelow fragments new.lists) group [] (λ nested'. seen) (All-nil (IsKnownBelow fragments new.lists)),
-      );
+          let closed = e.known (λ passed. kept (let h = highest' in omega (arith, h, passed))) in (
+            subst (λ l. All (IsClosedIn schema fragments pass l) (below ∷ e.below)) (sym lists') closed,
+            All-cons (IsKnownBelow fragments new.lists) group [] (λ nested'. seen) (All-nil (IsKnownBelow fragments new.lists)),
+          );
       passes = λ passed. elim (e.passes (let h = highest' in omega (arith, h, passed))) [
         | inl before ↦ inl (let h = highest in omega (arith, h, before, within, depth))
         | inr d ↦ inr (λ above groups. record {
@@ -275,13 +275,16 @@ module _ (schema : Schema) (fragments : Fragments) (pass : Pass) where
       expansion = expansion;
       more = e.more;
       merged = λ operations merged. All-cons (MergedSet schema fragments operations pass) fields e.below merged (e.merged operations merged);
-      known = λ within. (e.known within, record {
-        fields = fields;
-        known = fields;
-        expansion = expansion;
-        is_seen = subst (λ l. Contains l fields) (sym e.more.lists_are) (Contains-append_right old.lists (fields ∷ e.below) fields (stands_first fields e.below));
-        same_fields = itself fields;
-      });
+      known = λ within. (
+        e.known within,
+        record {
+          fields = fields;
+          known = fields;
+          expansion = expansion;
+          is_seen = subst (λ l. Contains l fields) (sym e.more.lists_are) (Contains-append_right old.lists (fields ∷ e.below) fields (stands_first fields e.below));
+          same_fields = itself fields;
+        },
+      );
       passes = e.passes;
     }
 
@@ -312,12 +315,12 @@ module _ (schema : Schema) (fragments : Fragments) (pass : Pass) where
       more = more_then schema pass here g.more;
       merged = λ operations merged. g.merged operations list merged (all_groups list);
       known = λ within. let k = g.known within in
-      All-cons (IsClosedIn schema fragments pass new.lists) list g.added
-      (λ group is_group. All-contains (IsKnownBelow fragments new.lists) (groups_of schema pass list) group k.1 ((groups_are list group).1 is_group)) k.0;
+          All-cons (IsClosedIn schema fragments pass new.lists) list g.added
+          (λ group is_group. All-contains (IsKnownBelow fragments new.lists) (groups_of schema pass list) group k.1 ((groups_are list group).1 is_group)) k.0;
       passes = λ passed. elim (g.passes passed) [
         | inl before ↦ inl (let h = highest in omega (arith, h, before))
         | inr beyond ↦ inr (subst (λ n. DescendsBeyond schema fragments pass (old.lists ++ list ∷ []) n list) depth
-          (subst (λ l. DescendsBeyond schema fragments pass l mid.depth list) lists (beyond list (all_groups list))))
+            (subst (λ l. DescendsBeyond schema fragments pass l mid.depth list) lists (beyond list (all_groups list))))
       ];
     } where
       here : ExaminesMore schema pass (list ∷ []) old mid

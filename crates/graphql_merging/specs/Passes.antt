@@ -1,5 +1,5 @@
 -- The steps of a pass over lists of fields, for the contracts of its private functions.
-use Rattle.std.specs.Prelude.{◌≡◌, ◌≢◌, ◌+◌, ◌-◌, ◌<◌, ◌≤◌, ◌^◌, ◌⊎◌, ℕ, List, [], ◌∷◌, ◌++◌, All, Contains, length, min, sum_by}
+use Rattle.std.specs.Prelude.{◌≡◌, ◌≢◌, ◌+◌, ◌-◌, ◌<◌, ◌^◌, ◌⊎◌, ℕ, List, [], ◌∷◌, ◌++◌, All, Contains, length, min, sum_by}
 use Rattle.graphql_documents.specs.Expansion.{Expansion, IsGroup, MergedSet, Pass, field_pass, nested_sets, shape_pass}
 use Rattle.graphql_documents.specs.Limits.{MergingDescent, merging_bound}
 use Rattle.graphql_documents.specs.MergedFields.{ExpansionIsSeen}

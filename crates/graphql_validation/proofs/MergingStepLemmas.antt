@@ -86,7 +86,7 @@ module _ (schema : Schema) (document : ExecutableDocument) where
     added = so_far.added ++ (sub.added ++ reports);
     appended = appended_then old now after so_far.added (sub.added ++ reports) so_far.appended (appended_then now mid after sub.added reports sub.appended merged.appended);
     each = All-append Truth so_far.added (sub.added ++ reports) so_far.each
-    (All-append Truth sub.added reports sub.each (subst (All Truth) (append_cancel_left mid kept.added reports (sym kept.appended ∙ merged.appended)) kept.each));
+        (All-append Truth sub.added reports sub.each (subst (All Truth) (append_cancel_left mid kept.added reports (sym kept.appended ∙ merged.appended)) kept.each));
     silent = λ none. (
       λ e.
           let first = (both_nil so_far.added (sub.added ++ reports)).0 e in
@@ -101,8 +101,13 @@ module _ (schema : Schema) (document : ExecutableDocument) where
           let before = (so_far.silent (earlier none)).1 (All-append_left Sub done (o ∷ []) p.0, parts.0) in
           let now' = (sub.silent (of_sub none)).1 (All-head Sub o [] (All-append_right Sub done (o ∷ []) p.0)) in
           let last = (no_limits o m'.too_deep merged.are_limits (of_limits none)).0 in
-          (both_nil so_far.added (sub.added ++ reports)).1 (before, (both_nil sub.added reports).1 (now',
-          (both_nil merged.of_shapes (merged.of_fields ++ merged.limits)).1 (parts.1, (both_nil merged.of_fields merged.limits).1 (parts.2, last)))),
+          (both_nil so_far.added (sub.added ++ reports)).1 (
+            before,
+            (both_nil sub.added reports).1 (
+              now',
+              (both_nil merged.of_shapes (merged.of_fields ++ merged.limits)).1 (parts.1, (both_nil merged.of_fields merged.limits).1 (parts.2, last)),
+            ),
+          ),
     );
     shallow = λ none. (no_limits o m'.too_deep merged.are_limits (of_limits none)).1;
   } where
@@ -179,11 +184,11 @@ pub document_holds : (schema : Schema) (document : ExecutableDocument) →
     DocumentHolds (Some schema) document
 document_holds schema document = (
   λ p. record {
-      operations = p.0.0;
-      fragments = p.0.1;
-      defer = p.0.2;
-      subscriptions = λ s is. p.1.0;
-      merging = λ s is. subst (λ z. All (λ o. Merges z (fragments_of document) o.value.value.selection_set) (operations_of document)) (same_Some schema s is) p.1.1;
-    },
+    operations = p.0.0;
+    fragments = p.0.1;
+    defer = p.0.2;
+    subscriptions = λ s is. p.1.0;
+    merging = λ s is. subst (λ z. All (λ o. Merges z (fragments_of document) o.value.value.selection_set) (operations_of document)) (same_Some schema s is) p.1.1;
+  },
   λ h. ((h.operations, h.fragments, h.defer), (h.subscriptions schema refl, h.merging schema refl)),
 )

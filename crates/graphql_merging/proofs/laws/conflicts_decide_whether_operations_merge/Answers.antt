@@ -1,4 +1,3 @@
-use Rattle.graphql_documents.specs.Selections.{fragments_of}
 use Rattle.graphql_merging.specs.Mergers.{document_of, merging_of, schema_of}
 use Rattle.graphql_merging.proofs.MergedOperationLemmas.{conflicts_decide}
 use Rattle.graphql_merging.proofs.laws.conflicts_decide_whether_operations_merge.Goals as goal

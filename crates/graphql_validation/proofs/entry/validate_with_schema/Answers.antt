@@ -72,10 +72,10 @@ loop-operation-preserved c =
       sound = c.in_ok-validate_operation.ensures.sound inv.sound;
       kept = c.in_ok-validate_operation.ensures.refused;
       so_far = subst (λ l. ValidatedSoFar S D l m' (entries c.args.diagnostics.now) (entries c.validate_operation.new.diagnostics)) (sym further)
-      (validated_more S D done x.now m m' inv.so_far
-      (wider_within IsLimitEntry (of_a_subscription same_field S D x.now among) c.in_ok-validate_subscription.ensures) merges
-      (merged_kept (map (λ b. b.now) (drop (i + 1) xs)) x.now inv.schema inv.document inv.operations (split_at xs i x are c.loop-operation-test.true c.operation-item.is)
-      (c.in_ok-validate_operation.ensures.truth inv.sound)));
+          (validated_more S D done x.now m m' inv.so_far
+          (wider_within IsLimitEntry (of_a_subscription same_field S D x.now among) c.in_ok-validate_subscription.ensures) merges
+          (merged_kept (map (λ b. b.now) (drop (i + 1) xs)) x.now inv.schema inv.document inv.operations (split_at xs i x are c.loop-operation-test.true c.operation-item.is)
+          (c.in_ok-validate_operation.ensures.truth inv.sound)));
     }
 
 pub returns-clause-holds : goal.returns-clause-holds

@@ -1,6 +1,5 @@
-use Rattle.std.proofs.Common.{Bool, refl, ap}
-use Rattle.graphql_documents.proofs.ListLemmas.{each_standing}
-use Rattle.graphql_merging.proofs.FieldSelectionLemmas.{added_list, compared_with_any}
+use Rattle.std.proofs.Common.{refl}
+use Rattle.graphql_merging.proofs.FieldSelectionLemmas.{added_list}
 use Rattle.graphql_merging.proofs.PassStepLemmas.{not_known}
 use Rattle.graphql_merging.proofs.examined.Examined.add.Goals as goal
 

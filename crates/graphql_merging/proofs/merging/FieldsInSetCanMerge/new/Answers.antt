@@ -1,6 +1,5 @@
 use Rattle.std.proofs.Common.{ap, map, refl}
 use Rattle.graphql_documents.specs.Selections.{fragments_of}
-use Rattle.graphql_merging.specs.Mergers.{merging_of}
 use Rattle.graphql_merging.proofs.MergedOperationLemmas.{nothing_merged}
 use Rattle.graphql_merging.proofs.merging.FieldsInSetCanMerge.new.Goals as goal
 

@@ -1,4 +1,4 @@
-use Rattle.std.proofs.Common.{[], ◌∷◌, sym}
+use Rattle.std.proofs.Common.{[], sym}
 use Rattle.std.proofs.lemmas.List.{append-nil}
 use Rattle.graphql_documents.specs.Diagnostics.{entries}
 use Rattle.graphql_merging.specs.MergedOperations.{beyond_bound, within_bound}

@@ -1,21 +1,19 @@
 -- Each exit of the examination of a list, and of what is below a group.
-use Rattle.std.proofs.Common.{rules, length, ◌≡◌, ◌+◌, ◌*◌, ◌-◌, ◌<◌, ◌≤◌, ◌∷◌, ◌++◌, ◌≢◌, [], List, map, take, refl, sym, ◌∙◌, ap, subst, All, arith}
+use Rattle.std.proofs.Common.{length, ◌+◌, ◌-◌, ◌<◌, ◌∷◌, ◌≢◌, [], map, take, refl, sym, ◌∙◌, ap, subst, arith}
 use Rattle.std.proofs.lemmas.List.{take_all, map-append}
-use Rattle.std.proofs.lemmas.List.Elements.{All-cons, All-contains, All-nil}
-use Rattle.std.specs.Prelude.{max, sum_by}
+use Rattle.std.specs.Prelude.{sum_by}
 use Rattle.graphql_documents.specs.Diagnostics.{entries}
-use Rattle.graphql_documents.specs.Expansion.{Expansion, IsGroup, MergedSet, merged_below, nested_sets}
+use Rattle.graphql_documents.specs.Expansion.{Expansion, IsGroup, merged_below, nested_sets}
 use Rattle.graphql_documents.specs.Limits.{merging_bound}
 use Rattle.graphql_documents.specs.MergedGroups.{AreConflicts, comparisons_of, groups_of}
-use Rattle.graphql_documents.specs.Reports.{Appends, KeepsReports}
+use Rattle.graphql_documents.specs.Reports.{Appends}
 use Rattle.graphql_documents.specs.Selections.{fragments_of}
-use Rattle.graphql_documents.proofs.ListLemmas.{stands_mapped}
-use Rattle.graphql_documents.proofs.ReportLemmas.{kept, kept_then, kept_wider, more_is}
-use Rattle.graphql_guards.specs.Guards.{count_limit, count_of}
-use Rattle.graphql_laws.proofs.OrderedGroupLaws.{comparisons_of_groups, groups_listed}
+use Rattle.graphql_documents.proofs.ReportLemmas.{kept, kept_then, more_is}
+use Rattle.graphql_guards.specs.Guards.{count_limit}
+use Rattle.graphql_laws.proofs.OrderedGroupLaws.{groups_listed}
 use Rattle.graphql_merging.specs.FieldSelections.{listed, lists_of}
 use Rattle.graphql_merging.specs.Groups.{pass_of}
-use Rattle.graphql_merging.specs.Passes.{Examines, GoesBelow, IsConflict, IsConflictAmong, IsNew, counted}
+use Rattle.graphql_merging.specs.Passes.{GoesBelow, IsConflict, counted}
 use Rattle.graphql_merging.specs.Stages.{examined_lists, stage_of}
 use Rattle.graphql_merging.proofs.PassLemmas.{below_cut, below_examined, below_known, below_leaves, below_none, below_then, list_examined}
 use Rattle.graphql_merging.proofs.PassStepLemmas.{conflicts_true, count_at_limit, count_below_limit, counted_groups, each_group, expansion_known, group_among, new_unknown, no_items, not_reached, some_items}
@@ -28,9 +26,9 @@ examine-loop-group-init t c =
     record {
       limit = refl;
       below = below_none self.schema.now (fragments_of self.document.now) (pass_of self.pass)
-      (stage_of c.compare_groups.new.examined c.args.depth.now c.compare_groups.new.diagnostics) c.compare_groups.new.examined.small;
+          (stage_of c.compare_groups.new.examined c.args.depth.now c.compare_groups.new.diagnostics) c.compare_groups.new.examined.small;
       truth = λ operations above merged groups.
-      kept (IsConflict self.schema.now (fragments_of self.document.now) operations (pass_of self.pass)) (entries c.compare_groups.new.diagnostics);
+          kept (IsConflict self.schema.now (fragments_of self.document.now) operations (pass_of self.pass)) (entries c.compare_groups.new.diagnostics);
     }
 
 pub examine-returns-in_err-examine_below-clause-truth :
@@ -63,16 +61,16 @@ examine-loop-group-preserved t c =
     record {
       limit = c.in_ok-examine_below.ensures.limit ∙ c.loop-group.invariant.limit;
       below = subst (λ g. GoesBelow S F pass g (stage_of c.compare_groups.new.examined c.args.depth.now c.compare_groups.new.diagnostics)
-      (stage_of c.examine_below.new.examined c.examine_below.new.depth c.examine_below.new.diagnostics))
-      (sym (ap lists_of one ∙ map-append (λ g. listed g.items) (take i groups) (item ∷ [])))
-      (below_then S F pass (lists_of (take i groups)) (listed item.items ∷ []) c.loop-group.invariant.below
-      (subst (λ l. GoesBelow S F pass (listed l ∷ []) (stage_of c.loop-group.examined c.loop-group.depth c.loop-group.diagnostics)
-      (stage_of c.examine_below.new.examined c.examine_below.new.depth c.examine_below.new.diagnostics)) c.deref-in-loop-group.ensures.value c.in_ok-examine_below.ensures.examines));
+          (stage_of c.examine_below.new.examined c.examine_below.new.depth c.examine_below.new.diagnostics))
+          (sym (ap lists_of one ∙ map-append (λ g. listed g.items) (take i groups) (item ∷ [])))
+          (below_then S F pass (lists_of (take i groups)) (listed item.items ∷ []) c.loop-group.invariant.below
+          (subst (λ l. GoesBelow S F pass (listed l ∷ []) (stage_of c.loop-group.examined c.loop-group.depth c.loop-group.diagnostics)
+          (stage_of c.examine_below.new.examined c.examine_below.new.depth c.examine_below.new.diagnostics)) c.deref-in-loop-group.ensures.value c.in_ok-examine_below.ensures.examines));
       truth = λ operations above merged all.
-      kept_then (c.loop-group.invariant.truth operations above merged all)
-      (c.in_ok-examine_below.ensures.truth operations above merged
-      (subst (λ l. IsGroup S above pass (listed l)) (sym c.deref-in-loop-group.ensures.value)
-      (group_among (IsGroup S above pass) groups item all (i, c.loop-group-test.true, sym c.group-item.is))));
+          kept_then (c.loop-group.invariant.truth operations above merged all)
+          (c.in_ok-examine_below.ensures.truth operations above merged
+          (subst (λ l. IsGroup S above pass (listed l)) (sym c.deref-in-loop-group.ensures.value)
+          (group_among (IsGroup S above pass) groups item all (i, c.loop-group-test.true, sym c.group-item.is))));
     }
 
 pub examine-returns-clause-examines : goal.examine-returns-clause-examines
@@ -149,9 +147,14 @@ examine_below-examine-requires t c =
     let below = count_below_limit c.check_and_increment.result old.depth down.depth (count_limit c.args.depth.now) old.highest down.highest
     c.check_and_increment.ensures.count c.check_and_increment.ensures.high c.if-check_and_increment.false in
     let step = below.0 in
-    let within : old.depth < merging_bound = not_reached c.check_and_increment.result old.depth (count_limit c.args.depth.now) c.check_and_increment.ensures.reached c.if-check_and_increment.false c.args.depth.now.within c.requires in
-    (omega (arith, step, within, c.decreases), (c.check_and_increment.ensures.limit ∙ c.requires, new_unknown (examined_lists c.args.examined.now) (listed c.in_ok-fields.fields.items)
-    (λ any. let known = c.knows.ensures.1 any in let no : ⊥ = cc in no)))
+    let within : old.depth < merging_bound = not_reached c.check_and_increment.result old.depth (count_limit c.args.depth.now) c.check_and_increment.ensures.reached c.if-check_and_increment.false c.args.depth.now.within c.requires in (
+      omega (arith, step, within, c.decreases),
+      (
+        c.check_and_increment.ensures.limit ∙ c.requires,
+        new_unknown (examined_lists c.args.examined.now) (listed c.in_ok-fields.fields.items)
+            (λ any. let known = c.knows.ensures.1 any in let no : ⊥ = cc in no),
+      ),
+    )
 
 pub examine_below-returns-in_err-examine-clause-truth :
     goal.examine_below-returns-in_err-examine-clause-truth

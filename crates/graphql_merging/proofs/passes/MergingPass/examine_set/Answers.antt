@@ -1,10 +1,9 @@
-use Rattle.std.proofs.Common.{◌≡◌, ap}
 use Rattle.graphql_documents.specs.Selections.{fragments_of}
 use Rattle.graphql_documents.proofs.ReportLemmas.{on_ok}
 use Rattle.graphql_merging.specs.FieldSelections.{listed}
 use Rattle.graphql_merging.specs.Groups.{pass_of}
 use Rattle.graphql_merging.specs.Passes.{Examines, ExaminesSet}
-use Rattle.graphql_merging.specs.Stages.{examined_lists, stage_of}
+use Rattle.graphql_merging.specs.Stages.{stage_of}
 use Rattle.graphql_merging.proofs.PassLemmas.{set_examined, set_known}
 use Rattle.graphql_merging.proofs.PassStepLemmas.{known_with}
 use Rattle.graphql_laws.proofs.FieldContentsLaws.{same_fields_itself}
