@@ -33,9 +33,7 @@ pub const ROWS: &[Row] = &[
     Row {
         id: "33d",
         schema: DEFER,
-        subject: Subject::Document(
-            "mutation { ...F } fragment F on Mutation { ... @defer { a } }",
-        ),
+        subject: Subject::Document("mutation { ...F } fragment F on Mutation { ... @defer { a } }"),
         lines: "- DeferOnRootMutationOrSubscriptionField\n",
     },
     Row {
