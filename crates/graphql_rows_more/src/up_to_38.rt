@@ -2,10 +2,15 @@ use graphql_rows::rows::up_to_19::SUBSCRIPTION;
 use graphql_rows::rows::up_to_26::DEFER;
 use graphql_rows::{Row, Subject};
 
+/// An interface with two objects.
+const INTERFACE_AND_OBJECTS: &str =
+    "type Query { p: P } interface P { n: Int } type D implements P { n: Int a: Int \
+    s: String } type C implements P { n: Int a: Int }";
+
 /// A query below the query.
 const QUERY_OF_ITSELF: &str = "type Query { q: Query a: Int b: Int }";
 
-/// The examples 33, 37b, 37c and 38f to 38k. Some of the last no builder makes with their schemas.
+/// The examples 33 to 35, 37 and 38f to 38k. Some of the last no builder makes with their schemas.
 pub const ROWS: &[Row] = &[
     Row {
         id: "33a",
@@ -28,9 +33,7 @@ pub const ROWS: &[Row] = &[
     Row {
         id: "33d",
         schema: DEFER,
-        subject: Subject::Document(
-            "mutation { ...F } fragment F on Mutation { ... @defer { a } }",
-        ),
+        subject: Subject::Document("mutation { ...F } fragment F on Mutation { ... @defer { a } }"),
         lines: "- DeferOnRootMutationOrSubscriptionField\n",
     },
     Row {
@@ -71,6 +74,42 @@ pub const ROWS: &[Row] = &[
             - too much recursion\n",
     },
     Row {
+        id: "34a",
+        schema: QUERY_OF_ITSELF,
+        subject: Subject::Document("{ x: a x: b x: a }"),
+        lines: "- ConflictingFieldName\n",
+    },
+    Row {
+        id: "34b",
+        schema: INTERFACE_AND_OBJECTS,
+        subject: Subject::Document("{ p { ... on D { x: a } ... on C { x: a } x: n } }"),
+        lines: "- ConflictingFieldName\n\
+            - ConflictingFieldName\n",
+    },
+    Row {
+        id: "34c",
+        schema: QUERY_OF_ITSELF,
+        subject: Subject::Document("{ q { x: a x: b } r: q { x: a x: b } }"),
+        lines: "- ConflictingFieldName\n",
+    },
+    Row {
+        id: "35",
+        schema: QUERY_OF_ITSELF,
+        subject: Subject::Document(
+            "query <1-128:{ q >{ ...F }<1-128: }> fragment F on Query { q { ...F } a }",
+        ),
+        lines: "- `F` fragment cannot reference itself\n",
+    },
+    Row {
+        id: "37a",
+        schema: QUERY_OF_ITSELF,
+        subject: Subject::Document(
+            "query { ...F } fragment F on Query { q { ...G } x: a } \
+            fragment G on Query { q { ...F } x: b }",
+        ),
+        lines: "- `F` fragment cannot reference itself\n",
+    },
+    Row {
         id: "37b",
         schema: SUBSCRIPTION,
         subject: Subject::Document("subscription <1-500:{ ... >{ a }<1-500: }>"),
@@ -89,6 +128,16 @@ pub const ROWS: &[Row] = &[
             - too much recursion\n\
             - too much recursion\n\
             - too much recursion\n",
+    },
+    Row {
+        id: "37d",
+        schema: QUERY_OF_ITSELF,
+        subject: Subject::Document(
+            "query A <1-129:{ q >{ x: a x: b }<1-129: }> query B { q { x: a x: b } a }",
+        ),
+        lines: "- RecursionLimitError\n\
+            - ConflictingFieldName\n\
+            - RecursionLimitError\n",
     },
     Row {
         id: "38f",

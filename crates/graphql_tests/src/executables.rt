@@ -10,13 +10,14 @@ use graphql_validation::entry::{
 use std::alloc::Global;
 use std::process::Abort;
 
-/// The examples whose lines do not hang on merging.
-const EXAMPLES: [&str; 61] = [
-    "1a", "1b", "1c", "1d", "6", "7", "8", "12a", "12b", "15a", "15b", "17a", "17b", "17c", "17d",
-    "17e", "18a", "18b", "18c", "19a", "19b", "19c", "20a", "20b", "21a", "21b", "22a", "22b",
-    "23b", "24a", "24b", "24c", "24d", "24e", "24f", "25a", "27a", "27b", "27c", "27d", "28a",
-    "28b", "28c", "32a", "32b", "33a", "33b", "33c", "33d", "33e", "33f", "33g", "33h", "33i",
-    "37b", "37c", "38f", "38h", "38i", "38j", "38k",
+/// The examples of field sets and of documents that stand nowhere.
+const EXAMPLES: [&str; 78] = [
+    "1a", "1b", "1c", "1d", "3a", "3b", "4a", "4b", "5", "6", "7", "8", "9", "10a", "10b", "11",
+    "12a", "12b", "15a", "15b", "17a", "17b", "17c", "17d", "17e", "18a", "18b", "18c", "19a",
+    "19b", "19c", "20a", "20b", "21a", "21b", "22a", "22b", "23a", "23b", "24a", "24b", "24c",
+    "24d", "24e", "24f", "25a", "27a", "27b", "27c", "27d", "28a", "28b", "28c", "32a", "32b",
+    "33a", "33b", "33c", "33d", "33e", "33f", "33g", "33h", "33i", "34a", "34b", "34c", "35",
+    "37a", "37b", "37c", "37d", "38f", "38g", "38h", "38i", "38j", "38k",
 ];
 
 /// Validates the example by its call.

@@ -1,8 +1,6 @@
 //! What tests build and print. Where memory is refused, the test ends.
 use graphql_documents::diagnostics::{BuildError, Details, DiagnosticList};
-use graphql_documents::documents::{
-    InputValueDefinition, Name, Node, Schema, SourceSpan, Valid,
-};
+use graphql_documents::documents::{InputValueDefinition, Name, Node, Schema, SourceSpan, Valid};
 use graphql_rows::build::{inputs, schema};
 use std::alloc::Global;
 use std::fmt::Write;
@@ -65,7 +63,7 @@ pub(crate) fn reports(
 }
 
 /// The call brought these reports, each on a line: its place as `start-end`, what it says, and, of a
-/// rule of subscriptions or of `@defer`, its fields in order. `-` stands for no place and for no name.
+/// rule of subscriptions, of `@defer` or of merging, its fields. `-` stands for no place and for no name.
 pub(crate) fn reports_in_full(
     rt: &impl Abort,
     alloc: Global,
@@ -129,6 +127,24 @@ fn show_fields(rt: &impl Abort, shown: &mut String, broken: &BuildError) {
         BuildError::DeferOnRootMutationOrSubscriptionField { operation_type } => {
             write!(shown, " {operation_type}").expect(rt, "memory for a line");
         }
+        BuildError::ConflictingFieldName {
+            alias,
+            original_selection: first,
+            conflicting_selection: later,
+            ..
+        } => write!(shown, " {alias} {first} {later}").expect(rt, "memory for a line"),
+        BuildError::ConflictingFieldArgument {
+            alias,
+            original_coordinate: first,
+            conflicting_coordinate: later,
+            ..
+        } => write!(shown, " {alias} {first} {later}").expect(rt, "memory for a line"),
+        BuildError::ConflictingFieldType {
+            alias,
+            original_coordinate: first,
+            conflicting_coordinate: later,
+            ..
+        } => write!(shown, " {alias} {first} {later}").expect(rt, "memory for a line"),
         _ => {}
     }
 }

@@ -24,6 +24,8 @@ mod fragment_cycles;
 #[cfg(test)]
 mod guards;
 #[cfg(test)]
+mod merging;
+#[cfg(test)]
 mod messages;
 #[cfg(test)]
 mod notation;

@@ -43,7 +43,9 @@ const SUBSCRIPTIONS: [(&str, &str); 8] = [
 fn checked(rt: &impl Abort, alloc: Global, document: &ExecutableDocument) -> DiagnosticList {
     let mut named = document.operations.named.values();
     let anonymous = document.operations.anonymous.as_ref();
-    let operation = anonymous.or_else(|| named.next()).expect(rt, "an operation");
+    let operation = anonymous
+        .or_else(|| named.next())
+        .expect(rt, "an operation");
     let mut found = DiagnosticList::new(alloc);
     validate_subscription(document, operation, &mut found).expect(rt, "memory for reports");
     found
