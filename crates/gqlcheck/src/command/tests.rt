@@ -147,25 +147,23 @@ fn limited_run(rt: &impl Abort, alloc: Global, texts: &[&str], writes: usize) ->
     (ended.number(), output.taken)
 }
 
-/// Whichever write fails, these words end with the status of that, behind a part of what they print.
-/// Where none fails they end with this status, and print this.
-fn ends_at_each_failed_write(
-    rt: &impl Abort,
-    alloc: Global,
-    texts: &[&str],
-    status: u8,
-    printed: &str,
-) {
+/// The run ended at a failed write, behind a part of what it was to print.
+fn is_cut(rt: &impl Abort, status: u8, taken: &[u8], printed: &str) {
     let all = printed.as_bytes();
+    assert_eq!(rt; status, 4, "{printed}");
+    assert!(rt; all.starts_with(taken), "{printed}");
+    assert!(rt; taken.len() < all.len(), "{printed}");
+}
+
+/// Whichever write of the example fails, the run ends there.
+fn ends_at_each_failed_write(rt: &impl Abort, alloc: Global, row: &Row) {
     for writes in 0..1000 {
-        let (ended, taken) = limited_run(rt, alloc, texts, writes);
-        if ended != 4 {
-            assert_eq!(rt; ended, status, "{printed}");
-            assert_eq!(rt; taken.as_slice(), all, "{printed}");
+        let (status, taken) = limited_run(rt, alloc, &["row", row.id], writes);
+        if taken.as_slice() == row.lines.as_bytes() {
+            assert_eq!(rt; status, u8::from(!row.lines.is_empty()), "{}", row.id);
             return;
         }
-        assert!(rt; all.starts_with(taken.as_slice()), "{printed}");
-        assert!(rt; taken.len() < all.len(), "{printed}");
+        is_cut(rt, status, &taken, row.lines);
     }
     panic!(rt; "no run came to its end")
 }
@@ -173,25 +171,19 @@ fn ends_at_each_failed_write(
 #[test]
 fn a_row_ends_at_the_first_failed_write(rt: HostRuntime) {
     for id in RUNNING {
-        let row = find(id).expect(&rt, "an example");
-        let status = u8::from(!row.lines.is_empty());
-        ends_at_each_failed_write(&rt, rt.alloc(), &["row", row.id], status, row.lines);
+        ends_at_each_failed_write(&rt, rt.alloc(), find(id).expect(&rt, "an example"));
     }
 }
 
-/// In so many writes the first examples are printed, with their names.
+/// In so many writes some first examples are printed, each behind its name.
 const FIRST_WRITES: usize = 30;
 
 #[test]
 fn rows_end_at_the_first_failed_write(rt: HostRuntime) {
-    let alloc = rt.alloc();
-    let printed = all_lines(&rt, alloc);
-    let all = printed.as_str().as_bytes();
+    let printed = all_lines(&rt, rt.alloc());
     for writes in 0..FIRST_WRITES {
-        let (ended, taken) = limited_run(&rt, alloc, &["rows"], writes);
-        assert_eq!(rt; ended, 4, "{writes}");
-        assert!(rt; all.starts_with(taken.as_slice()), "{writes}");
-        assert!(rt; taken.len() < all.len(), "{writes}");
+        let (status, taken) = limited_run(&rt, rt.alloc(), &["rows"], writes);
+        is_cut(&rt, status, &taken, printed.as_str());
     }
 }
 
