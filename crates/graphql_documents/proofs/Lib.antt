@@ -7,4 +7,5 @@ pub mod ReportLemmas
 pub mod ReportWithinLemmas
 pub mod SelectionLemmas
 pub mod SelectionReportLemmas
+pub mod SubtypeLemmas
 pub mod VariableUseLemmas

@@ -17,9 +17,13 @@ extension_in _ = None
 abbrev pub with_extension : List ExtensionId → ExtensionId → List ExtensionId
 with_extension known e = if list_any (λ k. k.number == e.number) known then known else known ++ e ∷ []
 
+-- with the extensions in which these parts were written behind them, each once
+abbrev pub extensions_among : List ExtensionId → List ComponentOrigin → List ExtensionId
+extensions_among known origins = fold with_extension known (filter_map extension_in origins)
+
 -- the different extensions in which these parts were written, in order
 abbrev pub extensions_in : List ComponentOrigin → List ExtensionId
-extensions_in origins = fold with_extension [] (filter_map extension_in origins)
+extensions_in origins = extensions_among [] origins
 
 -- where the parts of a type definition were written: its directives, its interfaces and its contents
 abbrev pub origins_of : ExtendedType → List ComponentOrigin

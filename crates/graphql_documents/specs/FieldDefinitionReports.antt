@@ -3,12 +3,14 @@ use Rattle.std.specs.Prelude.{◌≡◌, ℕ, Bool, List, [], ◌∷◌, ◌++�
 use Rattle.std.specs.Borrow.{Bor}
 use Rattle.graphql_documents.specs.Arguments.{definition_named}
 use Rattle.graphql_documents.specs.DirectiveReports.{DirectivesBreak}
+use Rattle.graphql_documents.specs.Implementations.{FieldList}
 use Rattle.graphql_documents.specs.Names.{IsFreeName, NameText, SameName}
 use Rattle.graphql_documents.specs.Schemas.{is_input_type, is_output_type, kind_text, type_definition}
 use Rattle.graphql_documents.specs.TypeMaps.{names_built_in_scalar}
 use Rattle.graphql_documents.specs.TypeReferences.{inner_named_type}
 use Rattle.graphql_documents.specs.declared.diagnostics.data.DiagnosticData.TheVariants as report
 use Rattle.graphql_documents.specs.declared.diagnostics.data.DiagnosticData.{DiagnosticData}
+use Rattle.graphql_documents.specs.declared.documents.components.Component.{Component}
 use Rattle.graphql_documents.specs.declared.documents.definitions.DirectiveLocation.TheVariants as allowed_at
 use Rattle.graphql_documents.specs.declared.documents.definitions.DirectiveLocation.{DirectiveLocation}
 use Rattle.graphql_documents.specs.declared.documents.definitions.FieldDefinition.{FieldDefinition}
@@ -22,6 +24,11 @@ use Rattle.graphql_documents.specs.declared.documents.spans.SourceSpan.{SourceSp
 abbrev pub IsReserved : List ℕ → NameText → List ℕ → NameText → Option SourceSpan → Type 0
 IsReserved expected name describe reported at =
     ¬ IsFreeName name × (describe ≡ expected) × (reported ≡ name) × (at ≡ name.location)
+
+-- the report says that a name is reserved, of what this text describes
+pub data NameBreaks (what : List ℕ) (reserved : NameText) : DiagnosticData → Option SourceSpan → Type 0 where
+  of_reserved_name : {describe : Bor (List ℕ)} {name : NameText} {at : Option SourceSpan} →
+      IsReserved what reserved describe.now name at → NameBreaks what reserved (report.ReservedName name describe) at
 
 -- a name stands for no type, nor for a built-in scalar that may be added: reported at the name
 abbrev pub IsUndefinedType : Schema → NameText → NameText → Option SourceSpan → Type 0
@@ -51,6 +58,11 @@ pub data InputValueBreaks (schema : Schema) (location : DirectiveLocation) (what
   of_undefined_input_type : {name : NameText} {at : Option SourceSpan} →
       IsUndefinedType schema (inner_named_type d.value.value.ty.value.value) name at →
       InputValueBreaks schema location what d (report.UndefinedDefinition name) at
+
+-- the report names what is wrong with one of these arguments or input fields
+abbrev pub InputValuesBreak : Schema → DirectiveLocation → List ℕ → List (Node InputValueDefinition) → DiagnosticData → Option SourceSpan → Type 0
+InputValuesBreak schema location what inputs r at =
+    (d : Node InputValueDefinition) × Contains inputs d × InputValueBreaks schema location what d r at
 
 -- an argument has the name of an earlier one: reported at the first
 pub record RepeatsDefinition (arguments : List (Node InputValueDefinition)) (name : NameText) (original redefined at : Option SourceSpan) : Type 0 where
@@ -100,3 +112,10 @@ pub data FieldTypeBreaks (schema : Schema) (d : Node FieldDefinition) : Diagnost
   field_type_undefined : {name : NameText} {at : Option SourceSpan} →
       IsUndefinedType schema (inner_named_type d.value.value.ty) name at →
       FieldTypeBreaks schema d (report.UndefinedDefinition name) at
+
+-- the report names what is wrong with one of the fields of an object or interface, or with its type
+pub data FieldDefinitionsBreak (schema : Schema) (fields : FieldList) : DiagnosticData → Option SourceSpan → Type 0 where
+  of_one_field : {entry : NameText × Component FieldDefinition} {r : DiagnosticData} {at : Option SourceSpan} →
+      Contains fields entry → FieldDefinitionBreaks schema entry.1.node r at → FieldDefinitionsBreak schema fields r at
+  of_type_of_one : {entry : NameText × Component FieldDefinition} {r : DiagnosticData} {at : Option SourceSpan} →
+      Contains fields entry → FieldTypeBreaks schema entry.1.node r at → FieldDefinitionsBreak schema fields r at

@@ -36,6 +36,7 @@ pub mod Numbers
 pub mod OperationTypes
 pub mod Paths
 pub mod Reports
+pub mod Roots
 pub mod SchemaReferences
 pub mod SchemaReports
 pub mod SchemaRules

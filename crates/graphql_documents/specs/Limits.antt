@@ -77,6 +77,23 @@ pub record DirectiveNestsTooDeep (schema : Schema) (d : Node DirectiveDefinition
   pub describe_is : describe ≡ codes "directive"
   pub at_is : at ≡ recompose d.location d.value.value.name.location
 
+-- a report of a limit is true of an input object: it nests too deep
+pub data InputObjectLimit (schema : Schema) (d : Node InputObjectType) : Details → Option SourceSpan → Type 0 where
+  required_fields_nest : {name : NameText} {describe : Bor (List ℕ)} {at : Option SourceSpan} →
+      InputObjectNestsTooDeep schema d name describe.now at →
+      InputObjectLimit schema d (details.Diagnostic (report.DeeplyNestedType name describe)) at
+
+-- the same of a directive definition
+pub data DirectiveLimit (schema : Schema) (d : Node DirectiveDefinition) : Details → Option SourceSpan → Type 0 where
+  references_nest : {name : NameText} {describe : Bor (List ℕ)} {at : Option SourceSpan} →
+      DirectiveNestsTooDeep schema d name describe.now at →
+      DirectiveLimit schema d (details.Diagnostic (report.DeeplyNestedType name describe)) at
+
+-- the same of one of the directive definitions of a schema
+abbrev pub DirectivesLimit : Schema → Details → Option SourceSpan → Type 0
+DirectivesLimit schema said at =
+    (entry : NameText × Node DirectiveDefinition) × Contains schema.directive_definitions.entries entry × DirectiveLimit schema entry.1 said at
+
 -- lists of fields, each below a group of the one before; so many steps, no list twice
 pub data MergingDescent (schema : Schema) (fragments : Fragments) (pass : Pass) : List FieldSelection → List (List FieldSelection) → Type 0 where
   merging_ends : {fields : List FieldSelection} → MergingDescent schema fragments pass fields []

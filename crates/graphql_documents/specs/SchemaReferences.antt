@@ -28,6 +28,10 @@ abbrev pub as_input_object : ExtendedType → Option (Node InputObjectType)
 as_input_object (InputObject d) = Some d
 as_input_object _ = None
 
+-- the input object with this name, if the schema defines one
+abbrev pub input_object_named : Schema → NameText → Option (Node InputObjectType)
+input_object_named schema name = option_and_then as_input_object (type_definition schema name)
+
 -- the input object of which a field must hold one
 abbrev pub input_object_of : Schema → Node InputValueDefinition → Option (Node InputObjectType)
 input_object_of schema field =

@@ -60,6 +60,11 @@ pub data DirectiveDefinitionBreaks (schema : Schema) (d : Node DirectiveDefiniti
   directive_applies_itself : {name : NameText} {trace : Vec (Node Directive) Global} {at : Option SourceSpan} →
       AppliesItself schema d name trace.items at → DirectiveDefinitionBreaks schema d (report.RecursiveDirectiveDefinition name trace) at
 
+-- the report names what is wrong with one of the directive definitions of a schema
+abbrev pub DirectiveDefinitionsBreak : Schema → DiagnosticData → Option SourceSpan → Type 0
+DirectiveDefinitionsBreak schema r at =
+    (entry : NameText × Node DirectiveDefinition) × Contains schema.directive_definitions.entries entry × DirectiveDefinitionBreaks schema entry.1 r at
+
 -- the report names what is wrong with the root types that a schema definition names
 pub data RootsBreak (schema : Schema) (d : SchemaDefinition) : DiagnosticData → Option SourceSpan → Type 0 where
   root_is_undefined : {root : OperationType × ComponentName} {at : Option SourceSpan} →

@@ -1,10 +1,10 @@
 -- The built-in scalars that a schema keeps: those that it uses. Specification: 3.5 Scalars, Built-in Scalars.
-use Rattle.std.specs.Prelude.{◌≡◌, ℕ, Bool, ◌&&◌, not, List, [], ◌∷◌, ◌++◌, Some, codes, filter, flat_map, map}
+use Rattle.std.specs.Prelude.{◌≡◌, ℕ, Bool, true, false, ◌&&◌, not, All, IsTrue, List, [], ◌∷◌, ◌++◌, Some, codes, filter, flat_map, map}
 use Rattle.std.specs.List.{AllZip, list_all, list_any}
 use Rattle.std.specs.Str.{bytes_eq}
 use Rattle.graphql_documents.specs.Names.{NameText}
 use Rattle.graphql_documents.specs.TypeReferences.{inner_named_type}
-use Rattle.graphql_documents.specs.Schemas.{is_built_in, fields_of, input_fields_of}
+use Rattle.graphql_documents.specs.Schemas.{is_built_in, fields_of, input_fields_of, own_name}
 use Rattle.graphql_documents.specs.declared.documents.spans.SourceSpan.{SourceSpan}
 use Rattle.graphql_documents.specs.declared.documents.nodes.Node.{Node}
 use Rattle.graphql_documents.specs.declared.documents.definitions.FieldDefinition.{FieldDefinition}
@@ -97,3 +97,18 @@ is_recorded names text = names_built_in_scalar text && list_any (λ name. bytes_
 -- each built-in scalar is recorded
 abbrev pub all_recorded : List NameText → Bool
 all_recorded names = list_all (is_recorded names) built_in_scalar_names
+
+-- a scalar
+abbrev pub is_scalar_type : ExtendedType → Bool
+is_scalar_type (Scalar d) = true
+is_scalar_type _ = false
+
+-- only scalars stand under the names of the built-in scalars
+abbrev pub OnlyScalarsHaveBuiltInNames : Schema → Type 0
+OnlyScalarsHaveBuiltInNames schema =
+    All (λ entry. IsTrue (names_built_in_scalar entry.0.text) → IsTrue (is_scalar_type entry.1)) schema.types.entries
+
+-- each scalar that every schema has is one of the built-in scalars
+abbrev pub BuiltInScalarsHaveTheirNames : Schema → Type 0
+BuiltInScalarsHaveTheirNames schema =
+    All (λ entry. IsTrue (is_scalar_type entry.1) → IsTrue (is_built_in entry.1) → IsTrue (names_built_in_scalar (own_name entry.1).text)) schema.types.entries

@@ -11,6 +11,7 @@ pub mod integers;
 pub mod meta_fields;
 pub mod names;
 pub mod nodes;
+pub mod root_operations;
 pub mod schemas;
 pub mod spans;
 pub mod type_references;
@@ -36,6 +37,7 @@ pub use integers::IntValue;
 pub use meta_fields::MetaFields;
 pub use names::{Name, NamedType};
 pub use nodes::Node;
+pub use root_operations::RootOperations;
 pub use schemas::{
     EnumType, ExtendedType, FieldLookupError, InputObjectType, InterfaceType, ObjectType,
     ScalarType, Schema, SchemaDefinition, UnionType,

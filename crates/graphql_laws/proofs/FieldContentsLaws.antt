@@ -18,6 +18,7 @@ use Rattle.graphql_documents.specs.contracts.documents.definitions.FieldDefiniti
 use Rattle.graphql_documents.specs.contracts.documents.executables.FieldPartialEq.TheImpl as field_impl
 use Rattle.graphql_documents.specs.contracts.documents.executables.FieldPartialEq.TheImpl.Laws as field_laws
 use Rattle.graphql_documents.specs.contracts.documents.executables.FieldEq.TheImpl.Laws as field_eq_laws
+use Rattle.graphql_documents.specs.contracts.documents.executables.SelectionSetEq.TheImpl.Laws as set_eq_laws
 use Rattle.graphql_documents.specs.contracts.documents.executables.FragmentSpreadPartialEq.TheImpl as spread_impl
 use Rattle.graphql_documents.specs.contracts.documents.executables.Selection as selection_type
 use Rattle.graphql_documents.specs.contracts.documents.type_references.TypePartialEq.TheImpl as type_impl
@@ -70,16 +71,16 @@ equal = field_laws.family
 by_parts : (j : block.the_members) (x y : family j) → IsTrue (equal j x y) → IsTrue (field_impl.the_step equal j x y)
 by_parts j x y h = subst IsTrue (compared_is block.the_members family block.the_depth Bool true field_impl.the_step field_laws.local j x y) h
 
-abbrev equal_spreads : FragmentSpread → FragmentSpread → Bool
+abbrev pub equal_spreads : FragmentSpread → FragmentSpread → Bool
 equal_spreads = spread_impl.ghosts.eq
 
-abbrev equal_inline : InlineFragment → InlineFragment → Bool
+abbrev pub equal_inline : InlineFragment → InlineFragment → Bool
 equal_inline = equal block.member-InlineFragment
 
-abbrev equal_sets : SelectionSet → SelectionSet → Bool
+abbrev pub equal_sets : SelectionSet → SelectionSet → Bool
 equal_sets = equal block.member-SelectionSet
 
-abbrev equal_selections : Selection → Selection → Bool
+abbrev pub equal_selections : Selection → Selection → Bool
 equal_selections = equal block.member-Selection
 
 abbrev equal_arguments : Node Argument → Node Argument → Bool
@@ -101,23 +102,23 @@ field_parts a b h =
     let arguments = both _ _ name.1 in
     record { definition = definition.0; alias = alias.0; name = name.0; arguments = arguments.0; set = (both _ _ arguments.1).1 }
 
-inline_sets : (a b : InlineFragment) → IsTrue (equal_inline a b) → IsTrue (equal_sets a.selection_set b.selection_set)
+pub inline_sets : (a b : InlineFragment) → IsTrue (equal_inline a b) → IsTrue (equal_sets a.selection_set b.selection_set)
 inline_sets a b h = (both _ _ (both _ _ (by_parts block.member-InlineFragment a b h)).1).1
 
-set_parts : (a b : SelectionSet) → IsTrue (equal_sets a b) → SameName a.ty b.ty × IsTrue (pointwise equal_selections (selections_of a) (selections_of b))
+pub set_parts : (a b : SelectionSet) → IsTrue (equal_sets a b) → SameName a.ty b.ty × IsTrue (pointwise equal_selections (selections_of a) (selections_of b))
 set_parts a b h = both _ _ (by_parts block.member-SelectionSet a b h)
 
-spread_names : (a b : FragmentSpread) → IsTrue (equal_spreads a b) → SameName a.fragment_name b.fragment_name
+pub spread_names : (a b : FragmentSpread) → IsTrue (equal_spreads a b) → SameName a.fragment_name b.fragment_name
 spread_names a b h = (both _ _ h).0
 
 definition_types : (a b : FieldDefinition) → IsTrue (definition_impl.ghosts.eq a b) → IsTrue (same_type a.ty b.ty)
 definition_types a b h = equal_types_are_same a.ty b.ty (both _ _ (both _ _ (both _ _ h).1).1).0
 
 -- two selections of one kind
-abbrev Opened : Type 0
+abbrev pub Opened : Type 0
 Opened = Open.Selection-F Selection Field InlineFragment SelectionSet
 
-abbrev EqualOpen : Opened → Opened → Type 0
+abbrev pub EqualOpen : Opened → Opened → Type 0
 EqualOpen (Open.Field a) (Open.Field b) = IsTrue (field_equality a.value.value b.value.value)
 EqualOpen (Open.FragmentSpread a) (Open.FragmentSpread b) = IsTrue (equal_spreads a.value.value b.value.value)
 EqualOpen (Open.InlineFragment a) (Open.InlineFragment b) = IsTrue (equal_inline a.value.value b.value.value)
@@ -135,23 +136,23 @@ equal_open (Open.FragmentSpread a) (Open.FragmentSpread b) h = h
 equal_open (Open.InlineFragment a) (Open.InlineFragment b) h = h
 equal_open _ _ h = absurd (let no : ⊥ = cc in no)
 
-opened : (a b : Selection) → IsTrue (equal_selections a b) → EqualOpen (out-Selection a) (out-Selection b)
+pub opened : (a b : Selection) → IsTrue (equal_selections a b) → EqualOpen (out-Selection a) (out-Selection b)
 opened a b h = equal_open (out-Selection a) (out-Selection b) (by_parts block.member-Selection a b h)
 
 -- what is equal to a field is a field, and so with the others
-is_field : (a : Node Field) (y : Selection) → IsTrue (equal_selections (kind.Field a) y) → (b : Node Field) × (y ≡ kind.Field b) × IsTrue (field_equality a.value.value b.value.value)
+pub is_field : (a : Node Field) (y : Selection) → IsTrue (equal_selections (kind.Field a) y) → (b : Node Field) × (y ≡ kind.Field b) × IsTrue (field_equality a.value.value b.value.value)
 is_field a y h = at (out-Selection y) refl (subst (λ x. EqualOpen x (out-Selection y)) (kind.outs-Field a) (opened (kind.Field a) y h)) where
   at : (z : Opened) → out-Selection y ≡ z → EqualOpen (Open.Field a) z → (b : Node Field) × (y ≡ kind.Field b) × IsTrue (field_equality a.value.value b.value.value)
   at (Open.Field b) e h = (b, sym (roll-out-Selection y) ∙ ap roll-Selection e ∙ kind.rolls-Field b, h)
   at _ e h = absurd h
 
-is_spread : (a : Node FragmentSpread) (y : Selection) → IsTrue (equal_selections (kind.FragmentSpread a) y) → (b : Node FragmentSpread) × (y ≡ kind.FragmentSpread b) × IsTrue (equal_spreads a.value.value b.value.value)
+pub is_spread : (a : Node FragmentSpread) (y : Selection) → IsTrue (equal_selections (kind.FragmentSpread a) y) → (b : Node FragmentSpread) × (y ≡ kind.FragmentSpread b) × IsTrue (equal_spreads a.value.value b.value.value)
 is_spread a y h = at (out-Selection y) refl (subst (λ x. EqualOpen x (out-Selection y)) (kind.outs-FragmentSpread a) (opened (kind.FragmentSpread a) y h)) where
   at : (z : Opened) → out-Selection y ≡ z → EqualOpen (Open.FragmentSpread a) z → (b : Node FragmentSpread) × (y ≡ kind.FragmentSpread b) × IsTrue (equal_spreads a.value.value b.value.value)
   at (Open.FragmentSpread b) e h = (b, sym (roll-out-Selection y) ∙ ap roll-Selection e ∙ kind.rolls-FragmentSpread b, h)
   at _ e h = absurd h
 
-is_inline : (a : Node InlineFragment) (y : Selection) → IsTrue (equal_selections (kind.InlineFragment a) y) → (b : Node InlineFragment) × (y ≡ kind.InlineFragment b) × IsTrue (equal_inline a.value.value b.value.value)
+pub is_inline : (a : Node InlineFragment) (y : Selection) → IsTrue (equal_selections (kind.InlineFragment a) y) → (b : Node InlineFragment) × (y ≡ kind.InlineFragment b) × IsTrue (equal_inline a.value.value b.value.value)
 is_inline a y h = at (out-Selection y) refl (subst (λ x. EqualOpen x (out-Selection y)) (kind.outs-InlineFragment a) (opened (kind.InlineFragment a) y h)) where
   at : (z : Opened) → out-Selection y ≡ z → EqualOpen (Open.InlineFragment a) z → (b : Node InlineFragment) × (y ≡ kind.InlineFragment b) × IsTrue (equal_inline a.value.value b.value.value)
   at (Open.InlineFragment b) e h = (b, sym (roll-out-Selection y) ∙ ap roll-Selection e ∙ kind.rolls-InlineFragment b, h)
@@ -172,6 +173,13 @@ in_other same (u ∷ us) (v ∷ vs) h x in_x =
 
 is_equivalence : IsEquivalence field_equality
 is_equivalence = field_eq_laws.laws-law
+
+-- the sets of two equal fields are equal
+pub field_sets : (a b : Field) → IsTrue (field_equality a b) → IsTrue (equal_sets a.selection_set b.selection_set)
+field_sets a b h = (field_parts a b h).set
+
+pub set_itself_equal : (a : SelectionSet) → IsTrue (equal_sets a a)
+set_itself_equal a = set_eq_laws.laws-law.refl a
 
 pub field_itself : (a : Field) → IsTrue (field_equality a a)
 field_itself a = is_equivalence.refl a

@@ -15,6 +15,7 @@ pub mod OrderedGroupLaws
 pub mod ReportLaws
 pub mod SchemaLaws
 pub mod SeenListLaws
+pub mod SeenMergedLaws
 pub mod SelectionLaws
 pub mod SizeLemmas
 pub mod SubscriptionLaws

@@ -4,8 +4,8 @@ ghost use Rattle.std.specs.Prelude.{◌↔◌, Bool, List, All, Contains};
 ghost use Rattle.graphql_documents.specs.Selections.{fragments_of};
 ghost use Rattle.graphql_documents.specs.Built.{IsBuilt};
 ghost use Rattle.graphql_documents.specs.Defer.{operations_of};
-ghost use Rattle.graphql_documents.specs.Merging.{FieldSelection, Merges};
-ghost use Rattle.graphql_documents.specs.Expansion.{shape_pass, field_pass};
+ghost use Rattle.graphql_documents.specs.Merging.{FieldSelection, Merges, SameFields};
+ghost use Rattle.graphql_documents.specs.Expansion.{MergedSet, Pass, field_pass, shape_pass};
 ghost use Rattle.graphql_documents.specs.declared.documents.definitions.FieldDefinition.{FieldDefinition};
 ghost use Rattle.graphql_documents.specs.declared.documents.executables.ExecutableDocument.{ExecutableDocument};
 ghost use Rattle.graphql_documents.specs.declared.documents.executables.Operation.{Operation};
@@ -29,4 +29,15 @@ pub fn lists_that_were_seen_decide_merging()
         HasSeen field_equality schema (fragments_of document) operations field_pass fields →
         ((o : Node Operation) → Contains operations o → Merges schema (fragments_of document) o.value.value.selection_set) ↔
         (All (ListPasses schema shape_pass) shapes × All (ListPasses schema field_pass) fields) }
+{}
+
+/// A walk that has seen lists so has seen each merged list of the operations, but for what `==` does not compare:
+/// for each of them one that it has seen has equal fields, in the same order.
+///
+/// Specification: 5.3.2 Field Selection Merging.
+pub fn each_merged_list_was_seen()
+    ensures { (schema : Schema) (document : ExecutableDocument) (operations : List (Node Operation)) (pass : Pass) (seen : List (List FieldSelection)) →
+        HasSeen field_equality schema (fragments_of document) operations pass seen →
+        (fields : List FieldSelection) → MergedSet schema (fragments_of document) operations pass fields →
+        (known : List FieldSelection) × Contains seen known × SameFields field_equality fields known }
 {}

@@ -59,8 +59,11 @@ fn groups_by_types<'doc>(
     Ok(groups)
 }
 
-/// The fields of a list by their response keys.
-fn fields_by_key<'doc>(
+/// The fields of a list by their response keys, these in order of first field. The only error is want of
+/// memory.
+///
+/// Specification: 5.3.2 Field Selection Merging; 6.3.2 Field Collection.
+pub fn fields_by_key<'doc>(
     alloc: Global,
     fields: &[FieldSelection<'doc>],
 ) -> Result<IndexMap<&'doc Name, Vec<FieldSelection<'doc>>>, ValidationError>

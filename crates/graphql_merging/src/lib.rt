@@ -9,7 +9,7 @@ mod copies;
 mod examined;
 pub mod expansion;
 pub mod field_selections;
-mod groups;
+pub mod groups;
 pub mod laws;
 pub mod merging;
 mod passes;

@@ -3,19 +3,21 @@
 
 ghost use Rattle.std.specs.Prelude.{◌≡◌, IfSome};
 
+pub mod schemas;
 pub mod up_to_32;
 pub mod up_to_38;
 
 use graphql_rows::rows::{up_to_12, up_to_19, up_to_26};
 use graphql_rows::{Row, find_row};
 
-/// All examples, in order of their names.
-pub const TABLES: [&[Row]; 5] = [
+/// All examples.
+pub const TABLES: [&[Row]; 6] = [
     up_to_12::ROWS,
     up_to_19::ROWS,
     up_to_26::ROWS,
     up_to_32::ROWS,
     up_to_38::ROWS,
+    schemas::ROWS,
 ];
 
 /// The example of this name.

@@ -4,6 +4,8 @@
 #[cfg(test)]
 mod arguments;
 #[cfg(test)]
+mod collect;
+#[cfg(test)]
 mod defer;
 #[cfg(test)]
 mod diagnostics;
@@ -32,11 +34,15 @@ mod notation;
 #[cfg(test)]
 mod numbers;
 #[cfg(test)]
+mod schema_rules;
+#[cfg(test)]
 mod schemas;
 #[cfg(test)]
 mod spans;
 #[cfg(test)]
 mod subscriptions;
+#[cfg(test)]
+mod type_maps;
 #[cfg(test)]
 mod usages;
 #[cfg(test)]

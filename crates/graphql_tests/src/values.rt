@@ -1,6 +1,7 @@
 use super::fixtures::{name, node, reports, schema_of, text};
 use graphql_documents::diagnostics::DiagnosticList;
 use graphql_documents::documents::{IntValue, Node, Type, Value};
+use graphql_rows::build::arguments;
 use graphql_values::value::value_of_correct_type;
 use std::alloc::Global;
 use std::process::Abort;
@@ -46,4 +47,20 @@ fn is_accepted(rt: &impl Abort, alloc: Global, value: &Node<Value>) {
 fn long_and_deep_lists_are_decided(rt: HostRuntime) {
     is_accepted(&rt, rt.alloc(), &ones(&rt, rt.alloc(), 10_000));
     is_accepted(&rt, rt.alloc(), &nested(&rt, rt.alloc(), 500));
+}
+
+const NESTED: &str = "type Query { f(a: A!): Int } input A { e: E! b: B! n: Int }
+    input B { l: [A!]! d: ID! } enum E { X }";
+
+#[test]
+fn an_input_object_that_leads_to_itself_by_a_list_has_a_finite_value(rt: HostRuntime) {
+    let alloc = rt.alloc();
+    let schema = schema_of(&rt, alloc, NESTED);
+    let ty = Type::NonNullNamed(name(&rt, alloc, "A"));
+    let given = arguments(alloc, "(a: {e: X, b: {l: [], d: 0}})").expect(&rt, "an argument");
+    let value = &given.first().expect(&rt, "an argument").value.value;
+    let mut found = DiagnosticList::new(alloc);
+    let checked = value_of_correct_type(&mut found, &schema.0, &node(&rt, alloc, ty), value, &[]);
+    checked.expect(&rt, "memory for reports");
+    reports(&rt, alloc, &found, "");
 }

@@ -2,7 +2,7 @@
 use Rattle.std.proofs.Common.{◌≡◌, ◌↔◌, ◌⊎◌, ℕ, ◌+◌, ◌<◌, Bor, drop, get_or, length, map, take, inl, inr, Bool, List, [], ◌∷◌, ◌++◌, Some, refl, sym, ◌∙◌, ap, subst, All, Contains}
 use Rattle.std.proofs.lemmas.List.{append-nil, append_assoc, append_cancel_left, map-append, take-append-drop}
 use Rattle.std.proofs.lemmas.List.Elements.{All-append, All-cons, All-contains_itself, All-head, All-nil, Contains-append_right}
-use Rattle.std.specs.Prelude.{IsFalse, IsTrue, Option}
+use Rattle.std.specs.Prelude.{IsFalse, Option}
 use Rattle.graphql_documents.specs.Built.{IsBuilt}
 use Rattle.graphql_documents.specs.Defer.{DeferHolds, operations_of}
 use Rattle.graphql_documents.specs.Diagnostics.{IsLimitEntry, limit_of_depth}
@@ -14,7 +14,7 @@ use Rattle.std.proofs.lemmas.Option.{same_Some}
 use Rattle.graphql_documents.specs.Limits.{DocumentLimit, MergingLimit, merging_limit, merging_nests}
 use Rattle.graphql_documents.specs.Merging.{Merges}
 use Rattle.graphql_documents.specs.MergingReports.{MergingReport, of_conflict}
-use Rattle.graphql_documents.specs.Reports.{KeepsReports, ReportsWithin}
+use Rattle.graphql_documents.specs.Reports.{Appends, KeepsReports, ReportsWithin}
 use Rattle.graphql_documents.specs.Selections.{fragments_of}
 use Rattle.graphql_documents.specs.declared.diagnostics.details.Details.{Details}
 use Rattle.graphql_documents.specs.declared.diagnostics.lists.DiagnosticEntry.{DiagnosticEntry}
@@ -57,6 +57,10 @@ pub record ValidatedSoFar (schema : Schema) (document : ExecutableDocument) (don
   pub each : All (DocumentTruth same_field (Some schema) document) added
   pub silent : All IsNoLimit added → (added ≡ []) ↔ (All (λ o. OperationSubscriptionHolds document o.value.value) done × IsFalse m.conflicting)
   pub shallow : All IsNoLimit added → IsFalse m.too_deep
+
+-- where a check reported nothing, its rule holds
+pub silent_holds : {P : Type 0} {Q : DiagnosticEntry → Type 0} {old new : List DiagnosticEntry} (r : ReportsWithin IsLimitEntry P Q old new) → r.added ≡ [] → P
+silent_holds r none = (r.silent (subst (All IsNoLimit) (sym none) (All-nil IsNoLimit))).0 none
 
 -- where no limit was reported, none was passed
 no_limits : (o : Node Operation) (too_deep : Bool) {reports : List DiagnosticEntry} → AreLimits o too_deep reports → All IsNoLimit reports → (reports ≡ []) × IsFalse too_deep
@@ -125,6 +129,15 @@ module _ (schema : Schema) (document : ExecutableDocument) where
         All-append_right IsNoLimit merged.of_fields merged.limits
         (All-append_right IsNoLimit merged.of_shapes (merged.of_fields ++ merged.limits)
         (All-append_right IsNoLimit sub.added reports (All-append_right IsNoLimit so_far.added (sub.added ++ reports) none)))
+
+  -- where nothing was reported, these operations hold as subscriptions
+  pub subscriptions_so_far : {done : List (Node Operation)} {m : Merging} {old now : List DiagnosticEntry} →
+      ValidatedSoFar schema document done m old now → Appends (λ added. added ≡ [] → All Sub done) old now
+  subscriptions_so_far so_far = record {
+    added = so_far.added;
+    appended = so_far.appended;
+    are = λ nothing. ((so_far.silent (subst (All IsNoLimit) (sym nothing) (All-nil IsNoLimit))).0 nothing).0;
+  }
 
   -- all operations of a document that was built were validated
   pub validated_all : (same_definition : FieldDefinition → FieldDefinition → Bool) (m : Merging) {old new : List DiagnosticEntry} → IsBuilt same_definition schema document →

@@ -2,7 +2,7 @@
 
 ghost use Rattle.indexmap.specs.IndexMap.{values};
 ghost use Rattle.std.specs.Option.{option_copied};
-ghost use Rattle.std.specs.Prelude.{◌≡◌, ◌⊎◌, [], All, Bool, None, OnOk, Some};
+ghost use Rattle.std.specs.Prelude.{◌≡◌, ◌↔◌, ◌⊎◌, [], All, Bool, None, OnOk, Some};
 ghost use Rattle.graphql_documents.specs.Built.{IsBuilt};
 ghost use Rattle.graphql_documents.specs.Defer.{DeferHolds, operations_of};
 ghost use Rattle.graphql_documents.specs.Diagnostics.{IsLimitEntry, entries};
@@ -11,7 +11,7 @@ ghost use Rattle.graphql_documents.specs.Documents.{DocumentHolds, IsFragmentUse
 ghost use Rattle.graphql_documents.specs.FieldSets.{FieldSetHolds, NamesBrokenFieldSetRule};
 ghost use Rattle.graphql_documents.specs.Limits.{DocumentLimit};
 ghost use Rattle.graphql_documents.specs.Merging.{Merges};
-ghost use Rattle.graphql_documents.specs.Reports.{Checks, ChecksWithin, KeepsReports, ReportsWithin};
+ghost use Rattle.graphql_documents.specs.Reports.{Appends, Checks, ChecksWithin, KeepsReports, ReportsWithin};
 ghost use Rattle.graphql_documents.specs.Selections.{fragments_of};
 ghost use Rattle.graphql_documents.specs.declared.documents.definitions.FieldDefinition.{FieldDefinition};
 ghost use Rattle.graphql_documents.specs.declared.documents.executables.Field.{Field};
@@ -38,19 +38,29 @@ use std::alloc::Global;
 /// subscriptions, then of fields whose shapes differ, of fields whose names or arguments do, and whether
 /// fields nest too deep to be merged. The only error is want of memory.
 ///
+/// Of a document that was built against the schema: where no limit is reported, nothing is reported exactly
+/// where every rule holds (`silence`). Of any document: a report names a broken rule (`reports`), or it is of a
+/// limit that is really passed (`limits`), also where memory is refused; and where nothing is reported, all
+/// rules hold but for merging (`parts`).
+///
 /// Specification: 5 Validation.
 pub fn validate_executable_document(
     diagnostics: &mut DiagnosticList,
     schema: &Schema,
     document: &ExecutableDocument,
 ) -> Result<(), ValidationError>
-    ensures holds { (same : FieldDefinition → FieldDefinition → Bool) → IsBuilt same schema.now document.now →
-        OnOk result (ReportsWithin IsLimitEntry (DocumentHolds (Some schema.now) document.now)
-        (λ e. DocumentReport (Some schema.now) document.now e.details e.location ⊎ DocumentLimit same_field (Some schema.now) document.now e.details e.location)
+    ensures silence { (same : FieldDefinition → FieldDefinition → Bool) → IsBuilt same schema.now document.now →
+        OnOk result (Appends (λ added. All (λ e. ¬ IsLimitEntry e) added → ((added ≡ []) ↔ DocumentHolds (Some schema.now) document.now))
         (entries diagnostics.old) (entries diagnostics.new)) }
-    ensures truth { KeepsReports
-        (λ e. DocumentReport (Some schema.now) document.now e.details e.location ⊎ DocumentLimit same_field (Some schema.now) document.now e.details e.location)
+    ensures reports { KeepsReports (λ e. ¬ IsLimitEntry e → DocumentReport (Some schema.now) document.now e.details e.location)
         (entries diagnostics.old) (entries diagnostics.new) }
+    ensures limits { KeepsReports (λ e. IsLimitEntry e → DocumentLimit same_field (Some schema.now) document.now e.details e.location)
+        (entries diagnostics.old) (entries diagnostics.new) }
+    ensures parts { OnOk result (Appends (λ added. added ≡ [] →
+        All (λ o. OperationHolds (Some schema.now) document.now o.value.value) (operations_of document.now) ×
+        All (λ d. IsFragmentUsed document.now d.value.value) (values document.now.fragments) × DeferHolds document.now ×
+        All (λ o. OperationSubscriptionHolds document.now o.value.value) (operations_of document.now))
+        (entries diagnostics.old) (entries diagnostics.new)) }
 {
     validate_with_or_without_schema(diagnostics, Some(schema), document)?;
     validate_with_schema(diagnostics, schema, document)
@@ -106,6 +116,8 @@ fn validate_with_schema(
     ensures truth { KeepsReports
         (λ e. DocumentReport (Some schema.now) document.now e.details e.location ⊎ DocumentLimit same_field (Some schema.now) document.now e.details e.location)
         (entries diagnostics.old) (entries diagnostics.new) }
+    ensures subscriptions { OnOk result (Appends (λ added. added ≡ [] → All (λ o. OperationSubscriptionHolds document.now o.value.value) (operations_of document.now))
+        (entries diagnostics.old) (entries diagnostics.new)) }
 {
     let alloc = diagnostics.allocator();
     let operations = operations_of(alloc, document)?;

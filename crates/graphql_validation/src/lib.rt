@@ -2,4 +2,6 @@
 //! it means that nothing is reported.
 #![tactic(auto)]
 
+pub mod collect;
 pub mod entry;
+pub mod laws;

@@ -115,9 +115,9 @@ pub enum FieldLookupError {
 }
 
 impl ExtendedType {
-    ghost use Rattle.std.specs.Prelude.{◌≡◌};
+    ghost use Rattle.std.specs.Prelude.{◌≡◌, ◌↔◌, IsTrue};
     ghost use Rattle.std.specs.Option.{option_copied};
-    ghost use Rattle.graphql_documents.specs.Schemas.{interfaces_of, is_built_in, is_composite, is_input_type, is_output_type, kind_text, location_of, own_field};
+    ghost use Rattle.graphql_documents.specs.Schemas.{IsListed, interfaces_of, is_built_in, is_composite, is_input_type, is_output_type, kind_text, location_of, own_field};
 
     /// Whether the type is an object, an interface or a union, so that its fields are selected.
     pub fn is_composite(&self) -> bool
@@ -189,6 +189,23 @@ impl ExtendedType {
         }
     }
 
+    /// Whether the type lists an interface of this name.
+    ///
+    /// Specification: 3.6 Objects; 3.7 Interfaces.
+    pub fn lists_interface(&self, interface: &Name) -> bool
+        ensures { IsTrue result ↔ IsListed interface.now (interfaces_of self.now) }
+    {
+        match self {
+            ExtendedType::Object(definition) => {
+                definition.value.implements_interfaces.contains(interface)
+            }
+            ExtendedType::Interface(definition) => {
+                definition.value.implements_interfaces.contains(interface)
+            }
+            _ => false,
+        }
+    }
+
     /// What a message calls the kind of the type.
     pub fn describe(&self) -> &'static str
         ensures { result.now ≡ kind_text self.now }
@@ -216,9 +233,10 @@ impl ExtendedType {
 }
 
 impl Schema {
-    ghost use Rattle.std.specs.Prelude.{◌≡◌, MatchResult, Ok, Err};
+    ghost use Rattle.std.specs.Prelude.{◌≡◌, ◌↔◌, IsTrue, MatchResult, Ok, Err};
     ghost use Rattle.std.specs.Option.{option_copied};
-    ghost use Rattle.graphql_documents.specs.Schemas.{type_field, meta_field, is_query_root};
+    ghost use Rattle.graphql_documents.specs.SchemaReferences.{input_object_named};
+    ghost use Rattle.graphql_documents.specs.Schemas.{Implements, IsSubtype, interface_named, type_field, meta_field, is_query_root};
 
     /// The definition of a field of a type: the type's own field, else a meta-field that it has.
     ///
@@ -241,6 +259,56 @@ impl Schema {
         match self.meta_field(type_name, definition, field_name) {
             Some(field) => Ok(field),
             None => Err(FieldLookupError::NoSuchField),
+        }
+    }
+
+    /// The interface of this name.
+    ///
+    /// Specification: 3.7 Interfaces.
+    pub fn get_interface(&self, name: &NamedType) -> Option<&Node<InterfaceType>>
+        ensures { option_copied result ≡ interface_named self.now name.now }
+    {
+        match self.types.get(name) {
+            Some(ExtendedType::Interface(definition)) => Some(definition),
+            _ => None,
+        }
+    }
+
+    /// The input object of this name.
+    ///
+    /// Specification: 3.10 Input Objects.
+    pub fn get_input_object(&self, name: &NamedType) -> Option<&Node<InputObjectType>>
+        ensures { option_copied result ≡ input_object_named self.now name.now }
+    {
+        match self.types.get(name) {
+            Some(ExtendedType::InputObject(definition)) => Some(definition),
+            _ => None,
+        }
+    }
+
+    /// Whether each value of the second type is one of the first: the first is a union with it as a
+    /// member, or an interface that it lists.
+    ///
+    /// Specification: 3.6 Objects, IsValidImplementationFieldType.
+    pub fn is_subtype(&self, abstract_type: &NamedType, maybe_subtype: &NamedType) -> bool
+        ensures { IsTrue result ↔ IsSubtype self.now abstract_type.now maybe_subtype.now }
+    {
+        match self.types.get(abstract_type) {
+            Some(ExtendedType::Union(definition)) => {
+                definition.value.members.contains(maybe_subtype)
+            }
+            Some(ExtendedType::Interface(_)) => self.implements(maybe_subtype, abstract_type),
+            _ => false,
+        }
+    }
+
+    /// Whether the type of this name lists the interface.
+    fn implements(&self, name: &NamedType, interface: &NamedType) -> bool
+        ensures { IsTrue result ↔ Implements self.now name.now interface.now }
+    {
+        match self.types.get(name) {
+            Some(definition) => definition.lists_interface(interface),
+            None => false,
         }
     }
 

@@ -1,8 +1,6 @@
 -- Each exit of the walk over the operations, and each of its turns.
-use Rattle.std.proofs.Common.{◌≡◌, ◌++◌, ◌∷◌, [], Bor, Contains, List, Some, ap, drop, map, refl, subst, sym, take, ◌∙◌, ◌+◌}
+use Rattle.std.proofs.Common.{◌++◌, ◌∷◌, [], Bor, Contains, List, ap, drop, map, subst, sym, take, ◌∙◌, ◌+◌}
 use Rattle.std.proofs.lemmas.List.{map-append, take_all}
-use Rattle.std.specs.Prelude.{is_err}
-use Rattle.graphql_documents.specs.Defer.{operations_of}
 use Rattle.graphql_documents.specs.Diagnostics.{IsLimitEntry, entries}
 use Rattle.graphql_documents.specs.declared.documents.executables.Operation.{Operation}
 use Rattle.graphql_documents.specs.declared.documents.nodes.Node.{Node}
@@ -13,7 +11,7 @@ use Rattle.graphql_merging.specs.MergedOperations.{MergesOneMore}
 use Rattle.graphql_merging.specs.Mergers.{merging_of}
 use Rattle.graphql_rules.proofs.OperationLemmas.{stands_referred}
 use Rattle.graphql_validation.proofs.DocumentLemmas.{of_a_subscription}
-use Rattle.graphql_validation.proofs.MergingStepLemmas.{ValidatedSoFar, kept_so_far, merged_kept, merged_of, split_at, validated_all, validated_more, validated_none}
+use Rattle.graphql_validation.proofs.MergingStepLemmas.{ValidatedSoFar, kept_so_far, merged_kept, merged_of, split_at, subscriptions_so_far, validated_all, validated_more, validated_none}
 use Rattle.graphql_validation.proofs.entry.validate_with_schema.Goals as goal
 
 pub loop-operation-init : goal.loop-operation-init
@@ -91,3 +89,12 @@ returns-clause-holds c same built =
 
 pub returns-clause-truth : goal.returns-clause-truth
 returns-clause-truth c = kept_so_far c.args.schema.now c.args.document.now c.loop-operation.invariant.so_far
+
+pub returns-clause-subscriptions : goal.returns-clause-subscriptions
+returns-clause-subscriptions c =
+    let S = c.args.schema.now in
+    let D = c.args.document.now in
+    let xs = c.deref-operation-items.result.now in
+    let all = ap (λ (l : List (Bor (Node Operation))). map (λ b. b.now) l) (take_all c.loop-operation.operation-index xs c.loop-operation-test.false ∙ c.deref-operation-items.ensures.value) ∙ c.in_ok-operations.ensures in
+    subscriptions_so_far S D
+    (subst (λ l. ValidatedSoFar S D l (merging_of c.loop-operation.merging) (entries c.args.diagnostics.now) (entries c.loop-operation.diagnostics)) all c.loop-operation.invariant.so_far)

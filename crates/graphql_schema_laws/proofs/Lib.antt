@@ -1,0 +1,10 @@
+pub mod DefinedTypeLaws
+pub mod FiniteValueLaws
+pub mod InterfaceLaws
+pub mod NoCycleLemmas
+pub mod ObjectValueLemmas
+pub mod SettledInputLaws
+pub mod SettledLaws
+pub mod SettledTypeLemmas
+pub mod TypeLemmas
+pub mod ValueLemmas

@@ -1,0 +1,54 @@
+use Rattle.std.proofs.Common.{refl, ◌∙◌}
+use Rattle.indexmap.specs.IndexMap.{spare}
+use Rattle.graphql_documents.specs.Diagnostics.{IsLimitEntry}
+use Rattle.graphql_documents.specs.TypeMaps.{IsSettledSchema}
+use Rattle.graphql_documents.specs.declared.documents.schemas.Schema.{Schema}
+use Rattle.graphql_documents.proofs.ReportLemmas.{kept_then, kept_wider, wider}
+use Rattle.graphql_documents.proofs.ReportWithinLemmas.{both_within, kept_within, within}
+use Rattle.graphql_schemas.proofs.SchemaLemmas.{defaults_break, refused_err, refused_ok, settled_schema}
+use Rattle.graphql_schemas.proofs.schema_rules.schema.validate_schema.Goals as goal
+
+pub returns-in_err-validate_definitions : goal.returns-in_err-validate_definitions
+returns-in_err-validate_definitions c = record {
+  holds = refused_ok c.from_residual.result _ c.from_residual.ensures.0;
+  truth = c.in_err-validate_definitions.ensures.checks;
+  settled = refused_ok c.from_residual.result _ c.from_residual.ensures.0;
+  refused = refused_err c.from_residual.result _ (record { types = refl; definition = refl; directives = refl; meta_fields = refl });
+}
+
+pub returns-in_err-changes : goal.returns-in_err-changes
+returns-in_err-changes c = record {
+  holds = refused_ok c.from_residual-in_err-changes.result _ c.from_residual-in_err-changes.ensures.0;
+  truth = kept_within IsLimitEntry c.in_ok-validate_definitions.ensures.checks;
+  settled = refused_ok c.from_residual-in_err-changes.result _ c.from_residual-in_err-changes.ensures.0;
+  refused = refused_err c.from_residual-in_err-changes.result _ (record { types = c.in_err-changes.ensures.err; definition = refl; directives = refl; meta_fields = refl });
+}
+
+pub undo-requires : goal.undo-requires
+undo-requires c = (c.args.schema.now.types.entries, c.in_ok-changes.ensures.settled.undoes)
+
+pub returns-in-Err : goal.returns-in-Err
+returns-in-Err c =
+    let S = c.args.schema.now in
+    let settled : Schema = record { schema_definition = S.schema_definition; directive_definitions = S.directive_definitions; types = c.settle_types.new.types; meta_fields = S.meta_fields } in
+    let types =
+    settled_schema c.new-built_in_scalars.result c.validate_definitions.new.built_in_scalars S settled c.in_ok-changes.changes (spare c.settle_types.new.types) c.new-built_in_scalars.ensures
+    c.in_ok-validate_definitions.ensures.records c.in_ok-changes.ensures.settled in
+    let is : IsSettledSchema S settled = record { types = types; definition = refl; directives = refl; meta_fields = refl } in
+    record {
+      holds = tt;
+      truth = kept_then (kept_within IsLimitEntry c.in_ok-validate_definitions.ensures.checks) (kept_wider (defaults_break S settled is) c.in-Err.ensures);
+      settled = tt;
+      refused = record { types = c.undo.ensures ∙ c.in_ok-changes.ensures.settled.undoes.back; definition = refl; directives = refl; meta_fields = refl };
+    }
+
+pub returns : goal.returns
+returns c =
+    let S = c.args.schema.now in
+    let settled : Schema = record { schema_definition = S.schema_definition; directive_definitions = S.directive_definitions; types = c.settle_types.new.types; meta_fields = S.meta_fields } in
+    let types =
+    settled_schema c.new-built_in_scalars.result c.validate_definitions.new.built_in_scalars S settled c.in_ok-changes.changes (spare c.settle_types.new.types) c.new-built_in_scalars.ensures
+    c.in_ok-validate_definitions.ensures.records c.in_ok-changes.ensures.settled in
+    let is : IsSettledSchema S settled = record { types = types; definition = refl; directives = refl; meta_fields = refl } in
+    let whole = both_within IsLimitEntry c.in_ok-validate_definitions.ensures.checks (within IsLimitEntry (wider (defaults_break S settled is) c.in_default.ensures)) in
+    record { holds = whole; truth = kept_within IsLimitEntry whole; settled = is; refused = tt }

@@ -1,0 +1,11 @@
+pub mod BuiltInScalarUses
+pub mod DefaultValueReports
+pub mod DirectiveSearches
+pub mod FieldDefinitionSteps
+pub mod ImplementationSteps
+pub mod InputObjectSearches
+pub mod References
+pub mod RootSteps
+pub mod SchemaChecks
+pub mod TypeMapChanges
+pub mod TypeSteps

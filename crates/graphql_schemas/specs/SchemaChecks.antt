@@ -1,0 +1,18 @@
+-- What the check of a whole schema reports, and what it leaves. Specification: 3 Type System.
+use Rattle.std.specs.Prelude.{◌≡◌, ◌⊎◌}
+use Rattle.graphql_documents.specs.Diagnostics.{Says}
+use Rattle.graphql_documents.specs.Limits.{SchemaLimit}
+use Rattle.graphql_documents.specs.SchemaReports.{SchemaReport}
+use Rattle.graphql_documents.specs.declared.diagnostics.lists.DiagnosticEntry.{DiagnosticEntry}
+use Rattle.graphql_documents.specs.declared.documents.schemas.Schema.{Schema}
+
+-- the entry names a rule that the schema breaks, or a bound that one of its definitions passes
+abbrev pub SchemaTruth : Schema → DiagnosticEntry → Type 0
+SchemaTruth schema e = Says (SchemaReport schema) e.details e.location ⊎ Says (SchemaLimit schema) e.details e.location
+
+-- a schema with the same types in the same order, and the same in all else
+pub record IsSameSchema (schema other : Schema) : Type 0 where
+  pub types : other.types.entries ≡ schema.types.entries
+  pub definition : other.schema_definition ≡ schema.schema_definition
+  pub directives : other.directive_definitions ≡ schema.directive_definitions
+  pub meta_fields : other.meta_fields ≡ schema.meta_fields

@@ -1,0 +1,31 @@
+-- The steps of the checks of types, for the contracts of their private functions.
+use Rattle.std.specs.Prelude.{◌≡◌, ◌⊎◌, List, Option}
+use Rattle.graphql_documents.specs.FieldDefinitionReports.{NameBreaks}
+use Rattle.graphql_documents.specs.Implementations.{FieldList}
+use Rattle.graphql_documents.specs.Limits.{InputObjectLimit}
+use Rattle.graphql_documents.specs.Names.{NameText}
+use Rattle.graphql_documents.specs.Schemas.{fields_of, interfaces_of, kind_text, location_of, own_name}
+use Rattle.graphql_documents.specs.TypeReports.{TypeBreaks}
+use Rattle.graphql_documents.specs.declared.diagnostics.data.DiagnosticData.{DiagnosticData}
+use Rattle.graphql_documents.specs.declared.diagnostics.details.Details.{Details}
+use Rattle.graphql_documents.specs.declared.documents.components.ComponentName.{ComponentName}
+use Rattle.graphql_documents.specs.declared.documents.schemas.ExtendedType.TheVariants as types
+use Rattle.graphql_documents.specs.declared.documents.schemas.ExtendedType.{ExtendedType}
+use Rattle.graphql_documents.specs.declared.documents.schemas.Schema.{Schema}
+use Rattle.graphql_documents.specs.declared.documents.spans.SourceSpan.{SourceSpan}
+
+-- the type has this name, stands there, and has these fields and these listed interfaces
+pub record AreOf (d : ExtendedType) (name : NameText) (location : Option SourceSpan) (fields : FieldList) (interfaces : List ComponentName) : Type 0 where
+  pub name_is : name ≡ own_name d
+  pub location_is : location ≡ location_of d
+  pub fields_are : fields ≡ fields_of d
+  pub interfaces_are : interfaces ≡ interfaces_of d
+
+-- the report names what is wrong with a type that stands under this name, or with the name
+abbrev pub NamedTypeBreaks : Schema → NameText → ExtendedType → DiagnosticData → Option SourceSpan → Type 0
+NamedTypeBreaks schema key d r at = NameBreaks (kind_text d) key r at ⊎ TypeBreaks schema d r at
+
+-- a report of a limit is true of a type, which is an input object
+abbrev pub TypeLimit : Schema → ExtendedType → Details → Option SourceSpan → Type 0
+TypeLimit schema (types.InputObject d) said at = InputObjectLimit schema d said at
+TypeLimit schema _ said at = ⊥

@@ -1,0 +1,147 @@
+use super::fixtures::{is_text, name, schema_of};
+use graphql_documents::diagnostics::DiagnosticList;
+use graphql_documents::documents::{ExecutableDocument, Selection, SelectionSet};
+use graphql_merging::field_selections::FieldSelection;
+use graphql_rows::build::document;
+use graphql_validation::collect::collect_fields;
+use graphql_validation::entry::validate_executable_document;
+use indexmap::IndexMap;
+use std::alloc::Global;
+use std::fmt::Write;
+use std::process::Abort;
+
+/// From which set of a document's query fields are collected.
+#[derive(Clone, Copy)]
+enum From {
+    Operation,
+    FirstField,
+}
+
+/// What an object answers, each key with the coordinates of its fields.
+struct Collection {
+    schema: &'static str,
+    document: &'static str,
+    from: From,
+    object: &'static str,
+    expected: &'static str,
+}
+
+const ABSTRACT: &str = "type Query { p: P } interface P { n: Int }\
+    type D implements P { n: Int a: Int s: String } type C implements P { n: Int a: Int }";
+
+const ITSELF: &str = "type Query { q: Query a: Int b: Int }";
+
+const BY_TYPES: &str = "{ p { x: n ... on D { x: n y: a } ... on C { y: n } } }";
+
+const COLLECTIONS: [Collection; 6] = [
+    Collection {
+        schema: ABSTRACT,
+        document: BY_TYPES,
+        from: From::FirstField,
+        object: "D",
+        expected: "x: P.n D.n\ny: D.a\n",
+    },
+    Collection {
+        schema: ABSTRACT,
+        document: BY_TYPES,
+        from: From::FirstField,
+        object: "C",
+        expected: "x: P.n\ny: C.n\n",
+    },
+    Collection {
+        schema: ABSTRACT,
+        document: BY_TYPES,
+        from: From::FirstField,
+        object: "Query",
+        expected: "",
+    },
+    Collection {
+        schema: ITSELF,
+        document: "query { ...F } fragment F on Query { q { ...F } x: a x: b }",
+        from: From::Operation,
+        object: "Query",
+        expected: "q: Query.q\nx: Query.a Query.b\n",
+    },
+    Collection {
+        schema: ITSELF,
+        document: "{ ...F a ...F } fragment F on Query { b }",
+        from: From::Operation,
+        object: "Query",
+        expected: "b: Query.b\na: Query.a\n",
+    },
+    // A fragment whose condition does not apply gives nothing, and neither does what is undefined.
+    Collection {
+        schema: ABSTRACT,
+        document: "{ p { ... on C { x: n } ...G n } } fragment G on C { y: n }",
+        from: From::FirstField,
+        object: "D",
+        expected: "n: P.n\n",
+    },
+];
+
+fn set_of<'a>(rt: &impl Abort, document: &'a ExecutableDocument, from: From) -> &'a SelectionSet {
+    let operation = document.operations.anonymous.as_ref();
+    let set = &operation.expect(rt, "a query").value.selection_set;
+    match (from, set.selections.first()) {
+        (From::FirstField, Some(Selection::Field(field))) => &field.value.selection_set,
+        (From::Operation, _) => set,
+        _ => panic!(rt; "a field was expected"),
+    }
+}
+
+/// The keys, each on a line with the coordinates of its fields.
+fn shown(
+    rt: &impl Abort,
+    alloc: Global,
+    collected: &IndexMap<&graphql_documents::documents::Name, Vec<FieldSelection<'_>>>,
+) -> String {
+    let mut text = String::new(alloc);
+    for (key, fields) in collected {
+        write!(text, "{key}:").expect(rt, "memory for a line");
+        for field in fields {
+            let coordinate = field.coordinate().expect(rt, "memory for a coordinate");
+            write!(text, " {coordinate}").expect(rt, "memory for a line");
+        }
+        text.push_str("\n").expect(rt, "memory for a line");
+    }
+    text
+}
+
+#[test]
+fn fields_are_collected_by_key_for_an_object(rt: HostRuntime) {
+    let alloc = rt.alloc();
+    for collection in &COLLECTIONS {
+        let schema = schema_of(&rt, alloc, collection.schema);
+        let document = document(alloc, &schema.0, collection.document).expect(&rt, "a document");
+        let object = name(&rt, alloc, collection.object);
+        let sets = [set_of(&rt, &document, collection.from)];
+        let collected = collect_fields(alloc, &schema.0, &document, &object, &sets);
+        let collected = collected.expect(&rt, "memory for fields");
+        is_text(
+            &rt,
+            shown(&rt, alloc, &collected).as_str(),
+            collection.expected,
+        );
+    }
+}
+
+#[test]
+fn nothing_is_collected_from_no_set(rt: HostRuntime) {
+    let alloc = rt.alloc();
+    let schema = schema_of(&rt, alloc, ITSELF);
+    let document = document(alloc, &schema.0, "{ a }").expect(&rt, "a document");
+    let object = name(&rt, alloc, "Query");
+    let collected = collect_fields(alloc, &schema.0, &document, &object, &[]);
+    assert!(&rt; collected.expect(&rt, "memory for fields").is_empty());
+}
+
+#[test]
+fn what_is_collected_of_a_silent_document_has_one_field_a_key(rt: HostRuntime) {
+    let alloc = rt.alloc();
+    let schema = schema_of(&rt, alloc, ABSTRACT);
+    let document = document(alloc, &schema.0, BY_TYPES).expect(&rt, "a document");
+    let mut diagnostics = DiagnosticList::new(alloc);
+    let validated = validate_executable_document(&mut diagnostics, &schema.0, &document);
+    validated.expect(&rt, "memory for reports");
+    assert!(&rt; diagnostics.is_empty());
+}
