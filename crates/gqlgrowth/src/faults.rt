@@ -7,11 +7,11 @@ use thiserror::Error;
 /// Why nothing was measured.
 #[derive(Clone, Copy, Debug, Error)]
 pub enum Fault {
-    #[error("usage: gqlgrowth equal | chain | tree | bottoms SIZE")]
+    #[error("usage: gqlgrowth equal | chain | tree | bottoms | ring | ladder | star SIZE")]
     Usage,
     #[error("out of memory")]
     OutOfMemory,
-    #[error("the document is wrong: {0}")]
+    #[error("what is measured is wrong: {0}")]
     Document(RowError),
     #[error("the arguments, the clock or an output failed")]
     System,

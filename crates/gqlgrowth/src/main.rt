@@ -1,8 +1,10 @@
-//! Measures how merging grows with a document: `gqlgrowth SHAPE SIZE` prints how many shapes were compared, and on
-//! standard error how many milliseconds it took to merge the document's fields, once it was built.
+//! Measures how merging grows with a document, and the search for cycles with a schema: `gqlgrowth SHAPE SIZE` prints
+//! how many shapes were compared, or how many reports there are, and on standard error how many milliseconds it took to
+//! merge the document's fields, or to validate the schema, once it was built.
 #![tactic(auto)]
 
 mod faults;
+mod nets;
 mod shapes;
 
 use faults::Fault;
@@ -10,6 +12,8 @@ use graphql_documents::diagnostics::DiagnosticList;
 use graphql_documents::documents::{ExecutableDocument, Schema};
 use graphql_merging::merging::FieldsInSetCanMerge;
 use graphql_rows::build::{document, schema};
+use graphql_schemas::schema_rules::validate_schema;
+use nets::Net;
 use shapes::Shape;
 use std::alloc::Global;
 use std::env;
@@ -32,28 +36,89 @@ fn main(rt: HostRuntime) -> ExitCode {
     }
 }
 
-/// How many shapes were compared, and how many milliseconds that took.
+/// What is measured.
+#[derive(Clone, Copy)]
+enum Subject {
+    Document(Shape),
+    Schema(Net),
+}
+
+impl Subject {
+    /// What the word names.
+    fn named(word: &str) -> Option<Subject> {
+        match Shape::named(word) {
+            Some(shape) => Some(Subject::Document(shape)),
+            None => Net::named(word).map(Subject::Schema),
+        }
+    }
+}
+
+/// How many shapes were compared, or reports made, and how many milliseconds that took.
 #[derive(Clone, Copy)]
 struct Figures {
-    comparisons: u64,
+    count: u64,
     milliseconds: u128,
 }
 
-/// Builds the document that the program's words ask for, merges its fields, and prints what that took.
+/// Measures what the program's words ask for, and prints it.
 fn measure<R: Env + Clock + AllocGlobal, O: Write, T: Write>(
     rt: &R,
     alloc: Global,
     counts: &mut O,
     times: &mut T,
 ) -> Result<(), Fault> {
-    let (shape, size) = asked(rt)?;
+    let (subject, size) = asked(rt)?;
+    let (figures, counted) = match subject {
+        Subject::Document(shape) => (measure_shape(rt, alloc, shape, size)?, "comparisons"),
+        Subject::Schema(net) => (measure_net(rt, alloc, net, size)?, "reports"),
+    };
+    writeln!(counts, "{} {counted}", figures.count)?;
+    writeln!(times, "{} ms", figures.milliseconds)?;
+    Ok(())
+}
+
+/// Builds the schema, and validates it.
+fn measure_net<R: Clock>(rt: &R, alloc: Global, net: Net, size: u32) -> Result<Figures, Fault> {
+    let text = net.text(alloc, size)?;
+    let built = schema(alloc, text.as_str());
+    drop(text);
+    let mut schema = built?;
+    let measured = measure_schema(rt, alloc, &mut schema.0);
+    drop(schema);
+    measured
+}
+
+fn measure_schema<R: Clock>(rt: &R, alloc: Global, schema: &mut Schema) -> Result<Figures, Fault> {
+    let start = Instant::now(rt)?;
+    let count = reports(alloc, schema)?;
+    let elapsed = start.elapsed(rt)?;
+    Ok(Figures {
+        count,
+        milliseconds: elapsed.as_millis(),
+    })
+}
+
+/// Validates the schema, and answers how many reports there are.
+fn reports(alloc: Global, schema: &mut Schema) -> Result<u64, Fault> {
+    let mut diagnostics = DiagnosticList::new(alloc);
+    let validated = validate_schema(&mut diagnostics, schema);
+    let count = diagnostics.len() as u64;
+    drop(diagnostics);
+    validated?;
+    Ok(count)
+}
+
+/// Builds the document, and merges its fields.
+fn measure_shape<R: Clock>(
+    rt: &R,
+    alloc: Global,
+    shape: Shape,
+    size: u32,
+) -> Result<Figures, Fault> {
     let text = shape.text(alloc, size)?;
     let measured = measure_text(rt, alloc, text.as_str());
     drop(text);
-    let figures = measured?;
-    writeln!(counts, "{} comparisons", figures.comparisons)?;
-    writeln!(times, "{} ms", figures.milliseconds)?;
-    Ok(())
+    measured
 }
 
 fn measure_text<R: Clock>(rt: &R, alloc: Global, text: &str) -> Result<Figures, Fault> {
@@ -82,22 +147,22 @@ fn measure_document<R: Clock>(
     document: &ExecutableDocument,
 ) -> Result<Figures, Fault> {
     let start = Instant::now(rt)?;
-    let comparisons = merge(alloc, schema, document)?;
+    let count = merge(alloc, schema, document)?;
     let elapsed = start.elapsed(rt)?;
     Ok(Figures {
-        comparisons,
+        count,
         milliseconds: elapsed.as_millis(),
     })
 }
 
-/// The shape and the size that the program's words name.
-fn asked<R: Env + AllocGlobal>(rt: &R) -> Result<(Shape, u32), Fault> {
+/// The subject and the size that the program's words name.
+fn asked<R: Env + AllocGlobal>(rt: &R) -> Result<(Subject, u32), Fault> {
     let mut words = env::args(rt)?.skip(1);
-    let shape = words.next().ok_or(Fault::Usage)?;
+    let subject = words.next().ok_or(Fault::Usage)?;
     let size = words.next().ok_or(Fault::Usage)?;
-    let shape = Shape::named(shape.as_str()).ok_or(Fault::Usage)?;
+    let subject = Subject::named(subject.as_str()).ok_or(Fault::Usage)?;
     let size = size.as_str().parse().ok().ok_or(Fault::Usage)?;
-    Ok((shape, size))
+    Ok((subject, size))
 }
 
 /// Merges the fields of the document's query, and answers how many shapes were compared.

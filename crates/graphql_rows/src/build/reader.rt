@@ -4,7 +4,7 @@ use graphql_documents::documents::{FileId, Name, Node, SourceSpan};
 use std::alloc::Global;
 
 /// No list of the notation has as many items.
-pub(super) const LONGEST: usize = 2_000;
+pub(super) const LONGEST: usize = 20_000;
 
 /// No selection, no value and no type reference of the notation lies as deep.
 pub(super) const DEEPEST: u32 = 520;
