@@ -1,19 +1,15 @@
 pub mod AppliedLemmas
-pub mod CycleLemmas
 pub mod DeferLabelLemmas
 pub mod DeferLemmas
 pub mod DeferWalkLemmas
 pub mod EnteredLemmas
 pub mod FieldLemmas
 pub mod FragmentLemmas
-pub mod FragmentRoomLemmas
-pub mod FragmentSearchLemmas
 pub mod MeasureLemmas
 pub mod OperationDeferLemmas
 pub mod OperationLemmas
 pub mod PlacedLemmas
 mod PossibleTypeLemmas
-pub mod SeenNameLemmas
 pub mod SelectionHoldLemmas
 pub mod SubscriptionLemmas
 pub mod UsedFragmentLemmas

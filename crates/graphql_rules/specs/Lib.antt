@@ -1,7 +1,5 @@
 pub mod Contexts
-pub mod CycleSearches
 pub mod DeferLabels
-pub mod FragmentSearches
 pub mod FragmentUses
 pub mod OperationDefers
 pub mod PossibleTypes

@@ -3,7 +3,6 @@
 mod context;
 mod defer;
 mod fields;
-mod fragment_cycles;
 mod fragments;
 mod fragments_used;
 mod operation;
@@ -16,8 +15,8 @@ mod type_conditions;
 pub use context::OperationValidationContext;
 pub use defer::{DEFER_DIRECTIVE_NAME, validate_defer};
 pub use fields::validate_leaf_field_selection;
-pub use fragment_cycles::validate_fragment_cycles;
 pub use fragments_used::{operations_of, validate_fragments_used};
+pub use graphql_cycles::fragments::validate_fragment_cycles;
 pub use graphql_values::conditions::{INCLUDE_DIRECTIVE_NAME, SKIP_DIRECTIVE_NAME};
 pub use operation::{validate_operation, validate_operation_definitions};
 pub use selections::{

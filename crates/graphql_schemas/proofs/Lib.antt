@@ -1,15 +1,11 @@
 pub mod BuiltInScalarLemmas
 pub mod DefaultValueLemmas
 pub mod DirectiveDefinitionLemmas
-pub mod DirectiveRoomLemmas
-pub mod DirectiveSearchLemmas
 pub mod ExtensionLemmas
 pub mod FieldDefinitionLemmas
 pub mod ImplementationLemmas
-pub mod InputObjectSearchLemmas
 pub mod InputValueLemmas
 pub mod NamedTypeLemmas
-pub mod ReferenceLemmas
 pub mod RootLemmas
 pub mod SchemaLemmas
 pub mod TypeEqualityLemmas

@@ -1,10 +1,7 @@
 pub mod BuiltInScalarUses
 pub mod DefaultValueReports
-pub mod DirectiveSearches
 pub mod FieldDefinitionSteps
 pub mod ImplementationSteps
-pub mod InputObjectSearches
-pub mod References
 pub mod RootSteps
 pub mod SchemaChecks
 pub mod TypeMapChanges

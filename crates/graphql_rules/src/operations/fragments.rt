@@ -10,9 +10,9 @@ ghost use Rattle.graphql_rules.specs.Contexts.{IsAgainst, StaysAsItWas, parent_o
 ghost use Rattle.graphql_rules.specs.SelectionSteps.{ConditionHolds, FragmentSays, InlineFragmentSays, SpreadSays, SpreadStands, IsUndefined};
 
 use super::context::OperationValidationContext;
-use super::fragment_cycles::validate_fragment_cycles;
 use super::spread_types::{FragmentUse, validate_fragment_spread_type};
 use super::type_conditions::validate_fragment_type_condition;
+use graphql_cycles::fragments::validate_fragment_cycles;
 use graphql_documents::diagnostics::{Details, DiagnosticData, DiagnosticList, ValidationError};
 use graphql_documents::documents::{
     DirectiveLocation, ExecutableDocument, Fragment, FragmentSpread, InlineFragment, NamedType,

@@ -8,9 +8,9 @@ ghost use Rattle.graphql_documents.specs.TypeMaps.{argument_types};
 ghost use Rattle.graphql_schemas.specs.BuiltInScalarUses.{Keeps, Records};
 
 use super::built_in_scalars::BuiltInScalars;
-use super::directive_cycles::validate_directive_cycles;
 use super::input_values::{each_argument, validate_argument_definitions};
 use super::names::validate_type_system_name;
+use graphql_cycles::directives::validate_directive_cycles;
 use graphql_documents::diagnostics::{DiagnosticList, ValidationError};
 use graphql_documents::documents::{DirectiveDefinition, DirectiveLocation, Node, Schema};
 

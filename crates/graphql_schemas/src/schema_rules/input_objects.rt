@@ -12,9 +12,9 @@ ghost use Rattle.graphql_schemas.specs.BuiltInScalarUses.{Keeps, Records};
 
 use super::built_in_scalars::BuiltInScalars;
 use super::definition_directives::validate_component_directives;
-use super::input_object_cycles::validate_input_object_cycles;
 use super::input_values::validate_input_value_definitions;
 use crate::extensions::{input_object_extensions, locations_of};
+use graphql_cycles::input_objects::validate_input_object_cycles;
 use graphql_documents::diagnostics::{Details, DiagnosticData, DiagnosticList, ValidationError};
 use graphql_documents::documents::{
     Component, DirectiveLocation, InputObjectType, InputValueDefinition, Name, Node, Schema,

@@ -1,0 +1,10 @@
+use Rattle.std.proofs.Common.{rules, inr}
+use Rattle.graphql_documents.proofs.ReportWithinLemmas.{checks_limit}
+use Rattle.graphql_documents.specs.Diagnostics.{IsLimitEntry, limit_of_path}
+use Rattle.graphql_documents.specs.Limits.{required_fields_nest}
+use Rattle.graphql_cycles.proofs.input_objects.report_nesting.Goals as goal
+
+pub returns : goal.returns
+returns c = λ schema long.
+    checks_limit IsLimitEntry _ _ _ _ _ _ c.push.ensures.ok c.push.ensures.err limit_of_path
+    (inr (required_fields_nest (record { long = long; name_is = search rules; describe_is = search rules; at_is = search rules })))

@@ -1,0 +1,5 @@
+pub mod CycleSearches
+pub mod DirectiveSearches
+pub mod FragmentSearches
+pub mod InputObjectSearches
+pub mod References

@@ -1,0 +1,197 @@
+ghost use Rattle.std.specs.Prelude.{◌≡◌, ◌+◌, List, Option, OnOk};
+ghost use Rattle.graphql_documents.specs.Diagnostics.{IsDiagnostic};
+ghost use Rattle.graphql_documents.specs.FragmentSpreads.{FragmentHasNoCycle, HasLongSpreadPath, IsFragmentCycle};
+ghost use Rattle.graphql_documents.specs.Limits.{FragmentLimit, fragment_bound};
+ghost use Rattle.graphql_documents.specs.Reports.{ChecksWithin};
+ghost use Rattle.graphql_documents.specs.SelectionReports.{FragmentBreaks};
+ghost use Rattle.graphql_documents.specs.Selections.{Fragments, fragments_of};
+ghost use Rattle.graphql_documents.specs.Spans.{recompose};
+ghost use Rattle.graphql_documents.specs.declared.documents.executables.FragmentSpread.{FragmentSpread};
+ghost use Rattle.graphql_documents.specs.declared.documents.nodes.Node.{Node};
+ghost use Rattle.graphql_documents.specs.declared.documents.schemas.Schema.{Schema};
+ghost use Rattle.graphql_guards.specs.Guards.{path_limit, path_of};
+ghost use Rattle.graphql_cycles.specs.CycleSearches.{Traces};
+ghost use Rattle.graphql_cycles.specs.FragmentSearches.{BeginsAt, SearchesFor, SpreadAt, SpreadIn};
+
+use super::steps::{mark, trace_step};
+use graphql_documents::diagnostics::{Details, DiagnosticData, DiagnosticList, ValidationError};
+use graphql_documents::documents::{
+    ExecutableDocument, Fragment, FragmentSpread, Name, Node, Selection, SelectionSet, SourceSpan,
+};
+use graphql_guards::{CycleError, RecursionStack};
+use indexmap::IndexSet;
+use std::alloc::Global;
+
+/// How many names a path of fragments may hold, the first counted.
+const FRAGMENT_LIMIT: usize = 100;
+
+/// Reports a fragment that spreads itself, directly or through other fragments, with one cycle: the
+/// spreads on the way, from the one that leads back to the fragment's own. A fragment that only reaches
+/// the cycle of another is not reported.
+///
+/// Where a path of spreads from the fragment goes through more than 100 fragments before a cycle is
+/// found, that is reported instead, at the head of the fragment. The only error is want of memory.
+///
+/// Specification: 5.5.2.2 Fragment Spreads Must Not Form Cycles.
+pub fn validate_fragment_cycles(
+    diagnostics: &mut DiagnosticList,
+    document: &ExecutableDocument,
+    fragment: &Node<Fragment>,
+) -> Result<(), ValidationError>
+    ensures { (schema : Option Schema) → ChecksWithin result (FragmentHasNoCycle (fragments_of document.now) fragment.now)
+        (IsDiagnostic (FragmentBreaks schema (fragments_of document.now) fragment.now))
+        (λ e. FragmentLimit (fragments_of document.now) fragment.now e.details e.location) diagnostics.old diagnostics.new }
+{
+    let alloc = diagnostics.allocator();
+    let root = &fragment.value.name;
+    let mut path = RecursionStack::with_root(alloc, root.clone()?)?.with_limit(FRAGMENT_LIMIT);
+    let mut seen = IndexSet::new(alloc);
+    let search = FragmentSearch {
+        alloc,
+        document,
+        root,
+    };
+    match search.search_set(&fragment.value.selection_set, &mut path, &mut seen) {
+        Ok(()) => Ok(()),
+        Err(CycleError::Recursed(trace)) => report_cycle(diagnostics, fragment, trace),
+        Err(CycleError::Limit) => report_nesting(diagnostics, fragment),
+        Err(CycleError::Memory) => Err(ValidationError::OutOfMemory),
+    }
+}
+
+/// Reports a fragment that spreads itself.
+fn report_cycle(
+    diagnostics: &mut DiagnosticList,
+    fragment: &Node<Fragment>,
+    trace: Vec<Node<FragmentSpread>>,
+) -> Result<(), ValidationError>
+    ensures { (schema : Option Schema) (fragments : Fragments) (path : List (Node FragmentSpread)) →
+        IsFragmentCycle fragments fragment.now path → Traces trace.items path →
+        ChecksWithin result (FragmentHasNoCycle fragments fragment.now) (IsDiagnostic (FragmentBreaks schema fragments fragment.now))
+        (λ e. FragmentLimit fragments fragment.now e.details e.location) diagnostics.old diagnostics.new }
+{
+    let head_location = head_of(fragment);
+    let name = fragment.value.name.clone()?;
+    diagnostics.push(
+        fragment.location,
+        Details::Diagnostic(DiagnosticData::RecursiveFragmentDefinition {
+            name,
+            head_location,
+            trace,
+        }),
+    )
+}
+
+/// Reports a fragment from which a path goes through too many others.
+fn report_nesting(
+    diagnostics: &mut DiagnosticList,
+    fragment: &Node<Fragment>,
+) -> Result<(), ValidationError>
+    ensures { (schema : Option Schema) (fragments : Fragments) → HasLongSpreadPath fragments fragment.now (fragment_bound + 1) →
+        ChecksWithin result (FragmentHasNoCycle fragments fragment.now) (IsDiagnostic (FragmentBreaks schema fragments fragment.now))
+        (λ e. FragmentLimit fragments fragment.now e.details e.location) diagnostics.old diagnostics.new }
+{
+    let head_location = head_of(fragment);
+    let name = fragment.value.name.clone()?;
+    diagnostics.push(
+        head_location,
+        Details::Diagnostic(DiagnosticData::DeeplyNestedType {
+            name,
+            describe_type: "fragment",
+        }),
+    )
+}
+
+/// Where the head of a fragment stands: from its start to the end of its name.
+fn head_of(fragment: &Node<Fragment>) -> Option<SourceSpan>
+    ensures { result ≡ recompose fragment.now.location fragment.now.value.value.name.location }
+{
+    SourceSpan::recompose(fragment.location, fragment.value.name.location())
+}
+
+/// What a search for a cycle goes over, and the name that it seeks.
+#[derive(Drop)]
+struct FragmentSearch<'doc> {
+    alloc: Global,
+    document: &'doc ExecutableDocument,
+    root: &'doc Name,
+}
+
+impl<'doc> FragmentSearch<'doc> {
+    /// Searches the fragments that are spread in a set, at any depth, but no name again that was seen.
+    /// The search ends where a spread leads back to the root, or the path is full.
+    #[cycle(search)]
+    fn search_set(
+        &self,
+        set: &'doc SelectionSet,
+        path: &mut RecursionStack,
+        seen: &mut IndexSet<&'doc Name>,
+    ) -> Result<(), CycleError<FragmentSpread>>
+        requires { BeginsAt self.now path.old seen.old.keys }
+        ensures searches { SearchesFor self.now (SpreadIn set.now) path.old seen.old.keys seen.new.keys result }
+        ensures path { OnOk result (path_of path.new ≡ path_of path.old) }
+        ensures limit { OnOk result (path_limit path.new ≡ path_limit path.old) }
+    {
+        for selection in &set.selections {
+            self.search_selection(selection, path, seen)?;
+        }
+        Ok(())
+    }
+
+    /// The same of a selection.
+    #[cycle(search)]
+    fn search_selection(
+        &self,
+        selection: &'doc Selection,
+        path: &mut RecursionStack,
+        seen: &mut IndexSet<&'doc Name>,
+    ) -> Result<(), CycleError<FragmentSpread>>
+        requires { BeginsAt self.now path.old seen.old.keys }
+        ensures searches { SearchesFor self.now (SpreadAt selection.now) path.old seen.old.keys seen.new.keys result }
+        ensures path { OnOk result (path_of path.new ≡ path_of path.old) }
+        ensures limit { OnOk result (path_limit path.new ≡ path_limit path.old) }
+    {
+        match selection {
+            Selection::Field(field) => self.search_set(&field.value.selection_set, path, seen),
+            Selection::InlineFragment(inline) => {
+                self.search_set(&inline.value.selection_set, path, seen)
+            }
+            Selection::FragmentSpread(spread) => self.search_spread(spread, path, seen),
+        }
+    }
+
+    /// The same of a spread: marks its name, and searches the set of the fragment that it finds.
+    #[cycle(search)]
+    fn search_spread(
+        &self,
+        spread: &'doc Node<FragmentSpread>,
+        path: &mut RecursionStack,
+        seen: &mut IndexSet<&'doc Name>,
+    ) -> Result<(), CycleError<FragmentSpread>>
+        requires { BeginsAt self.now path.old seen.old.keys }
+        ensures searches { SearchesFor self.now (λ p. p ≡ spread.now) path.old seen.old.keys seen.new.keys result }
+        ensures path { OnOk result (path_of path.new ≡ path_of path.old) }
+        ensures limit { OnOk result (path_limit path.new ≡ path_limit path.old) }
+    {
+        let name = &spread.value.fragment_name;
+        let leads_back = name == self.root;
+        if leads_back {
+            return Err(trace_step(CycleError::Recursed(Vec::new(self.alloc)), spread));
+        }
+        // Each name on the path but the root's is marked, so what stands there is passed over too.
+        if !mark(seen, name)? {
+            return Ok(());
+        }
+        let Some(fragment) = self.document.fragments.get(name) else {
+            return Ok(());
+        };
+        path.enter(name)?;
+        match self.search_set(&fragment.value.selection_set, path, seen) {
+            Ok(()) => {
+                path.leave();
+                Ok(())
+            }
+            Err(error) => Err(trace_step(error, spread)),
+        }
+    }
+}

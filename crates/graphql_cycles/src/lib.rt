@@ -1,0 +1,10 @@
+//! Searches for cycles that go from reference to reference: among the fragments of a document, and among the
+//! input objects and the directives of a schema. Each call reports a definition that leads back to itself,
+//! and its contract says what it means that nothing is reported.
+#![tactic(auto)]
+
+pub mod directives;
+pub mod fragments;
+pub mod input_objects;
+mod schema_references;
+mod steps;

@@ -1,0 +1,140 @@
+ghost use Rattle.std.specs.Prelude.{◌≡◌, ◌++◌, ◌∷◌, [], IfOk, OnOk, flat_map, map};
+ghost use Rattle.graphql_documents.specs.SchemaReferences.{by_directive, directive_part, input_references, references_of, type_part};
+ghost use Rattle.graphql_cycles.specs.References.{reference_of};
+
+use graphql_documents::diagnostics::ValidationError;
+use graphql_documents::documents::{
+    Component, Directive, DirectiveDefinition, EnumValueDefinition, ExtendedType,
+    InputValueDefinition, Name, NamedType, Node,
+};
+use indexmap::IndexMap;
+use std::alloc::Global;
+
+/// What a definition refers to: a directive that is applied in it, or the name of a type.
+#[derive(Clone, Copy)]
+pub(super) enum Reference<'schema> {
+    Directive(&'schema Node<Directive>),
+    Type(&'schema NamedType),
+}
+
+/// The references that are written in a directive definition, in order. The only error is want of memory.
+///
+/// Specification: 3.13 Directives.
+pub(super) fn references_of_directive<'schema>(
+    alloc: Global,
+    definition: &'schema Node<DirectiveDefinition>,
+) -> Result<Vec<Reference<'schema>>, ValidationError>
+    ensures { IfOk result (λ found. map reference_of found.items ≡ references_of (directive_part definition.now)) }
+{
+    let mut found = Vec::new(alloc);
+    for argument in &definition.value.arguments {
+        add_input(&mut found, argument)?;
+    }
+    Ok(found)
+}
+
+/// The same of a type definition: its directives, and then those of its members and their types.
+///
+/// Specification: 3.13 Directives.
+pub(super) fn references_of_type<'schema>(
+    alloc: Global,
+    definition: &'schema ExtendedType,
+) -> Result<Vec<Reference<'schema>>, ValidationError>
+    ensures { IfOk result (λ found. map reference_of found.items ≡ references_of (type_part definition.now)) }
+{
+    let mut found = Vec::new(alloc);
+    match definition {
+        ExtendedType::Scalar(scalar) => {
+            add_components(&mut found, &scalar.value.directives)?;
+            Ok(found)
+        }
+        ExtendedType::Object(object) => {
+            add_components(&mut found, &object.value.directives)?;
+            Ok(found)
+        }
+        ExtendedType::Interface(interface) => {
+            add_components(&mut found, &interface.value.directives)?;
+            Ok(found)
+        }
+        ExtendedType::Union(union) => {
+            add_components(&mut found, &union.value.directives)?;
+            Ok(found)
+        }
+        ExtendedType::Enum(enum_type) => {
+            add_components(&mut found, &enum_type.value.directives)?;
+            add_values(&mut found, &enum_type.value.values)?;
+            Ok(found)
+        }
+        ExtendedType::InputObject(input_object) => {
+            add_components(&mut found, &input_object.value.directives)?;
+            add_fields(&mut found, &input_object.value.fields)?;
+            Ok(found)
+        }
+    }
+}
+
+/// Adds the directives that are components of a definition.
+fn add_components<'schema>(
+    found: &mut Vec<Reference<'schema>>,
+    directives: &'schema [Component<Directive>],
+) -> Result<(), ValidationError>
+    ensures { OnOk result (map reference_of found.new.items ≡ map reference_of found.old.items ++ map by_directive (map (λ c. c.node) directives.now)) }
+{
+    for directive in directives {
+        found.push(Reference::Directive(&directive.node))?;
+    }
+    Ok(())
+}
+
+/// Adds the directives that are applied somewhere.
+fn add_directives<'schema>(
+    found: &mut Vec<Reference<'schema>>,
+    directives: &'schema [Node<Directive>],
+) -> Result<(), ValidationError>
+    ensures { OnOk result (map reference_of found.new.items ≡ map reference_of found.old.items ++ map by_directive directives.now) }
+{
+    for directive in directives {
+        found.push(Reference::Directive(directive))?;
+    }
+    Ok(())
+}
+
+/// Adds the directives of the values of an enum.
+fn add_values<'schema>(
+    found: &mut Vec<Reference<'schema>>,
+    values: &'schema IndexMap<Name, Component<EnumValueDefinition>>,
+) -> Result<(), ValidationError>
+    ensures { OnOk result (map reference_of found.new.items ≡ map reference_of found.old.items ++
+        flat_map (λ entry. map by_directive entry.1.node.value.value.directives.items) values.now.entries) }
+{
+    for (_, value) in values {
+        add_directives(found, &value.node.value.directives)?;
+    }
+    Ok(())
+}
+
+/// Adds the references of the fields of an input object.
+fn add_fields<'schema>(
+    found: &mut Vec<Reference<'schema>>,
+    fields: &'schema IndexMap<Name, Component<InputValueDefinition>>,
+) -> Result<(), ValidationError>
+    ensures { OnOk result (map reference_of found.new.items ≡ map reference_of found.old.items ++
+        input_references (map (λ entry. entry.1.node) fields.now.entries)) }
+{
+    for (_, field) in fields {
+        add_input(found, &field.node)?;
+    }
+    Ok(())
+}
+
+/// Adds the references of an argument or input field: the directives on it, and its type.
+fn add_input<'schema>(
+    found: &mut Vec<Reference<'schema>>,
+    input: &'schema Node<InputValueDefinition>,
+) -> Result<(), ValidationError>
+    ensures { OnOk result (map reference_of found.new.items ≡ map reference_of found.old.items ++ input_references (input.now ∷ [])) }
+{
+    add_directives(found, &input.value.directives)?;
+    found.push(Reference::Type(input.value.ty.value.inner_named_type()))?;
+    Ok(())
+}

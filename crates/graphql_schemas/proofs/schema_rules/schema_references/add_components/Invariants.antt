@@ -1,8 +1,0 @@
-use Rattle.std.proofs.Common.{◌≡◌, ◌++◌, map, take}
-use Rattle.graphql_documents.specs.SchemaReferences.{by_directive}
-use Rattle.graphql_schemas.specs.References.{reference_of}
-use Rattle.graphql_schemas.proofs.schema_rules.schema_references.add_components.Given as goal
-
-abbrev pub invariant-loop-directive : goal.invariant-loop-directive
-invariant-loop-directive l =
-    map reference_of l.found.items ≡ map reference_of l.initial.found.items ++ map by_directive (map (λ c. c.node) (take l.directive-index l.directives))
