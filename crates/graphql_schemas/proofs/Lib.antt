@@ -3,12 +3,10 @@ pub mod DefaultValueLemmas
 pub mod DirectiveDefinitionLemmas
 pub mod ExtensionLemmas
 pub mod FieldDefinitionLemmas
-pub mod ImplementationLemmas
 pub mod InputValueLemmas
 pub mod NamedTypeLemmas
 pub mod RootLemmas
 pub mod SchemaLemmas
-pub mod TypeEqualityLemmas
 pub mod TypeLemmas
 pub mod TypeMapLemmas
 pub mod TypeNameLemmas

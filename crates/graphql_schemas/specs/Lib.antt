@@ -1,7 +1,6 @@
 pub mod BuiltInScalarUses
 pub mod DefaultValueReports
 pub mod FieldDefinitionSteps
-pub mod ImplementationSteps
 pub mod RootSteps
 pub mod SchemaChecks
 pub mod TypeMapChanges

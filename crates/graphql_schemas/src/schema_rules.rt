@@ -7,7 +7,6 @@ mod definition_directives;
 mod directive_definitions;
 mod enums;
 mod fields;
-mod implementations;
 mod implementing_types;
 mod input_objects;
 mod input_values;
@@ -27,7 +26,7 @@ pub use built_in_scalars::BuiltInScalars;
 pub use directive_definitions::{validate_directive_definition, validate_directive_definitions};
 pub use enums::{validate_enum_definition, validate_enum_value};
 pub use fields::{validate_field_definition, validate_field_definitions};
-pub use implementations::{
+pub use graphql_implementations::{
     is_valid_implementation_field_type, validate_implementation_field_arguments,
     validate_implementation_field_types, validate_implements_interfaces,
 };

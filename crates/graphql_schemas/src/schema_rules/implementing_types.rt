@@ -5,13 +5,13 @@ ghost use Rattle.graphql_documents.specs.Reports.{Checks};
 ghost use Rattle.graphql_documents.specs.declared.documents.schemas.ExtendedType.{ExtendedType};
 ghost use Rattle.graphql_schemas.specs.TypeSteps.{AreOf};
 
-use super::implementations::{
-    validate_implementation_field_arguments, validate_implementation_field_types,
-    validate_implements_interfaces, validate_interface_fields,
-};
 use graphql_documents::diagnostics::{DiagnosticList, ValidationError};
 use graphql_documents::documents::{
     Component, ComponentName, FieldDefinition, Name, Schema, SourceSpan,
+};
+use graphql_implementations::{
+    validate_implementation_field_arguments, validate_implementation_field_types,
+    validate_implements_interfaces, validate_interface_fields,
 };
 use indexmap::{IndexMap, IndexSet};
 

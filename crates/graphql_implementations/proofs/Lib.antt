@@ -1,0 +1,2 @@
+pub mod ImplementationLemmas
+pub mod TypeEqualityLemmas

@@ -1,0 +1,51 @@
+use Rattle.std.proofs.Common.{◌≡◌, ◌++◌, [], ◌∷◌, Some, refl, sym}
+use Rattle.std.proofs.lemmas.List.Elements.{All-nil}
+use Rattle.graphql_documents.specs.Diagnostics.{IsDiagnostic}
+use Rattle.graphql_documents.specs.Schemas.{interface_named}
+use Rattle.graphql_documents.proofs.ReportLemmas.{checks-err, done_more, done_next, holds, kept_by, kept_then}
+use Rattle.graphql_implementations.specs.ImplementationSteps.{FieldEntry, OfOwnField, TypeImplements, TypesBreak}
+use Rattle.graphql_implementations.proofs.ImplementationLemmas.{all_fields, next_field}
+use Rattle.graphql_implementations.proofs.types.check_types.Goals as goal
+
+pub loop-name-init : goal.loop-name-init
+loop-name-init c = record {
+  can_next = tt;
+  is_finite = tt;
+  done = [];
+  all = refl;
+  checked = holds _ _ _ (All-nil (OfOwnField c.args.implementer.now.fields.now.entries (TypeImplements c.args.implementer.now.schema.now)));
+}
+
+pub check_own_type-requires : goal.check_own_type-requires
+check_own_type-requires c =
+    let d = c.in-Some.interface.now in
+    let found : interface_named c.args.implementer.now.schema.now c.args.listed.now.name ≡ Some d = sym c.in-Some.ensures in
+    let whole : d.value.value.fields.entries ≡ c.into_iter-name-iterator.result = cc in
+    next_field c.args.implementer.now.schema.now c.args.listed.now d found c.into_iter-name-iterator.result whole
+    c.loop-name.invariant.done c.loop-name.name-iterator c.loop-name.invariant.all
+    c.args.implementer.now.interfaces.now.keys c.next.new.self (c.in-Some-2.name.now, c.in-Some-2.wanted.now) c.requires c.in-Some-2.ensures.steps
+
+pub returns-in_err-check_own_type : goal.returns-in_err-check_own_type
+returns-in_err-check_own_type c =
+    checks-err _ _ _ _ _ c.from_residual.ensures.0 (kept_then (kept_by c.loop-name.invariant.checked) (c.in_err-check_own_type.ensures))
+
+pub loop-name-preserved : goal.loop-name-preserved
+loop-name-preserved c =
+    let done = c.loop-name.invariant.done in
+    let x : FieldEntry = (c.in-Some-2.name.now, c.in-Some-2.wanted.now) in
+    record {
+      can_next = tt;
+      is_finite = tt;
+      done = done ++ x ∷ [];
+      all = done_next _ done c.loop-name.name-iterator c.next.new.self x c.loop-name.invariant.all c.in-Some-2.ensures.steps;
+      checked = done_more (OfOwnField c.args.implementer.now.fields.now.entries (TypeImplements c.args.implementer.now.schema.now)) (IsDiagnostic (TypesBreak c.args.implementer.now)) done x _ _ _ c.loop-name.invariant.checked (c.in_ok-check_own_type.ensures);
+    }
+
+pub returns : goal.returns
+returns c =
+    let d = c.in-Some.interface.now in
+    let found : interface_named c.args.implementer.now.schema.now c.args.listed.now.name ≡ Some d = sym c.in-Some.ensures in
+    let whole : d.value.value.fields.entries ≡ c.into_iter-name-iterator.result = cc in
+    all_fields c.args.implementer.now.schema.now c.args.listed.now d found c.into_iter-name-iterator.result whole
+    c.loop-name.invariant.done c.loop-name.name-iterator c.loop-name.invariant.all
+    (OfOwnField c.args.implementer.now.fields.now.entries (TypeImplements c.args.implementer.now.schema.now)) (IsDiagnostic (TypesBreak c.args.implementer.now)) _ _ c.in-None.ensures.steps.0 c.loop-name.invariant.checked

@@ -1,0 +1,15 @@
+use Rattle.std.proofs.Common.{◌≡◌, ◌++◌, List, All}
+use Rattle.graphql_documents.specs.Diagnostics.{IsDiagnostic, entries}
+use Rattle.graphql_documents.specs.Reports.{Reports}
+use Rattle.graphql_implementations.specs.ImplementationSteps.{FieldEntry, OfOwnField, TypeImplements, TypesBreak}
+use Rattle.graphql_implementations.proofs.types.check_types.Given as goal
+
+abbrev pub invariant-loop-name : goal.invariant-loop-name
+invariant-loop-name l = record {
+  can_next : (goal.iterator-loop-name).can_next l.name-iterator;
+  is_finite : (goal.iterator-loop-name).is_finite l.name-iterator;
+  done : List FieldEntry;
+  all : l.initial.name-iterator ≡ done ++ l.name-iterator;
+  checked : Reports (All (OfOwnField l.implementer.fields.now.entries (TypeImplements l.implementer.schema.now)) done)
+      (IsDiagnostic (TypesBreak l.implementer)) (entries l.initial.diagnostics) (entries l.diagnostics);
+}

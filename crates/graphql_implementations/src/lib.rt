@@ -1,0 +1,14 @@
+//! That a type implements the interfaces that it lists. Each call reports what breaks a rule, and its contract
+//! says what it means that nothing is reported.
+#![tactic(auto)]
+
+mod arguments;
+mod fields;
+mod implementer;
+mod names;
+mod types;
+
+pub use arguments::validate_implementation_field_arguments;
+pub use fields::validate_interface_fields;
+pub use names::validate_implements_interfaces;
+pub use types::{is_valid_implementation_field_type, validate_implementation_field_types};
