@@ -1,5 +1,5 @@
 use crate::statuses::Status;
-use graphql_documents::diagnostics::ValidationError;
+use graphql_diagnostics::ValidationError;
 use graphql_rows::RowError;
 use std::io;
 use std::io::Write;

@@ -1,6 +1,6 @@
 use crate::faults::{Fault, fault_of_output};
 use crate::places::Place;
-use graphql_documents::diagnostics::{DiagnosticEntry, DiagnosticList};
+use graphql_diagnostics::{DiagnosticEntry, DiagnosticList};
 use graphql_documents::documents::Schema;
 use graphql_rows::{Case, Row, Subject, Validated, build_case};
 use graphql_rows_more::find;

@@ -8,7 +8,7 @@ mod nets;
 mod shapes;
 
 use faults::Fault;
-use graphql_documents::diagnostics::DiagnosticList;
+use graphql_diagnostics::DiagnosticList;
 use graphql_documents::documents::{ExecutableDocument, Schema};
 use graphql_merging::merging::FieldsInSetCanMerge;
 use graphql_rows::build::{document, schema};

@@ -1,5 +1,5 @@
 use crate::faults::Fault;
-use graphql_documents::diagnostics::{
+use graphql_diagnostics::{
     Details, DiagnosticData, DiagnosticEntry, DiagnosticList, ValidationError,
 };
 use graphql_documents::documents::{FileId, Schema, SourceSpan};

@@ -1,4 +1,4 @@
-use graphql_documents::diagnostics::ValidationError;
+use graphql_diagnostics::ValidationError;
 use graphql_rows::RowError;
 use std::alloc::AllocError;
 use std::io;

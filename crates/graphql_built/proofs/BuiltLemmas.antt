@@ -4,12 +4,11 @@ use Rattle.std.specs.Prelude.{Result}
 use Rattle.std.proofs.lemmas.List.Elements.{All-append, All-contains, All-nil, All-weaker}
 use Rattle.std.proofs.lemmas.Option.{same_Some}
 use Rattle.graphql_built.specs.BuiltSelections.{FragmentIsBuilt, HasDefinitionOfType, HasSetOfOutputType, InlineFragmentIsBuilt, SelectionIsBuilt, same_definition}
-use Rattle.graphql_documents.proofs.ListLemmas.{each_standing}
-use Rattle.graphql_documents.proofs.ReportLemmas.{All-append_left, All-append_right}
+use Rattle.graphql_documents.proofs.ListLemmas.{All-append_left, All-append_right, each_standing}
 use Rattle.graphql_documents.proofs.SelectionLemmas.{not_inline, not_spread, same_field, same_inline, spread_not_inline}
 use Rattle.graphql_documents.specs.Built.{FieldIsBuilt, IsBuilt, OperationIsBuilt, SetsAreBuilt, StandsUnderOwnNames, TypeStandsUnderItsName}
 use Rattle.graphql_documents.specs.Defer.{operations_of}
-use Rattle.graphql_documents.specs.Names.{NameText, SameName}
+use Rattle.graphql_nodes.specs.Names.{NameText, SameName}
 use Rattle.graphql_documents.specs.Schemas.{NamesKind, is_output_type, type_definition, type_field}
 use Rattle.graphql_documents.specs.Selections.{selections_of, set_itself, set_in_field, set_in_inline_fragment}
 use Rattle.graphql_documents.specs.TypeReferences.{inner_named_type}
@@ -23,7 +22,7 @@ use Rattle.graphql_documents.specs.declared.documents.executables.InlineFragment
 use Rattle.graphql_documents.specs.declared.documents.executables.Selection.TheVariants as kind
 use Rattle.graphql_documents.specs.declared.documents.executables.Selection.{Selection}
 use Rattle.graphql_documents.specs.declared.documents.executables.SelectionSet.{SelectionSet}
-use Rattle.graphql_documents.specs.declared.documents.nodes.Node.{Node}
+use Rattle.graphql_nodes.specs.declared.nodes.Node.{Node}
 use Rattle.graphql_documents.specs.declared.documents.schemas.EnumType.{EnumType}
 use Rattle.graphql_documents.specs.declared.documents.schemas.ExtendedType.TheVariants.{Enum, InputObject, Interface, Object}
 use Rattle.graphql_documents.specs.declared.documents.schemas.ExtendedType.{ExtendedType}

@@ -1,7 +1,7 @@
 -- Sameness of field definitions, and when a selection is built for its type, with what is below it.
 use Rattle.std.specs.Prelude.{◌≡◌, Bool, IsTrue, Ok, unwrap_or}
 use Rattle.graphql_documents.specs.Built.{FieldIsBuilt, SetsAreBuilt}
-use Rattle.graphql_documents.specs.Names.{NameText, SameName}
+use Rattle.graphql_nodes.specs.Names.{NameText, SameName}
 use Rattle.graphql_documents.specs.Schemas.{NamesKind, is_output_type, type_field}
 use Rattle.graphql_documents.specs.TypeReferences.{inner_named_type}
 use Rattle.graphql_documents.specs.contracts.documents.definitions.FieldDefinitionPartialEq.TheImpl as field_definition_impl
@@ -12,7 +12,7 @@ use Rattle.graphql_documents.specs.declared.documents.executables.Fragment.{Frag
 use Rattle.graphql_documents.specs.declared.documents.executables.InlineFragment.{InlineFragment}
 use Rattle.graphql_documents.specs.declared.documents.executables.Selection.TheVariants as kind
 use Rattle.graphql_documents.specs.declared.documents.executables.Selection.{Selection}
-use Rattle.graphql_documents.specs.declared.documents.nodes.Node.{Node}
+use Rattle.graphql_nodes.specs.declared.nodes.Node.{Node}
 use Rattle.graphql_documents.specs.declared.documents.schemas.Schema.{Schema}
 
 -- two definitions of fields are the same by their contents, as `==` compares them

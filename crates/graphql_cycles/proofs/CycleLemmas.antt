@@ -9,12 +9,12 @@ use Rattle.std.specs.declared.alloc.Global.{Global}
 use Rattle.std.proofs.lemmas.List.{reverse-append}
 use Rattle.std.proofs.lemmas.List.Elements.{All-nil, All-cons, All-head}
 use Rattle.std.proofs.lemmas.Result.{MatchResult-weaker}
-use Rattle.graphql_documents.proofs.NameLemmas.{not_both, same_name_back, same_name_itself, same_name_then}
-use Rattle.graphql_documents.proofs.ReportLemmas.{All-append_right}
-use Rattle.graphql_documents.specs.Names.{DifferentNames, HasDifferentNames, NameText, SameName, stands_on}
-use Rattle.graphql_documents.specs.Nodes.{SameNode}
+use Rattle.graphql_nodes.proofs.NameLemmas.{not_both, same_name_back, same_name_itself, same_name_then}
+use Rattle.graphql_documents.proofs.ListLemmas.{All-append_right}
+use Rattle.graphql_nodes.specs.Names.{DifferentNames, HasDifferentNames, NameText, SameName, stands_on}
+use Rattle.graphql_nodes.specs.Nodes.{SameNode}
 use Rattle.graphql_documents.specs.Paths.{Path, path_of_one, path_of_more, IsCycle, HasNoCycle, HasLongPath}
-use Rattle.graphql_documents.specs.declared.documents.nodes.Node.{Node}
+use Rattle.graphql_nodes.specs.declared.nodes.Node.{Node}
 use Rattle.graphql_guards.specs.Guards.{Refuses, path_limit, path_of}
 use Rattle.graphql_guards.specs.declared.recursion.CycleError.{CycleError}
 use Rattle.graphql_guards.specs.declared.recursion.CycleError.TheVariants.{Recursed, Limit, Memory}

@@ -4,12 +4,11 @@ use Rattle.std.specs.Borrow.{Bor}
 use Rattle.std.proofs.lemmas.Option.{none-some, same_Some}
 use Rattle.std.proofs.lemmas.List.{take_all}
 use Rattle.std.proofs.lemmas.List.Elements.{Contains-append_cases, Contains-append_right}
-use Rattle.graphql_documents.proofs.ListLemmas.{only_one, stands_first}
-use Rattle.graphql_documents.proofs.NameLemmas.{same_name_back}
-use Rattle.graphql_documents.proofs.ReportLemmas.{more_is}
+use Rattle.graphql_documents.proofs.ListLemmas.{more_is, only_one, stands_first}
+use Rattle.graphql_nodes.proofs.NameLemmas.{same_name_back}
 use Rattle.graphql_documents.proofs.SelectionLemmas.{not_inline, not_spread, one_fragment_found, same_field, same_inline, same_spread, spread_not_inline}
 use Rattle.graphql_documents.specs.FragmentSpreads.{SpreadsBy, fragment_of}
-use Rattle.graphql_documents.specs.Names.{NameText, SameName, stands_on, with_name}
+use Rattle.graphql_nodes.specs.Names.{NameText, SameName, stands_on, with_name}
 use Rattle.graphql_documents.specs.Selections.{SetWritten, fragments_of, selections_of, set_itself, set_in_field, set_in_inline_fragment}
 use Rattle.graphql_documents.specs.declared.documents.executables.ExecutableDocument.{ExecutableDocument}
 use Rattle.graphql_documents.specs.declared.documents.executables.Field.{Field}
@@ -19,7 +18,7 @@ use Rattle.graphql_documents.specs.declared.documents.executables.InlineFragment
 use Rattle.graphql_documents.specs.declared.documents.executables.Selection.TheVariants as kind
 use Rattle.graphql_documents.specs.declared.documents.executables.Selection.{Selection}
 use Rattle.graphql_documents.specs.declared.documents.executables.SelectionSet.{SelectionSet}
-use Rattle.graphql_documents.specs.declared.documents.nodes.Node.{Node}
+use Rattle.graphql_nodes.specs.declared.nodes.Node.{Node}
 use Rattle.graphql_values.proofs.ObjectLemmas.{split_at}
 use Rattle.graphql_guards.specs.declared.recursion.CycleError.{CycleError}
 use Rattle.graphql_cycles.proofs.CycleLemmas.{ClosesNames, closes_fewer, closes_then, stops_wider}

@@ -5,8 +5,8 @@ use Rattle.std.specs.Borrow.{Bor}
 use Rattle.std.proofs.lemmas.List.Elements.{All-contains_itself}
 use Rattle.std.proofs.lemmas.List.Folds.{list_any_at}
 use Rattle.std.proofs.lemmas.List.Quantifiers.{all_pairs_push}
-use Rattle.graphql_documents.specs.Names.{AreDistinct, DifferentNames, HasDifferentNames, NameText, SameName, same_name, stands_on, with_name}
-use Rattle.graphql_documents.proofs.NameLemmas.{not_both, same_name_back}
+use Rattle.graphql_nodes.specs.Names.{AreDistinct, DifferentNames, HasDifferentNames, NameText, SameName, same_name, stands_on, with_name}
+use Rattle.graphql_nodes.proofs.NameLemmas.{not_both, same_name_back}
 use Rattle.graphql_values.proofs.SelectionWalkLemmas.{stands_before, stands_either, stands_last}
 use Rattle.graphql_cycles.specs.CycleSearches.{IsSeen, StandsOn}
 

@@ -3,10 +3,10 @@
 use Rattle.std.specs.Prelude.{◌≡◌, ℕ, ◌+◌, ◌≤◌, ◌⊎◌, ⊤, List, [], ◌∷◌, ◌++◌, Option, Some, length, map, reverse, IsTrue, Result, MatchResult}
 use Rattle.std.specs.Borrow.{Bor}
 use Rattle.std.specs.List.{AllZip}
-use Rattle.graphql_documents.specs.Names.{AreDistinct, HasDifferentNames, NameText, SameName, stands_on}
-use Rattle.graphql_documents.specs.Nodes.{SameNode}
+use Rattle.graphql_nodes.specs.Names.{AreDistinct, HasDifferentNames, NameText, SameName, stands_on}
+use Rattle.graphql_nodes.specs.Nodes.{SameNode}
 use Rattle.graphql_documents.specs.Paths.{Path}
-use Rattle.graphql_documents.specs.declared.documents.nodes.Node.{Node}
+use Rattle.graphql_nodes.specs.declared.nodes.Node.{Node}
 use Rattle.graphql_guards.specs.declared.recursion.CycleError.{CycleError}
 use Rattle.graphql_guards.specs.declared.recursion.CycleError.TheVariants.{Recursed, Limit, Memory}
 

@@ -1,11 +1,11 @@
 -- Searches for cycles of directives, for the contracts of private functions.
 use Rattle.std.specs.Prelude.{◌≡◌, ◌+◌, ◌≤◌, ◌⊎◌, ⊤, ℕ, List, ◌++◌, Contains, IsTrue, Result, MatchResult, filter_map, length, map}
 use Rattle.std.specs.Borrow.{Bor}
-use Rattle.graphql_documents.specs.Names.{AreDistinct, HasDifferentNames, NameText, stands_on}
+use Rattle.graphql_nodes.specs.Names.{AreDistinct, HasDifferentNames, NameText, stands_on}
 use Rattle.graphql_documents.specs.SchemaReferences.{AppliesBack, PartRefersBy, SchemaReference, applied, by_directive, by_type, directive_part, named, part_of}
 use Rattle.graphql_documents.specs.declared.documents.definitions.DirectiveDefinition.{DirectiveDefinition}
 use Rattle.graphql_documents.specs.declared.documents.directives.Directive.{Directive}
-use Rattle.graphql_documents.specs.declared.documents.nodes.Node.{Node}
+use Rattle.graphql_nodes.specs.declared.nodes.Node.{Node}
 use Rattle.graphql_documents.specs.declared.documents.schemas.Schema.{Schema}
 use Rattle.graphql_guards.specs.Guards.{path_limit, path_of}
 use Rattle.graphql_guards.specs.declared.recursion.CycleError.{CycleError}

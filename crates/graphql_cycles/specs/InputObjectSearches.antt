@@ -1,11 +1,11 @@
 -- Searches for cycles of input objects, for the contracts of private functions.
 use Rattle.std.specs.Prelude.{List, Contains, IsSome, Result}
 use Rattle.std.specs.Borrow.{Bor}
-use Rattle.graphql_documents.specs.Names.{NameText}
+use Rattle.graphql_nodes.specs.Names.{NameText}
 use Rattle.graphql_documents.specs.SchemaReferences.{RequiresBy, input_object_of}
 use Rattle.graphql_documents.specs.TypeReferences.{inner_named_type}
 use Rattle.graphql_documents.specs.declared.documents.definitions.InputValueDefinition.{InputValueDefinition}
-use Rattle.graphql_documents.specs.declared.documents.nodes.Node.{Node}
+use Rattle.graphql_nodes.specs.declared.nodes.Node.{Node}
 use Rattle.graphql_documents.specs.declared.documents.schemas.Schema.{Schema}
 use Rattle.graphql_guards.specs.Guards.{path_limit, path_of}
 use Rattle.graphql_guards.specs.declared.recursion.CycleError.{CycleError}

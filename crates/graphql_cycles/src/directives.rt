@@ -1,10 +1,10 @@
 ghost use Rattle.std.specs.Prelude.{◌≡◌, ◌+◌, ◌∷◌, ◌⊎◌, [], List, OnOk, filter_map, map};
-ghost use Rattle.graphql_documents.specs.Diagnostics.{IsDiagnostic};
-ghost use Rattle.graphql_documents.specs.Limits.{DirectiveLimit, directive_bound};
-ghost use Rattle.graphql_documents.specs.Reports.{ChecksWithin};
+ghost use Rattle.graphql_diagnostics.specs.Diagnostics.{IsDiagnostic};
+ghost use Rattle.graphql_diagnostics.specs.Limits.{DirectiveLimit, directive_bound};
+ghost use Rattle.graphql_diagnostics.specs.Reports.{ChecksWithin};
 ghost use Rattle.graphql_documents.specs.SchemaReferences.{DirectiveHasNoCycle, HasLongDirectivePath, HasLongTypePath, IsDirectiveCycle, SchemaReference, applied, by_directive, by_type};
-ghost use Rattle.graphql_documents.specs.SchemaReports.{DirectiveDefinitionBreaks};
-ghost use Rattle.graphql_documents.specs.Spans.{recompose};
+ghost use Rattle.graphql_diagnostics.specs.SchemaReports.{DirectiveDefinitionBreaks};
+ghost use Rattle.graphql_nodes.specs.Spans.{recompose};
 ghost use Rattle.graphql_documents.specs.declared.documents.schemas.Schema.{Schema};
 ghost use Rattle.graphql_cycles.specs.CycleSearches.{Traces};
 ghost use Rattle.graphql_cycles.specs.DirectiveSearches.{BeginsAt, KeepsPaths, SearchesFor};
@@ -12,7 +12,7 @@ ghost use Rattle.graphql_cycles.specs.References.{is_off_path, reference_of};
 
 use super::schema_references::{Reference, references_of_directive, references_of_type};
 use super::steps::{mark, trace_step};
-use graphql_documents::diagnostics::{Details, DiagnosticData, DiagnosticList, ValidationError};
+use graphql_diagnostics::{Details, DiagnosticData, DiagnosticList, ValidationError};
 use graphql_documents::documents::{
     Directive, DirectiveDefinition, ExtendedType, Name, NamedType, Node, Schema, SourceSpan,
 };

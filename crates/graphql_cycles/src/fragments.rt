@@ -1,20 +1,20 @@
 ghost use Rattle.std.specs.Prelude.{◌≡◌, ◌+◌, List, Option, OnOk};
-ghost use Rattle.graphql_documents.specs.Diagnostics.{IsDiagnostic};
+ghost use Rattle.graphql_diagnostics.specs.Diagnostics.{IsDiagnostic};
 ghost use Rattle.graphql_documents.specs.FragmentSpreads.{FragmentHasNoCycle, HasLongSpreadPath, IsFragmentCycle};
-ghost use Rattle.graphql_documents.specs.Limits.{FragmentLimit, fragment_bound};
-ghost use Rattle.graphql_documents.specs.Reports.{ChecksWithin};
-ghost use Rattle.graphql_documents.specs.SelectionReports.{FragmentBreaks};
+ghost use Rattle.graphql_diagnostics.specs.Limits.{FragmentLimit, fragment_bound};
+ghost use Rattle.graphql_diagnostics.specs.Reports.{ChecksWithin};
+ghost use Rattle.graphql_diagnostics.specs.SelectionReports.{FragmentBreaks};
 ghost use Rattle.graphql_documents.specs.Selections.{Fragments, fragments_of};
-ghost use Rattle.graphql_documents.specs.Spans.{recompose};
+ghost use Rattle.graphql_nodes.specs.Spans.{recompose};
 ghost use Rattle.graphql_documents.specs.declared.documents.executables.FragmentSpread.{FragmentSpread};
-ghost use Rattle.graphql_documents.specs.declared.documents.nodes.Node.{Node};
+ghost use Rattle.graphql_nodes.specs.declared.nodes.Node.{Node};
 ghost use Rattle.graphql_documents.specs.declared.documents.schemas.Schema.{Schema};
 ghost use Rattle.graphql_guards.specs.Guards.{path_limit, path_of};
 ghost use Rattle.graphql_cycles.specs.CycleSearches.{Traces};
 ghost use Rattle.graphql_cycles.specs.FragmentSearches.{BeginsAt, SearchesFor, SpreadAt, SpreadIn};
 
 use super::steps::{mark, trace_step};
-use graphql_documents::diagnostics::{Details, DiagnosticData, DiagnosticList, ValidationError};
+use graphql_diagnostics::{Details, DiagnosticData, DiagnosticList, ValidationError};
 use graphql_documents::documents::{
     ExecutableDocument, Fragment, FragmentSpread, Name, Node, Selection, SelectionSet, SourceSpan,
 };

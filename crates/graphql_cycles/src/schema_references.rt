@@ -2,7 +2,7 @@ ghost use Rattle.std.specs.Prelude.{◌≡◌, ◌++◌, ◌∷◌, [], IfOk, On
 ghost use Rattle.graphql_documents.specs.SchemaReferences.{by_directive, directive_part, input_references, references_of, type_part};
 ghost use Rattle.graphql_cycles.specs.References.{reference_of};
 
-use graphql_documents::diagnostics::ValidationError;
+use graphql_diagnostics::ValidationError;
 use graphql_documents::documents::{
     Component, Directive, DirectiveDefinition, EnumValueDefinition, ExtendedType,
     InputValueDefinition, Name, NamedType, Node,

@@ -1,5 +1,5 @@
 ghost use Rattle.std.specs.Prelude.{◌≡◌, IfErr, IfOk, OnOk, map, not};
-ghost use Rattle.graphql_documents.specs.Names.{stands_on, with_name};
+ghost use Rattle.graphql_nodes.specs.Names.{stands_on, with_name};
 ghost use Rattle.graphql_cycles.specs.CycleSearches.{GoesOn, IsMemory};
 
 use graphql_documents::documents::{Name, Node};

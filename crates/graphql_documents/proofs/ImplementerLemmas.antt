@@ -13,13 +13,13 @@ use Rattle.std.proofs.lemmas.List.Elements.{filter-append}
 use Rattle.indexmap.specs.IndexMap.{insert_entry}
 use Rattle.indexmap.specs.IndexSet.{insert_key}
 use Rattle.graphql_documents.specs.Implementers.{Listing, implementer_entries, implementer_names, listings_of, no_implementers, with_implementer, with_own_name}
-use Rattle.graphql_documents.specs.Names.{NameText, SameName, different_names, same_name, stands_on, with_name}
+use Rattle.graphql_nodes.specs.Names.{NameText, SameName, different_names, same_name, stands_on, with_name}
 use Rattle.graphql_documents.specs.Schemas.{ImplementerNames, implementers_map, interfaces_of, is_interface_type, is_object_type, lists_interface, own_name}
 use Rattle.graphql_documents.specs.declared.documents.components.ComponentName.{ComponentName}
 use Rattle.graphql_documents.specs.declared.documents.implementers.Implementers.{Implementers}
 use Rattle.graphql_documents.specs.declared.documents.schemas.ExtendedType.{ExtendedType}
 use Rattle.graphql_documents.specs.declared.documents.schemas.Schema.{Schema}
-use Rattle.graphql_documents.proofs.NameLemmas.{same_name_itself, same_text}
+use Rattle.graphql_nodes.proofs.NameLemmas.{same_name_itself, same_text}
 
 or_false : (b : Bool) → (b || false) ≡ b
 or_false true = refl

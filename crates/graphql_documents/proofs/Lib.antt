@@ -1,11 +1,6 @@
-pub mod DiagnosticLemmas
 pub mod ImplementerLemmas
 pub mod ListLemmas
-pub mod NameLemmas
 pub mod NumberLemmas
-pub mod ReportLemmas
-pub mod ReportWithinLemmas
 pub mod SelectionLemmas
-pub mod SelectionReportLemmas
 pub mod SubtypeLemmas
 pub mod VariableUseLemmas

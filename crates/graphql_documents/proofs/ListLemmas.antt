@@ -1,8 +1,9 @@
 -- What stands in a list, in what a map makes of it, and in what a filter keeps.
-use Rattle.std.proofs.Common.{◌≡◌, Bool, true, false, cond, List, [], ◌∷◌, map, refl, ap, All, Contains, arith, ◌++◌}
+use Rattle.std.proofs.Common.{◌≡◌, Bool, true, false, cond, ℕ, ◌+◌, ◌<◌, List, [], ◌∷◌, map, refl, sym, ◌∙◌, ap, subst, All, Contains, arith, ◌++◌, length, get_or, take}
+use Rattle.std.proofs.lemmas.List.{append_assoc, take_more}
 use Rattle.std.specs.Prelude.{Option, Some, None, filter, filter_map, flat_map}
 use Rattle.std.specs.List.{cons_option}
-use Rattle.std.proofs.lemmas.List.Elements.{All-nil, All-cons, All-head, All-tail, All-contains, All-contains_itself, All-map, All-weaker, Contains-append_right, Contains-append_left}
+use Rattle.std.proofs.lemmas.List.Elements.{All-nil, All-cons, All-head, All-tail, All-contains, All-contains_itself, All-map, All-weaker, Contains-append_right, Contains-append_left, Contains-push}
 
 pub stands_first : {X : Type 0} (x : X) (xs : List X) → Contains (x ∷ xs) x
 stands_first x xs = (0, omega arith, refl)
@@ -101,3 +102,25 @@ all_flat {X} {Y} f (x ∷ xs) =
 -- what is made of an element stands in what is made of all
 pub stands_flat : {X Y : Type 0} (f : X → List Y) (xs : List X) (x : X) (y : Y) → Contains xs x → Contains (f x) y → Contains (flat_map f xs) y
 stands_flat {X} {Y} f xs x y in' made = All-contains (λ (x : X). (y : Y) → Contains (f x) y → Contains (flat_map f xs) y) xs x (all_flat f xs) in' y made
+
+-- an element more of a list
+pub more_is : {X : Type 0} (xs : List X) (i : ℕ) (x : X) → i < length xs → x ≡ get_or xs i x → take (i + 1) xs ≡ take i xs ++ x ∷ []
+more_is xs i x within item = take_more xs i x within ∙ ap (λ y. take i xs ++ y ∷ []) (sym item)
+
+-- each part of a list has what the whole has
+pub All-append_left : {X : Type 0} (P : X → Type 0) (xs ys : List X) → All P (xs ++ ys) → All P xs
+All-append_left P xs ys all =
+    All-weaker (Contains xs) P (λ x in'. All-contains P (xs ++ ys) x all (Contains-append_left xs ys x in')) xs (All-contains_itself xs)
+
+pub All-append_right : {X : Type 0} (P : X → Type 0) (xs ys : List X) → All P (xs ++ ys) → All P ys
+All-append_right P xs ys all =
+    All-weaker (Contains ys) P (λ x in'. All-contains P (xs ++ ys) x all (Contains-append_right xs ys x in')) ys (All-contains_itself ys)
+
+-- the next of what is left, and what was done then
+pub stands_next : {X : Type 0} (all done left rest : List X) (x : X) → all ≡ done ++ left → left ≡ x ∷ rest → Contains all x
+stands_next all done left rest x e next =
+    subst (λ l. Contains l x) (sym (e ∙ ap (λ l. done ++ l) next ∙ sym (append_assoc done (x ∷ []) rest)))
+    (Contains-append_left (done ++ x ∷ []) rest x (Contains-push done x))
+
+pub done_next : {X : Type 0} (all done left rest : List X) (x : X) → all ≡ done ++ left → left ≡ x ∷ rest → all ≡ (done ++ x ∷ []) ++ rest
+done_next all done left rest x e next = e ∙ ap (λ l. done ++ l) next ∙ sym (append_assoc done (x ∷ []) rest)

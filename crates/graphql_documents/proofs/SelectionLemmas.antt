@@ -2,9 +2,9 @@
 use Rattle.std.proofs.Common.{List, ℕ, ◌≡◌, sym, ◌∙◌, ap}
 use Rattle.std.specs.Str.{bytes_eq}
 use Rattle.indexmap.specs.IndexMap.{get_by}
-use Rattle.graphql_documents.specs.Names.{NameText, SameName}
+use Rattle.graphql_nodes.specs.Names.{NameText, SameName}
 use Rattle.graphql_documents.specs.Selections.{Fragments, fragments_of, Includes, includes_itself, includes_inline_fragment, includes_spread}
-use Rattle.graphql_documents.specs.declared.documents.nodes.Node.{Node}
+use Rattle.graphql_nodes.specs.declared.nodes.Node.{Node}
 use Rattle.graphql_documents.specs.declared.documents.executables.Selection.{out-Selection}
 use Rattle.graphql_documents.specs.declared.documents.executables.Selection.TheOpen as Open
 use Rattle.graphql_documents.specs.declared.documents.executables.Selection.TheVariants as kind
@@ -13,7 +13,7 @@ use Rattle.graphql_documents.specs.declared.documents.executables.Field.{Field}
 use Rattle.graphql_documents.specs.declared.documents.executables.InlineFragment.{InlineFragment}
 use Rattle.graphql_documents.specs.declared.documents.executables.FragmentSpread.{FragmentSpread}
 use Rattle.graphql_documents.specs.declared.documents.executables.ExecutableDocument.{ExecutableDocument}
-use Rattle.graphql_documents.proofs.NameLemmas.{same_text}
+use Rattle.graphql_nodes.proofs.NameLemmas.{same_text}
 
 -- a field is no fragment, and a selection is one field
 pub not_inline : (f : Node Field) (i : Node InlineFragment) → ¬ (kind.InlineFragment i ≡ kind.Field f)

@@ -1,23 +1,23 @@
 -- The variables in a value, and those that an operation uses.
 use Rattle.std.proofs.Common.{◌≡◌, List, [], ◌∷◌, ◌++◌, Vec, map, refl, sym, subst}
 use Rattle.std.specs.declared.alloc.Global.{Global}
-use Rattle.graphql_documents.specs.Names.{NameText}
+use Rattle.graphql_nodes.specs.Names.{NameText}
 use Rattle.graphql_documents.specs.Values.{VariablesIn, in_null, in_enum, in_variable, in_string, in_float, in_int, in_boolean, in_list, in_object, VariablesInItems, no_items, next_item, VariablesInEntries, no_entries, next_entry}
-use Rattle.graphql_documents.specs.declared.documents.nodes.Node.{Node}
+use Rattle.graphql_nodes.specs.declared.nodes.Node.{Node}
 use Rattle.graphql_documents.specs.declared.documents.values.Value.{Value, out-Value, roll-Value}
 use Rattle.graphql_documents.specs.declared.documents.values.Value.TheFolds.{ind-Value, map-Value, claims}
 use Rattle.graphql_documents.specs.declared.documents.values.Value.TheBlock.{the_family, member-Value}
 use Rattle.graphql_documents.specs.declared.documents.values.Value.TheOpen as Open
 use Rattle.graphql_documents.specs.declared.documents.values.Value.TheVariants as literal
 use denote.Hole.Holds
-use Rattle.graphql_documents.specs.Names.{SameName}
+use Rattle.graphql_nodes.specs.Names.{SameName}
 use Rattle.graphql_documents.specs.Selections.{Fragments, arguments_of, directives_of}
 use Rattle.graphql_documents.specs.Values.{StandsIn}
 use Rattle.graphql_documents.specs.Variables.{StandsInArguments, StandsInDirectives, UsesVariable, in_arguments, in_directives, in_fragment_definition, in_operation}
 use Rattle.graphql_documents.specs.declared.documents.directives.Argument.{Argument}
 use Rattle.graphql_documents.specs.declared.documents.directives.Directive.{Directive}
 use Rattle.graphql_documents.specs.declared.documents.executables.Operation.{Operation}
-use Rattle.graphql_documents.proofs.NameLemmas.{same_name_then}
+use Rattle.graphql_nodes.proofs.NameLemmas.{same_name_then}
 
 -- the value has a list of variables
 abbrev HasVariables : Value → Type 0

@@ -1,10 +1,10 @@
 -- Arguments against their definitions. Specification: 5.4 Arguments.
 use Rattle.std.specs.Prelude.{◌≡◌, ◌≢◌, true, false, List, Option, Some, All, AllPairs, find, IsSome, IsSomeAnd}
-use Rattle.graphql_documents.specs.Names.{NameText, same_name}
+use Rattle.graphql_nodes.specs.Names.{NameText, same_name}
 use Rattle.graphql_documents.specs.Schemas.{is_required}
 use Rattle.graphql_documents.specs.VariableUsage.{UsageHolds}
 use Rattle.graphql_documents.specs.InputCoercion.{Accepts}
-use Rattle.graphql_documents.specs.declared.documents.nodes.Node.{Node}
+use Rattle.graphql_nodes.specs.declared.nodes.Node.{Node}
 use Rattle.graphql_documents.specs.declared.documents.directives.Argument.{Argument}
 use Rattle.graphql_documents.specs.declared.documents.definitions.InputValueDefinition.{InputValueDefinition}
 use Rattle.graphql_documents.specs.declared.documents.definitions.VariableDefinition.{VariableDefinition}

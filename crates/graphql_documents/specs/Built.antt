@@ -1,12 +1,12 @@
 -- Documents that were built against a schema: definitions stand under their own names, and each set and
 -- field has the type and definition of its place.
 use Rattle.std.specs.Prelude.{◌≡◌, Bool, Some, Ok, All, Contains, IsTrue, unwrap_or, ⊤}
-use Rattle.graphql_documents.specs.Names.{NameText, SameName}
+use Rattle.graphql_nodes.specs.Names.{NameText, SameName}
 use Rattle.graphql_documents.specs.TypeReferences.{inner_named_type}
 use Rattle.graphql_documents.specs.Schemas.{NamesKind, type_field, is_output_type, own_name, fields_of, input_fields_of, root_operation}
 use Rattle.graphql_documents.specs.Selections.{SetWritten, selections_of}
 use Rattle.graphql_documents.specs.Defer.{operations_of}
-use Rattle.graphql_documents.specs.declared.documents.nodes.Node.{Node}
+use Rattle.graphql_nodes.specs.declared.nodes.Node.{Node}
 use Rattle.graphql_documents.specs.declared.documents.components.Component.{Component}
 use Rattle.graphql_documents.specs.declared.documents.components.ComponentName.{ComponentName}
 use Rattle.graphql_documents.specs.declared.documents.definitions.FieldDefinition.{FieldDefinition}

@@ -1,11 +1,11 @@
 -- The fields that an object answers, by response key. Specification: 6.3.2 Field Collection, without
 -- `@skip` and `@include`.
 use Rattle.std.specs.Prelude.{◌≡◌, ◌⊎◌, List, [], ◌∷◌, ◌++◌, None, Some, Any, Contains, IfSome, IsFalse, IsTrue}
-use Rattle.graphql_documents.specs.Names.{NameText, SameName, stands_on}
+use Rattle.graphql_nodes.specs.Names.{NameText, SameName, stands_on}
 use Rattle.graphql_documents.specs.Schemas.{type_definition, IsListed}
 use Rattle.graphql_documents.specs.Selections.{Fragments, response_key, selections_of}
 use Rattle.graphql_documents.specs.Merging.{FieldSelection, set_of}
-use Rattle.graphql_documents.specs.declared.documents.nodes.Node.{Node}
+use Rattle.graphql_nodes.specs.declared.nodes.Node.{Node}
 use Rattle.graphql_documents.specs.declared.documents.schemas.Schema.{Schema}
 use Rattle.graphql_documents.specs.declared.documents.schemas.ObjectType.{ObjectType}
 use Rattle.graphql_documents.specs.declared.documents.schemas.InterfaceType.{InterfaceType}

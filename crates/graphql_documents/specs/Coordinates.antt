@@ -1,6 +1,6 @@
 -- The texts of schema coordinates. Specification: draft, 3.14 Schema Coordinates.
 use Rattle.std.specs.Prelude.{ℕ, List, ◌++◌, codes}
-use Rattle.graphql_documents.specs.Names.{NameText}
+use Rattle.graphql_nodes.specs.Names.{NameText}
 use Rattle.graphql_documents.specs.declared.documents.coordinates.TypeCoordinate.{TypeCoordinate}
 use Rattle.graphql_documents.specs.declared.documents.coordinates.TypeAttributeCoordinate.{TypeAttributeCoordinate}
 use Rattle.graphql_documents.specs.declared.documents.coordinates.FieldArgumentCoordinate.{FieldArgumentCoordinate}

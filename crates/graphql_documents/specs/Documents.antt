@@ -2,7 +2,7 @@
 use Rattle.std.specs.Prelude.{◌≡◌, [], Option, Some, All, Any, option_map}
 use Rattle.std.specs.Option.{option_and_then}
 use Rattle.indexmap.specs.IndexMap.{values}
-use Rattle.graphql_documents.specs.Names.{NameText, SameName}
+use Rattle.graphql_nodes.specs.Names.{NameText, SameName}
 use Rattle.graphql_documents.specs.Schemas.{root_operation}
 use Rattle.graphql_documents.specs.Directives.{ApplicationsHold}
 use Rattle.graphql_documents.specs.Selections.{Reached, fragments_of, selections_of}
@@ -11,7 +11,7 @@ use Rattle.graphql_documents.specs.Variables.{VariablesHold}
 use Rattle.graphql_documents.specs.Subscriptions.{SubscriptionHolds}
 use Rattle.graphql_documents.specs.Defer.{DeferHolds, operations_of}
 use Rattle.graphql_documents.specs.Merging.{Merges}
-use Rattle.graphql_documents.specs.declared.documents.nodes.Node.{Node}
+use Rattle.graphql_nodes.specs.declared.nodes.Node.{Node}
 use Rattle.graphql_documents.specs.declared.documents.definitions.OperationType.{OperationType}
 use Rattle.graphql_documents.specs.declared.documents.definitions.OperationType.TheVariants.{Query, Mutation, Subscription}
 use Rattle.graphql_documents.specs.declared.documents.definitions.DirectiveLocation.{DirectiveLocation}

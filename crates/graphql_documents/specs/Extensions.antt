@@ -6,7 +6,7 @@ use Rattle.graphql_documents.specs.declared.documents.components.ComponentOrigin
 use Rattle.graphql_documents.specs.declared.documents.components.ExtensionId.{ExtensionId}
 use Rattle.graphql_documents.specs.declared.documents.schemas.ExtendedType.TheVariants as types
 use Rattle.graphql_documents.specs.declared.documents.schemas.ExtendedType.{ExtendedType}
-use Rattle.graphql_documents.specs.declared.documents.spans.SourceSpan.{SourceSpan}
+use Rattle.graphql_nodes.specs.declared.spans.SourceSpan.{SourceSpan}
 
 -- an extension, if the part was written in one
 abbrev pub extension_in : ComponentOrigin → Option ExtensionId

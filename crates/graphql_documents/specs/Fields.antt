@@ -1,14 +1,14 @@
 -- When a field holds at its place. Specification: 5.3 Fields, 5.4 Arguments.
 use Rattle.std.specs.Prelude.{◌≡◌, ◌≢◌, true, Option, Some, List, []}
 use Rattle.std.specs.Option.{option_and_then}
-use Rattle.graphql_documents.specs.Names.{NameText}
+use Rattle.graphql_nodes.specs.Names.{NameText}
 use Rattle.graphql_documents.specs.TypeReferences.{inner_named_type}
 use Rattle.graphql_documents.specs.Schemas.{type_definition, is_composite}
 use Rattle.graphql_documents.specs.Selections.{selections_of, definition_at, Fragments, Placed, without}
 use Rattle.graphql_documents.specs.Arguments.{HasDistinctNames, ArgumentNamesHold, ArgumentValuesHold}
 use Rattle.graphql_documents.specs.Directives.{ApplicationsHold}
 use Rattle.graphql_documents.specs.FragmentSpreads.{InlineFragmentHolds, SpreadHolds}
-use Rattle.graphql_documents.specs.declared.documents.nodes.Node.{Node}
+use Rattle.graphql_nodes.specs.declared.nodes.Node.{Node}
 use Rattle.graphql_documents.specs.declared.documents.components.Component.{Component}
 use Rattle.graphql_documents.specs.declared.documents.definitions.FieldDefinition.{FieldDefinition}
 use Rattle.graphql_documents.specs.declared.documents.definitions.DirectiveLocation.TheVariants as at

@@ -1,11 +1,11 @@
 -- Fragments, where they may be spread, and cycles of spreads. Specification: 5.5 Fragments.
 use Rattle.std.specs.Prelude.{◌≡◌, ◌⊎◌, ℕ, List, Option, None, Some, IsFalse, ⊤}
-use Rattle.graphql_documents.specs.Names.{NameText, SameName, stands_on}
+use Rattle.graphql_nodes.specs.Names.{NameText, SameName, stands_on}
 use Rattle.graphql_documents.specs.Schemas.{type_definition, is_composite, IsPossibleType, NamesKind}
 use Rattle.graphql_documents.specs.Selections.{Fragments, Written}
 use Rattle.graphql_documents.specs.Directives.{ApplicationsHold}
 use Rattle.graphql_documents.specs.Paths.{IsCycle, HasNoCycle, HasLongPath}
-use Rattle.graphql_documents.specs.declared.documents.nodes.Node.{Node}
+use Rattle.graphql_nodes.specs.declared.nodes.Node.{Node}
 use Rattle.graphql_documents.specs.declared.documents.definitions.DirectiveLocation.TheVariants as at
 use Rattle.graphql_documents.specs.declared.documents.definitions.VariableDefinition.{VariableDefinition}
 use Rattle.graphql_documents.specs.declared.documents.schemas.Schema.{Schema}

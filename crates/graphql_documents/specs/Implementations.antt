@@ -1,10 +1,10 @@
 -- When an object or interface implements what it lists. Specification: 3.6 Objects, IsValidImplementation.
 use Rattle.std.specs.Prelude.{◌≡◌, ◌⊎◌, List, Option, Some, All, Contains, IsTrue, IsSome, find, option_map}
-use Rattle.graphql_documents.specs.Names.{NameText, SameName, same_name}
+use Rattle.graphql_nodes.specs.Names.{NameText, SameName, same_name}
 use Rattle.graphql_documents.specs.TypeReferences.{same_type}
 use Rattle.graphql_documents.specs.Schemas.{is_required, IsInterface, IsListed, IsSubtype}
 use Rattle.graphql_documents.specs.Arguments.{definition_named}
-use Rattle.graphql_documents.specs.declared.documents.nodes.Node.{Node}
+use Rattle.graphql_nodes.specs.declared.nodes.Node.{Node}
 use Rattle.graphql_documents.specs.declared.documents.components.Component.{Component}
 use Rattle.graphql_documents.specs.declared.documents.components.ComponentName.{ComponentName}
 use Rattle.graphql_documents.specs.declared.documents.type_references.Type.{«Type»}

@@ -3,7 +3,7 @@ use Rattle.std.specs.Prelude.{List, [], map, unwrap_or, if◌then◌else◌}
 use Rattle.std.specs.Borrow.{Bor}
 use Rattle.std.specs.Map.{lookup}
 use Rattle.indexmap.specs.IndexMap.{insert_entry}
-use Rattle.graphql_documents.specs.Names.{NameText, same_name, with_name}
+use Rattle.graphql_nodes.specs.Names.{NameText, same_name, with_name}
 use Rattle.graphql_documents.specs.Schemas.{ImplementerNames, interfaces_of, is_interface_type, is_object_type, own_name}
 use Rattle.graphql_documents.specs.declared.documents.implementers.Implementers.{Implementers}
 use Rattle.graphql_documents.specs.declared.documents.schemas.ExtendedType.{ExtendedType}

@@ -1,7 +1,7 @@
 -- Field merging by passes over lists of fields: how two fields come together, what is asked of them, and
 -- which lists a walk has seen, where one of the same fields as one before is passed over. Specification: draft, 5.3.2 Field Selection Merging.
 use Rattle.std.specs.Prelude.{◌≡◌, ◌≢◌, Bool, List, [], ◌∷◌, IsTrue, All, Contains}
-use Rattle.graphql_documents.specs.Names.{SameName}
+use Rattle.graphql_nodes.specs.Names.{SameName}
 use Rattle.graphql_documents.specs.Expansion.{Expansion, IsGroup, MergedSet, Pass, field_pass, nested_sets, shape_pass}
 use Rattle.graphql_documents.specs.Merging.{FieldInside, FieldSelection, ParentsMayOverlap, SameFields, SameKey, SameNameAndArguments, SameShape, set_of, type_of}
 use Rattle.graphql_documents.specs.Selections.{Fragments, response_key}
@@ -9,7 +9,7 @@ use Rattle.graphql_documents.specs.TypeReferences.{same_type}
 use Rattle.graphql_documents.specs.declared.documents.executables.Field.{Field}
 use Rattle.graphql_documents.specs.declared.documents.executables.Operation.{Operation}
 use Rattle.graphql_documents.specs.declared.documents.executables.SelectionSet.{SelectionSet}
-use Rattle.graphql_documents.specs.declared.documents.nodes.Node.{Node}
+use Rattle.graphql_nodes.specs.declared.nodes.Node.{Node}
 use Rattle.graphql_documents.specs.declared.documents.schemas.Schema.{Schema}
 
 -- two fields are put together: they have one key, and where names and arguments are compared, parents

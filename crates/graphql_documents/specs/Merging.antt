@@ -1,12 +1,12 @@
 -- When the fields of an operation can be merged. Specification: draft, 5.3.2 Field Selection Merging.
 use Rattle.std.specs.Prelude.{Bool, ◌≡◌, List, [], ◌∷◌, ◌++◌, Some, Contains, IsTrue, is_some}
 use Rattle.std.specs.List.{AllZip}
-use Rattle.graphql_documents.specs.Names.{NameText, SameName}
+use Rattle.graphql_nodes.specs.Names.{NameText, SameName}
 use Rattle.graphql_documents.specs.Values.{SameValue}
 use Rattle.graphql_documents.specs.Arguments.{argument_named}
 use Rattle.graphql_documents.specs.Schemas.{type_definition, is_composite}
 use Rattle.graphql_documents.specs.Selections.{Fragments, Includes, response_key, selections_of}
-use Rattle.graphql_documents.specs.declared.documents.nodes.Node.{Node}
+use Rattle.graphql_nodes.specs.declared.nodes.Node.{Node}
 use Rattle.graphql_documents.specs.declared.documents.type_references.Type.{«Type»}
 use Rattle.graphql_documents.specs.declared.documents.type_references.Type.TheVariants.{Named, NonNullNamed, List', NonNullList'}
 use Rattle.graphql_documents.specs.declared.documents.directives.Argument.{Argument}

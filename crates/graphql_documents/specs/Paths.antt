@@ -1,7 +1,7 @@
 -- Paths of references from definition to definition, and cycles. Specification: 5.5.2.2 Fragment
 -- Spreads Must Not Form Cycles, 3.10 Input Objects and 3.13 Directives, on references to themselves.
 use Rattle.std.specs.Prelude.{◌≡◌, ℕ, List, [], ◌∷◌, ◌++◌, Option, Some, map}
-use Rattle.graphql_documents.specs.Names.{NameText, HasDifferentNames}
+use Rattle.graphql_nodes.specs.Names.{NameText, HasDifferentNames}
 
 -- how definitions refer to one another
 module _ {Definition Reference : Type 0} (RefersBy : Definition → Reference → Type 0) (target : Reference → Option Definition) where

@@ -2,12 +2,12 @@
 -- References; 3.13 Directives, on definitions that refer to themselves.
 use Rattle.std.specs.Prelude.{ℕ, List, [], ◌∷◌, ◌++◌, Option, None, Some, Contains, IsSome, flat_map, filter_map, map, option_map}
 use Rattle.std.specs.Option.{option_and_then}
-use Rattle.graphql_documents.specs.Names.{NameText, SameName, HasDifferentNames}
+use Rattle.graphql_nodes.specs.Names.{NameText, SameName, HasDifferentNames}
 use Rattle.graphql_documents.specs.TypeReferences.{inner_named_type}
 use Rattle.graphql_documents.specs.Schemas.{type_definition}
 use Rattle.graphql_documents.specs.Directives.{directive_definition}
 use Rattle.graphql_documents.specs.Paths.{Path, IsCycle, HasNoCycle, HasLongPath}
-use Rattle.graphql_documents.specs.declared.documents.nodes.Node.{Node}
+use Rattle.graphql_nodes.specs.declared.nodes.Node.{Node}
 use Rattle.graphql_documents.specs.declared.documents.type_references.Type.{«Type»}
 use Rattle.graphql_documents.specs.declared.documents.type_references.Type.TheVariants.{NonNullNamed}
 use Rattle.graphql_documents.specs.declared.documents.directives.Directive.{Directive}

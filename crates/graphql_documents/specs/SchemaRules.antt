@@ -1,13 +1,13 @@
 -- When a schema holds. Specification: 3 Type System, each kind under Type Validation.
 use Rattle.std.specs.Prelude.{◌≡◌, ◌≢◌, ◌⊎◌, Bool, List, [], None, Some, All, IsTrue, IsSome, map}
-use Rattle.graphql_documents.specs.Names.{NameText, AreDistinct, IsFreeName}
+use Rattle.graphql_nodes.specs.Names.{NameText, AreDistinct, IsFreeName}
 use Rattle.graphql_documents.specs.TypeReferences.{inner_named_type}
 use Rattle.graphql_documents.specs.Schemas.{NamesKind, type_definition, is_built_in, is_input_type, is_object_type, is_output_type, roots_of}
 use Rattle.graphql_documents.specs.Directives.{ApplicationsHold}
 use Rattle.graphql_documents.specs.TypeMaps.{names_built_in_scalar}
 use Rattle.graphql_documents.specs.SchemaReferences.{InputObjectHasNoCycle, DirectiveHasNoCycle, directives_of_type}
 use Rattle.graphql_documents.specs.Implementations.{ImplementationsHold, DoesNotListItself, FieldList}
-use Rattle.graphql_documents.specs.declared.documents.nodes.Node.{Node}
+use Rattle.graphql_nodes.specs.declared.nodes.Node.{Node}
 use Rattle.graphql_documents.specs.declared.documents.directives.Directive.{Directive}
 use Rattle.graphql_documents.specs.declared.documents.definitions.DirectiveLocation.{DirectiveLocation}
 use Rattle.graphql_documents.specs.declared.documents.definitions.DirectiveLocation.TheVariants as at

@@ -4,10 +4,10 @@ use Rattle.std.specs.List.{list_any}
 use Rattle.std.specs.Option.{option_and_then, option_map_or}
 use Rattle.std.specs.Str.{bytes_eq}
 use Rattle.indexmap.specs.IndexMap.{get}
-use Rattle.graphql_documents.specs.Names.{NameText, SameName, same_name, is_built_in_location, different_names}
+use Rattle.graphql_nodes.specs.Names.{NameText, SameName, same_name, is_built_in_location, different_names}
 use Rattle.graphql_documents.specs.TypeReferences.{is_non_null}
-use Rattle.graphql_documents.specs.declared.documents.spans.SourceSpan.{SourceSpan}
-use Rattle.graphql_documents.specs.declared.documents.nodes.Node.{Node}
+use Rattle.graphql_nodes.specs.declared.spans.SourceSpan.{SourceSpan}
+use Rattle.graphql_nodes.specs.declared.nodes.Node.{Node}
 use Rattle.graphql_documents.specs.declared.documents.components.Component.{Component}
 use Rattle.graphql_documents.specs.declared.documents.components.ComponentName.{ComponentName}
 use Rattle.graphql_documents.specs.declared.documents.definitions.OperationType.{OperationType}

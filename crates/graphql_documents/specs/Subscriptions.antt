@@ -3,9 +3,9 @@
 use Rattle.std.specs.Prelude.{◌≡◌, ◌+◌, ◌≤◌, Bool, ◌||◌, List, [], ◌∷◌, ◌++◌, Option, Some, None, All, AllPairs, IsFalse, IsTrue, codes, filter_map, length, sum_by}
 use Rattle.std.specs.List.{list_any}
 use Rattle.std.specs.Str.{bytes_eq}
-use Rattle.graphql_documents.specs.Names.{NameText, SameName, DifferentNames, same_name}
+use Rattle.graphql_nodes.specs.Names.{NameText, SameName, DifferentNames, same_name}
 use Rattle.graphql_documents.specs.Selections.{Fragments, Inside, selections_of, directives_of}
-use Rattle.graphql_documents.specs.declared.documents.nodes.Node.{Node}
+use Rattle.graphql_nodes.specs.declared.nodes.Node.{Node}
 use Rattle.graphql_documents.specs.declared.documents.directives.Directive.{Directive}
 use Rattle.graphql_documents.specs.declared.documents.executables.SelectionSet.{SelectionSet}
 use Rattle.graphql_documents.specs.declared.documents.executables.Selection.{Selection, out-Selection}

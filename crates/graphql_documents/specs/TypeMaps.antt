@@ -2,11 +2,11 @@
 use Rattle.std.specs.Prelude.{◌≡◌, ℕ, Bool, true, false, ◌&&◌, not, All, IsTrue, List, [], ◌∷◌, ◌++◌, Some, codes, filter, flat_map, map}
 use Rattle.std.specs.List.{AllZip, list_all, list_any}
 use Rattle.std.specs.Str.{bytes_eq}
-use Rattle.graphql_documents.specs.Names.{NameText}
+use Rattle.graphql_nodes.specs.Names.{NameText}
 use Rattle.graphql_documents.specs.TypeReferences.{inner_named_type}
 use Rattle.graphql_documents.specs.Schemas.{is_built_in, fields_of, input_fields_of, own_name}
-use Rattle.graphql_documents.specs.declared.documents.spans.SourceSpan.{SourceSpan}
-use Rattle.graphql_documents.specs.declared.documents.nodes.Node.{Node}
+use Rattle.graphql_nodes.specs.declared.spans.SourceSpan.{SourceSpan}
+use Rattle.graphql_nodes.specs.declared.nodes.Node.{Node}
 use Rattle.graphql_documents.specs.declared.documents.definitions.FieldDefinition.{FieldDefinition}
 use Rattle.graphql_documents.specs.declared.documents.definitions.InputValueDefinition.{InputValueDefinition}
 use Rattle.graphql_documents.specs.declared.documents.schemas.ScalarType.{ScalarType}

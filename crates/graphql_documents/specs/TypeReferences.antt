@@ -1,8 +1,8 @@
 -- References to types. Specification: 2.11 Type References.
 use Rattle.std.specs.Prelude.{◌≡◌, ℕ, Bool, true, false, not, List, ◌++◌, codes, Option}
-use Rattle.graphql_documents.specs.Names.{NameText, same_name}
-use Rattle.graphql_documents.specs.declared.documents.nodes.Node.{Node}
-use Rattle.graphql_documents.specs.declared.documents.spans.SourceSpan.{SourceSpan}
+use Rattle.graphql_nodes.specs.Names.{NameText, same_name}
+use Rattle.graphql_nodes.specs.declared.nodes.Node.{Node}
+use Rattle.graphql_nodes.specs.declared.spans.SourceSpan.{SourceSpan}
 use Rattle.graphql_documents.specs.declared.documents.type_references.Type.{«Type»}
 use Rattle.graphql_documents.specs.declared.documents.type_references.Type.TheVariants.{Named, NonNullNamed, List', NonNullList'}
 

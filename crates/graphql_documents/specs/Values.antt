@@ -1,8 +1,8 @@
 -- Input values: their kinds, their sameness, and the variables in them. Specification: 2.9 Input Values.
 use Rattle.std.specs.Prelude.{◌≡◌, ℕ, Bool, Option, Some, List, [], ◌∷◌, ◌++◌, Contains, Vec, String, codes, find, option_map, is_some, slice_get, string_bytes, length}
 use Rattle.std.specs.declared.alloc.Global.{Global}
-use Rattle.graphql_documents.specs.Names.{NameText, SameName, same_name}
-use Rattle.graphql_documents.specs.declared.documents.nodes.Node.{Node}
+use Rattle.graphql_nodes.specs.Names.{NameText, SameName, same_name}
+use Rattle.graphql_nodes.specs.declared.nodes.Node.{Node}
 use Rattle.graphql_documents.specs.declared.documents.values.Value.{Value}
 use Rattle.graphql_documents.specs.declared.documents.values.Value.TheVariants as literal
 

@@ -1,13 +1,13 @@
 -- Variables of operations: their definitions and their uses. Specification: 5.8 Variables.
 use Rattle.std.specs.Prelude.{◌≡◌, List, [], Option, Some, All, Any, map}
-use Rattle.graphql_documents.specs.Names.{NameText, AreDistinct}
+use Rattle.graphql_nodes.specs.Names.{NameText, AreDistinct}
 use Rattle.graphql_documents.specs.TypeReferences.{inner_named_type}
 use Rattle.graphql_documents.specs.Values.{StandsIn}
 use Rattle.graphql_documents.specs.Schemas.{NamesKind, is_input_type}
 use Rattle.graphql_documents.specs.InputCoercion.{Accepts}
 use Rattle.graphql_documents.specs.Directives.{ApplicationsHold}
 use Rattle.graphql_documents.specs.Selections.{Fragments, Reached, directives_of, arguments_of}
-use Rattle.graphql_documents.specs.declared.documents.nodes.Node.{Node}
+use Rattle.graphql_nodes.specs.declared.nodes.Node.{Node}
 use Rattle.graphql_documents.specs.declared.documents.values.Value.{Value}
 use Rattle.graphql_documents.specs.declared.documents.directives.Argument.{Argument}
 use Rattle.graphql_documents.specs.declared.documents.directives.Directive.{Directive}

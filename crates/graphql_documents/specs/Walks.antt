@@ -1,7 +1,7 @@
 -- Walks over selections, how deep they go, and what they list.
 use Rattle.std.specs.Prelude.{◌≡◌, ℕ, suc, ◌<◌, Bool, true, false, not, List, [], ◌∷◌, Some, IsTrue, IsFalse, All, Contains}
 use Rattle.graphql_documents.specs.Defer.{can_be_excluded, sets_of}
-use Rattle.graphql_documents.specs.Names.{AreDistinct, NameText}
+use Rattle.graphql_nodes.specs.Names.{AreDistinct, NameText}
 use Rattle.graphql_documents.specs.Selections.{Fragments, fragments_of, selections_of}
 use Rattle.graphql_documents.specs.declared.documents.executables.ExecutableDocument.{ExecutableDocument}
 use Rattle.graphql_documents.specs.declared.documents.executables.Field.{Field}
@@ -11,7 +11,7 @@ use Rattle.graphql_documents.specs.declared.documents.executables.InlineFragment
 use Rattle.graphql_documents.specs.declared.documents.executables.Selection.TheVariants as kind
 use Rattle.graphql_documents.specs.declared.documents.executables.Selection.{Selection}
 use Rattle.graphql_documents.specs.declared.documents.executables.SelectionSet.{SelectionSet}
-use Rattle.graphql_documents.specs.declared.documents.nodes.Node.{Node}
+use Rattle.graphql_nodes.specs.declared.nodes.Node.{Node}
 
 -- which steps a walk over selections takes: into the sets of fields, into the fragments that spreads
 -- name, and from which selections

@@ -9,11 +9,8 @@ pub mod floats;
 pub mod implementers;
 pub mod integers;
 pub mod meta_fields;
-pub mod names;
-pub mod nodes;
 pub mod root_operations;
 pub mod schemas;
-pub mod spans;
 pub mod type_references;
 pub mod values;
 
@@ -32,16 +29,14 @@ pub use executables::{
     OperationMap, Selection, SelectionSet, Valid,
 };
 pub use floats::FloatValue;
+pub use graphql_nodes::{FileId, Name, NamedType, Node, SourceSpan};
 pub use implementers::Implementers;
 pub use integers::IntValue;
 pub use meta_fields::MetaFields;
-pub use names::{Name, NamedType};
-pub use nodes::Node;
 pub use root_operations::RootOperations;
 pub use schemas::{
     EnumType, ExtendedType, FieldLookupError, InputObjectType, InterfaceType, ObjectType,
     ScalarType, Schema, SchemaDefinition, UnionType,
 };
-pub use spans::{FileId, SourceSpan};
 pub use type_references::Type;
 pub use values::Value;

@@ -1,6 +1,4 @@
-//! GraphQL schemas and documents as plain data, the reports that validation makes of them, and the
-//! definitions that say when they are valid.
+//! GraphQL schemas and documents as plain data, and the definitions that say when they are valid.
 #![tactic(auto)]
 
-pub mod diagnostics;
 pub mod documents;

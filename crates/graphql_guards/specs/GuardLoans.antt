@@ -3,7 +3,7 @@ use Rattle.std.specs.Prelude.{◌≡◌, Result, []}
 use Rattle.std.specs.Borrow.{MutBor, Fml, Lends, RestsIfErr}
 use mir.Syntax.{named}
 use Rattle.graphql_guards.specs.Guards.{path_of, path_limit}
-use Rattle.graphql_documents.specs.declared.diagnostics.errors.RecursionLimitError.{RecursionLimitError}
+use Rattle.graphql_nodes.specs.declared.errors.RecursionLimitError.{RecursionLimitError}
 use Rattle.graphql_guards.specs.declared.depth.DepthCounter.{DepthCounter}
 use Rattle.graphql_guards.specs.declared.depth.DepthGuard.{DepthGuard}
 use Rattle.graphql_guards.specs.declared.recursion.CycleError.{CycleError}

@@ -1,6 +1,6 @@
 -- Paths, depths and counts of walks.
 use Rattle.std.specs.Prelude.{ℕ, ◌-◌, ◌<◌, ◌≤◌, Bool, List, length, take}
-use Rattle.graphql_documents.specs.Names.{NameText}
+use Rattle.graphql_nodes.specs.Names.{NameText}
 use Rattle.graphql_guards.specs.declared.limits.LimitCounter.{LimitCounter}
 use Rattle.graphql_guards.specs.declared.depth.DepthCounter.{DepthCounter}
 use Rattle.graphql_guards.specs.declared.recursion.RecursionStack.{RecursionStack}

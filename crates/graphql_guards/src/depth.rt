@@ -1,5 +1,5 @@
 use crate::DEFAULT_RECURSION_LIMIT;
-use graphql_documents::diagnostics::RecursionLimitError;
+use graphql_nodes::RecursionLimitError;
 use std::ops::{Deref, DerefMut};
 
 /// How deep a walk stands, and how deep it may go.

@@ -1,6 +1,6 @@
 use crate::DEFAULT_RECURSION_LIMIT;
-use graphql_documents::diagnostics::ValidationError;
 use graphql_documents::documents::{Name, Node};
+use graphql_nodes::ValidationError;
 use indexmap::IndexSet;
 use std::alloc::Global;
 use std::ops::{Deref, DerefMut};
@@ -37,7 +37,7 @@ impl RecursionStack {
     ghost use Rattle.std.specs.Borrow.{sem};
     ghost use Rattle.graphql_guards.specs.GuardLoans.{StackRestsIfErr};
     ghost use Rattle.graphql_guards.specs.Guards.{path_of, path_limit, without_last, HasRoom, Refuses};
-    ghost use Rattle.graphql_documents.specs.Names.{stands_on};
+    ghost use Rattle.graphql_nodes.specs.Names.{stands_on};
 
     /// An empty path.
     pub fn new(alloc: Global) -> RecursionStack

@@ -7,20 +7,20 @@ use Rattle.std.proofs.lemmas.List.{append-nil}
 use Rattle.std.proofs.lemmas.List.Elements.{All-contains}
 use Rattle.std.proofs.lemmas.Option.{same_Some}
 use Rattle.graphql_documents.specs.Implementations.{FieldList, FieldArgumentsImplement, FieldTypesImplement, HasInterfaceFields, ImplementsField, IsListedInterface, ListsTransitiveInterfaces, field_under}
-use Rattle.graphql_documents.specs.Names.{NameText, same_name}
-use Rattle.graphql_documents.specs.Reports.{Reports}
+use Rattle.graphql_nodes.specs.Names.{NameText, same_name}
+use Rattle.graphql_diagnostics.specs.Reports.{Reports}
 use Rattle.graphql_documents.specs.Schemas.{IsInterface, IsListed, as_interface, interface_named, type_definition}
 use Rattle.graphql_documents.specs.declared.documents.components.Component.{Component}
 use Rattle.graphql_documents.specs.declared.documents.components.ComponentName.{ComponentName}
 use Rattle.graphql_documents.specs.declared.documents.definitions.FieldDefinition.{FieldDefinition}
-use Rattle.graphql_documents.specs.declared.documents.nodes.Node.{Node}
+use Rattle.graphql_nodes.specs.declared.nodes.Node.{Node}
 use Rattle.graphql_documents.specs.declared.documents.schemas.ExtendedType.{ExtendedType}
 use Rattle.graphql_documents.specs.declared.documents.schemas.ExtendedType.TheVariants.{Scalar, Object, Interface, Union, Enum, InputObject}
 use Rattle.graphql_documents.specs.declared.documents.schemas.InterfaceType.{InterfaceType}
 use Rattle.graphql_documents.specs.declared.documents.schemas.Schema.{Schema}
 use Rattle.graphql_documents.proofs.ImplementerLemmas.{same_swapped}
-use Rattle.graphql_documents.proofs.ListLemmas.{each_standing}
-use Rattle.graphql_documents.proofs.ReportLemmas.{in_words, stands_next}
+use Rattle.graphql_documents.proofs.ListLemmas.{each_standing, stands_next}
+use Rattle.graphql_diagnostics.proofs.ReportLemmas.{in_words}
 use Rattle.graphql_implementations.specs.ImplementationSteps.{FieldArgumentsAgree, FieldEntry, HasFieldOf, IsInterfaceField, IsNoExtra, IsProvided, ListsAllOf, NamesInterface, OfEachField, OfInterface, OfOwnField, TypeImplements, arguments_of}
 
 -- a map of fields finds the one under the name

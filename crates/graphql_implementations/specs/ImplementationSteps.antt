@@ -1,20 +1,20 @@
 -- The rules of implementing as they are checked, field by field. Specification: 3.6 Objects, IsValidImplementation.
 use Rattle.std.specs.Prelude.{◌≡◌, List, Option, Some, All, Contains, IsSome, IsTrue}
 use Rattle.graphql_documents.specs.Arguments.{definition_named}
-use Rattle.graphql_documents.specs.ImplementationReports.{ImplementationFieldArgumentsBreak, ImplementationFieldTypesBreak, InterfaceFieldsBreak, InterfacesBreak}
+use Rattle.graphql_diagnostics.specs.ImplementationReports.{ImplementationFieldArgumentsBreak, ImplementationFieldTypesBreak, InterfaceFieldsBreak, InterfacesBreak}
 use Rattle.graphql_documents.specs.Implementations.{ArgumentsImplement, FieldList, ImplementsField, IsListedInterface, IsValidImplementationType, field_under}
-use Rattle.graphql_documents.specs.Names.{NameText}
+use Rattle.graphql_nodes.specs.Names.{NameText}
 use Rattle.graphql_documents.specs.Schemas.{IsInterface, IsListed, is_required}
 use Rattle.graphql_documents.specs.TypeReferences.{same_type}
-use Rattle.graphql_documents.specs.declared.diagnostics.data.DiagnosticData.{DiagnosticData}
+use Rattle.graphql_diagnostics.specs.declared.data.DiagnosticData.{DiagnosticData}
 use Rattle.graphql_documents.specs.declared.documents.components.Component.{Component}
 use Rattle.graphql_documents.specs.declared.documents.components.ComponentName.{ComponentName}
 use Rattle.graphql_documents.specs.declared.documents.definitions.FieldDefinition.{FieldDefinition}
 use Rattle.graphql_documents.specs.declared.documents.definitions.InputValueDefinition.{InputValueDefinition}
-use Rattle.graphql_documents.specs.declared.documents.nodes.Node.{Node}
+use Rattle.graphql_nodes.specs.declared.nodes.Node.{Node}
 use Rattle.graphql_documents.specs.declared.documents.schemas.InterfaceType.{InterfaceType}
 use Rattle.graphql_documents.specs.declared.documents.schemas.Schema.{Schema}
-use Rattle.graphql_documents.specs.declared.documents.spans.SourceSpan.{SourceSpan}
+use Rattle.graphql_nodes.specs.declared.spans.SourceSpan.{SourceSpan}
 use Rattle.graphql_implementations.specs.declared.implementer.Implementer.{Implementer}
 use Rattle.graphql_implementations.specs.declared.implementer.ImplementingField.{ImplementingField}
 use Rattle.graphql_implementations.specs.declared.names.ListedInterfaces.{ListedInterfaces}

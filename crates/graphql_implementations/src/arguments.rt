@@ -1,14 +1,14 @@
 ghost use Rattle.std.specs.Prelude.{◌≡◌, All, Contains, None, Some};
 ghost use Rattle.graphql_documents.specs.Arguments.{definition_named};
-ghost use Rattle.graphql_documents.specs.Diagnostics.{IsDiagnostic};
-ghost use Rattle.graphql_documents.specs.ImplementationReports.{ImplementationFieldArgumentsBreak};
+ghost use Rattle.graphql_diagnostics.specs.Diagnostics.{IsDiagnostic};
+ghost use Rattle.graphql_diagnostics.specs.ImplementationReports.{ImplementationFieldArgumentsBreak};
 ghost use Rattle.graphql_documents.specs.Implementations.{FieldArgumentsImplement};
-ghost use Rattle.graphql_documents.specs.Reports.{Checks};
+ghost use Rattle.graphql_diagnostics.specs.Reports.{Checks};
 ghost use Rattle.graphql_documents.specs.TypeReferences.{same_type};
 ghost use Rattle.graphql_implementations.specs.ImplementationSteps.{ArgumentsBreak, FieldArgumentsAgree, HasToImplement, IsImplementing, IsNoExtra, IsProvided, Lists, OfEachField, OfOwnField, arguments_of};
 
 use super::implementer::{Implementer, ImplementingField};
-use graphql_documents::diagnostics::{Details, DiagnosticData, DiagnosticList, ValidationError};
+use graphql_diagnostics::{Details, DiagnosticData, DiagnosticList, ValidationError};
 use graphql_documents::documents::{
     Component, ComponentName, FieldDefinition, InputValueDefinition, Name, Node, Schema, Type,
     definition_named,

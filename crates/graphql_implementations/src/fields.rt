@@ -1,12 +1,12 @@
-ghost use Rattle.graphql_documents.specs.Diagnostics.{IsDiagnostic};
-ghost use Rattle.graphql_documents.specs.ImplementationReports.{InterfaceFieldsBreak};
+ghost use Rattle.graphql_diagnostics.specs.Diagnostics.{IsDiagnostic};
+ghost use Rattle.graphql_diagnostics.specs.ImplementationReports.{InterfaceFieldsBreak};
 ghost use Rattle.graphql_documents.specs.Implementations.{HasInterfaceFields};
-ghost use Rattle.graphql_documents.specs.Names.{NameText};
-ghost use Rattle.graphql_documents.specs.Reports.{Checks};
+ghost use Rattle.graphql_nodes.specs.Names.{NameText};
+ghost use Rattle.graphql_diagnostics.specs.Reports.{Checks};
 ghost use Rattle.graphql_implementations.specs.ImplementationSteps.{FieldsBreak, HasFieldOf, HasToImplement, Lists, OfEachField};
 
 use super::implementer::Implementer;
-use graphql_documents::diagnostics::{Details, DiagnosticData, DiagnosticList, ValidationError};
+use graphql_diagnostics::{Details, DiagnosticData, DiagnosticList, ValidationError};
 use graphql_documents::documents::{
     Component, ComponentName, FieldDefinition, Name, Schema, SourceSpan,
 };

@@ -1,14 +1,14 @@
 ghost use Rattle.std.specs.Prelude.{Contains};
-ghost use Rattle.graphql_documents.specs.Diagnostics.{IsDiagnostic};
-ghost use Rattle.graphql_documents.specs.ImplementationReports.{InterfacesBreak};
+ghost use Rattle.graphql_diagnostics.specs.Diagnostics.{IsDiagnostic};
+ghost use Rattle.graphql_diagnostics.specs.ImplementationReports.{InterfacesBreak};
 ghost use Rattle.graphql_documents.specs.Implementations.{IsListedInterface, ListedInterfacesAreDefined, ListsTransitiveInterfaces};
-ghost use Rattle.graphql_documents.specs.Reports.{Checks};
+ghost use Rattle.graphql_diagnostics.specs.Reports.{Checks};
 ghost use Rattle.graphql_documents.specs.Schemas.{IsListed};
-ghost use Rattle.graphql_documents.specs.declared.documents.nodes.Node.{Node};
+ghost use Rattle.graphql_nodes.specs.declared.nodes.Node.{Node};
 ghost use Rattle.graphql_documents.specs.declared.documents.schemas.InterfaceType.{InterfaceType};
 ghost use Rattle.graphql_implementations.specs.ImplementationSteps.{ListingBreaks, ListsAllOf, NamesInterface};
 
-use graphql_documents::diagnostics::{Details, DiagnosticData, DiagnosticList, ValidationError};
+use graphql_diagnostics::{Details, DiagnosticData, DiagnosticList, ValidationError};
 use graphql_documents::documents::{ComponentName, Name, Schema, SourceSpan};
 use indexmap::IndexSet;
 

@@ -1,12 +1,12 @@
 ghost use Rattle.std.specs.Prelude.{◌↔◌, IsTrue};
-ghost use Rattle.graphql_documents.specs.Diagnostics.{IsDiagnostic};
-ghost use Rattle.graphql_documents.specs.ImplementationReports.{ImplementationFieldTypesBreak};
+ghost use Rattle.graphql_diagnostics.specs.Diagnostics.{IsDiagnostic};
+ghost use Rattle.graphql_diagnostics.specs.ImplementationReports.{ImplementationFieldTypesBreak};
 ghost use Rattle.graphql_documents.specs.Implementations.{FieldTypesImplement, IsCovariant, IsValidImplementationType};
-ghost use Rattle.graphql_documents.specs.Reports.{Checks};
+ghost use Rattle.graphql_diagnostics.specs.Reports.{Checks};
 ghost use Rattle.graphql_implementations.specs.ImplementationSteps.{HasToImplement, IsImplementing, Lists, OfEachField, OfOwnField, TypeImplements, TypesBreak};
 
 use super::implementer::{Implementer, ImplementingField};
-use graphql_documents::diagnostics::{Details, DiagnosticData, DiagnosticList, ValidationError};
+use graphql_diagnostics::{Details, DiagnosticData, DiagnosticList, ValidationError};
 use graphql_documents::documents::{
     Component, ComponentName, FieldDefinition, Name, NamedType, Schema, Type,
 };

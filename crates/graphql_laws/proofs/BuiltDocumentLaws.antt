@@ -2,7 +2,7 @@
 use Rattle.std.proofs.Common.{◌≡◌, ◌↔◌, Bool, true, false, List, [], ◌∷◌, Some, refl, subst, All, Contains}
 use Rattle.std.specs.Map.{lookup}
 use Rattle.std.proofs.lemmas.List.Elements.{All-contains}
-use Rattle.graphql_documents.specs.Names.{NameText, SameName, same_name}
+use Rattle.graphql_nodes.specs.Names.{NameText, SameName, same_name}
 use Rattle.graphql_documents.specs.TypeReferences.{inner_named_type}
 use Rattle.graphql_documents.specs.Built.{SetsAreBuilt, OperationIsBuilt, IsBuilt}
 use Rattle.graphql_documents.specs.Schemas.{NamesKind, is_output_type}
@@ -10,7 +10,7 @@ use Rattle.graphql_documents.specs.Defer.{operations_of}
 use Rattle.graphql_documents.specs.Selections.{fragments_of, Includes, includes_itself, includes_inline_fragment, includes_spread, set_itself, set_in_field, set_in_inline_fragment}
 use Rattle.graphql_documents.specs.Merging.{FieldSelection, FieldInside, ParentsMayOverlap, Merges, set_of, type_of, SameKey, SameShape, SameNameAndArguments}
 use Rattle.graphql_documents.specs.Expansion.{Pass, shape_pass, field_pass, IsGroup, MergedSet, merged_operation, merged_below}
-use Rattle.graphql_documents.specs.declared.documents.nodes.Node.{Node}
+use Rattle.graphql_nodes.specs.declared.nodes.Node.{Node}
 use Rattle.graphql_documents.specs.declared.documents.definitions.FieldDefinition.{FieldDefinition}
 use Rattle.graphql_documents.specs.declared.documents.schemas.Schema.{Schema}
 use Rattle.graphql_documents.specs.declared.documents.executables.ExecutableDocument.{ExecutableDocument}

@@ -2,9 +2,9 @@
 use Rattle.std.proofs.Common.{◌≡◌, suc, ◌+◌, arith, true, List, [], ◌∷◌, ◌++◌, length, refl, sym, ap, subst, map, Contains}
 use Rattle.std.specs.Prelude.{◌≢◌, is_some, slice_get}
 use Rattle.std.proofs.lemmas.List.Elements.{All-contains, filter_passes}
-use Rattle.graphql_documents.specs.Names.{NameText, SameName}
+use Rattle.graphql_nodes.specs.Names.{NameText, SameName}
 use Rattle.graphql_documents.specs.Selections.{Fragments, selections_of}
-use Rattle.graphql_documents.specs.Limits.{MergingDescent, merging_ends, merging_steps}
+use Rattle.graphql_diagnostics.specs.Limits.{MergingDescent, merging_ends, merging_steps}
 use Rattle.graphql_documents.specs.Merging.{FieldSelection, FieldInside, Chain, chain_of_one, chain_of_more, set_of}
 use Rattle.graphql_documents.specs.Expansion.{Expansion, MergesBelow, Pass, nested_sets}
 use Rattle.graphql_documents.specs.declared.documents.schemas.Schema.{Schema}

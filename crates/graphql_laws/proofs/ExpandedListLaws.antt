@@ -3,11 +3,11 @@ use Rattle.std.proofs.Common.{◌≡◌, ◌↔◌, Bool, true, List, [], ◌∷
 use Rattle.std.specs.Prelude.{filter, is_some, slice_get}
 use Rattle.std.specs.List.{list_any}
 use Rattle.std.proofs.lemmas.List.Elements.{All-nil, All-cons, All-head, All-tail, All-weaker, All-contains, All-contains_itself, All-filter, Contains-append_left, Contains-append_right, Contains-append_cases}
-use Rattle.graphql_documents.specs.Names.{NameText, SameName, same_name}
+use Rattle.graphql_nodes.specs.Names.{NameText, SameName, same_name}
 use Rattle.graphql_documents.specs.Selections.{Fragments, selections_of, Includes, includes_itself, includes_inline_fragment, includes_spread}
 use Rattle.graphql_documents.specs.Merging.{FieldSelection, FieldInside, set_of}
 use Rattle.graphql_documents.specs.Expansion.{as_field, fields_standing, followed_by, FragmentSets, no_more, past_field, into_inline_fragment, past_spread, into_spread, ExpandsFrom, expanded, expand_next, Expansion, nested_sets}
-use Rattle.graphql_documents.specs.declared.documents.nodes.Node.{Node}
+use Rattle.graphql_nodes.specs.declared.nodes.Node.{Node}
 use Rattle.graphql_documents.specs.declared.documents.executables.Selection.{Selection, out-Selection, roll-Selection, roll-out-Selection}
 use Rattle.graphql_documents.specs.declared.documents.executables.Selection.TheOpen as Open
 use Rattle.graphql_documents.specs.declared.documents.executables.Selection.TheVariants as kind

@@ -5,11 +5,11 @@ use Rattle.std.specs.Prelude.{IsFalse}
 use Rattle.std.specs.List.{list_any}
 use Rattle.std.specs.Map.{lookup}
 use Rattle.std.proofs.lemmas.List.Sums.{sum_by-cons, sum_by-append}
-use Rattle.graphql_documents.specs.Names.{NameText, same_name}
+use Rattle.graphql_nodes.specs.Names.{NameText, same_name}
 use Rattle.graphql_documents.specs.Selections.{Fragments, fragments_of, selections_of}
 use Rattle.graphql_documents.specs.Merging.{FieldSelection}
 use Rattle.graphql_documents.specs.Expansion.{fields_standing, followed_by, FragmentSets, no_more, past_field, into_inline_fragment, past_spread, into_spread, ExpandsFrom, expanded, expand_next, Expansion}
-use Rattle.graphql_documents.specs.declared.documents.nodes.Node.{Node}
+use Rattle.graphql_nodes.specs.declared.nodes.Node.{Node}
 use Rattle.graphql_documents.specs.declared.documents.executables.ExecutableDocument.{ExecutableDocument}
 use Rattle.graphql_documents.specs.declared.documents.executables.Selection.{Selection}
 use Rattle.graphql_documents.specs.declared.documents.executables.Selection.TheVariants as kind

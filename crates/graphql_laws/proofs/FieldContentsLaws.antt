@@ -8,7 +8,7 @@ use denote.Enum.Compared.{Each, by}
 use denote.Hole.Carrier.{Values}
 use denote.Hole.Compared.{compared_is}
 use lib.Pointwise.{pointwise}
-use Rattle.graphql_documents.specs.Names.{NameText, SameName, same_name}
+use Rattle.graphql_nodes.specs.Names.{NameText, SameName, same_name}
 use Rattle.graphql_documents.specs.TypeReferences.{same_type}
 use Rattle.graphql_documents.specs.Selections.{Fragments, Includes, includes_itself, includes_inline_fragment, includes_spread, fragments_of, selections_of}
 use Rattle.graphql_documents.specs.Merging.{FieldInside, FieldSelection, SameFields}
@@ -34,11 +34,11 @@ use Rattle.graphql_documents.specs.declared.documents.executables.Selection.TheB
 use Rattle.graphql_documents.specs.declared.documents.executables.Selection.TheOpen as Open
 use Rattle.graphql_documents.specs.declared.documents.executables.Selection.TheVariants as kind
 use Rattle.graphql_documents.specs.declared.documents.executables.SelectionSet.{SelectionSet}
-use Rattle.graphql_documents.specs.declared.documents.nodes.Node.{Node}
+use Rattle.graphql_nodes.specs.declared.nodes.Node.{Node}
 use Rattle.graphql_documents.specs.declared.documents.type_references.Type.{«Type»}
 use Rattle.graphql_documents.specs.declared.documents.type_references.Type.TheVariants.{Named, NonNullNamed, List', NonNullList'}
 use Rattle.graphql_documents.proofs.ListLemmas.{none_stands, only_one, stands_first, stands_behind}
-use Rattle.graphql_documents.proofs.NameLemmas.{same_name_itself, same_name_back, same_name_then}
+use Rattle.graphql_nodes.proofs.NameLemmas.{same_name_itself, same_name_back, same_name_then}
 use Rattle.graphql_documents.proofs.SelectionLemmas.{one_fragment_found}
 use Rattle.graphql_laws.specs.Equality.{field_equality}
 use Rattle.graphql_laws.proofs.ValueContentsLaws.{both, equal_arguments_are_same}

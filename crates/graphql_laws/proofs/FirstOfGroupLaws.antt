@@ -2,17 +2,17 @@
 use Rattle.std.proofs.Common.{◌≡◌, ◌↔◌, List, [], ◌∷◌, inl, inr, refl, sym, subst, All, Contains}
 use Rattle.std.specs.Prelude.{IsTrue}
 use Rattle.std.proofs.lemmas.List.Elements.{All-contains, Contains-append_cases}
-use Rattle.graphql_documents.specs.Names.{NameText, SameName}
+use Rattle.graphql_nodes.specs.Names.{NameText, SameName}
 use Rattle.graphql_documents.specs.TypeReferences.{inner_named_type}
 use Rattle.graphql_documents.specs.Schemas.{NamesKind, is_output_type}
 use Rattle.graphql_documents.specs.Selections.{Fragments}
 use Rattle.graphql_documents.specs.Merging.{FieldSelection, ParentsMayOverlap, Merges, type_of, SameKey, SameShape, SameNameAndArguments}
 use Rattle.graphql_documents.specs.Expansion.{Expansion, shape_pass, field_pass, IsGroup, MergedSet}
-use Rattle.graphql_documents.specs.declared.documents.nodes.Node.{Node}
+use Rattle.graphql_nodes.specs.declared.nodes.Node.{Node}
 use Rattle.graphql_documents.specs.declared.documents.schemas.Schema.{Schema}
 use Rattle.graphql_documents.specs.declared.documents.executables.SelectionSet.{SelectionSet}
 use Rattle.graphql_documents.specs.declared.documents.executables.Operation.{Operation}
-use Rattle.graphql_documents.proofs.NameLemmas.{same_name_itself, same_name_back, same_name_then}
+use Rattle.graphql_nodes.proofs.NameLemmas.{same_name_itself, same_name_back, same_name_then}
 use Rattle.graphql_documents.proofs.ListLemmas.{none_stands, only_one, stands_first, stands_behind, each_standing}
 use Rattle.graphql_laws.proofs.ValueLaws.{same_arguments_itself, same_arguments_back, same_arguments_then}
 use Rattle.graphql_laws.proofs.MergingLaws.{same_shape_itself, same_shape_back, same_shape_then}

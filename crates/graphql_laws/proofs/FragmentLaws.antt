@@ -1,16 +1,16 @@
 -- Which fragments stand on a cycle.
 use Rattle.std.proofs.Common.{◌≡◌, List, [], ◌∷◌, ◌++◌, Some, refl, subst, All}
 use Rattle.std.proofs.lemmas.List.Elements.{All-nil, All-cons, All-head}
-use Rattle.graphql_documents.specs.Names.{NameText, SameName, DifferentNames}
+use Rattle.graphql_nodes.specs.Names.{NameText, SameName, DifferentNames}
 use Rattle.graphql_documents.specs.Selections.{Fragments, Written}
 use Rattle.graphql_documents.specs.Paths.{Path, path_of_one, path_of_more}
 use Rattle.graphql_documents.specs.FragmentSpreads.{SpreadsBy, fragment_of, IsFragmentCycle, FragmentHasNoCycle}
-use Rattle.graphql_documents.specs.declared.documents.nodes.Node.{Node}
+use Rattle.graphql_nodes.specs.declared.nodes.Node.{Node}
 use Rattle.graphql_documents.specs.declared.documents.executables.Selection.TheVariants as kind
 use Rattle.graphql_documents.specs.declared.documents.executables.Fragment.{Fragment}
 use Rattle.graphql_documents.specs.declared.documents.executables.FragmentSpread.{FragmentSpread}
-use Rattle.graphql_documents.proofs.NameLemmas.{same_name_back, same_name_then, not_both}
-use Rattle.graphql_documents.proofs.ReportLemmas.{All-append_right}
+use Rattle.graphql_nodes.proofs.NameLemmas.{same_name_back, same_name_then, not_both}
+use Rattle.graphql_documents.proofs.ListLemmas.{All-append_right}
 
 pub spreads_itself : (fragments : Fragments) (d : Node Fragment) (p : Node FragmentSpread) →
     Written d.value.value.selection_set (kind.FragmentSpread p) → SameName p.value.value.fragment_name d.value.value.name →

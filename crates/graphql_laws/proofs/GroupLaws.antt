@@ -2,17 +2,17 @@
 use Rattle.std.proofs.Common.{◌≡◌, ◌↔◌, Bool, true, List, [], ◌∷◌, ◌++◌, Option, Some, None, ◌⊎◌, inl, inr, refl, sym, subst, Contains}
 use Rattle.std.specs.Prelude.{IsTrue, filter}
 use Rattle.std.proofs.lemmas.List.Elements.{All-contains, All-filter, All-contains_itself, filter_passes, Contains-append_left, Contains-append_right, Contains-append_cases}
-use Rattle.graphql_documents.specs.Names.{NameText, SameName, same_name}
+use Rattle.graphql_nodes.specs.Names.{NameText, SameName, same_name}
 use Rattle.graphql_documents.specs.Schemas.{type_definition, is_composite}
 use Rattle.graphql_documents.specs.Selections.{response_key}
 use Rattle.graphql_documents.specs.Merging.{FieldSelection, MayOverlap, ParentsMayOverlap, SameKey}
 use Rattle.graphql_documents.specs.Expansion.{with_key_of, is_abstract, is_object_named, is_object, with_parents, shape_pass, field_pass, Pass, IsGroup, group_by_key, group_by_object, group_of_abstract}
-use Rattle.graphql_documents.specs.declared.documents.nodes.Node.{Node}
+use Rattle.graphql_nodes.specs.declared.nodes.Node.{Node}
 use Rattle.graphql_documents.specs.declared.documents.schemas.ObjectType.{ObjectType}
 use Rattle.graphql_documents.specs.declared.documents.schemas.Schema.{Schema}
 use Rattle.graphql_documents.specs.declared.documents.schemas.ExtendedType.{ExtendedType}
 use Rattle.graphql_documents.specs.declared.documents.schemas.ExtendedType.TheVariants.{Object, Interface, Union}
-use Rattle.graphql_documents.proofs.NameLemmas.{same_name_itself, same_name_back, same_name_then}
+use Rattle.graphql_nodes.proofs.NameLemmas.{same_name_itself, same_name_back, same_name_then}
 use Rattle.graphql_documents.proofs.ListLemmas.{stands_first, kept_by_filter}
 
 -- what a filter kept stood in the list and passed

@@ -3,12 +3,12 @@ use Rattle.std.proofs.Common.{◌≡◌, List, [], ◌∷◌, ◌++◌, Some, re
 use Rattle.std.specs.Prelude.{IsTrue}
 use Rattle.std.specs.List.{AllZip}
 use Rattle.std.proofs.lemmas.List.Elements.{All-nil, All-cons, All-same, All-contains}
-use Rattle.graphql_documents.specs.Names.{NameText, SameName, DifferentNames}
+use Rattle.graphql_nodes.specs.Names.{NameText, SameName, DifferentNames}
 use Rattle.graphql_documents.specs.TypeReferences.{inner_named_type}
 use Rattle.graphql_documents.specs.Schemas.{type_definition, is_output_type, is_composite}
 use Rattle.graphql_documents.specs.Selections.{Fragments, selections_of, response_key, Includes, includes_itself, includes_spread, includes_inline_fragment}
 use Rattle.graphql_documents.specs.Merging.{FieldSelection, FieldInside, Chain, chain_of_one, chain_of_more, HaveOneForm, SameShape, ParentsMayOverlap, Together, OverlapThroughout, Merges, set_of, type_of, SameKey, SameNameAndArguments, MayOverlap}
-use Rattle.graphql_documents.specs.declared.documents.nodes.Node.{Node}
+use Rattle.graphql_nodes.specs.declared.nodes.Node.{Node}
 use Rattle.graphql_documents.specs.declared.documents.type_references.Type.{«Type»}
 use Rattle.graphql_documents.specs.declared.documents.type_references.Type.TheVariants.{Named, NonNullNamed, List', NonNullList'}
 use Rattle.graphql_documents.specs.declared.documents.schemas.ObjectType.{ObjectType}
@@ -22,7 +22,7 @@ use Rattle.graphql_documents.specs.declared.documents.executables.Selection.TheV
 use Rattle.graphql_documents.specs.declared.documents.executables.Field.{Field}
 use Rattle.graphql_documents.specs.declared.documents.executables.Fragment.{Fragment}
 use Rattle.graphql_documents.specs.declared.documents.executables.FragmentSpread.{FragmentSpread}
-use Rattle.graphql_documents.proofs.NameLemmas.{same_name_itself, same_name_back, not_both, same_name_then}
+use Rattle.graphql_nodes.proofs.NameLemmas.{same_name_itself, same_name_back, not_both, same_name_then}
 use Rattle.graphql_documents.proofs.SelectionLemmas.{includes_then, not_inline, same_inline, spread_not_inline}
 use Rattle.graphql_documents.proofs.ListLemmas.{none_stands}
 

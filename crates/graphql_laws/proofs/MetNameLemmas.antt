@@ -4,10 +4,10 @@ use Rattle.std.specs.Prelude.{IsTrue, IsFalse}
 use Rattle.std.specs.List.{list_any}
 use Rattle.std.specs.Map.{lookup}
 use Rattle.std.specs.Str.{bytes_eq}
-use Rattle.graphql_documents.specs.Names.{NameText, SameName, DifferentNames, same_name}
-use Rattle.graphql_documents.specs.declared.documents.nodes.Node.{Node}
+use Rattle.graphql_nodes.specs.Names.{NameText, SameName, DifferentNames, same_name}
+use Rattle.graphql_nodes.specs.declared.nodes.Node.{Node}
 use Rattle.graphql_documents.specs.declared.documents.executables.Fragment.{Fragment}
-use Rattle.graphql_documents.proofs.NameLemmas.{same_text, same_name_itself, same_name_back}
+use Rattle.graphql_nodes.proofs.NameLemmas.{same_text, same_name_itself, same_name_back}
 
 -- the name was met, or not
 abbrev pub Met : List NameText → NameText → Type 0

@@ -1,6 +1,6 @@
 -- A list of sets has one expansion.
 use Rattle.std.proofs.Common.{◌≡◌, List, [], ◌∷◌, ◌++◌, ◌⊎◌, inl, inr, refl, sym, ◌∙◌, ap, subst}
-use Rattle.graphql_documents.specs.Names.{NameText}
+use Rattle.graphql_nodes.specs.Names.{NameText}
 use Rattle.graphql_documents.specs.Selections.{Fragments}
 use Rattle.graphql_documents.specs.Merging.{FieldSelection}
 use Rattle.graphql_documents.specs.Expansion.{fields_standing, followed_by, FragmentSets, no_more, past_field, into_inline_fragment, past_spread, into_spread, ExpandsFrom, expanded, expand_next}

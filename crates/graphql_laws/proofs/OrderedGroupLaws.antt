@@ -6,16 +6,16 @@ use Rattle.std.proofs.lemmas.List.{length-map}
 use Rattle.std.proofs.lemmas.List.Elements.{All-cons, All-contains, All-contains_itself, All-filter, All-head, All-nil, All-tail, All-weaker, Contains-append_cases, Contains-push_cases, filter_agree, filter_passes}
 use Rattle.std.proofs.lemmas.List.Sums.{sum_by-cons}
 use Rattle.graphql_documents.specs.Expansion.{IsGroup, Pass, field_pass, group_by_key, group_by_object, group_of_abstract, is_abstract, is_object, is_object_named, shape_pass, with_key_of, with_parents}
-use Rattle.graphql_documents.specs.MergedGroups.{comparisons_of, groups_of, groups_on, key_of, keys_of, object_name, objects_of, on_object, under_key, unless_empty}
+use Rattle.graphql_diagnostics.specs.MergedGroups.{comparisons_of, groups_of, groups_on, key_of, keys_of, object_name, objects_of, on_object, under_key, unless_empty}
 use Rattle.graphql_documents.specs.Merging.{FieldSelection}
-use Rattle.graphql_documents.specs.Names.{NameText, SameName, different_names, same_name, stands_on, with_name}
+use Rattle.graphql_nodes.specs.Names.{NameText, SameName, different_names, same_name, stands_on, with_name}
 use Rattle.graphql_documents.specs.Schemas.{type_definition}
 use Rattle.graphql_documents.specs.declared.documents.schemas.ExtendedType.TheVariants.{Object}
 use Rattle.graphql_documents.specs.declared.documents.schemas.ExtendedType.{ExtendedType}
 use Rattle.graphql_documents.specs.declared.documents.schemas.Schema.{Schema}
 use Rattle.graphql_documents.proofs.ImplementerLemmas.{Apart, apart_folded, stands_folded, stands_same}
 use Rattle.graphql_documents.proofs.ListLemmas.{all_pass, each_standing, kept_by_filter, kept_by_map, made_by, made_of, none_stands, only_one, stands_behind, stands_first, stands_flat, stands_mapped}
-use Rattle.graphql_documents.proofs.NameLemmas.{same_name_back, same_name_itself, same_name_then, same_text}
+use Rattle.graphql_nodes.proofs.NameLemmas.{same_name_back, same_name_itself, same_name_then, same_text}
 use Rattle.graphql_laws.proofs.MetNameLemmas.{either_true, met_behind, met_itself}
 
 -- names, and the different ones among them

@@ -3,23 +3,23 @@ use Rattle.std.proofs.Common.{◌≡◌, ℕ, ◌≤◌, List, Some, ◌∙◌, 
 use Rattle.std.specs.Prelude.{◌≢◌, Bool, Option}
 use Rattle.std.specs.Borrow.{Bor}
 use Rattle.std.proofs.lemmas.Option.{same_Some}
-use Rattle.graphql_documents.specs.Names.{NameText}
+use Rattle.graphql_nodes.specs.Names.{NameText}
 use Rattle.graphql_documents.specs.Selections.{fragments_of}
-use Rattle.graphql_documents.specs.FieldReports.{FieldBreaks}
+use Rattle.graphql_diagnostics.specs.FieldReports.{FieldBreaks}
 use Rattle.graphql_documents.specs.Walks.{Walk, Descent, PassesDepth}
-use Rattle.graphql_documents.specs.Limits.{DocumentLimit, fragment_nests, walk_of_variables, walk_of_root, walk_of_labels, walk_of_conditions, walk_of_fragments, merging_limit}
-use Rattle.graphql_documents.specs.declared.diagnostics.data.DiagnosticData.TheVariants as report
-use Rattle.graphql_documents.specs.declared.diagnostics.details.Details.{Details}
-use Rattle.graphql_documents.specs.declared.diagnostics.details.Details.TheVariants as details
+use Rattle.graphql_diagnostics.specs.Limits.{DocumentLimit, fragment_nests, walk_of_variables, walk_of_root, walk_of_labels, walk_of_conditions, walk_of_fragments, merging_limit}
+use Rattle.graphql_diagnostics.specs.declared.data.DiagnosticData.TheVariants as report
+use Rattle.graphql_diagnostics.specs.declared.details.Details.{Details}
+use Rattle.graphql_diagnostics.specs.declared.details.Details.TheVariants as details
 use Rattle.graphql_documents.specs.declared.documents.coordinates.SchemaCoordinate.{SchemaCoordinate}
 use Rattle.graphql_documents.specs.declared.documents.coordinates.SchemaCoordinate.TheVariants as coordinate
 use Rattle.graphql_documents.specs.declared.documents.coordinates.TypeAttributeCoordinate.{TypeAttributeCoordinate}
 use Rattle.graphql_documents.specs.declared.documents.executables.ExecutableDocument.{ExecutableDocument}
 use Rattle.graphql_documents.specs.declared.documents.executables.Field.{Field}
 use Rattle.graphql_documents.specs.declared.documents.executables.SelectionSet.{SelectionSet}
-use Rattle.graphql_documents.specs.declared.documents.nodes.Node.{Node}
+use Rattle.graphql_nodes.specs.declared.nodes.Node.{Node}
 use Rattle.graphql_documents.specs.declared.documents.schemas.Schema.{Schema}
-use Rattle.graphql_documents.specs.declared.documents.spans.SourceSpan.{SourceSpan}
+use Rattle.graphql_nodes.specs.declared.spans.SourceSpan.{SourceSpan}
 
 module _ (document : ExecutableDocument)
     (shallow : (walk : Walk) (set : SelectionSet) (depth : ℕ) (entered : List NameText) →

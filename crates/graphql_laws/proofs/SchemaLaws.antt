@@ -5,12 +5,12 @@ use Rattle.std.specs.Option.{option_and_then}
 use Rattle.std.proofs.lemmas.List.Elements.{All-contains, Contains-append_left}
 use Rattle.std.specs.Str.{bytes_eq}
 use Rattle.indexmap.specs.IndexMap.{get_by}
-use Rattle.graphql_documents.specs.Names.{NameText, SameName, IsFreeName}
+use Rattle.graphql_nodes.specs.Names.{NameText, SameName, IsFreeName}
 use Rattle.graphql_documents.specs.Schemas.{type_definition, IsInputObject}
 use Rattle.graphql_documents.specs.Paths.{Path, path_of_one, path_of_more}
 use Rattle.graphql_documents.specs.SchemaReferences.{required_name, as_input_object, input_object_of, RequiresBy, InputObjectHasNoCycle, SchemaReference, by_directive, by_type, DirectiveHasNoCycle}
 use Rattle.graphql_documents.specs.SchemaRules.{TypeHolds, SchemaHolds, DirectiveDefinitionHolds}
-use Rattle.graphql_documents.specs.declared.documents.nodes.Node.{Node}
+use Rattle.graphql_nodes.specs.declared.nodes.Node.{Node}
 use Rattle.graphql_documents.specs.declared.documents.components.Component.{Component}
 use Rattle.graphql_documents.specs.declared.documents.type_references.Type.{«Type»}
 use Rattle.graphql_documents.specs.declared.documents.type_references.Type.TheVariants.{NonNullNamed}
@@ -23,7 +23,7 @@ use Rattle.graphql_documents.specs.declared.documents.schemas.InputObjectType.{I
 use Rattle.graphql_documents.specs.declared.documents.schemas.Schema.{Schema}
 use Rattle.graphql_documents.specs.declared.documents.schemas.ExtendedType.{ExtendedType}
 use Rattle.graphql_documents.specs.declared.documents.schemas.ExtendedType.TheVariants.{Enum, InputObject}
-use Rattle.graphql_documents.proofs.NameLemmas.{same_text}
+use Rattle.graphql_nodes.proofs.NameLemmas.{same_text}
 use Rattle.graphql_documents.proofs.ListLemmas.{stands_mapped, made_of, stands_flat}
 
 -- where a schema holds, so does each of its types

@@ -4,7 +4,7 @@ use Rattle.std.specs.Prelude.{IsTrue}
 use Rattle.std.specs.Str.{bytes_eq}
 use Rattle.std.proofs.lemmas.List.Elements.{All-contains, Contains-append_cases}
 use Rattle.indexmap.specs.IndexMap.{get_by}
-use Rattle.graphql_documents.specs.Names.{NameText, SameName}
+use Rattle.graphql_nodes.specs.Names.{NameText, SameName}
 use Rattle.graphql_documents.specs.TypeReferences.{same_type}
 use Rattle.graphql_documents.specs.Schemas.{type_definition}
 use Rattle.graphql_documents.specs.Built.{IsBuilt}
@@ -12,7 +12,7 @@ use Rattle.graphql_documents.specs.Defer.{operations_of}
 use Rattle.graphql_documents.specs.Selections.{Fragments, fragments_of, response_key}
 use Rattle.graphql_documents.specs.Merging.{FieldSelection, FieldInside, HaveOneFormNamed, Merges, SameFields, set_of, type_of, SameKey, SameShape}
 use Rattle.graphql_documents.specs.Expansion.{Pass, shape_pass, field_pass, MergedSet, merged_operation, merged_below, nested_sets}
-use Rattle.graphql_documents.specs.declared.documents.nodes.Node.{Node}
+use Rattle.graphql_nodes.specs.declared.nodes.Node.{Node}
 use Rattle.graphql_documents.specs.declared.documents.definitions.FieldDefinition.{FieldDefinition}
 use Rattle.graphql_documents.specs.declared.documents.type_references.Type.{«Type»}
 use Rattle.graphql_documents.specs.declared.documents.type_references.Type.TheVariants.{Named, NonNullNamed, List', NonNullList'}
@@ -21,7 +21,7 @@ use Rattle.graphql_documents.specs.declared.documents.executables.ExecutableDocu
 use Rattle.graphql_documents.specs.declared.documents.executables.Field.{Field}
 use Rattle.graphql_documents.specs.declared.documents.executables.Operation.{Operation}
 use Rattle.graphql_documents.specs.declared.documents.executables.SelectionSet.{SelectionSet}
-use Rattle.graphql_documents.proofs.NameLemmas.{same_text, same_name_back, same_name_then}
+use Rattle.graphql_nodes.proofs.NameLemmas.{same_text, same_name_back, same_name_then}
 use Rattle.graphql_documents.proofs.ListLemmas.{none_stands, only_one, stands_first, stands_behind, each_standing}
 use Rattle.graphql_documents.proofs.SelectionLemmas.{one_fragment_found}
 use Rattle.graphql_documents.specs.MergedFields.{ComparesContents, ExpansionIsSeen, HasSeen, Agree, ListPasses}

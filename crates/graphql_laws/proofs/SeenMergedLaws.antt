@@ -9,7 +9,7 @@ use lib.Pointwise.{pointwise}
 use Rattle.graphql_documents.specs.Expansion.{ExpandsFrom, FragmentSets, IsGroup, MergedSet, Pass, as_field, expand_next, expanded, fields_standing, followed_by, group_by_key, group_by_object, group_of_abstract, into_inline_fragment, into_spread, is_abstract, is_object, is_object_named, merged_below, merged_operation, nested_sets, no_more, past_field, past_spread, with_key_of, with_parents}
 use Rattle.graphql_documents.specs.MergedFields.{HasSeen}
 use Rattle.graphql_documents.specs.Merging.{FieldSelection, SameFields, set_of}
-use Rattle.graphql_documents.specs.Names.{NameText, SameName, same_name}
+use Rattle.graphql_nodes.specs.Names.{NameText, SameName, same_name}
 use Rattle.graphql_documents.specs.Schemas.{type_definition}
 use Rattle.graphql_documents.specs.Selections.{Fragments, fragments_of, response_key, selections_of}
 use Rattle.graphql_documents.specs.declared.documents.executables.ExecutableDocument.{ExecutableDocument}
@@ -19,11 +19,11 @@ use Rattle.graphql_documents.specs.declared.documents.executables.Selection.TheO
 use Rattle.graphql_documents.specs.declared.documents.executables.Selection.TheVariants as kind
 use Rattle.graphql_documents.specs.declared.documents.executables.Selection.{Selection, out-Selection}
 use Rattle.graphql_documents.specs.declared.documents.executables.SelectionSet.{SelectionSet}
-use Rattle.graphql_documents.specs.declared.documents.nodes.Node.{Node}
+use Rattle.graphql_nodes.specs.declared.nodes.Node.{Node}
 use Rattle.graphql_documents.specs.declared.documents.schemas.ExtendedType.{ExtendedType}
 use Rattle.graphql_documents.specs.declared.documents.schemas.Schema.{Schema}
 use Rattle.graphql_documents.proofs.ListLemmas.{none_stands, only_one, stands_behind, stands_first}
-use Rattle.graphql_documents.proofs.NameLemmas.{same_text}
+use Rattle.graphql_nodes.proofs.NameLemmas.{same_text}
 use Rattle.graphql_documents.proofs.SelectionLemmas.{one_fragment_found}
 use Rattle.graphql_laws.specs.Equality.{field_equality}
 use Rattle.graphql_laws.proofs.FieldContentsLaws.{EqualOpen, Opened, equal_selections, equal_sets, field_equality_compares_contents, field_sets, inline_sets, is_field, is_inline, is_spread, opened, same_fields_then, set_itself_equal, set_parts, spread_names}

@@ -3,7 +3,7 @@ use Rattle.std.proofs.Common.{◌≡◌, ℕ, suc, sym, ◌∙◌, ap, subst, su
 use Rattle.std.specs.Prelude.{sum}
 use Rattle.std.proofs.lemmas.List.Sums.{sum-map}
 use Rattle.graphql_documents.specs.Selections.{selections_of}
-use Rattle.graphql_documents.specs.declared.documents.nodes.Node.{Node}
+use Rattle.graphql_nodes.specs.declared.nodes.Node.{Node}
 use Rattle.graphql_documents.specs.declared.documents.executables.Selection.{Selection, out-Selection, roll-Selection, roll-out-Selection}
 use Rattle.graphql_documents.specs.declared.documents.executables.Selection.TheFolds.{fold-Selection, fold-SelectionSet, fold-InlineFragment, fold_out-Selection, fold_out-SelectionSet, fold_out-InlineFragment, map-Selection, fold-Field}
 use Rattle.graphql_documents.specs.declared.documents.executables.Selection.TheOpen as Open

@@ -4,10 +4,10 @@ use Rattle.std.specs.List.{list_any}
 use Rattle.std.proofs.lemmas.List.Elements.{All-nil, All-cons, All-head, All-tail, All-append, All-weaker, All-contains, Contains-append_left, Contains-append_right, Contains-append_cases}
 use Rattle.std.proofs.lemmas.List.Kept.{AllPairs-cons}
 use Rattle.std.proofs.lemmas.List.Sums.{sum_by-cons, sum_by-append}
-use Rattle.graphql_documents.specs.Names.{NameText, SameName, DifferentNames, same_name}
+use Rattle.graphql_nodes.specs.Names.{NameText, SameName, DifferentNames, same_name}
 use Rattle.graphql_documents.specs.Selections.{Fragments, fragments_of, selections_of, Inside, Includes, includes_itself, includes_inline_fragment, includes_spread}
 use Rattle.graphql_documents.specs.Subscriptions.{RootFields, no_selections, root_field, root_inline_fragment, root_spread, WalkedFields, walked_none, walked_field, walked_inline_fragment, walked_known_spread, walked_undefined_spread, walked_spread, SpreadFields, HasOneRootField}
-use Rattle.graphql_documents.specs.declared.documents.nodes.Node.{Node}
+use Rattle.graphql_nodes.specs.declared.nodes.Node.{Node}
 use Rattle.graphql_documents.specs.declared.documents.executables.ExecutableDocument.{ExecutableDocument}
 use Rattle.graphql_documents.specs.declared.documents.executables.Selection.{Selection, out-Selection}
 use Rattle.graphql_documents.specs.declared.documents.executables.Selection.TheOpen as Open
@@ -17,7 +17,7 @@ use Rattle.graphql_documents.specs.declared.documents.executables.Field.{Field}
 use Rattle.graphql_documents.specs.declared.documents.executables.InlineFragment.{InlineFragment}
 use Rattle.graphql_documents.specs.declared.documents.executables.FragmentSpread.{FragmentSpread}
 use Rattle.graphql_documents.specs.declared.documents.executables.Fragment.{Fragment}
-use Rattle.graphql_documents.proofs.NameLemmas.{same_name_itself, same_name_back, same_name_then, not_both}
+use Rattle.graphql_nodes.proofs.NameLemmas.{same_name_itself, same_name_back, same_name_then, not_both}
 use Rattle.graphql_documents.proofs.ListLemmas.{none_stands, only_one, stands_first, stands_behind, each_standing}
 use Rattle.graphql_documents.proofs.SelectionLemmas.{not_inline, not_spread, same_inline, same_spread, spread_not_inline, includes_then, one_fragment_found}
 use Rattle.graphql_laws.proofs.MetNameLemmas.{Met, Unmet, met_itself, met_behind, differs, unmet_before}

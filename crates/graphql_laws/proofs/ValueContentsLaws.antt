@@ -9,19 +9,19 @@ use denote.Hole.Carrier.{Values}
 use denote.Hole.Holds
 use lib.Pointwise.{pointwise, pointwise_long}
 use mathlib.Core.Bool.{beq}
-use Rattle.graphql_documents.specs.Names.{NameText, SameName, same_name}
+use Rattle.graphql_nodes.specs.Names.{NameText, SameName, same_name}
 use Rattle.graphql_documents.specs.Values.{SameValue, entry_named}
 use Rattle.graphql_documents.specs.Merging.{SameArguments}
 use Rattle.graphql_documents.specs.contracts.documents.directives.ArgumentPartialEq.TheImpl as argument_impl
 use Rattle.graphql_documents.specs.contracts.documents.values.Value as value_type
 use Rattle.graphql_documents.specs.contracts.documents.values.ValuePartialEq.TheImpl.Laws as value_laws
 use Rattle.graphql_documents.specs.declared.documents.directives.Argument.{Argument}
-use Rattle.graphql_documents.specs.declared.documents.nodes.Node.{Node}
+use Rattle.graphql_nodes.specs.declared.nodes.Node.{Node}
 use Rattle.graphql_documents.specs.declared.documents.values.Value.{Value, out-Value, roll-Value, out-roll-Value}
 use Rattle.graphql_documents.specs.declared.documents.values.Value.TheBlock.{the_family, the_members, the_sigs, the_carrier, member-Value, split-Value}
 use Rattle.graphql_documents.specs.declared.documents.values.Value.TheFolds.{ind-Value, map-Value, claims}
 use Rattle.graphql_documents.specs.declared.documents.values.Value.TheOpen as Open
-use Rattle.graphql_documents.proofs.NameLemmas.{same_text}
+use Rattle.graphql_nodes.proofs.NameLemmas.{same_text}
 use Rattle.graphql_laws.specs.Equality.{value_equality}
 use Rattle.graphql_laws.proofs.ValueLaws.{SameOpen, closed, found_holds, under_map}
 

@@ -2,7 +2,7 @@
 use Rattle.std.proofs.Common.{◌≡◌, ℕ, zero, suc, String, Bool, List, [], ◌∷◌, length, Option, Some, None, refl, sym, ◌∙◌, subst, Vec, true, false, cond, find, map, get_or, All, arith, ◌⊎◌, inl, inr, ap}
 use Rattle.std.specs.Prelude.{◌≢◌, option_map, MatchBool, IsTrue, IsFalse, IsSome, IsSomeAnd, is_some, slice_get, string_bytes}
 use Rattle.std.specs.declared.alloc.Global.{Global}
-use Rattle.graphql_documents.specs.Names.{NameText, SameName, same_name}
+use Rattle.graphql_nodes.specs.Names.{NameText, SameName, same_name}
 use Rattle.graphql_documents.specs.Values.{SameValue, same_null, same_enum, same_variable, same_string, same_float, same_int, same_boolean, same_list, same_object, entry_named}
 use Rattle.graphql_documents.specs.Schemas.{type_definition}
 use Rattle.graphql_documents.specs.InputCoercion.{Accepts, AcceptsLeaf, accepts_undefined, accepts_null, accepts_variable, accepts_leaf, accepts_list, accepts_custom_object, accepts_object}
@@ -14,7 +14,7 @@ use Rattle.graphql_documents.specs.VariableUsage.{IsUsageAllowed, HasNonNullDefa
 use Rattle.graphql_documents.specs.declared.documents.directives.Argument.{Argument}
 use Rattle.graphql_documents.specs.Arguments.{argument_named}
 use Rattle.graphql_documents.specs.Merging.{SameArguments}
-use Rattle.graphql_documents.specs.declared.documents.nodes.Node.{Node}
+use Rattle.graphql_nodes.specs.declared.nodes.Node.{Node}
 use Rattle.graphql_documents.specs.declared.documents.definitions.InputValueDefinition.{InputValueDefinition}
 use Rattle.graphql_documents.specs.declared.documents.definitions.VariableDefinition.{VariableDefinition}
 use Rattle.graphql_documents.specs.declared.documents.values.Value.{Value, out-Value, roll-Value, roll-out-Value}
@@ -25,7 +25,7 @@ use Rattle.std.proofs.lemmas.Option.{get_or_from_slice_get, slice_get_within}
 use denote.Hole.Holds
 use Rattle.graphql_documents.specs.declared.documents.values.Value.TheOpen as Open
 use Rattle.graphql_documents.specs.declared.documents.values.Value.TheVariants as literal
-use Rattle.graphql_documents.proofs.NameLemmas.{same_name_itself, same_name_back, same_name_then}
+use Rattle.graphql_nodes.proofs.NameLemmas.{same_name_itself, same_name_back, same_name_then}
 
 -- two values of one kind, and what is the same of them
 abbrev pub SameOpen : Open.Value-F Value → Open.Value-F Value → Type 0

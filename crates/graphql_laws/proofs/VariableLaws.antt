@@ -5,16 +5,16 @@ use Rattle.std.specs.List.{Any, fold, list_any}
 use mathlib.Core.Logic.{inl, inr}
 use Rattle.std.proofs.lemmas.List.Elements.{All-nil, All-cons, All-head, All-tail, All-contains, Contains-append_left, Contains-append_right, Contains-append_cases}
 use Rattle.std.proofs.lemmas.List.Folds.{Any-from_list_any}
-use Rattle.graphql_documents.specs.Names.{NameText, SameName, same_name, with_name}
+use Rattle.graphql_nodes.specs.Names.{NameText, SameName, same_name, with_name}
 use Rattle.graphql_documents.specs.Selections.{Fragments}
-use Rattle.graphql_documents.specs.VariableReports.{AreUnusedReports, AreUsesReports, are_unused, defined_names, is_bound, no_name, unused_name, used_name}
+use Rattle.graphql_diagnostics.specs.VariableReports.{AreUnusedReports, AreUsesReports, are_unused, defined_names, is_bound, no_name, unused_name, used_name}
 use Rattle.graphql_documents.specs.Variables.{UsesVariable, VariablesAreUsed}
-use Rattle.graphql_documents.specs.declared.diagnostics.lists.DiagnosticEntry.{DiagnosticEntry}
+use Rattle.graphql_diagnostics.specs.declared.lists.DiagnosticEntry.{DiagnosticEntry}
 use Rattle.graphql_documents.specs.declared.documents.definitions.VariableDefinition.{VariableDefinition}
 use Rattle.graphql_documents.specs.declared.documents.executables.Operation.{Operation}
-use Rattle.graphql_documents.specs.declared.documents.nodes.Node.{Node}
+use Rattle.graphql_nodes.specs.declared.nodes.Node.{Node}
 use Rattle.graphql_documents.proofs.ListLemmas.{each_standing, made_of, none_stands, only_one, stands_behind, stands_first, stands_mapped}
-use Rattle.graphql_documents.proofs.NameLemmas.{same_name_back, same_name_itself}
+use Rattle.graphql_nodes.proofs.NameLemmas.{same_name_back, same_name_itself}
 use Rattle.graphql_documents.proofs.VariableUseLemmas.{uses_same}
 
 -- a name of this text is in the list

@@ -1,7 +1,7 @@
 //! Laws of the expansion of sets.
 
 ghost use Rattle.std.specs.Prelude.{◌≡◌, List, [], ◌∷◌, Contains};
-ghost use Rattle.graphql_documents.specs.Names.{NameText, SameName};
+ghost use Rattle.graphql_nodes.specs.Names.{NameText, SameName};
 ghost use Rattle.graphql_documents.specs.Selections.{Fragments};
 ghost use Rattle.graphql_documents.specs.Merging.{FieldSelection, FieldInside};
 ghost use Rattle.graphql_documents.specs.Expansion.{Expansion};

@@ -1,14 +1,14 @@
 //! Laws of cycles of fragments.
 
 ghost use Rattle.std.specs.Prelude.{◌≡◌, List, Some};
-ghost use Rattle.graphql_documents.specs.Names.{NameText, SameName, DifferentNames};
+ghost use Rattle.graphql_nodes.specs.Names.{NameText, SameName, DifferentNames};
 ghost use Rattle.graphql_documents.specs.Selections.{Fragments, Written, fragments_of};
 ghost use Rattle.graphql_documents.specs.FragmentSpreads.{IsFragmentCycle, FragmentHasNoCycle};
 ghost use Rattle.graphql_documents.specs.declared.documents.executables.ExecutableDocument.{ExecutableDocument};
 ghost use Rattle.graphql_documents.specs.declared.documents.executables.Fragment.{Fragment};
 ghost use Rattle.graphql_documents.specs.declared.documents.executables.FragmentSpread.{FragmentSpread};
 ghost use Rattle.graphql_documents.specs.declared.documents.executables.Selection.TheVariants as kind;
-ghost use Rattle.graphql_documents.specs.declared.documents.nodes.Node.{Node};
+ghost use Rattle.graphql_nodes.specs.declared.nodes.Node.{Node};
 
 /// A fragment that spreads itself has a cycle, also where the spread stands below a field.
 ///

@@ -1,20 +1,20 @@
 //! Laws of the lists of fields that are merged together, and of the groups in them.
 
 ghost use Rattle.std.specs.Prelude.{◌≡◌, ◌≢◌, ◌↔◌, ◌+◌, Bool, List, [], ◌∷◌, ◌++◌, All, Contains, length};
-ghost use Rattle.graphql_documents.specs.Names.{NameText, SameName};
+ghost use Rattle.graphql_nodes.specs.Names.{NameText, SameName};
 ghost use Rattle.graphql_documents.specs.TypeReferences.{inner_named_type};
 ghost use Rattle.graphql_documents.specs.Selections.{Fragments, fragments_of, selections_of};
 ghost use Rattle.graphql_documents.specs.Built.{IsBuilt};
 ghost use Rattle.graphql_documents.specs.Schemas.{NamesKind, is_output_type};
 ghost use Rattle.graphql_documents.specs.Defer.{operations_of};
-ghost use Rattle.graphql_documents.specs.Limits.{MergingDescent};
+ghost use Rattle.graphql_diagnostics.specs.Limits.{MergingDescent};
 ghost use Rattle.graphql_documents.specs.Merging.{FieldSelection, FieldInside, Chain, SameKey, ParentsMayOverlap, set_of, type_of, SameShape, SameNameAndArguments, Together, OverlapThroughout, Merges};
 ghost use Rattle.graphql_documents.specs.Expansion.{Expansion, Pass, IsGroup, shape_pass, field_pass, nested_sets, MergedSet};
 ghost use Rattle.graphql_documents.specs.declared.documents.definitions.FieldDefinition.{FieldDefinition};
 ghost use Rattle.graphql_documents.specs.declared.documents.executables.ExecutableDocument.{ExecutableDocument};
 ghost use Rattle.graphql_documents.specs.declared.documents.executables.Operation.{Operation};
 ghost use Rattle.graphql_documents.specs.declared.documents.executables.SelectionSet.{SelectionSet};
-ghost use Rattle.graphql_documents.specs.declared.documents.nodes.Node.{Node};
+ghost use Rattle.graphql_nodes.specs.declared.nodes.Node.{Node};
 ghost use Rattle.graphql_documents.specs.declared.documents.schemas.Schema.{Schema};
 
 /// The expansion of a list of sets lists a field exactly where it is inside one of the sets, if names that

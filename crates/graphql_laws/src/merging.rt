@@ -1,7 +1,7 @@
 //! Laws of field merging.
 
 ghost use Rattle.std.specs.Prelude.{◌≡◌, List, [], ◌∷◌, Some, Contains, IsTrue};
-ghost use Rattle.graphql_documents.specs.Names.{SameName, DifferentNames};
+ghost use Rattle.graphql_nodes.specs.Names.{SameName, DifferentNames};
 ghost use Rattle.graphql_documents.specs.TypeReferences.{inner_named_type};
 ghost use Rattle.graphql_documents.specs.Schemas.{type_definition, is_output_type};
 ghost use Rattle.graphql_documents.specs.Selections.{Fragments, selections_of, response_key, Includes};
@@ -12,7 +12,7 @@ ghost use Rattle.graphql_documents.specs.declared.documents.executables.Fragment
 ghost use Rattle.graphql_documents.specs.declared.documents.executables.InlineFragment.{InlineFragment};
 ghost use Rattle.graphql_documents.specs.declared.documents.executables.Selection.TheVariants as kind;
 ghost use Rattle.graphql_documents.specs.declared.documents.executables.SelectionSet.{SelectionSet};
-ghost use Rattle.graphql_documents.specs.declared.documents.nodes.Node.{Node};
+ghost use Rattle.graphql_nodes.specs.declared.nodes.Node.{Node};
 ghost use Rattle.graphql_documents.specs.declared.documents.schemas.ExtendedType.{ExtendedType};
 ghost use Rattle.graphql_documents.specs.declared.documents.schemas.ExtendedType.TheVariants.{Object};
 ghost use Rattle.graphql_documents.specs.declared.documents.schemas.ObjectType.{ObjectType};

@@ -2,7 +2,7 @@
 
 ghost use Rattle.std.specs.Prelude.{◌≡◌, ◌↔◌, ◌-◌, List, Contains, length, sum_by};
 ghost use Rattle.graphql_documents.specs.Expansion.{Pass, IsGroup, shape_pass};
-ghost use Rattle.graphql_documents.specs.MergedGroups.{comparisons_of, groups_of};
+ghost use Rattle.graphql_diagnostics.specs.MergedGroups.{comparisons_of, groups_of};
 ghost use Rattle.graphql_documents.specs.Merging.{FieldSelection};
 ghost use Rattle.graphql_documents.specs.declared.documents.schemas.Schema.{Schema};
 

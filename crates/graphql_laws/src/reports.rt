@@ -2,22 +2,22 @@
 
 ghost use Rattle.std.specs.Prelude.{◌≢◌, ℕ, ◌≤◌, Bool, List, Option, None, Some};
 ghost use Rattle.std.specs.Borrow.{Bor};
-ghost use Rattle.graphql_documents.specs.Names.{NameText};
+ghost use Rattle.graphql_nodes.specs.Names.{NameText};
 ghost use Rattle.graphql_documents.specs.Selections.{fragments_of};
-ghost use Rattle.graphql_documents.specs.FieldReports.{FieldBreaks};
-ghost use Rattle.graphql_documents.specs.Limits.{DocumentLimit};
+ghost use Rattle.graphql_diagnostics.specs.FieldReports.{FieldBreaks};
+ghost use Rattle.graphql_diagnostics.specs.Limits.{DocumentLimit};
 ghost use Rattle.graphql_documents.specs.Walks.{Descent, Walk};
-ghost use Rattle.graphql_documents.specs.declared.diagnostics.data.DiagnosticData.TheVariants as report;
-ghost use Rattle.graphql_documents.specs.declared.diagnostics.details.Details.TheVariants as details;
+ghost use Rattle.graphql_diagnostics.specs.declared.data.DiagnosticData.TheVariants as report;
+ghost use Rattle.graphql_diagnostics.specs.declared.details.Details.TheVariants as details;
 ghost use Rattle.graphql_documents.specs.declared.documents.coordinates.SchemaCoordinate.{SchemaCoordinate};
 ghost use Rattle.graphql_documents.specs.declared.documents.coordinates.SchemaCoordinate.TheVariants as coordinate;
 ghost use Rattle.graphql_documents.specs.declared.documents.coordinates.TypeAttributeCoordinate.{TypeAttributeCoordinate};
 ghost use Rattle.graphql_documents.specs.declared.documents.executables.ExecutableDocument.{ExecutableDocument};
 ghost use Rattle.graphql_documents.specs.declared.documents.executables.Field.{Field};
 ghost use Rattle.graphql_documents.specs.declared.documents.executables.SelectionSet.{SelectionSet};
-ghost use Rattle.graphql_documents.specs.declared.documents.nodes.Node.{Node};
+ghost use Rattle.graphql_nodes.specs.declared.nodes.Node.{Node};
 ghost use Rattle.graphql_documents.specs.declared.documents.schemas.Schema.{Schema};
-ghost use Rattle.graphql_documents.specs.declared.documents.spans.SourceSpan.{SourceSpan};
+ghost use Rattle.graphql_nodes.specs.declared.spans.SourceSpan.{SourceSpan};
 
 /// Where no descent in a document passes 500 sets, no report of a limit of its walks is true.
 pub fn limit_of_a_shallow_document_is_not_true()

@@ -1,7 +1,7 @@
 //! Laws of schemas that hold.
 
 ghost use Rattle.std.specs.Prelude.{◌≡◌, ◌≢◌, [], Contains};
-ghost use Rattle.graphql_documents.specs.Names.{NameText, SameName};
+ghost use Rattle.graphql_nodes.specs.Names.{NameText, SameName};
 ghost use Rattle.graphql_documents.specs.Schemas.{IsInputObject, type_definition};
 ghost use Rattle.graphql_documents.specs.SchemaReferences.{InputObjectHasNoCycle, DirectiveHasNoCycle};
 ghost use Rattle.graphql_documents.specs.SchemaRules.{SchemaHolds};
@@ -9,7 +9,7 @@ ghost use Rattle.graphql_documents.specs.declared.documents.components.Component
 ghost use Rattle.graphql_documents.specs.declared.documents.definitions.DirectiveDefinition.{DirectiveDefinition};
 ghost use Rattle.graphql_documents.specs.declared.documents.directives.Directive.{Directive};
 ghost use Rattle.graphql_documents.specs.declared.documents.definitions.InputValueDefinition.{InputValueDefinition};
-ghost use Rattle.graphql_documents.specs.declared.documents.nodes.Node.{Node};
+ghost use Rattle.graphql_nodes.specs.declared.nodes.Node.{Node};
 ghost use Rattle.graphql_documents.specs.declared.documents.schemas.EnumType.{EnumType};
 ghost use Rattle.graphql_documents.specs.declared.documents.schemas.ExtendedType.TheVariants.{Enum, InputObject};
 ghost use Rattle.graphql_documents.specs.declared.documents.schemas.InputObjectType.{InputObjectType};

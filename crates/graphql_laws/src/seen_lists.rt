@@ -9,7 +9,7 @@ ghost use Rattle.graphql_documents.specs.Expansion.{MergedSet, Pass, field_pass,
 ghost use Rattle.graphql_documents.specs.declared.documents.definitions.FieldDefinition.{FieldDefinition};
 ghost use Rattle.graphql_documents.specs.declared.documents.executables.ExecutableDocument.{ExecutableDocument};
 ghost use Rattle.graphql_documents.specs.declared.documents.executables.Operation.{Operation};
-ghost use Rattle.graphql_documents.specs.declared.documents.nodes.Node.{Node};
+ghost use Rattle.graphql_nodes.specs.declared.nodes.Node.{Node};
 ghost use Rattle.graphql_documents.specs.declared.documents.schemas.Schema.{Schema};
 ghost use Rattle.graphql_documents.specs.MergedFields.{HasSeen, ListPasses};
 ghost use Rattle.graphql_laws.specs.Equality.{field_equality};

@@ -1,7 +1,7 @@
 //! Laws of the root fields of subscriptions.
 
 ghost use Rattle.std.specs.Prelude.{◌≡◌, ◌↔◌, ◌≤◌, List, [], ◌∷◌, Some, length};
-ghost use Rattle.graphql_documents.specs.Names.{NameText, SameName};
+ghost use Rattle.graphql_nodes.specs.Names.{NameText, SameName};
 ghost use Rattle.graphql_documents.specs.Selections.{Fragments, fragments_of, selections_of};
 ghost use Rattle.graphql_documents.specs.Subscriptions.{WalkedFields, HasOneRootField};
 ghost use Rattle.graphql_documents.specs.declared.documents.executables.ExecutableDocument.{ExecutableDocument};
@@ -10,7 +10,7 @@ ghost use Rattle.graphql_documents.specs.declared.documents.executables.Fragment
 ghost use Rattle.graphql_documents.specs.declared.documents.executables.FragmentSpread.{FragmentSpread};
 ghost use Rattle.graphql_documents.specs.declared.documents.executables.Selection.TheVariants as kind;
 ghost use Rattle.graphql_documents.specs.declared.documents.executables.SelectionSet.{SelectionSet};
-ghost use Rattle.graphql_documents.specs.declared.documents.nodes.Node.{Node};
+ghost use Rattle.graphql_nodes.specs.declared.nodes.Node.{Node};
 
 /// A set has one root field exactly where a walk over it and the fragments in it, which goes into each
 /// named fragment once, meets one field at most.

@@ -1,7 +1,7 @@
 //! Laws of the built-in scalars that a schema keeps.
 
 ghost use Rattle.std.specs.Prelude.{◌≡◌, ℕ, List, [], Contains, IsTrue, IsFalse};
-ghost use Rattle.graphql_documents.specs.Names.{NameText};
+ghost use Rattle.graphql_nodes.specs.Names.{NameText};
 ghost use Rattle.graphql_documents.specs.Schemas.{is_built_in};
 ghost use Rattle.graphql_documents.specs.TypeMaps.{built_in_scalar_names, names_built_in_scalar, uses_type, has_type, is_unused_built_in, kept_types, missing_scalars, IsSettled};
 ghost use Rattle.graphql_documents.specs.declared.documents.schemas.ExtendedType.{ExtendedType};

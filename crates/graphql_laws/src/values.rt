@@ -3,7 +3,7 @@
 ghost use Rattle.std.specs.Prelude.{◌≡◌, ◌≢◌, List, Vec, Some, None, IsTrue, IsFalse, length};
 ghost use Rattle.std.specs.declared.alloc.Global.{Global};
 ghost use Rattle.graphql_documents.specs.Values.{SameValue, VariablesIn};
-ghost use Rattle.graphql_documents.specs.Names.{NameText};
+ghost use Rattle.graphql_nodes.specs.Names.{NameText};
 ghost use Rattle.graphql_documents.specs.Merging.{SameArguments};
 ghost use Rattle.graphql_documents.specs.TypeReferences.{inner_named_type, is_non_null};
 ghost use Rattle.graphql_documents.specs.Schemas.{type_definition};
@@ -15,7 +15,7 @@ ghost use Rattle.graphql_documents.specs.VariableUsage.{IsUsageAllowed};
 ghost use Rattle.graphql_documents.specs.declared.documents.definitions.InputValueDefinition.{InputValueDefinition};
 ghost use Rattle.graphql_documents.specs.declared.documents.definitions.VariableDefinition.{VariableDefinition};
 ghost use Rattle.graphql_documents.specs.declared.documents.directives.Argument.{Argument};
-ghost use Rattle.graphql_documents.specs.declared.documents.nodes.Node.{Node};
+ghost use Rattle.graphql_nodes.specs.declared.nodes.Node.{Node};
 ghost use Rattle.graphql_documents.specs.declared.documents.values.Value.{Value};
 ghost use Rattle.graphql_documents.specs.declared.documents.values.Value.TheVariants as literal;
 

@@ -2,7 +2,7 @@
 
 ghost use Rattle.std.specs.Prelude.{◌↔◌, []};
 ghost use Rattle.graphql_documents.specs.Selections.{Fragments};
-ghost use Rattle.graphql_documents.specs.VariableReports.{AreUsesReports};
+ghost use Rattle.graphql_diagnostics.specs.VariableReports.{AreUsesReports};
 ghost use Rattle.graphql_documents.specs.Variables.{VariablesAreUsed};
 ghost use Rattle.graphql_documents.specs.declared.documents.executables.Operation.{Operation};
 

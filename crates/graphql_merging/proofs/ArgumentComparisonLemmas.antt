@@ -4,10 +4,10 @@ use Rattle.std.specs.Prelude.{IsFalse, IsSome, IsTrue, is_some}
 use Rattle.std.proofs.lemmas.List.Elements.{All-cons, All-contains, All-nil, All-weaker}
 use Rattle.graphql_documents.specs.Arguments.{argument_named}
 use Rattle.graphql_documents.specs.Merging.{SameArguments}
-use Rattle.graphql_documents.specs.Names.{NameText, SameName}
+use Rattle.graphql_nodes.specs.Names.{NameText, SameName}
 use Rattle.graphql_documents.specs.Values.{SameValue}
 use Rattle.graphql_documents.specs.declared.documents.directives.Argument.{Argument}
-use Rattle.graphql_documents.specs.declared.documents.nodes.Node.{Node}
+use Rattle.graphql_nodes.specs.declared.nodes.Node.{Node}
 use Rattle.graphql_values.proofs.ObjectLemmas.{split_at}
 use Rattle.graphql_merging.proofs.FirstNamedLemmas.{each_more, each_of_none, first_alike, first_behind, first_has, first_of_name, first_stands}
 use Rattle.graphql_merging.specs.Comparisons.{AreNamedAmong, HasArgument, IsReached, StandAmong}

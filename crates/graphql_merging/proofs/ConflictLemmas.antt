@@ -5,13 +5,13 @@ use Rattle.std.proofs.lemmas.List.Elements.{All-cons, All-contains_itself, All-h
 use Rattle.std.specs.Prelude.{Result, Ok, Err, MatchResult}
 use Rattle.graphql_documents.specs.Expansion.{Pass}
 use Rattle.graphql_documents.specs.MergedFields.{Agree}
-use Rattle.graphql_documents.specs.MergedGroups.{AreConflicts, ConflictsWith, SaysConflict, agreeing_field, conflicting_field, empty_group, next_group, no_field, no_groups}
+use Rattle.graphql_diagnostics.specs.MergedGroups.{AreConflicts, ConflictsWith, SaysConflict, agreeing_field, conflicting_field, empty_group, next_group, no_field, no_groups}
 use Rattle.graphql_documents.specs.Merging.{FieldSelection}
-use Rattle.graphql_documents.specs.Reports.{Appends, KeepsReports}
-use Rattle.graphql_documents.specs.declared.diagnostics.lists.DiagnosticEntry.{DiagnosticEntry}
+use Rattle.graphql_diagnostics.specs.Reports.{Appends, KeepsReports}
+use Rattle.graphql_diagnostics.specs.declared.lists.DiagnosticEntry.{DiagnosticEntry}
 use Rattle.graphql_documents.specs.declared.documents.schemas.Schema.{Schema}
 use Rattle.graphql_documents.proofs.ListLemmas.{only_one, stands_behind, stands_first}
-use Rattle.graphql_documents.proofs.ReportLemmas.{appended_then, kept_wider}
+use Rattle.graphql_diagnostics.proofs.ReportLemmas.{appended_then, kept_wider}
 use Rattle.graphql_merging.specs.Passes.{IsConflictAmong}
 
 module _ (schema : Schema) (pass : Pass) where

@@ -1,12 +1,12 @@
 -- What a report of two fields says.
 use Rattle.std.proofs.Common.{◌≡◌, List, [], ◌∷◌, ◌++◌, subst}
 use Rattle.std.specs.Prelude.{Result, Ok, Err, MatchResult, OnErr, OnOk}
-use Rattle.graphql_documents.proofs.NameLemmas.{same_name_itself}
+use Rattle.graphql_nodes.proofs.NameLemmas.{same_name_itself}
 use Rattle.graphql_documents.specs.Expansion.{Pass}
-use Rattle.graphql_documents.specs.MergedGroups.{SaysConflict}
+use Rattle.graphql_diagnostics.specs.MergedGroups.{SaysConflict}
 use Rattle.graphql_documents.specs.Merging.{FieldSelection}
-use Rattle.graphql_documents.specs.Names.{NameText, SameName}
-use Rattle.graphql_documents.specs.declared.diagnostics.lists.DiagnosticEntry.{DiagnosticEntry}
+use Rattle.graphql_nodes.specs.Names.{NameText, SameName}
+use Rattle.graphql_diagnostics.specs.declared.lists.DiagnosticEntry.{DiagnosticEntry}
 use Rattle.graphql_documents.specs.declared.documents.schemas.Schema.{Schema}
 
 -- a report was pushed that says so

@@ -4,11 +4,11 @@ use Rattle.std.specs.List.{AllZip}
 use Rattle.std.specs.Prelude.{string_bytes}
 use Rattle.std.specs.declared.alloc.Global.{Global}
 use Rattle.std.proofs.lemmas.List.Elements.{All-head, All-map, All-tail}
-use Rattle.graphql_documents.proofs.NameLemmas.{same_name_itself}
-use Rattle.graphql_documents.specs.Names.{NameText, SameName}
-use Rattle.graphql_documents.specs.Nodes.{SameNode}
+use Rattle.graphql_nodes.proofs.NameLemmas.{same_name_itself}
+use Rattle.graphql_nodes.specs.Names.{NameText, SameName}
+use Rattle.graphql_nodes.specs.Nodes.{SameNode}
 use Rattle.graphql_documents.specs.Values.{AreCopies, AreEntryCopies, IsCopy, copy_of_boolean, copy_of_enum, copy_of_float, copy_of_int, copy_of_list, copy_of_null, copy_of_object, copy_of_string, copy_of_variable, more_entry_copies, more_item_copies, no_entry_copies, no_item_copies}
-use Rattle.graphql_documents.specs.declared.documents.nodes.Node.{Node}
+use Rattle.graphql_nodes.specs.declared.nodes.Node.{Node}
 use Rattle.graphql_documents.specs.declared.documents.values.Value.TheBlock.{member-Value, the_family}
 use Rattle.graphql_documents.specs.declared.documents.values.Value.TheFolds.{claims, ind-Value, map-Value}
 use Rattle.graphql_documents.specs.declared.documents.values.Value.TheOpen as Open

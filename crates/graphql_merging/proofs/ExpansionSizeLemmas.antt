@@ -5,14 +5,14 @@ use Rattle.std.specs.List.{list_any}
 use Rattle.std.specs.Map.{lookup}
 use Rattle.std.proofs.lemmas.List.Sums.{sum_by-append, sum_by-cons}
 use Rattle.graphql_documents.specs.Expansion.{FragmentSets, followed_by, into_inline_fragment, into_spread, no_more, past_field, past_spread}
-use Rattle.graphql_documents.specs.Names.{NameText, same_name}
+use Rattle.graphql_nodes.specs.Names.{NameText, same_name}
 use Rattle.graphql_documents.specs.Selections.{Fragments, selections_of}
 use Rattle.graphql_documents.specs.declared.documents.executables.Fragment.{Fragment}
 use Rattle.graphql_documents.specs.declared.documents.executables.Selection.TheVariants as kind
 use Rattle.graphql_documents.specs.declared.documents.executables.Selection.{Selection}
 use Rattle.graphql_documents.specs.declared.documents.executables.SelectionSet.{SelectionSet}
-use Rattle.graphql_documents.specs.declared.documents.nodes.Node.{Node}
-use Rattle.graphql_documents.proofs.NameLemmas.{same_name_back}
+use Rattle.graphql_nodes.specs.declared.nodes.Node.{Node}
+use Rattle.graphql_nodes.proofs.NameLemmas.{same_name_back}
 use Rattle.graphql_laws.proofs.MetNameLemmas.{Entries, met_alike}
 use Rattle.graphql_laws.proofs.SizeLemmas.{size_of, size_of_inline, size_of_set, size_of_set_is}
 use Rattle.graphql_merging.specs.ExpansionSteps.{Expands, fragments_in, met_names, queued}

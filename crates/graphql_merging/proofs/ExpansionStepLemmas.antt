@@ -10,7 +10,7 @@ use Rattle.std.proofs.lemmas.List.Sorted.{IsPermutation-reverse, list_any-IsPerm
 use Rattle.indexmap.specs.IndexSet.{insert_key}
 use Rattle.graphql_documents.specs.Expansion.{Expansion, ExpandsFrom, FragmentSets, as_field, expand_next, fields_standing, followed_by, into_inline_fragment, into_spread, no_more, past_field, past_spread}
 use Rattle.graphql_documents.specs.Merging as merging
-use Rattle.graphql_documents.specs.Names.{NameText, same_name}
+use Rattle.graphql_nodes.specs.Names.{NameText, same_name}
 use Rattle.graphql_documents.specs.Selections.{Fragments, selections_of}
 use Rattle.graphql_documents.specs.declared.documents.executables.Field.{Field}
 use Rattle.graphql_documents.specs.declared.documents.executables.Fragment.{Fragment}
@@ -20,7 +20,7 @@ use Rattle.graphql_documents.specs.declared.documents.executables.Selection.TheO
 use Rattle.graphql_documents.specs.declared.documents.executables.Selection.TheVariants as kind
 use Rattle.graphql_documents.specs.declared.documents.executables.Selection.{Selection}
 use Rattle.graphql_documents.specs.declared.documents.executables.SelectionSet.{SelectionSet}
-use Rattle.graphql_documents.specs.declared.documents.nodes.Node.{Node}
+use Rattle.graphql_nodes.specs.declared.nodes.Node.{Node}
 use Rattle.graphql_values.proofs.NameSetLemmas.{same_key}
 use Rattle.graphql_values.proofs.SelectionWalkLemmas.{refs_any}
 use Rattle.graphql_merging.specs.ExpansionSteps.{Expands, fragments_in, met_names, queued}

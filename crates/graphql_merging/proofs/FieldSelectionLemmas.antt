@@ -10,7 +10,7 @@ use Rattle.indexmap.specs.IndexSet.{insert_key}
 use Rattle.graphql_documents.proofs.ListLemmas.{made_of, stands_mapped}
 use Rattle.graphql_values.proofs.UseLemmas.{any_has, has_any}
 use Rattle.graphql_documents.specs.Merging.{SameFields}
-use Rattle.graphql_documents.specs.Names.{same_name}
+use Rattle.graphql_nodes.specs.Names.{same_name}
 use Rattle.graphql_merging.specs.FieldSelections.{listed, lists_of, same_field, same_selection}
 use Rattle.graphql_merging.specs.declared.field_selections.FieldSelection.{FieldSelection}
 

@@ -4,9 +4,9 @@ use Rattle.std.specs.Prelude.{IsSome}
 use Rattle.std.specs.Option.{option_or}
 use Rattle.std.specs.Str.{bytes_eq}
 use Rattle.std.proofs.lemmas.List.Folds.{find-append}
-use Rattle.graphql_documents.proofs.NameLemmas.{same_name_itself, same_text}
-use Rattle.graphql_documents.proofs.ReportLemmas.{more_is}
-use Rattle.graphql_documents.specs.Names.{NameText, SameName, same_name}
+use Rattle.graphql_nodes.proofs.NameLemmas.{same_name_itself, same_text}
+use Rattle.graphql_documents.proofs.ListLemmas.{more_is}
+use Rattle.graphql_nodes.specs.Names.{NameText, SameName, same_name}
 use Rattle.graphql_values.proofs.FirstPlaceLemmas.{find_none, found_at}
 use Rattle.graphql_values.proofs.WalkLemmas.{find_first}
 

@@ -5,29 +5,29 @@ use Rattle.std.proofs.lemmas.List.Sums.{sum_by-append}
 use Rattle.std.proofs.lemmas.List.Elements.{All-append, All-cons, All-contains, All-head, All-tail, All-nil, All-weaker, Contains-append_cases, Contains-append_left, Contains-append_right}
 use Rattle.std.specs.Prelude.{Err, Ok, OnOk, Result, nat_lt, ◌⊎◌, AllPairs, IsFalse, IsTrue, sum_by}
 use Rattle.graphql_documents.specs.Expansion.{MergedSet, Pass, field_pass, merged_below, merged_operation, nested_sets, shape_pass}
-use Rattle.graphql_documents.specs.Limits.{MergingNestsTooDeep, MergingPasses}
+use Rattle.graphql_diagnostics.specs.Limits.{MergingNestsTooDeep, MergingPasses}
 use Rattle.graphql_documents.specs.MergedFields.{Agree, ExpansionIsSeen, HasSeen, ListPasses}
-use Rattle.graphql_documents.specs.MergedGroups.{AreConflicts, ConflictsWith, SaysConflict, agreeing_field, comparisons_of, conflicting_field, empty_group, groups_of, groups_of_lists, next_group, no_field, no_groups}
+use Rattle.graphql_diagnostics.specs.MergedGroups.{AreConflicts, ConflictsWith, SaysConflict, agreeing_field, comparisons_of, conflicting_field, empty_group, groups_of, groups_of_lists, next_group, no_field, no_groups}
 use Rattle.graphql_documents.specs.Merging.{FieldSelection, Merges, SameFields}
-use Rattle.graphql_documents.specs.Names.{NameText, SameName}
+use Rattle.graphql_nodes.specs.Names.{NameText, SameName}
 use Rattle.graphql_documents.specs.Selections.{Fragments, fragments_of}
-use Rattle.graphql_documents.specs.declared.diagnostics.lists.DiagnosticEntry.{DiagnosticEntry}
+use Rattle.graphql_diagnostics.specs.declared.lists.DiagnosticEntry.{DiagnosticEntry}
 use Rattle.graphql_documents.specs.declared.documents.executables.Operation.{Operation}
 use Rattle.graphql_documents.specs.declared.documents.executables.SelectionSet.{SelectionSet}
-use Rattle.graphql_documents.specs.declared.documents.nodes.Node.{Node}
+use Rattle.graphql_nodes.specs.declared.nodes.Node.{Node}
 use Rattle.graphql_documents.specs.declared.documents.schemas.Schema.{Schema}
-use Rattle.graphql_documents.proofs.ListLemmas.{each_standing, none_stands, only_one, stands_first}
-use Rattle.graphql_documents.proofs.ReportLemmas.{All-append_left, All-append_right, both_nil}
+use Rattle.graphql_documents.proofs.ListLemmas.{All-append_left, All-append_right, each_standing, none_stands, only_one, stands_first}
+use Rattle.graphql_diagnostics.proofs.ReportLemmas.{both_nil}
 use Rattle.std.proofs.lemmas.List.Kept.{AllPairs-cons}
-use Rattle.graphql_documents.specs.declared.diagnostics.build_errors.BuildError.TheVariants as build
-use Rattle.graphql_documents.specs.declared.diagnostics.details.Details.TheVariants as details
-use Rattle.graphql_documents.specs.declared.diagnostics.details.Details.{Details}
-use Rattle.graphql_documents.specs.declared.documents.spans.SourceSpan.{SourceSpan}
+use Rattle.graphql_diagnostics.specs.declared.build_errors.BuildError.TheVariants as build
+use Rattle.graphql_diagnostics.specs.declared.details.Details.TheVariants as details
+use Rattle.graphql_diagnostics.specs.declared.details.Details.{Details}
+use Rattle.graphql_nodes.specs.declared.spans.SourceSpan.{SourceSpan}
 use Rattle.std.specs.Prelude.{Option}
 use Rattle.graphql_laws.proofs.DescentLaws.{descent_has_chain}
 use Rattle.graphql_laws.proofs.OrderedGroupLaws.{groups_listed}
 use Rattle.graphql_merging.specs.FieldSelections.{same_field}
-use Rattle.graphql_documents.specs.Reports.{Appends}
+use Rattle.graphql_diagnostics.specs.Reports.{Appends}
 use Rattle.graphql_merging.specs.MergedOperations.{AreLimits, ExaminesInBoth, HasExamined, HasMerged, Merging, MergesOneMore}
 use Rattle.graphql_merging.specs.Passes.{AreNew, DescendsBeyond, ExaminesSet, HasPassed, IsClosedIn, IsNew, Stage, counted, next_new, no_new}
 use Rattle.graphql_merging.proofs.PassLemmas.{counted_none, counted_then, new_then, seen_further}

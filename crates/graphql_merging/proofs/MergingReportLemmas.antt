@@ -3,23 +3,23 @@ use Rattle.std.proofs.Common.{◌≡◌, Bool, List, [], ◌∷◌, inr, sym, su
 use Rattle.std.proofs.lemmas.List.Elements.{All-cons, All-nil}
 use Rattle.std.specs.Prelude.{◌⊎◌, Err, IsTrue, Ok, OnErr, OnOk, Option, Result}
 use Rattle.graphql_documents.specs.Expansion.{Pass, field_pass, shape_pass}
-use Rattle.graphql_documents.specs.Limits.{MergingLimit, MergingNestsTooDeep, merging_nests}
-use Rattle.graphql_documents.specs.MergedGroups.{SaysConflict}
+use Rattle.graphql_diagnostics.specs.Limits.{MergingLimit, MergingNestsTooDeep, merging_nests}
+use Rattle.graphql_diagnostics.specs.MergedGroups.{SaysConflict}
 use Rattle.graphql_documents.specs.Merging.{FieldSelection}
-use Rattle.graphql_documents.specs.MergingReports.{ComeTogether, MergingReport, of_conflict}
-use Rattle.graphql_documents.specs.Names.{NameText, SameName}
-use Rattle.graphql_documents.specs.Reports.{Appends, KeepsReports}
+use Rattle.graphql_diagnostics.specs.MergingReports.{ComeTogether, MergingReport, of_conflict}
+use Rattle.graphql_nodes.specs.Names.{NameText, SameName}
+use Rattle.graphql_diagnostics.specs.Reports.{Appends, KeepsReports}
 use Rattle.graphql_documents.specs.Selections.{Fragments}
-use Rattle.graphql_documents.specs.declared.diagnostics.details.Details.TheVariants as details
-use Rattle.graphql_documents.specs.declared.diagnostics.details.Details.{Details}
-use Rattle.graphql_documents.specs.declared.diagnostics.lists.DiagnosticEntry.{DiagnosticEntry}
+use Rattle.graphql_diagnostics.specs.declared.details.Details.TheVariants as details
+use Rattle.graphql_diagnostics.specs.declared.details.Details.{Details}
+use Rattle.graphql_diagnostics.specs.declared.lists.DiagnosticEntry.{DiagnosticEntry}
 use Rattle.graphql_documents.specs.declared.documents.executables.Operation.{Operation}
 use Rattle.graphql_documents.specs.declared.documents.executables.SelectionSet.{SelectionSet}
-use Rattle.graphql_documents.specs.declared.documents.nodes.Node.{Node}
+use Rattle.graphql_nodes.specs.declared.nodes.Node.{Node}
 use Rattle.graphql_documents.specs.declared.documents.schemas.Schema.{Schema}
-use Rattle.graphql_documents.specs.declared.documents.spans.SourceSpan.{SourceSpan}
+use Rattle.graphql_nodes.specs.declared.spans.SourceSpan.{SourceSpan}
 use Rattle.graphql_documents.proofs.ListLemmas.{only_one}
-use Rattle.graphql_documents.proofs.ReportLemmas.{kept, kept_wider}
+use Rattle.graphql_diagnostics.proofs.ReportLemmas.{kept, kept_wider}
 use Rattle.graphql_laws.proofs.MergedListLaws.{fields_come_together, group_has, shapes_come_together}
 use Rattle.graphql_laws.proofs.OrderedGroupLaws.{groups_listed}
 use Rattle.graphql_merging.specs.FieldSelections.{same_field}

@@ -6,17 +6,17 @@ use Rattle.std.proofs.lemmas.Grind.{flat_map-append}
 use Rattle.std.proofs.lemmas.List.Sums.{sum_by-append, sum_by-cons}
 use Rattle.std.specs.Prelude.{◌≢◌, ◌^◌, max, sum_by}
 use Rattle.graphql_documents.specs.Expansion.{Expansion, IsGroup, MergedSet, MergesBelow, Pass, merged_below, field_pass, nested_sets, shape_pass}
-use Rattle.graphql_documents.specs.Limits.{merging_bound, merging_ends, merging_steps}
+use Rattle.graphql_diagnostics.specs.Limits.{merging_bound, merging_ends, merging_steps}
 use Rattle.graphql_documents.specs.MergedFields.{ExpansionIsSeen}
-use Rattle.graphql_documents.specs.MergedGroups.{AreConflicts, comparisons_of, empty_group, groups_of, next_group, no_groups}
+use Rattle.graphql_diagnostics.specs.MergedGroups.{AreConflicts, comparisons_of, empty_group, groups_of, next_group, no_groups}
 use Rattle.graphql_documents.specs.Merging.{FieldSelection, SameFields}
-use Rattle.graphql_documents.specs.Reports.{Appends}
+use Rattle.graphql_diagnostics.specs.Reports.{Appends}
 use Rattle.graphql_documents.specs.Selections.{Fragments}
-use Rattle.graphql_documents.specs.declared.diagnostics.lists.DiagnosticEntry.{DiagnosticEntry}
+use Rattle.graphql_diagnostics.specs.declared.lists.DiagnosticEntry.{DiagnosticEntry}
 use Rattle.graphql_documents.specs.declared.documents.executables.SelectionSet.{SelectionSet}
 use Rattle.graphql_documents.specs.declared.documents.schemas.Schema.{Schema}
-use Rattle.graphql_documents.proofs.ListLemmas.{each_standing, stands_first}
-use Rattle.graphql_documents.proofs.ReportLemmas.{All-append_left, All-append_right, appended_then}
+use Rattle.graphql_documents.proofs.ListLemmas.{All-append_left, All-append_right, each_standing, stands_first}
+use Rattle.graphql_diagnostics.proofs.ReportLemmas.{appended_then}
 use Rattle.graphql_merging.specs.FieldSelections.{same_field}
 use Rattle.graphql_merging.specs.Passes.{AreNew, DescendsBeyond, Examines, ExaminesMore, ExaminesSet, GoesBelow, HasPassed, IsClosedIn, IsKnownBelow, IsNew, Stage, counted, next_new, no_new}
 

@@ -9,18 +9,18 @@ use Rattle.std.specs.Vec.{vec_len}
 use Rattle.std.specs.declared.alloc.Global.{Global}
 use Rattle.graphql_documents.specs.Expansion.{Expansion, IsGroup, MergedSet, Pass, field_pass, nested_sets, shape_pass}
 use Rattle.graphql_documents.specs.MergedFields.{ExpansionIsSeen}
-use Rattle.graphql_documents.specs.MergedGroups.{comparisons_of, groups_of}
+use Rattle.graphql_diagnostics.specs.MergedGroups.{comparisons_of, groups_of}
 use Rattle.graphql_documents.specs.Merging as merging
-use Rattle.graphql_documents.specs.Reports.{KeepsReports}
+use Rattle.graphql_diagnostics.specs.Reports.{KeepsReports}
 use Rattle.graphql_documents.specs.Selections.{Fragments, selections_of}
-use Rattle.graphql_documents.specs.declared.diagnostics.lists.DiagnosticEntry.{DiagnosticEntry}
+use Rattle.graphql_diagnostics.specs.declared.lists.DiagnosticEntry.{DiagnosticEntry}
 use Rattle.graphql_documents.specs.declared.documents.executables.Operation.{Operation}
 use Rattle.graphql_documents.specs.declared.documents.executables.Selection.{Selection}
 use Rattle.graphql_documents.specs.declared.documents.executables.SelectionSet.{SelectionSet}
-use Rattle.graphql_documents.specs.declared.documents.nodes.Node.{Node}
+use Rattle.graphql_nodes.specs.declared.nodes.Node.{Node}
 use Rattle.graphql_documents.specs.declared.documents.schemas.Schema.{Schema}
-use Rattle.graphql_documents.proofs.ListLemmas.{each_standing, stands_mapped}
-use Rattle.graphql_documents.proofs.ReportLemmas.{kept_wider, more_is}
+use Rattle.graphql_documents.proofs.ListLemmas.{each_standing, more_is, stands_mapped}
+use Rattle.graphql_diagnostics.proofs.ReportLemmas.{kept_wider}
 use Rattle.graphql_laws.proofs.OrderedGroupLaws.{comparisons_of_groups, groups_listed}
 use Rattle.graphql_values.proofs.UseLemmas.{any_has, has_any}
 use Rattle.graphql_merging.specs.FieldSelections.{listed, lists_of, same_field, same_selection, selection_of}

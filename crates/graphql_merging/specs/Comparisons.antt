@@ -1,14 +1,14 @@
 -- What two values, shapes, and lists of arguments have in common, part by part, for the contracts of the
 -- comparisons.
 use Rattle.std.specs.Prelude.{◌≡◌, ◌∷◌, ◌++◌, ℕ, List, None, Some, All, IsSome, find, length, slice_get}
-use Rattle.graphql_documents.specs.Names.{DifferentNames, NameText, SameName, same_name}
+use Rattle.graphql_nodes.specs.Names.{DifferentNames, NameText, SameName, same_name}
 use Rattle.graphql_documents.specs.Arguments.{argument_named}
 use Rattle.graphql_documents.specs.Values.{SameValue, entry_named}
 use Rattle.graphql_documents.specs.declared.documents.directives.Argument.{Argument}
 use Rattle.graphql_documents.specs.declared.documents.executables.Field.{Field}
 use Rattle.graphql_merging.specs.declared.comparisons.arguments.FieldConflict.{FieldConflict}
 use Rattle.graphql_merging.specs.declared.comparisons.arguments.FieldConflict.TheVariants.{Names, FirstAlone, SecondAlone, Both}
-use Rattle.graphql_documents.specs.declared.documents.nodes.Node.{Node}
+use Rattle.graphql_nodes.specs.declared.nodes.Node.{Node}
 use Rattle.graphql_documents.specs.declared.documents.values.Value.{Value}
 
 -- the lists are as long, and the same item by item

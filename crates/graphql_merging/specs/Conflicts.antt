@@ -1,12 +1,12 @@
 -- What is reported of two fields that were put together, for the contracts of the comparisons of groups.
 use Rattle.std.specs.Prelude.{◌≡◌, [], ◌∷◌, ◌++◌, Result, MatchResult}
-use Rattle.graphql_documents.specs.Diagnostics.{entries}
+use Rattle.graphql_diagnostics.specs.Diagnostics.{entries}
 use Rattle.graphql_documents.specs.Expansion.{Pass}
-use Rattle.graphql_documents.specs.MergedGroups.{ConflictsWith, SaysConflict}
+use Rattle.graphql_diagnostics.specs.MergedGroups.{ConflictsWith, SaysConflict}
 use Rattle.graphql_documents.specs.Merging.{FieldSelection}
-use Rattle.graphql_documents.specs.Reports.{Appends}
-use Rattle.graphql_documents.specs.declared.diagnostics.lists.DiagnosticEntry.{DiagnosticEntry}
-use Rattle.graphql_documents.specs.declared.diagnostics.lists.DiagnosticList.{DiagnosticList}
+use Rattle.graphql_diagnostics.specs.Reports.{Appends}
+use Rattle.graphql_diagnostics.specs.declared.lists.DiagnosticEntry.{DiagnosticEntry}
+use Rattle.graphql_diagnostics.specs.declared.lists.DiagnosticList.{DiagnosticList}
 use Rattle.graphql_documents.specs.declared.documents.schemas.Schema.{Schema}
 
 -- a call that reports the conflict of two fields: where it answers there is one report more, which says so;

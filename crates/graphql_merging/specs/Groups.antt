@@ -5,9 +5,9 @@ use Rattle.std.specs.Map.{lookup}
 use Rattle.std.specs.declared.alloc.Global.{Global}
 use Rattle.indexmap.specs.IndexMap.{insert_entry}
 use Rattle.graphql_documents.specs.Expansion as expansion
-use Rattle.graphql_documents.specs.MergedGroups.{key_of, keys_of, object_name, objects_of, under_key}
+use Rattle.graphql_diagnostics.specs.MergedGroups.{key_of, keys_of, object_name, objects_of, under_key}
 use Rattle.graphql_documents.specs.Merging as merging
-use Rattle.graphql_documents.specs.Names.{NameText, same_name}
+use Rattle.graphql_nodes.specs.Names.{NameText, same_name}
 use Rattle.graphql_documents.specs.Schemas.{type_definition}
 use Rattle.graphql_documents.specs.declared.documents.schemas.Schema.{Schema}
 use Rattle.graphql_merging.specs.FieldSelections.{listed}

@@ -1,16 +1,16 @@
 -- What a value that merges operations one after another holds, and what one call does.
 use Rattle.std.specs.Prelude.{◌≡◌, ◌↔◌, ℕ, Bool, List, [], ◌∷◌, ◌++◌, All, Contains, IsFalse, IsTrue, sum_by}
 use Rattle.graphql_documents.specs.Expansion.{MergedSet, Pass, field_pass, shape_pass}
-use Rattle.graphql_documents.specs.Limits.{MergingPasses}
+use Rattle.graphql_diagnostics.specs.Limits.{MergingPasses}
 use Rattle.graphql_documents.specs.MergedFields.{HasSeen, ListPasses}
-use Rattle.graphql_documents.specs.MergedGroups.{AreConflicts, comparisons_of, groups_of_lists}
+use Rattle.graphql_diagnostics.specs.MergedGroups.{AreConflicts, comparisons_of, groups_of_lists}
 use Rattle.graphql_documents.specs.Merging.{FieldSelection}
 use Rattle.graphql_documents.specs.Selections.{Fragments}
-use Rattle.graphql_documents.specs.declared.diagnostics.details.Details.TheVariants as details
-use Rattle.graphql_documents.specs.declared.diagnostics.errors.RecursionLimitError.{RecursionLimitError}
-use Rattle.graphql_documents.specs.declared.diagnostics.lists.DiagnosticEntry.{DiagnosticEntry}
+use Rattle.graphql_diagnostics.specs.declared.details.Details.TheVariants as details
+use Rattle.graphql_nodes.specs.declared.errors.RecursionLimitError.{RecursionLimitError}
+use Rattle.graphql_diagnostics.specs.declared.lists.DiagnosticEntry.{DiagnosticEntry}
 use Rattle.graphql_documents.specs.declared.documents.executables.Operation.{Operation}
-use Rattle.graphql_documents.specs.declared.documents.nodes.Node.{Node}
+use Rattle.graphql_nodes.specs.declared.nodes.Node.{Node}
 use Rattle.graphql_documents.specs.declared.documents.schemas.Schema.{Schema}
 use Rattle.graphql_merging.specs.FieldSelections.{same_field}
 use Rattle.graphql_documents.specs.declared.documents.executables.SelectionSet.{SelectionSet}

@@ -1,16 +1,16 @@
 -- The steps of a pass over lists of fields, for the contracts of its private functions.
 use Rattle.std.specs.Prelude.{◌≡◌, ◌≢◌, ◌+◌, ◌-◌, ◌<◌, ◌^◌, ◌⊎◌, ℕ, List, [], ◌∷◌, ◌++◌, All, Contains, length, min, sum_by}
 use Rattle.graphql_documents.specs.Expansion.{Expansion, IsGroup, MergedSet, Pass, field_pass, nested_sets, shape_pass}
-use Rattle.graphql_documents.specs.Limits.{MergingDescent, merging_bound}
+use Rattle.graphql_diagnostics.specs.Limits.{MergingDescent, merging_bound}
 use Rattle.graphql_documents.specs.MergedFields.{ExpansionIsSeen}
-use Rattle.graphql_documents.specs.MergedGroups.{AreConflicts, SaysConflict, comparisons_of, groups_of, groups_of_lists}
+use Rattle.graphql_diagnostics.specs.MergedGroups.{AreConflicts, SaysConflict, comparisons_of, groups_of, groups_of_lists}
 use Rattle.graphql_documents.specs.Merging.{FieldSelection, SameFields}
-use Rattle.graphql_documents.specs.Reports.{Appends}
+use Rattle.graphql_diagnostics.specs.Reports.{Appends}
 use Rattle.graphql_documents.specs.Selections.{Fragments}
-use Rattle.graphql_documents.specs.declared.diagnostics.lists.DiagnosticEntry.{DiagnosticEntry}
+use Rattle.graphql_diagnostics.specs.declared.lists.DiagnosticEntry.{DiagnosticEntry}
 use Rattle.graphql_documents.specs.declared.documents.executables.Operation.{Operation}
 use Rattle.graphql_documents.specs.declared.documents.executables.SelectionSet.{SelectionSet}
-use Rattle.graphql_documents.specs.declared.documents.nodes.Node.{Node}
+use Rattle.graphql_nodes.specs.declared.nodes.Node.{Node}
 use Rattle.graphql_documents.specs.declared.documents.schemas.Schema.{Schema}
 use Rattle.graphql_merging.specs.FieldSelections.{same_field}
 

@@ -1,8 +1,8 @@
 -- Where the code of a pass stands.
 use Rattle.std.specs.Prelude.{List}
-use Rattle.graphql_documents.specs.Diagnostics.{entries}
+use Rattle.graphql_diagnostics.specs.Diagnostics.{entries}
 use Rattle.graphql_documents.specs.Merging.{FieldSelection}
-use Rattle.graphql_documents.specs.declared.diagnostics.lists.DiagnosticList.{DiagnosticList}
+use Rattle.graphql_diagnostics.specs.declared.lists.DiagnosticList.{DiagnosticList}
 use Rattle.graphql_guards.specs.Guards.{count_of, highest_of}
 use Rattle.graphql_guards.specs.declared.limits.LimitCounter.{LimitCounter}
 use Rattle.graphql_merging.specs.FieldSelections.{lists_of}

@@ -3,8 +3,8 @@
 ghost use Rattle.std.specs.Prelude.{◌≡◌, IfOk};
 ghost use Rattle.graphql_documents.specs.Expansion.{field_pass, shape_pass};
 ghost use Rattle.graphql_documents.specs.Merging.{SameShape, type_of};
-ghost use Rattle.graphql_documents.specs.MergingReports.{DisagreeOn};
-ghost use Rattle.graphql_documents.specs.Names.{DifferentNames, SameName};
+ghost use Rattle.graphql_diagnostics.specs.MergingReports.{DisagreeOn};
+ghost use Rattle.graphql_nodes.specs.Names.{DifferentNames, SameName};
 ghost use Rattle.graphql_documents.specs.declared.documents.schemas.Schema.{Schema};
 ghost use Rattle.graphql_merging.specs.Comparisons.{Conflicts};
 ghost use Rattle.graphql_merging.specs.Conflicts.{ReportsConflict};
@@ -13,7 +13,7 @@ ghost use Rattle.graphql_merging.specs.FieldSelections.{selection_of};
 use super::comparisons::FieldConflict;
 use super::copies::copy_of_argument;
 use super::field_selections::FieldSelection;
-use graphql_documents::diagnostics::{BuildError, Details, DiagnosticList, ValidationError};
+use graphql_diagnostics::{BuildError, Details, DiagnosticList, ValidationError};
 use graphql_documents::documents::{FieldArgumentCoordinate, Name};
 
 /// Reports that the types of two fields have different shapes.

@@ -1,11 +1,11 @@
 //! The conflicts in groups of fields: of each group the first field is compared with the rest.
 
 ghost use Rattle.std.specs.Prelude.{◌≡◌, ◌↔◌, ◌-◌, ◌∷◌, [], IsTrue, OnOk, length, sum_by};
-ghost use Rattle.graphql_documents.specs.Diagnostics.{entries};
+ghost use Rattle.graphql_diagnostics.specs.Diagnostics.{entries};
 ghost use Rattle.graphql_documents.specs.Expansion.{shape_pass};
-ghost use Rattle.graphql_documents.specs.MergedGroups.{AreConflicts};
+ghost use Rattle.graphql_diagnostics.specs.MergedGroups.{AreConflicts};
 ghost use Rattle.graphql_documents.specs.Merging.{SameShape, type_of};
-ghost use Rattle.graphql_documents.specs.Reports.{Appends, KeepsReports};
+ghost use Rattle.graphql_diagnostics.specs.Reports.{Appends, KeepsReports};
 ghost use Rattle.graphql_merging.specs.Conflicts.{ComparesField};
 ghost use Rattle.graphql_merging.specs.FieldSelections.{listed, lists_of, selection_of};
 ghost use Rattle.graphql_merging.specs.Groups.{pass_of};
@@ -17,7 +17,7 @@ use super::conflict_reports::{report_conflict, report_types};
 use super::examined::Examined;
 use super::field_selections::FieldSelection;
 use super::groups::Pass;
-use graphql_documents::diagnostics::{DiagnosticList, ValidationError};
+use graphql_diagnostics::{DiagnosticList, ValidationError};
 use graphql_documents::documents::Schema;
 
 /// Compares the first field of each group with the rest, and reports each that does not agree with it.

@@ -1,10 +1,10 @@
 //! Copies of values, for reports.
 
 ghost use Rattle.std.specs.Prelude.{◌≡◌, IfOk};
-ghost use Rattle.graphql_documents.specs.MergingReports.{IsArgumentValue};
+ghost use Rattle.graphql_diagnostics.specs.MergingReports.{IsArgumentValue};
 ghost use Rattle.graphql_documents.specs.Values.{IsCopy};
 
-use graphql_documents::diagnostics::ValidationError;
+use graphql_diagnostics::ValidationError;
 use graphql_documents::documents::{Field, FloatValue, IntValue, Name, Value, argument_named};
 use std::alloc::Global;
 

@@ -2,14 +2,14 @@
 
 ghost use Rattle.std.specs.Prelude.{◌∷◌, [], IfOk, OnOk, map};
 ghost use Rattle.graphql_documents.specs.Expansion.{Expansion};
-ghost use Rattle.graphql_documents.specs.Names.{NameText};
+ghost use Rattle.graphql_nodes.specs.Names.{NameText};
 ghost use Rattle.graphql_documents.specs.Selections.{selections_of};
 ghost use Rattle.graphql_documents.specs.declared.documents.executables.Selection.TheVariants as kind;
 ghost use Rattle.graphql_merging.specs.ExpansionSteps.{Expands, fragments_in};
 ghost use Rattle.graphql_merging.specs.FieldSelections.{listed};
 
 use super::field_selections::FieldSelection;
-use graphql_documents::diagnostics::ValidationError;
+use graphql_diagnostics::ValidationError;
 use graphql_documents::documents::{
     Fragment, FragmentSpread, Name, NamedType, Node, Selection, SelectionSet,
 };

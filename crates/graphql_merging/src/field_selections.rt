@@ -2,7 +2,7 @@
 
 ghost use Rattle.std.specs.Prelude.{◌≡◌, IfOk};
 
-use graphql_documents::diagnostics::ValidationError;
+use graphql_diagnostics::ValidationError;
 use graphql_documents::documents::{Field, NamedType, Node, TypeAttributeCoordinate};
 
 /// A field, with the type of the set in which it stands. Two are compared and hashed by the text of the

@@ -2,12 +2,12 @@
 
 ghost use Rattle.std.specs.Prelude.{◌≡◌, ◌++◌, ◌∷◌, [], IfOk, OnOk, flat_map};
 ghost use Rattle.graphql_documents.specs.Expansion.{is_abstract, with_parents};
-ghost use Rattle.graphql_documents.specs.MergedGroups.{groups_of, groups_on, objects_of};
+ghost use Rattle.graphql_diagnostics.specs.MergedGroups.{groups_of, groups_on, objects_of};
 ghost use Rattle.graphql_merging.specs.FieldSelections.{listed, lists_of, selection_of};
 ghost use Rattle.graphql_merging.specs.Groups.{by_keys, by_objects, named_fields, pass_of, with_field, with_owned};
 
 use crate::field_selections::FieldSelection;
-use graphql_documents::diagnostics::ValidationError;
+use graphql_diagnostics::ValidationError;
 use graphql_documents::documents::{ExtendedType, Name, Schema};
 use indexmap::IndexMap;
 use std::alloc::Global;

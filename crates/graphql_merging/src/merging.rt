@@ -1,9 +1,7 @@
 use super::examined::Examined;
 use super::groups::Pass;
 use super::passes::MergingPass;
-use graphql_documents::diagnostics::{
-    Details, DiagnosticList, RecursionLimitError, ValidationError,
-};
+use graphql_diagnostics::{Details, DiagnosticList, RecursionLimitError, ValidationError};
 use graphql_documents::documents::{ExecutableDocument, Node, Operation, Schema};
 use graphql_guards::LimitCounter;
 use std::alloc::Global;
@@ -30,12 +28,12 @@ pub struct FieldsInSetCanMerge<'s, 'doc> {
 
 impl<'s, 'doc> FieldsInSetCanMerge<'s, 'doc> {
     ghost use Rattle.std.specs.Prelude.{◌≡◌, ◌⊎◌, ◌++◌, ◌∷◌, [], IfOk, IsErr, IsFalse, IsTrue, OnErr, OnOk, is_err, sum_by};
-    ghost use Rattle.graphql_documents.specs.Diagnostics.{entries};
+    ghost use Rattle.graphql_diagnostics.specs.Diagnostics.{entries};
     ghost use Rattle.graphql_documents.specs.Expansion.{shape_pass};
-    ghost use Rattle.graphql_documents.specs.Limits.{MergingLimit};
-    ghost use Rattle.graphql_documents.specs.MergedGroups.{comparisons_of};
-    ghost use Rattle.graphql_documents.specs.MergingReports.{MergingReport};
-    ghost use Rattle.graphql_documents.specs.Reports.{Appends, KeepsReports};
+    ghost use Rattle.graphql_diagnostics.specs.Limits.{MergingLimit};
+    ghost use Rattle.graphql_diagnostics.specs.MergedGroups.{comparisons_of};
+    ghost use Rattle.graphql_diagnostics.specs.MergingReports.{MergingReport};
+    ghost use Rattle.graphql_diagnostics.specs.Reports.{Appends, KeepsReports};
     ghost use Rattle.graphql_documents.specs.Selections.{fragments_of};
     ghost use Rattle.graphql_merging.specs.FieldSelections.{same_field};
     ghost use Rattle.graphql_merging.specs.MergedOperations.{AreLimits, ExaminesInBoth, HasMerged, MergesOneMore};

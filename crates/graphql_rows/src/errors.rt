@@ -1,5 +1,5 @@
-use graphql_documents::diagnostics::ValidationError;
 use graphql_documents::documents::FieldLookupError;
+use graphql_nodes::ValidationError;
 use std::alloc::{AllocError, AllocFailed};
 use std::error::Error;
 use std::fmt;

@@ -13,25 +13,25 @@ use Rattle.std.specs.declared.alloc.Global.{Global}
 use Rattle.indexmap.specs.IndexMap.{IndexMap, get_by}
 use mathlib.Core.Logic.{inl, inr}
 use Rattle.graphql_documents.specs.Defer.{DefersIn, HasFixedLabel, HaveDifferentLabels}
-use Rattle.graphql_documents.specs.DeferReports.{HasLabel, HasVariableLabel, RepeatsLabel, of_defer}
-use Rattle.graphql_documents.specs.Diagnostics.{IsLimitEntry, limit_of_walk}
-use Rattle.graphql_documents.specs.Limits.{label_walk_passes}
-use Rattle.graphql_documents.specs.Names.{NameText}
-use Rattle.graphql_documents.specs.Reports.{KeepsReports}
+use Rattle.graphql_diagnostics.specs.DeferReports.{HasLabel, HasVariableLabel, RepeatsLabel, of_defer}
+use Rattle.graphql_diagnostics.specs.Diagnostics.{IsLimitEntry, limit_of_walk}
+use Rattle.graphql_diagnostics.specs.Limits.{label_walk_passes}
+use Rattle.graphql_nodes.specs.Names.{NameText}
+use Rattle.graphql_diagnostics.specs.Reports.{KeepsReports}
 use Rattle.graphql_documents.specs.Walks.{LabelsStandTooDeep}
-use Rattle.graphql_documents.specs.declared.diagnostics.build_errors.BuildError.TheVariants as build
-use Rattle.graphql_documents.specs.declared.diagnostics.data.DiagnosticData.TheVariants as report
-use Rattle.graphql_documents.specs.declared.diagnostics.details.Details.TheVariants as details
-use Rattle.graphql_documents.specs.declared.diagnostics.lists.DiagnosticEntry.{DiagnosticEntry}
+use Rattle.graphql_diagnostics.specs.declared.build_errors.BuildError.TheVariants as build
+use Rattle.graphql_diagnostics.specs.declared.data.DiagnosticData.TheVariants as report
+use Rattle.graphql_diagnostics.specs.declared.details.Details.TheVariants as details
+use Rattle.graphql_diagnostics.specs.declared.lists.DiagnosticEntry.{DiagnosticEntry}
 use Rattle.graphql_documents.specs.declared.documents.directives.Directive.{Directive}
 use Rattle.graphql_documents.specs.declared.documents.executables.ExecutableDocument.{ExecutableDocument}
-use Rattle.graphql_documents.specs.declared.documents.nodes.Node.{Node}
-use Rattle.graphql_documents.specs.declared.documents.spans.SourceSpan.{SourceSpan}
+use Rattle.graphql_nodes.specs.declared.nodes.Node.{Node}
+use Rattle.graphql_nodes.specs.declared.spans.SourceSpan.{SourceSpan}
 use Rattle.graphql_documents.specs.declared.documents.values.Value.{Value}
 use Rattle.graphql_documents.specs.declared.documents.values.Value.TheVariants as literal
-use Rattle.graphql_documents.proofs.ListLemmas.{stands_first}
-use Rattle.graphql_documents.proofs.ReportLemmas.{All-append_left, All-append_right, broken}
-use Rattle.graphql_documents.proofs.ReportWithinLemmas.{both_within, in_words_within, kept_within, passed, within}
+use Rattle.graphql_documents.proofs.ListLemmas.{All-append_left, All-append_right, stands_first}
+use Rattle.graphql_diagnostics.proofs.ReportLemmas.{broken}
+use Rattle.graphql_diagnostics.proofs.ReportWithinLemmas.{both_within, in_words_within, kept_within, passed, within}
 use Rattle.graphql_values.proofs.FirstPlaceLemmas.{chosen_or, find_none, first_found, found_at, kept_or, pairs_more}
 use Rattle.graphql_rules.specs.DeferLabels.{AreMetOf, DeferTruth, LabelsHoldAmong, LabelsSoFar, RemembersLabels, first_place_in, has_text, is_text, label_of, label_place, none_met, one_met, one_missed}
 

@@ -2,15 +2,15 @@
 use Rattle.std.proofs.Common.{◌≡◌, ◌↔◌, List, All, Contains, sym}
 use mathlib.Core.Logic.{◌⊎◌}
 use Rattle.graphql_documents.specs.Defer.{DeferHolds, LabelsHold, OperationDeferHolds, operations_of}
-use Rattle.graphql_documents.specs.Diagnostics.{IsLimitEntry}
-use Rattle.graphql_documents.specs.Reports.{KeepsReports, ReportsWithin}
+use Rattle.graphql_diagnostics.specs.Diagnostics.{IsLimitEntry}
+use Rattle.graphql_diagnostics.specs.Reports.{KeepsReports, ReportsWithin}
 use Rattle.graphql_documents.specs.Selections.{fragments_of}
-use Rattle.graphql_documents.specs.declared.diagnostics.lists.DiagnosticEntry.{DiagnosticEntry}
+use Rattle.graphql_diagnostics.specs.declared.lists.DiagnosticEntry.{DiagnosticEntry}
 use Rattle.graphql_documents.specs.declared.documents.executables.ExecutableDocument.{ExecutableDocument}
 use Rattle.graphql_documents.specs.declared.documents.executables.Operation.{Operation}
-use Rattle.graphql_documents.specs.declared.documents.nodes.Node.{Node}
-use Rattle.graphql_documents.proofs.ReportLemmas.{kept_wider}
-use Rattle.graphql_documents.proofs.ReportWithinLemmas.{wider_within}
+use Rattle.graphql_nodes.specs.declared.nodes.Node.{Node}
+use Rattle.graphql_diagnostics.proofs.ReportLemmas.{kept_wider}
+use Rattle.graphql_diagnostics.proofs.ReportWithinLemmas.{wider_within}
 use Rattle.graphql_rules.specs.DeferLabels.{DeferTruth}
 use Rattle.graphql_rules.specs.OperationDefers.{OperationDeferLimit, OperationDeferReport}
 use Rattle.graphql_rules.proofs.OperationDeferLemmas.{of_an_operations_defer}

@@ -5,11 +5,11 @@ use Rattle.std.specs.Str.{bytes_eq}
 use Rattle.std.proofs.lemmas.List.{append-nil, append_assoc}
 use Rattle.std.proofs.lemmas.List.Elements.{All-nil, All-weaker, All-append, All-contains, Contains-append_left, Contains-append_right}
 use Rattle.std.proofs.lemmas.List.Folds.{Any-from_list_any, list_any-append}
-use Rattle.graphql_documents.specs.Names.{NameText, SameName, same_name, stands_on, with_name}
+use Rattle.graphql_nodes.specs.Names.{NameText, SameName, same_name, stands_on, with_name}
 use Rattle.graphql_documents.specs.Selections.{Fragments, GoesInto, IsSpreadFrom, Placed, without}
 use Rattle.graphql_documents.specs.declared.documents.schemas.Schema.{Schema}
 use Rattle.graphql_documents.specs.declared.documents.executables.Selection.{Selection}
-use Rattle.graphql_documents.proofs.NameLemmas.{same_name_back, same_name_then, same_text}
+use Rattle.graphql_nodes.proofs.NameLemmas.{same_name_back, same_name_then, same_text}
 use Rattle.graphql_values.proofs.UseLemmas.{any_has}
 use Rattle.graphql_rules.proofs.PlacedLemmas.{by_truth, found_without, placed_among_more, placed_wider, stays_without}
 

@@ -2,28 +2,28 @@
 use Rattle.std.proofs.Common.{◌≡◌, ◌↔◌, ◌⊎◌, inl, inr, ◌+◌, ◌<◌, List, ◌++◌, length, Bool, false, Option, None, Some, Result, Ok, Err, IfOk, refl, sym, ap, ◌∙◌, subst, arith}
 use Rattle.std.proofs.lemmas.List.{append-nil, length-append}
 use Rattle.std.proofs.lemmas.Option.{none-some, same_Some}
-use Rattle.graphql_documents.specs.Diagnostics.{IsDiagnostic, IsLimitEntry}
+use Rattle.graphql_diagnostics.specs.Diagnostics.{IsDiagnostic, IsLimitEntry}
 use Rattle.graphql_documents.specs.Directives.{ApplicationsHold}
 use Rattle.graphql_documents.specs.FragmentSpreads.{FragmentHasNoCycle, FragmentHolds, InlineFragmentHolds, IsPossibleAt, IsPossibleIn, NamesComposite, TargetHolds}
-use Rattle.graphql_documents.specs.Limits.{FragmentLimit}
-use Rattle.graphql_documents.specs.Names.{NameText}
-use Rattle.graphql_documents.specs.Reports.{KeepsReports, Reports, ReportsWithin}
-use Rattle.graphql_documents.specs.SelectionReports.{FragmentBreaks, ImpossibleReport, InlineFragmentBreaks, InvalidTargetReport, SpreadBreaks}
+use Rattle.graphql_diagnostics.specs.Limits.{FragmentLimit}
+use Rattle.graphql_nodes.specs.Names.{NameText}
+use Rattle.graphql_diagnostics.specs.Reports.{KeepsReports, Reports, ReportsWithin}
+use Rattle.graphql_diagnostics.specs.SelectionReports.{FragmentBreaks, ImpossibleReport, InlineFragmentBreaks, InvalidTargetReport, SpreadBreaks}
 use Rattle.graphql_documents.specs.Selections.{Fragments}
-use Rattle.graphql_documents.proofs.SelectionReportLemmas.{fragment_target, inline_impossible, inline_target, spread_impossible}
-use Rattle.graphql_documents.proofs.DiagnosticLemmas.{diagnostic_wider}
-use Rattle.graphql_documents.proofs.ReportLemmas.{ChecksList, checks_words, wider}
-use Rattle.graphql_documents.proofs.ReportWithinLemmas.{both_within, in_words_within, wider_within, within}
-use Rattle.graphql_documents.specs.declared.diagnostics.data.DiagnosticData.{DiagnosticData}
-use Rattle.graphql_documents.specs.declared.diagnostics.lists.DiagnosticEntry.{DiagnosticEntry}
+use Rattle.graphql_diagnostics.proofs.SelectionReportLemmas.{fragment_target, inline_impossible, inline_target, spread_impossible}
+use Rattle.graphql_diagnostics.proofs.DiagnosticLemmas.{diagnostic_wider}
+use Rattle.graphql_diagnostics.proofs.ReportLemmas.{ChecksList, checks_words, wider}
+use Rattle.graphql_diagnostics.proofs.ReportWithinLemmas.{both_within, in_words_within, wider_within, within}
+use Rattle.graphql_diagnostics.specs.declared.data.DiagnosticData.{DiagnosticData}
+use Rattle.graphql_diagnostics.specs.declared.lists.DiagnosticEntry.{DiagnosticEntry}
 use Rattle.graphql_documents.specs.declared.documents.definitions.DirectiveLocation.TheVariants as at
 use Rattle.graphql_documents.specs.declared.documents.definitions.VariableDefinition.{VariableDefinition}
 use Rattle.graphql_documents.specs.declared.documents.executables.Fragment.{Fragment}
 use Rattle.graphql_documents.specs.declared.documents.executables.FragmentSpread.{FragmentSpread}
 use Rattle.graphql_documents.specs.declared.documents.executables.InlineFragment.{InlineFragment}
-use Rattle.graphql_documents.specs.declared.documents.nodes.Node.{Node}
+use Rattle.graphql_nodes.specs.declared.nodes.Node.{Node}
 use Rattle.graphql_documents.specs.declared.documents.schemas.Schema.{Schema}
-use Rattle.graphql_documents.specs.declared.documents.spans.SourceSpan.{SourceSpan}
+use Rattle.graphql_nodes.specs.declared.spans.SourceSpan.{SourceSpan}
 use Rattle.graphql_rules.specs.SelectionSteps.{ConditionHolds, FragmentSays, InlineFragmentSays, IsUndefined, SpreadSays, SpreadStands, by_condition, by_fragment, by_spread, is_undefined}
 
 -- a rule that holds adds nothing

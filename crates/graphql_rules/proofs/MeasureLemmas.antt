@@ -3,8 +3,8 @@
 use Rattle.std.proofs.Common.{◌≡◌, ℕ, ◌+◌, ◌<◌, ◌≤◌, Bool, true, false, List, [], ◌∷◌, Some, IsTrue, IsFalse, refl, sym, ◌∙◌, arith, get_or, length, if◌then◌else◌}
 use denote.Param.Weighed.{at_most}
 use Rattle.std.specs.Map.{lookup}
-use Rattle.graphql_documents.specs.Names.{NameText, same_name, stands_on}
-use Rattle.graphql_documents.specs.declared.documents.nodes.Node.{Node}
+use Rattle.graphql_nodes.specs.Names.{NameText, same_name, stands_on}
+use Rattle.graphql_nodes.specs.declared.nodes.Node.{Node}
 use Rattle.graphql_documents.specs.declared.documents.executables.Fragment.{Fragment}
 use Rattle.graphql_documents.specs.declared.documents.executables.SelectionSet.{SelectionSet, size-SelectionSet, size_is-SelectionSet}
 use Rattle.graphql_documents.specs.declared.documents.executables.Selection.{Selection, size-Selection}

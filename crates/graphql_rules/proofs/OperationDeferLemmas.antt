@@ -4,12 +4,12 @@ use Rattle.std.specs.Prelude.{◌≢◌, Err, Ok, OnErr, OnOk, Option, Result, f
 use Rattle.std.specs.Borrow.{Bor}
 use Rattle.std.proofs.lemmas.List.Elements.{All-append, All-cons, All-contains, All-filter, All-head, All-nil, filter_passes}
 use Rattle.graphql_documents.specs.Defer.{DefersCanBeDisabled, HasNoDeferAtRoot, OperationDeferHolds, defers, operations_of}
-use Rattle.graphql_documents.specs.DeferReports.{DeferReport, of_defer}
-use Rattle.graphql_documents.specs.Limits.{DeferLimit, condition_walk_passes, defer_root_walk_passes}
+use Rattle.graphql_diagnostics.specs.DeferReports.{DeferReport, of_defer}
+use Rattle.graphql_diagnostics.specs.Limits.{DeferLimit, condition_walk_passes, defer_root_walk_passes}
 use Rattle.graphql_documents.specs.Selections.{Fragments, Inside, directives_of, fragments_of}
 use Rattle.graphql_documents.specs.Walks.{HasListed}
-use Rattle.graphql_documents.specs.declared.diagnostics.details.Details.{Details}
-use Rattle.graphql_documents.specs.declared.diagnostics.lists.DiagnosticEntry.{DiagnosticEntry}
+use Rattle.graphql_diagnostics.specs.declared.details.Details.{Details}
+use Rattle.graphql_diagnostics.specs.declared.lists.DiagnosticEntry.{DiagnosticEntry}
 use Rattle.graphql_documents.specs.declared.documents.definitions.OperationType.TheVariants as operation_type
 use Rattle.graphql_documents.specs.declared.documents.definitions.OperationType.{OperationType}
 use Rattle.graphql_documents.specs.declared.documents.directives.Directive.{Directive}
@@ -22,12 +22,12 @@ use Rattle.graphql_documents.specs.declared.documents.executables.Selection.TheO
 use Rattle.graphql_documents.specs.declared.documents.executables.Selection.TheVariants as kind
 use Rattle.graphql_documents.specs.declared.documents.executables.Selection.{Selection}
 use Rattle.graphql_documents.specs.declared.documents.executables.SelectionSet.{SelectionSet}
-use Rattle.graphql_documents.specs.declared.documents.nodes.Node.{Node}
-use Rattle.graphql_documents.specs.declared.documents.spans.SourceSpan.{SourceSpan}
-use Rattle.graphql_documents.proofs.ListLemmas.{each_standing, kept_by_filter, stands_mapped}
-use Rattle.graphql_documents.specs.Reports.{KeepsReports}
-use Rattle.graphql_documents.proofs.ReportLemmas.{All-append_right, appended_then}
-use Rattle.graphql_documents.proofs.ReportWithinLemmas.{ChecksListWithin}
+use Rattle.graphql_nodes.specs.declared.nodes.Node.{Node}
+use Rattle.graphql_nodes.specs.declared.spans.SourceSpan.{SourceSpan}
+use Rattle.graphql_documents.proofs.ListLemmas.{All-append_right, each_standing, kept_by_filter, stands_mapped}
+use Rattle.graphql_diagnostics.specs.Reports.{KeepsReports}
+use Rattle.graphql_diagnostics.proofs.ReportLemmas.{appended_then}
+use Rattle.graphql_diagnostics.proofs.ReportWithinLemmas.{ChecksListWithin}
 use Rattle.graphql_laws.proofs.SizeLemmas.{Kind, is_field, is_inline, is_spread, kind_of}
 use Rattle.graphql_rules.proofs.OperationLemmas.{all_referred}
 use Rattle.graphql_rules.specs.OperationDefers.{BreaksAny, HoldsAt, IsMet, Meets, MeetsIfDeferred, OperationDeferLimit, OperationDeferReport, RuleBreaks, RuleHolds, RuleLimit, is_defer, is_fixed, is_no_field, open_walk_passes, root_walk_passes, stands_at_root}

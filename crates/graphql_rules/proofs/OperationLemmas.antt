@@ -3,35 +3,35 @@ use Rattle.std.proofs.Common.{ℕ, ◌<◌, Bor, get_or, length, map, ◌≡◌,
 use Rattle.std.proofs.lemmas.List.{append_cancel_left}
 use Rattle.std.proofs.lemmas.List.Elements.{All-cons, All-contains, All-contains_itself, All-head, All-map, All-nil, All-tail, All-weaker, Contains-get_or}
 use Rattle.graphql_documents.specs.Defer.{operations_of}
-use Rattle.graphql_documents.specs.Diagnostics.{IsDiagnostic, IsLimit, IsLimitEntry, limit_of_walk, Says}
-use Rattle.graphql_documents.specs.DirectiveReports.{DirectivesBreak}
+use Rattle.graphql_diagnostics.specs.Diagnostics.{IsDiagnostic, IsLimit, IsLimitEntry, limit_of_walk, Says}
+use Rattle.graphql_diagnostics.specs.DirectiveReports.{DirectivesBreak}
 use Rattle.graphql_documents.specs.Directives.{ApplicationsHold}
-use Rattle.graphql_documents.specs.DocumentReports.{OperationReport, OperationsReport, of_directives, of_one, of_variables, of_unused_variable, of_selection}
+use Rattle.graphql_diagnostics.specs.DocumentReports.{OperationReport, OperationsReport, of_directives, of_one, of_variables, of_unused_variable, of_selection}
 use Rattle.graphql_documents.specs.Documents.{OperationHolds, operation_location, root_type}
 use Rattle.graphql_documents.specs.Fields.{PlacedSelectionsHold}
-use Rattle.graphql_documents.specs.Limits.{OperationLimit, OperationsLimit, one_passes, spread_passes, variable_walk_passes}
-use Rattle.graphql_documents.specs.Names.{NameText, SameName}
-use Rattle.graphql_documents.specs.Reports.{Appends, KeepsReports, Reports, ReportsWithin}
+use Rattle.graphql_diagnostics.specs.Limits.{OperationLimit, OperationsLimit, one_passes, spread_passes, variable_walk_passes}
+use Rattle.graphql_nodes.specs.Names.{NameText, SameName}
+use Rattle.graphql_diagnostics.specs.Reports.{Appends, KeepsReports, Reports, ReportsWithin}
 use Rattle.graphql_documents.specs.Selections.{fragments_of, selections_of}
-use Rattle.graphql_documents.specs.VariableReports.{AreUnusedReports, AreUsesReports, IsBoundReport, IsUnusedReport, UsesReport, VariablesReport, are_unused, is_bound, no_name, unused_name, used_name}
+use Rattle.graphql_diagnostics.specs.VariableReports.{AreUnusedReports, AreUsesReports, IsBoundReport, IsUnusedReport, UsesReport, VariablesReport, are_unused, is_bound, no_name, unused_name, used_name}
 use Rattle.graphql_documents.specs.Variables.{UsesVariable, VariableDefinitionsHold, VariablesAreUsed}
-use Rattle.graphql_documents.specs.declared.diagnostics.data.DiagnosticData.{DiagnosticData}
-use Rattle.graphql_documents.specs.declared.diagnostics.data.DiagnosticData.TheVariants as report
-use Rattle.graphql_documents.specs.declared.diagnostics.details.Details.{Details}
-use Rattle.graphql_documents.specs.declared.diagnostics.details.Details.TheVariants as details
-use Rattle.graphql_documents.specs.declared.diagnostics.lists.DiagnosticEntry.{DiagnosticEntry}
+use Rattle.graphql_diagnostics.specs.declared.data.DiagnosticData.{DiagnosticData}
+use Rattle.graphql_diagnostics.specs.declared.data.DiagnosticData.TheVariants as report
+use Rattle.graphql_diagnostics.specs.declared.details.Details.{Details}
+use Rattle.graphql_diagnostics.specs.declared.details.Details.TheVariants as details
+use Rattle.graphql_diagnostics.specs.declared.lists.DiagnosticEntry.{DiagnosticEntry}
 use Rattle.graphql_documents.specs.declared.documents.definitions.DirectiveLocation.{DirectiveLocation}
 use Rattle.graphql_documents.specs.declared.documents.definitions.VariableDefinition.{VariableDefinition}
 use Rattle.graphql_documents.specs.declared.documents.directives.Directive.{Directive}
-use Rattle.graphql_documents.proofs.ReportLemmas.{kept_wider, wider}
-use Rattle.graphql_documents.proofs.ReportWithinLemmas.{wider_within}
+use Rattle.graphql_diagnostics.proofs.ReportLemmas.{kept_wider, wider}
+use Rattle.graphql_diagnostics.proofs.ReportWithinLemmas.{wider_within}
 use Rattle.graphql_documents.specs.declared.documents.executables.ExecutableDocument.{ExecutableDocument}
 use Rattle.graphql_documents.specs.declared.documents.executables.Operation.{Operation}
-use Rattle.graphql_documents.specs.declared.documents.nodes.Node.{Node}
+use Rattle.graphql_nodes.specs.declared.nodes.Node.{Node}
 use Rattle.graphql_documents.specs.declared.documents.schemas.Schema.{Schema}
-use Rattle.graphql_documents.specs.declared.documents.spans.SourceSpan.{SourceSpan}
-use Rattle.graphql_documents.proofs.DiagnosticLemmas.{diagnostic_wider}
-use Rattle.graphql_documents.proofs.NameLemmas.{same_name_back}
+use Rattle.graphql_nodes.specs.declared.spans.SourceSpan.{SourceSpan}
+use Rattle.graphql_diagnostics.proofs.DiagnosticLemmas.{diagnostic_wider}
+use Rattle.graphql_nodes.proofs.NameLemmas.{same_name_back}
 use Rattle.graphql_documents.proofs.VariableUseLemmas.{uses_same}
 use Rattle.graphql_laws.proofs.VariableLaws.{defined_as_used, none_reported}
 use Rattle.graphql_rules.specs.SelectionSteps.{SelectionTruth}

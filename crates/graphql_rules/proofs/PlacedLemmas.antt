@@ -2,9 +2,9 @@
 -- were gone into.
 use Rattle.std.proofs.Common.{◌≡◌, ◌⊎◌, inl, inr, List, Bool, true, false, Option, Some, None, IsTrue, IsFalse, if◌then◌else◌, refl, subst, Contains}
 use Rattle.std.proofs.lemmas.Option.{none-some}
-use Rattle.graphql_documents.specs.Names.{NameText, stands_on}
+use Rattle.graphql_nodes.specs.Names.{NameText, stands_on}
 use Rattle.graphql_documents.specs.Selections.{Fragments, Placed, placed_in_field, placed_in_inline_fragment, placed_in_spread, selections_of, standing_at, type_under, without}
-use Rattle.graphql_documents.specs.declared.documents.nodes.Node.{Node}
+use Rattle.graphql_nodes.specs.declared.nodes.Node.{Node}
 use Rattle.graphql_documents.specs.declared.documents.schemas.Schema.{Schema}
 use Rattle.graphql_documents.specs.declared.documents.executables.Fragment.{Fragment}
 use Rattle.graphql_documents.specs.declared.documents.executables.FragmentSpread.{FragmentSpread}

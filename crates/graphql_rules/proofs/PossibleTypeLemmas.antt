@@ -12,7 +12,7 @@ use Rattle.std.proofs.lemmas.Option.{same_Some}
 use Rattle.std.proofs.lemmas.List.Folds.{Any-from_list_any, list_any-from_Any}
 use Rattle.graphql_documents.specs.FragmentSpreads.{HaveCommonObject, IsPossibleAt}
 use Rattle.graphql_documents.specs.Implementers.{implementer_entries, implementer_names}
-use Rattle.graphql_documents.specs.Names.{NameText, SameName, different_names, same_name, stands_on}
+use Rattle.graphql_nodes.specs.Names.{NameText, SameName, different_names, same_name, stands_on}
 use Rattle.graphql_documents.specs.Schemas.{ImplementerNames, IsImplementedBy, IsListed, IsPossibleType, implementers_map, implementers_of_kind, interfaces_of, is_interface_type, is_object_type, listed_interfaces, lists_interface, own_name, type_definition}
 use Rattle.graphql_documents.specs.declared.documents.components.ComponentName.{ComponentName}
 use Rattle.graphql_documents.specs.declared.documents.implementers.Implementers.{Implementers}
@@ -21,7 +21,7 @@ use Rattle.graphql_documents.specs.declared.documents.schemas.ExtendedType.TheVa
 use Rattle.graphql_documents.specs.declared.documents.schemas.Schema.{Schema}
 use Rattle.graphql_documents.proofs.ImplementerLemmas.{found_as_names, stands_folded, stands_same}
 use Rattle.graphql_documents.proofs.ListLemmas.{kept_by_filter, made_of, stands_flat, stands_mapped}
-use Rattle.graphql_documents.proofs.NameLemmas.{same_name_back, same_name_itself, same_text}
+use Rattle.graphql_nodes.proofs.NameLemmas.{same_name_back, same_name_itself, same_text}
 use Rattle.graphql_values.proofs.UseLemmas.{any_has, has_any}
 
 -- what stands among names is the same as one of them

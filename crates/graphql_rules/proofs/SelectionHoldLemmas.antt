@@ -5,10 +5,10 @@ use Rattle.std.proofs.lemmas.Option.{same_Some}
 use Rattle.std.proofs.lemmas.List.Elements.{All-nil, All-cons, All-contains, Contains-append_cases, Contains-append_left, Contains-append_right, Contains-push}
 use Rattle.graphql_documents.specs.Fields.{FieldHolds, PlacedSelectionsHold}
 use Rattle.graphql_documents.specs.FragmentSpreads.{FragmentHolds, InlineFragmentHolds, SpreadHolds}
-use Rattle.graphql_documents.specs.Names.{NameText, SameName, stands_on}
+use Rattle.graphql_nodes.specs.Names.{NameText, SameName, stands_on}
 use Rattle.graphql_documents.specs.Selections.{Fragments, GoesInto, HasGoneInto, Placed, TypeBelow, placed_in_field, placed_in_inline_fragment, placed_in_spread, selections_of, standing_at, type_under, without}
 use Rattle.graphql_documents.specs.declared.documents.definitions.VariableDefinition.{VariableDefinition}
-use Rattle.graphql_documents.specs.declared.documents.nodes.Node.{Node}
+use Rattle.graphql_nodes.specs.declared.nodes.Node.{Node}
 use Rattle.graphql_documents.specs.declared.documents.schemas.Schema.{Schema}
 use Rattle.graphql_documents.specs.declared.documents.executables.Field.{Field}
 use Rattle.graphql_documents.specs.declared.documents.executables.Fragment.{Fragment}
@@ -16,7 +16,7 @@ use Rattle.graphql_documents.specs.declared.documents.executables.FragmentSpread
 use Rattle.graphql_documents.specs.declared.documents.executables.InlineFragment.{InlineFragment}
 use Rattle.graphql_documents.specs.declared.documents.executables.Selection.{Selection}
 use Rattle.graphql_documents.specs.declared.documents.executables.Selection.TheVariants as kind
-use Rattle.graphql_documents.proofs.NameLemmas.{same_name_back}
+use Rattle.graphql_nodes.proofs.NameLemmas.{same_name_back}
 use Rattle.graphql_values.proofs.SelectionWalkLemmas.{stands_either}
 use Rattle.graphql_documents.proofs.SelectionLemmas.{not_inline, not_spread, same_field, same_inline, same_spread, spread_not_inline}
 use Rattle.graphql_rules.specs.SelectionSteps.{SpreadStands}

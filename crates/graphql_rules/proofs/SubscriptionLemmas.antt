@@ -6,19 +6,19 @@ use Rattle.std.proofs.lemmas.List.Elements.{All-contains, All-weaker, Contains-g
 use Rattle.std.specs.Prelude.{Vec, Result, OnErr, OnOk}
 use Rattle.std.specs.declared.alloc.Global.{Global}
 use mathlib.Core.Logic.{inl, inr}
-use Rattle.graphql_documents.specs.Names.{NameText}
+use Rattle.graphql_nodes.specs.Names.{NameText}
 use Rattle.graphql_documents.specs.Selections.{Fragments, Inside, directives_of, fragments_of, selections_of}
-use Rattle.graphql_documents.specs.SubscriptionReports.{SubscriptionReport, of_subscription}
+use Rattle.graphql_diagnostics.specs.SubscriptionReports.{SubscriptionReport, of_subscription}
 use Rattle.graphql_documents.specs.Subscriptions.{HasOneRootField, SubscriptionHolds, WalkedFields, field_of, fields_among, is_conditional, is_introspection}
 use Rattle.graphql_documents.specs.Walks.{HasListed, PassesDepth, root_walk}
-use Rattle.graphql_documents.specs.Diagnostics.{IsLimitEntry, limit_of_walk}
+use Rattle.graphql_diagnostics.specs.Diagnostics.{IsLimitEntry, limit_of_walk}
 use Rattle.graphql_documents.specs.Documents.{OperationSubscriptionHolds}
-use Rattle.graphql_documents.specs.Limits.{subscription_walk_passes}
-use Rattle.graphql_documents.specs.Reports.{Reports, ReportsWithin}
-use Rattle.graphql_documents.specs.declared.diagnostics.data.DiagnosticData.TheVariants as report
-use Rattle.graphql_documents.specs.declared.diagnostics.lists.DiagnosticEntry.{DiagnosticEntry}
-use Rattle.graphql_documents.specs.declared.diagnostics.build_errors.BuildError.TheVariants as build
-use Rattle.graphql_documents.specs.declared.diagnostics.details.Details.TheVariants as details
+use Rattle.graphql_diagnostics.specs.Limits.{subscription_walk_passes}
+use Rattle.graphql_diagnostics.specs.Reports.{Reports, ReportsWithin}
+use Rattle.graphql_diagnostics.specs.declared.data.DiagnosticData.TheVariants as report
+use Rattle.graphql_diagnostics.specs.declared.lists.DiagnosticEntry.{DiagnosticEntry}
+use Rattle.graphql_diagnostics.specs.declared.build_errors.BuildError.TheVariants as build
+use Rattle.graphql_diagnostics.specs.declared.details.Details.TheVariants as details
 use Rattle.graphql_documents.specs.declared.documents.definitions.OperationType.TheVariants.{Subscription}
 use Rattle.graphql_documents.specs.declared.documents.directives.Directive.{Directive}
 use Rattle.graphql_documents.specs.declared.documents.executables.ExecutableDocument.{ExecutableDocument}
@@ -26,9 +26,10 @@ use Rattle.graphql_documents.specs.declared.documents.executables.Field.{Field}
 use Rattle.graphql_documents.specs.declared.documents.executables.Operation.{Operation}
 use Rattle.graphql_documents.specs.declared.documents.executables.Selection.TheVariants as kind
 use Rattle.graphql_documents.specs.declared.documents.executables.Selection.{Selection}
-use Rattle.graphql_documents.specs.declared.documents.nodes.Node.{Node}
-use Rattle.graphql_documents.proofs.ReportLemmas.{ChecksList, more_is}
-use Rattle.graphql_documents.proofs.ReportWithinLemmas.{ChecksListWithin, checks_after_within, checks_limit, checks_within, checks_words_within, wider_within, within}
+use Rattle.graphql_nodes.specs.declared.nodes.Node.{Node}
+use Rattle.graphql_diagnostics.proofs.ReportLemmas.{ChecksList}
+use Rattle.graphql_documents.proofs.ListLemmas.{more_is}
+use Rattle.graphql_diagnostics.proofs.ReportWithinLemmas.{ChecksListWithin, checks_after_within, checks_limit, checks_within, checks_words_within, wider_within, within}
 use Rattle.graphql_values.proofs.FirstPlaceLemmas.{holds_on_ok}
 use Rattle.graphql_rules.proofs.OperationLemmas.{all_referred}
 use Rattle.graphql_documents.proofs.SelectionLemmas.{same_field}

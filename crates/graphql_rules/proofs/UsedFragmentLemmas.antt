@@ -7,16 +7,16 @@ use Rattle.std.proofs.lemmas.List.Elements.{All-nil, All-cons, All-head, All-tai
 use Rattle.indexmap.specs.IndexMap.{values}
 use Rattle.indexmap.specs.IndexSet.{insert_key}
 use mathlib.Core.Logic.{inl, inr}
-use Rattle.graphql_documents.specs.Diagnostics.{IsLimitEntry}
-use Rattle.graphql_documents.specs.DocumentReports.{AreFragmentUseReports, AreUnusedFragmentReports, DocumentReport, FragmentUseReport, IsReportOfUnused, are_of_unused, is_of_bound, no_fragment, of_unused, of_unused_fragment, unused_fragment, used_fragment}
+use Rattle.graphql_diagnostics.specs.Diagnostics.{IsLimitEntry}
+use Rattle.graphql_diagnostics.specs.DocumentReports.{AreFragmentUseReports, AreUnusedFragmentReports, DocumentReport, FragmentUseReport, IsReportOfUnused, are_of_unused, is_of_bound, no_fragment, of_unused, of_unused_fragment, unused_fragment, used_fragment}
 use Rattle.graphql_documents.specs.Documents.{IsFragmentUsed}
-use Rattle.graphql_documents.specs.Limits.{DocumentLimit, FragmentWalkLimit, fragment_walk_passes, walk_of_fragments}
-use Rattle.graphql_documents.specs.Names.{NameText, SameName}
-use Rattle.graphql_documents.specs.Reports.{Appends, KeepsReports}
+use Rattle.graphql_diagnostics.specs.Limits.{DocumentLimit, FragmentWalkLimit, fragment_walk_passes, walk_of_fragments}
+use Rattle.graphql_nodes.specs.Names.{NameText, SameName}
+use Rattle.graphql_diagnostics.specs.Reports.{Appends, KeepsReports}
 use Rattle.graphql_documents.specs.Selections.{Reached, fragments_of}
 use Rattle.graphql_documents.specs.Walks.{HasListed, PassesDepth, full_walk}
-use Rattle.graphql_documents.specs.declared.diagnostics.details.Details.{Details}
-use Rattle.graphql_documents.specs.declared.diagnostics.lists.DiagnosticEntry.{DiagnosticEntry}
+use Rattle.graphql_diagnostics.specs.declared.details.Details.{Details}
+use Rattle.graphql_diagnostics.specs.declared.lists.DiagnosticEntry.{DiagnosticEntry}
 use Rattle.graphql_documents.specs.declared.documents.executables.ExecutableDocument.{ExecutableDocument}
 use Rattle.graphql_documents.specs.declared.documents.executables.Field.{Field}
 use Rattle.graphql_documents.specs.declared.documents.executables.Fragment.{Fragment}
@@ -24,12 +24,12 @@ use Rattle.graphql_documents.specs.declared.documents.executables.FragmentSpread
 use Rattle.graphql_documents.specs.declared.documents.executables.Operation.{Operation}
 use Rattle.graphql_documents.specs.declared.documents.executables.Selection.TheVariants as kind
 use Rattle.graphql_documents.specs.declared.documents.executables.Selection.{Selection}
-use Rattle.graphql_documents.specs.declared.documents.nodes.Node.{Node}
+use Rattle.graphql_nodes.specs.declared.nodes.Node.{Node}
 use Rattle.graphql_documents.specs.declared.documents.schemas.Schema.{Schema}
-use Rattle.graphql_documents.specs.declared.documents.spans.SourceSpan.{SourceSpan}
+use Rattle.graphql_nodes.specs.declared.spans.SourceSpan.{SourceSpan}
 use Rattle.graphql_documents.proofs.ListLemmas.{made_of, stands_mapped}
-use Rattle.graphql_documents.proofs.ReportLemmas.{appended_then}
-use Rattle.graphql_documents.proofs.ReportWithinLemmas.{ChecksListWithin}
+use Rattle.graphql_diagnostics.proofs.ReportLemmas.{appended_then}
+use Rattle.graphql_diagnostics.proofs.ReportWithinLemmas.{ChecksListWithin}
 use Rattle.graphql_documents.proofs.SelectionLemmas.{same_spread}
 use Rattle.graphql_values.specs.Uses.{IsNamedIn, NamesAlso, names_of}
 use Rattle.graphql_values.proofs.NameSetLemmas.{named_key, same_key}

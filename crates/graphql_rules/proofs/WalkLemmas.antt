@@ -4,20 +4,20 @@ use Rattle.std.proofs.Common.{◌≡◌, ◌⊎◌, ◌↔◌, inl, inr, List, [
 use Rattle.std.proofs.lemmas.List.{append-nil, append_assoc, append_cancel_left}
 use Rattle.std.proofs.lemmas.List.Elements.{All-cons, All-weaker, Contains-append_left, Contains-append_right}
 use Rattle.std.proofs.lemmas.Option.{none-some, same_Some}
-use Rattle.graphql_documents.specs.Diagnostics.{IsDiagnostic, IsLimitEntry}
+use Rattle.graphql_diagnostics.specs.Diagnostics.{IsDiagnostic, IsLimitEntry}
 use Rattle.graphql_documents.specs.Fields.{FieldHolds, PlacedSelectionsHold}
 use Rattle.graphql_documents.specs.FragmentSpreads.{FragmentHolds, InlineFragmentHolds}
-use Rattle.graphql_documents.specs.Limits.{FragmentLimit}
-use Rattle.graphql_documents.specs.Names.{NameText, SameName, stands_on}
-use Rattle.graphql_documents.specs.Reports.{KeepsReports, Reports, ReportsWithin}
-use Rattle.graphql_documents.specs.SelectionReports.{SelectionReport, of_field_directives, of_field_form, of_field_values, of_inline_fragment_directives, of_inline_fragment, of_spread_directives, of_spread, of_fragment_directives, of_fragment}
+use Rattle.graphql_diagnostics.specs.Limits.{FragmentLimit}
+use Rattle.graphql_nodes.specs.Names.{NameText, SameName, stands_on}
+use Rattle.graphql_diagnostics.specs.Reports.{KeepsReports, Reports, ReportsWithin}
+use Rattle.graphql_diagnostics.specs.SelectionReports.{SelectionReport, of_field_directives, of_field_form, of_field_values, of_inline_fragment_directives, of_inline_fragment, of_spread_directives, of_spread, of_fragment_directives, of_fragment}
 use Rattle.graphql_documents.specs.Selections.{Fragments, IsSpreadFrom, Placed, TypeBelow, placed_in_field, placed_in_inline_fragment, placed_in_spread, selections_of, standing_at, type_under, without}
-use Rattle.graphql_documents.specs.declared.diagnostics.data.DiagnosticData.{DiagnosticData}
-use Rattle.graphql_documents.specs.declared.diagnostics.lists.DiagnosticEntry.{DiagnosticEntry}
+use Rattle.graphql_diagnostics.specs.declared.data.DiagnosticData.{DiagnosticData}
+use Rattle.graphql_diagnostics.specs.declared.lists.DiagnosticEntry.{DiagnosticEntry}
 use Rattle.graphql_documents.specs.declared.documents.definitions.VariableDefinition.{VariableDefinition}
-use Rattle.graphql_documents.specs.declared.documents.nodes.Node.{Node}
+use Rattle.graphql_nodes.specs.declared.nodes.Node.{Node}
 use Rattle.graphql_documents.specs.declared.documents.schemas.Schema.{Schema}
-use Rattle.graphql_documents.specs.declared.documents.spans.SourceSpan.{SourceSpan}
+use Rattle.graphql_nodes.specs.declared.spans.SourceSpan.{SourceSpan}
 use Rattle.graphql_documents.specs.declared.documents.executables.Field.{Field}
 use Rattle.graphql_documents.specs.declared.documents.executables.Fragment.{Fragment}
 use Rattle.graphql_documents.specs.declared.documents.executables.FragmentSpread.{FragmentSpread}
@@ -25,11 +25,11 @@ use Rattle.graphql_documents.specs.declared.documents.executables.InlineFragment
 use Rattle.graphql_documents.specs.declared.documents.executables.Selection.{Selection}
 use Rattle.graphql_documents.specs.declared.documents.executables.Selection.TheVariants as kind
 use Rattle.graphql_documents.proofs.SelectionLemmas.{not_spread, same_spread, spread_not_inline}
-use Rattle.graphql_documents.proofs.NameLemmas.{same_name_back, same_name_itself}
+use Rattle.graphql_nodes.proofs.NameLemmas.{same_name_back, same_name_itself}
 use Rattle.graphql_values.proofs.SelectionWalkLemmas.{stands_last}
-use Rattle.graphql_documents.proofs.DiagnosticLemmas.{diagnostic_wider}
-use Rattle.graphql_documents.proofs.ReportLemmas.{appended_then, both_nil, holds, in_words, kept_by, kept_then, kept_wider, wider}
-use Rattle.graphql_documents.proofs.ReportWithinLemmas.{both_within, in_words_within, kept_within, wider_within, within}
+use Rattle.graphql_diagnostics.proofs.DiagnosticLemmas.{diagnostic_wider}
+use Rattle.graphql_diagnostics.proofs.ReportLemmas.{appended_then, both_nil, holds, in_words, kept_by, kept_then, kept_wider, wider}
+use Rattle.graphql_diagnostics.proofs.ReportWithinLemmas.{both_within, in_words_within, kept_within, wider_within, within}
 use Rattle.graphql_rules.specs.SelectionSteps.{FieldSays, FragmentSays, FragmentTruth, FragmentWalkAnswers, FragmentWalks, InlineFragmentSays, SelectionTruth, SpreadSays, SpreadStands, WalkAnswers, WalkStops, Walks, by_condition, by_directives, by_form, by_fragment, by_fragment_directives, by_inline_directives, by_spread, by_spread_directives, by_values}
 use Rattle.graphql_rules.proofs.EnteredLemmas.{goes_as, goes_nowhere, goes_then, stands_by_text, stands_still, without_fewer}
 use Rattle.graphql_rules.proofs.PlacedLemmas.{avoids_or_goes_through, found_without, placed_wider, stays_without, type_of_condition}

@@ -16,9 +16,8 @@ use Rattle.graphql_documents.specs.declared.documents.executables.Selection.TheO
 use Rattle.graphql_documents.specs.declared.documents.executables.Selection.TheVariants as kind
 use Rattle.graphql_documents.specs.declared.documents.executables.Selection.{Selection, out-Selection, size-Selection, size_is-Selection}
 use Rattle.graphql_documents.specs.declared.documents.executables.SelectionSet.{SelectionSet, size-SelectionSet}
-use Rattle.graphql_documents.specs.declared.documents.nodes.Node.{Node}
-use Rattle.graphql_documents.proofs.ListLemmas.{only_one, stands_first}
-use Rattle.graphql_documents.proofs.ReportLemmas.{more_is}
+use Rattle.graphql_nodes.specs.declared.nodes.Node.{Node}
+use Rattle.graphql_documents.proofs.ListLemmas.{more_is, only_one, stands_first}
 use Rattle.graphql_laws.proofs.SizeLemmas.{Kind, is_field, is_inline, is_spread, kind_of}
 use Rattle.graphql_values.proofs.FirstPlaceLemmas.{next_at, next_stands}
 use Rattle.graphql_rules.specs.DeferLabels.{HasMetDefers, MeetsDefers}

@@ -5,20 +5,20 @@ use Rattle.std.specs.Option.{option_and_then, option_map_or}
 use Rattle.std.specs.Str.{bytes_eq}
 use Rattle.indexmap.specs.IndexMap.{IndexMap, get_by}
 use Rattle.graphql_documents.specs.Defer.{DefersIn, DefersOn, HasFixedLabel, HaveDifferentLabels, argument_value}
-use Rattle.graphql_documents.specs.DeferReports.{DeferReport}
-use Rattle.graphql_documents.specs.Diagnostics.{IsLimitEntry, entries}
-use Rattle.graphql_documents.specs.Limits.{DeferLimit}
-use Rattle.graphql_documents.specs.Reports.{KeepsReports, ReportsWithin}
+use Rattle.graphql_diagnostics.specs.DeferReports.{DeferReport}
+use Rattle.graphql_diagnostics.specs.Diagnostics.{IsLimitEntry, entries}
+use Rattle.graphql_diagnostics.specs.Limits.{DeferLimit}
+use Rattle.graphql_diagnostics.specs.Reports.{KeepsReports, ReportsWithin}
 use Rattle.graphql_documents.specs.Selections.{Fragments, selections_of}
 use Rattle.graphql_documents.specs.Walks.{Descent, LabelsStandTooDeep, PassesDepth, written_walk}
-use Rattle.graphql_documents.specs.declared.diagnostics.lists.DiagnosticEntry.{DiagnosticEntry}
-use Rattle.graphql_documents.specs.declared.diagnostics.lists.DiagnosticList.{DiagnosticList}
+use Rattle.graphql_diagnostics.specs.declared.lists.DiagnosticEntry.{DiagnosticEntry}
+use Rattle.graphql_diagnostics.specs.declared.lists.DiagnosticList.{DiagnosticList}
 use Rattle.graphql_documents.specs.declared.documents.directives.Directive.{Directive}
 use Rattle.graphql_documents.specs.declared.documents.executables.ExecutableDocument.{ExecutableDocument}
 use Rattle.graphql_documents.specs.declared.documents.executables.Selection.{Selection}
 use Rattle.graphql_documents.specs.declared.documents.executables.SelectionSet.{SelectionSet}
-use Rattle.graphql_documents.specs.declared.documents.nodes.Node.{Node}
-use Rattle.graphql_documents.specs.declared.documents.spans.SourceSpan.{SourceSpan}
+use Rattle.graphql_nodes.specs.declared.nodes.Node.{Node}
+use Rattle.graphql_nodes.specs.declared.spans.SourceSpan.{SourceSpan}
 use Rattle.graphql_documents.specs.declared.documents.values.Value.{Value}
 use Rattle.graphql_documents.specs.declared.documents.values.Value.TheVariants as literal
 

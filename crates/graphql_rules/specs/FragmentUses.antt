@@ -1,10 +1,10 @@
 -- How a fragment comes to stand on a type: by a spread, or in place.
 use Rattle.std.specs.Prelude.{Option, None, Some}
-use Rattle.graphql_documents.specs.Names.{NameText}
-use Rattle.graphql_documents.specs.SelectionReports.{ImpossibleReport}
-use Rattle.graphql_documents.specs.declared.diagnostics.data.DiagnosticData.{DiagnosticData}
+use Rattle.graphql_nodes.specs.Names.{NameText}
+use Rattle.graphql_diagnostics.specs.SelectionReports.{ImpossibleReport}
+use Rattle.graphql_diagnostics.specs.declared.data.DiagnosticData.{DiagnosticData}
 use Rattle.graphql_documents.specs.declared.documents.schemas.Schema.{Schema}
-use Rattle.graphql_documents.specs.declared.documents.spans.SourceSpan.{SourceSpan}
+use Rattle.graphql_nodes.specs.declared.spans.SourceSpan.{SourceSpan}
 use Rattle.graphql_rules.specs.declared.operations.spread_types.FragmentUse.{FragmentUse}
 use Rattle.graphql_rules.specs.declared.operations.spread_types.FragmentUse.TheVariants.{Inline, Spread}
 

@@ -3,23 +3,23 @@ use Rattle.std.specs.Prelude.{◌≡◌, Bool, true, false, List, None, Option, 
 use Rattle.std.specs.Borrow.{Bor}
 use Rattle.std.specs.Str.{bytes_eq}
 use Rattle.graphql_documents.specs.Defer.{CanBeDisabled, Open, defers}
-use Rattle.graphql_documents.specs.DeferReports.{HasDeferAtRoot, HasFixedDefer}
+use Rattle.graphql_diagnostics.specs.DeferReports.{HasDeferAtRoot, HasFixedDefer}
 use Rattle.graphql_documents.specs.Selections.{Fragments, Inside, directives_of}
 use Rattle.graphql_documents.specs.Walks.{PassesDepth, Walk, open_walk, root_walk}
-use Rattle.graphql_documents.specs.declared.diagnostics.build_errors.BuildError.TheVariants as build
-use Rattle.graphql_documents.specs.declared.diagnostics.build_errors.BuildError.{BuildError}
-use Rattle.graphql_documents.specs.declared.diagnostics.data.DiagnosticData.TheVariants as report
-use Rattle.graphql_documents.specs.declared.diagnostics.details.Details.TheVariants as details
-use Rattle.graphql_documents.specs.declared.diagnostics.details.Details.{Details}
-use Rattle.graphql_documents.specs.declared.diagnostics.lists.DiagnosticEntry.{DiagnosticEntry}
+use Rattle.graphql_diagnostics.specs.declared.build_errors.BuildError.TheVariants as build
+use Rattle.graphql_diagnostics.specs.declared.build_errors.BuildError.{BuildError}
+use Rattle.graphql_diagnostics.specs.declared.data.DiagnosticData.TheVariants as report
+use Rattle.graphql_diagnostics.specs.declared.details.Details.TheVariants as details
+use Rattle.graphql_diagnostics.specs.declared.details.Details.{Details}
+use Rattle.graphql_diagnostics.specs.declared.lists.DiagnosticEntry.{DiagnosticEntry}
 use Rattle.graphql_documents.specs.declared.documents.definitions.OperationType.{OperationType}
 use Rattle.graphql_documents.specs.declared.documents.directives.Directive.{Directive}
 use Rattle.graphql_documents.specs.declared.documents.executables.Operation.{Operation}
 use Rattle.graphql_documents.specs.declared.documents.executables.Selection.TheOpen as layer
 use Rattle.graphql_documents.specs.declared.documents.executables.Selection.{Selection, out-Selection}
 use Rattle.graphql_documents.specs.declared.documents.executables.SelectionSet.{SelectionSet}
-use Rattle.graphql_documents.specs.declared.documents.nodes.Node.{Node}
-use Rattle.graphql_documents.specs.declared.documents.spans.SourceSpan.{SourceSpan}
+use Rattle.graphql_nodes.specs.declared.nodes.Node.{Node}
+use Rattle.graphql_nodes.specs.declared.spans.SourceSpan.{SourceSpan}
 use Rattle.graphql_rules.specs.declared.operations.defer.rules.DeferRule.TheVariants as rule
 use Rattle.graphql_rules.specs.declared.operations.defer.rules.DeferRule.{DeferRule}
 

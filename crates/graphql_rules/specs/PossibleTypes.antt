@@ -1,6 +1,6 @@
 -- The objects that are values of a type, as the checks of spreads hold them.
 use Rattle.std.specs.Prelude.{List, [], ◌∷◌, map}
-use Rattle.graphql_documents.specs.Names.{NameText}
+use Rattle.graphql_nodes.specs.Names.{NameText}
 use Rattle.graphql_rules.specs.declared.operations.possible_types.ObjectNames.{ObjectNames}
 use Rattle.graphql_rules.specs.declared.operations.possible_types.ObjectNames.TheVariants.{Implementers, Members, Nothing, Own}
 

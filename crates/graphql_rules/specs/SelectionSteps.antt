@@ -1,22 +1,22 @@
 -- The steps of the walk over selections, for contracts.
 use Rattle.std.specs.Prelude.{◌≡◌, ◌↔◌, ◌⊎◌, true, List, [], ◌++◌, Option, None, Some, Result, All, MatchResult}
 use Rattle.graphql_documents.specs.Arguments.{IsGivenIfRequired}
-use Rattle.graphql_documents.specs.Diagnostics.{IsDiagnostic, IsLimitEntry}
-use Rattle.graphql_documents.specs.DirectiveReports.{DirectivesBreak}
+use Rattle.graphql_diagnostics.specs.Diagnostics.{IsDiagnostic, IsLimitEntry}
+use Rattle.graphql_diagnostics.specs.DirectiveReports.{DirectivesBreak}
 use Rattle.graphql_documents.specs.Directives.{ApplicationsHold}
-use Rattle.graphql_documents.specs.FieldReports.{FieldBreaks}
+use Rattle.graphql_diagnostics.specs.FieldReports.{FieldBreaks}
 use Rattle.graphql_documents.specs.Fields.{HasDefinition, HasNeededSelection, PlacedSelectionsHold}
 use Rattle.graphql_documents.specs.FragmentSpreads.{FragmentHolds, IsPossibleIn, TargetHolds}
-use Rattle.graphql_documents.specs.Limits.{FragmentLimit, SpreadLimit}
-use Rattle.graphql_documents.specs.Names.{NameText}
-use Rattle.graphql_documents.specs.Reports.{KeepsReports, ReportsWithin}
-use Rattle.graphql_documents.specs.SelectionReports.{FieldValuesBreak, FragmentBreaks, InlineFragmentBreaks, SelectionReport, SpreadBreaks}
+use Rattle.graphql_diagnostics.specs.Limits.{FragmentLimit, SpreadLimit}
+use Rattle.graphql_nodes.specs.Names.{NameText}
+use Rattle.graphql_diagnostics.specs.Reports.{KeepsReports, ReportsWithin}
+use Rattle.graphql_diagnostics.specs.SelectionReports.{FieldValuesBreak, FragmentBreaks, InlineFragmentBreaks, SelectionReport, SpreadBreaks}
 use Rattle.graphql_documents.specs.Schemas.{is_composite}
 use Rattle.graphql_documents.specs.Selections.{Fragments, GoesInto, HasGoneInto, TypeBelow, selections_of, type_under}
 use Rattle.graphql_documents.specs.TypeReferences.{inner_named_type}
-use Rattle.graphql_documents.specs.declared.diagnostics.data.DiagnosticData.TheVariants as report
-use Rattle.graphql_documents.specs.declared.diagnostics.data.DiagnosticData.{DiagnosticData}
-use Rattle.graphql_documents.specs.declared.diagnostics.lists.DiagnosticEntry.{DiagnosticEntry}
+use Rattle.graphql_diagnostics.specs.declared.data.DiagnosticData.TheVariants as report
+use Rattle.graphql_diagnostics.specs.declared.data.DiagnosticData.{DiagnosticData}
+use Rattle.graphql_diagnostics.specs.declared.lists.DiagnosticEntry.{DiagnosticEntry}
 use Rattle.graphql_documents.specs.declared.documents.definitions.DirectiveLocation.TheVariants as at
 use Rattle.graphql_documents.specs.declared.documents.definitions.VariableDefinition.{VariableDefinition}
 use Rattle.graphql_documents.specs.declared.documents.definitions.FieldDefinition.{FieldDefinition}
@@ -25,10 +25,10 @@ use Rattle.graphql_documents.specs.declared.documents.executables.Fragment.{Frag
 use Rattle.graphql_documents.specs.declared.documents.executables.FragmentSpread.{FragmentSpread}
 use Rattle.graphql_documents.specs.declared.documents.executables.InlineFragment.{InlineFragment}
 use Rattle.graphql_documents.specs.declared.documents.executables.Selection.{Selection}
-use Rattle.graphql_documents.specs.declared.documents.nodes.Node.{Node}
+use Rattle.graphql_nodes.specs.declared.nodes.Node.{Node}
 use Rattle.graphql_documents.specs.declared.documents.schemas.ExtendedType.{ExtendedType}
 use Rattle.graphql_documents.specs.declared.documents.schemas.Schema.{Schema}
-use Rattle.graphql_documents.specs.declared.documents.spans.SourceSpan.{SourceSpan}
+use Rattle.graphql_nodes.specs.declared.spans.SourceSpan.{SourceSpan}
 use Rattle.graphql_documents.specs.declared.documents.type_references.Type.{«Type»}
 use Rattle.graphql_values.specs.GivenArguments.{GivenArgumentHolds}
 use Rattle.graphql_rules.specs.Contexts.{IsAgainst, parent_of}

@@ -1,18 +1,18 @@
 -- What holds of single root selections of a subscription, for the contracts of its checks.
 use Rattle.std.specs.Prelude.{◌≡◌, ◌⊎◌, Result, IsFalse}
-use Rattle.graphql_documents.specs.Limits.{SubscriptionLimit}
-use Rattle.graphql_documents.specs.Reports.{Checks}
+use Rattle.graphql_diagnostics.specs.Limits.{SubscriptionLimit}
+use Rattle.graphql_diagnostics.specs.Reports.{Checks}
 use Rattle.graphql_documents.specs.Selections.{Fragments, Inside, directives_of}
-use Rattle.graphql_documents.specs.SubscriptionReports.{SubscriptionReport}
+use Rattle.graphql_diagnostics.specs.SubscriptionReports.{SubscriptionReport}
 use Rattle.graphql_documents.specs.Subscriptions.{has_condition, is_introspection}
-use Rattle.graphql_documents.specs.declared.diagnostics.lists.DiagnosticEntry.{DiagnosticEntry}
-use Rattle.graphql_documents.specs.declared.diagnostics.lists.DiagnosticList.{DiagnosticList}
+use Rattle.graphql_diagnostics.specs.declared.lists.DiagnosticEntry.{DiagnosticEntry}
+use Rattle.graphql_diagnostics.specs.declared.lists.DiagnosticList.{DiagnosticList}
 use Rattle.graphql_documents.specs.declared.documents.definitions.OperationType.TheVariants.{Subscription}
 use Rattle.graphql_documents.specs.declared.documents.executables.Field.{Field}
 use Rattle.graphql_documents.specs.declared.documents.executables.Operation.{Operation}
 use Rattle.graphql_documents.specs.declared.documents.executables.Selection.TheVariants as kind
 use Rattle.graphql_documents.specs.declared.documents.executables.Selection.{Selection}
-use Rattle.graphql_documents.specs.declared.documents.nodes.Node.{Node}
+use Rattle.graphql_nodes.specs.declared.nodes.Node.{Node}
 
 -- the selection is no field of introspection
 abbrev pub IsNoIntrospection : Selection → Type 0

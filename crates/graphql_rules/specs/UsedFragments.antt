@@ -1,7 +1,7 @@
 -- The names that operations reach as spreads, for the contracts of the check of used fragments.
 use Rattle.std.specs.Prelude.{Bool, List, Any, Contains, IsFalse, IsTrue}
 use Rattle.std.specs.Borrow.{Bor}
-use Rattle.graphql_documents.specs.Names.{NameText, SameName}
+use Rattle.graphql_nodes.specs.Names.{NameText, SameName}
 use Rattle.graphql_documents.specs.Selections.{Reached, fragments_of}
 use Rattle.graphql_documents.specs.Walks.{PassesDepth, full_walk}
 use Rattle.graphql_documents.specs.declared.documents.executables.ExecutableDocument.{ExecutableDocument}
@@ -9,7 +9,7 @@ use Rattle.graphql_documents.specs.declared.documents.executables.FragmentSpread
 use Rattle.graphql_documents.specs.declared.documents.executables.Operation.{Operation}
 use Rattle.graphql_documents.specs.declared.documents.executables.Selection.TheVariants as kind
 use Rattle.graphql_documents.specs.declared.documents.executables.Selection.{Selection}
-use Rattle.graphql_documents.specs.declared.documents.nodes.Node.{Node}
+use Rattle.graphql_nodes.specs.declared.nodes.Node.{Node}
 use Rattle.graphql_values.specs.Uses.{NamesAlso}
 
 -- a spread of this name is among the selections

@@ -8,7 +8,7 @@ use Rattle.std.proofs.lemmas.List.Elements.{All-nil, All-cons, All-head, All-tai
 use Rattle.std.proofs.lemmas.List.Folds.{Any-from_list_any, list_any-from_Any}
 use Rattle.std.proofs.lemmas.Slice.Eq.{bytes_eq-Decides}
 use Rattle.graphql_documents.specs.Implementations.{FieldList}
-use Rattle.graphql_documents.specs.Names.{NameText, IsFreeName, same_name}
+use Rattle.graphql_nodes.specs.Names.{NameText, IsFreeName, same_name}
 use Rattle.graphql_documents.specs.Schemas.{is_input_type, is_output_type, type_definition}
 use Rattle.graphql_documents.specs.SchemaRules.{ArgumentDefinitionsHold, DirectiveDefinitionHolds, FieldDefinitionHolds, FieldDefinitionsHold, InputValueDefinitionHolds, NamesType, SchemaHolds, TypeHolds}
 use Rattle.graphql_documents.specs.TypeMaps.{IsSettledSchema, OnlyScalarsHaveBuiltInNames, argument_types, built_in_scalar_names, field_types, names_built_in_scalar, types_referred, types_referred_by, uses_type}
@@ -19,11 +19,11 @@ use Rattle.graphql_documents.specs.declared.documents.definitions.DirectiveLocat
 use Rattle.graphql_documents.specs.declared.documents.definitions.DirectiveLocation.TheVariants as at
 use Rattle.graphql_documents.specs.declared.documents.definitions.FieldDefinition.{FieldDefinition}
 use Rattle.graphql_documents.specs.declared.documents.definitions.InputValueDefinition.{InputValueDefinition}
-use Rattle.graphql_documents.specs.declared.documents.nodes.Node.{Node}
+use Rattle.graphql_nodes.specs.declared.nodes.Node.{Node}
 use Rattle.graphql_documents.specs.declared.documents.schemas.Schema.{Schema}
 use Rattle.graphql_documents.specs.declared.documents.schemas.ExtendedType.{ExtendedType}
 use Rattle.graphql_documents.specs.declared.documents.schemas.ExtendedType.TheVariants.{Object, Interface, InputObject}
-use Rattle.graphql_documents.proofs.NameLemmas.{same_name_back}
+use Rattle.graphql_nodes.proofs.NameLemmas.{same_name_back}
 use Rattle.graphql_schema_laws.proofs.SettledLaws.{Entry, same_references, used_has}
 use Rattle.graphql_schema_laws.proofs.SettledTypeLemmas.{other_type}
 

@@ -5,7 +5,7 @@ use Rattle.std.specs.Option.{option_and_then}
 use Rattle.std.proofs.lemmas.List.Elements.{All-contains, All-weaker}
 use Rattle.graphql_documents.specs.Built.{StandsUnderOwnNames, TypeStandsUnderItsName}
 use Rattle.graphql_documents.specs.InputCoercion.{HasFiniteValue}
-use Rattle.graphql_documents.specs.Names.{NameText, SameName}
+use Rattle.graphql_nodes.specs.Names.{NameText, SameName}
 use Rattle.graphql_documents.specs.Schemas.{IsInputObject, type_definition, is_built_in, is_input_type, own_name}
 use Rattle.graphql_documents.specs.SchemaReferences.{InputObjectHasNoCycle, RequiresBy, RequiresBack, as_input_object, input_object_of, required_name}
 use Rattle.graphql_documents.specs.SchemaRules.{SchemaHolds, InputValueDefinitionHolds, NamesType}
@@ -14,7 +14,7 @@ use Rattle.graphql_documents.specs.TypeReferences.{inner_named_type}
 use Rattle.graphql_documents.specs.declared.documents.components.Component.{Component}
 use Rattle.graphql_documents.specs.declared.documents.definitions.DirectiveLocation.TheVariants as at
 use Rattle.graphql_documents.specs.declared.documents.definitions.InputValueDefinition.{InputValueDefinition}
-use Rattle.graphql_documents.specs.declared.documents.nodes.Node.{Node}
+use Rattle.graphql_nodes.specs.declared.nodes.Node.{Node}
 use Rattle.graphql_documents.specs.declared.documents.type_references.Type.{«Type»}
 use Rattle.graphql_documents.specs.declared.documents.type_references.Type.TheVariants.{Named, NonNullNamed, List', NonNullList'}
 use Rattle.graphql_documents.specs.declared.documents.schemas.EnumType.{EnumType}
@@ -23,7 +23,7 @@ use Rattle.graphql_documents.specs.declared.documents.schemas.Schema.{Schema}
 use Rattle.graphql_documents.specs.declared.documents.schemas.ExtendedType.{ExtendedType}
 use Rattle.graphql_documents.specs.declared.documents.schemas.ExtendedType.TheVariants.{Scalar, Enum, InputObject}
 use Rattle.graphql_documents.proofs.ListLemmas.{each_standing, stands_mapped, kept_by_map}
-use Rattle.graphql_documents.proofs.NameLemmas.{same_name_then}
+use Rattle.graphql_nodes.proofs.NameLemmas.{same_name_then}
 use Rattle.graphql_schema_laws.specs.InputFields.{HasFieldsOfMap, InputObjectsHaveFieldsOfMaps}
 use Rattle.graphql_schema_laws.proofs.NoCycleLemmas.{all_hold}
 use Rattle.graphql_schema_laws.proofs.ObjectValueLemmas.{object_has, type_of}

@@ -2,17 +2,17 @@
 use Rattle.std.proofs.Common.{◌≡◌, List, [], Some, refl, sym, subst, ◌∙◌, Contains, arith}
 use Rattle.std.proofs.lemmas.List.Elements.{All-contains}
 use Rattle.graphql_documents.specs.Built.{StandsUnderOwnNames, TypeStandsUnderItsName}
-use Rattle.graphql_documents.specs.Names.{NameText, SameName}
+use Rattle.graphql_nodes.specs.Names.{NameText, SameName}
 use Rattle.graphql_documents.specs.Schemas.{Implements, IsInterface, IsListed, NamesKind, interfaces_of, is_interface_type, own_name}
 use Rattle.graphql_documents.specs.SchemaRules.{TypeHolds, SchemaHolds}
 use Rattle.graphql_documents.specs.Implementations.{ListedInterfacesAreDefined, ListsTransitiveInterfaces}
 use Rattle.graphql_documents.specs.declared.documents.components.ComponentName.{ComponentName}
-use Rattle.graphql_documents.specs.declared.documents.nodes.Node.{Node}
+use Rattle.graphql_nodes.specs.declared.nodes.Node.{Node}
 use Rattle.graphql_documents.specs.declared.documents.schemas.InterfaceType.{InterfaceType}
 use Rattle.graphql_documents.specs.declared.documents.schemas.Schema.{Schema}
 use Rattle.graphql_documents.specs.declared.documents.schemas.ExtendedType.{ExtendedType}
 use Rattle.graphql_documents.specs.declared.documents.schemas.ExtendedType.TheVariants.{Object, Interface}
-use Rattle.graphql_documents.proofs.NameLemmas.{same_name_back, same_name_then}
+use Rattle.graphql_nodes.proofs.NameLemmas.{same_name_back, same_name_then}
 use Rattle.graphql_documents.proofs.ListLemmas.{none_stands}
 use Rattle.graphql_schema_laws.proofs.TypeLemmas.{type_stands, same_type_found, type_holds}
 

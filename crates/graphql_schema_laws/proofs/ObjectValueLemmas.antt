@@ -8,21 +8,21 @@ use Rattle.std.specs.Map.{lookup}
 use Rattle.std.specs.Str.{bytes_eq}
 use Rattle.std.proofs.lemmas.List.Elements.{All-nil, All-cons, All-head, All-tail, All-contains, All-weaker}
 use Rattle.std.proofs.lemmas.Map.Views.{lookup-from_Contains}
-use Rattle.graphql_documents.specs.Names.{NameText, SameName, same_name}
+use Rattle.graphql_nodes.specs.Names.{NameText, SameName, same_name}
 use Rattle.graphql_documents.specs.TypeReferences.{inner_named_type, is_non_null}
 use Rattle.graphql_documents.specs.Values.{in_object, VariablesInEntries, no_entries, next_entry, entry_named}
 use Rattle.graphql_documents.specs.InputCoercion.{Accepts, accepts_object, IsFieldGiven, IsInputField}
 use Rattle.graphql_documents.specs.Schemas.{IsInputObject}
 use Rattle.graphql_documents.specs.declared.documents.components.Component.{Component}
 use Rattle.graphql_documents.specs.declared.documents.definitions.InputValueDefinition.{InputValueDefinition}
-use Rattle.graphql_documents.specs.declared.documents.nodes.Node.{Node}
+use Rattle.graphql_nodes.specs.declared.nodes.Node.{Node}
 use Rattle.graphql_documents.specs.declared.documents.type_references.Type.{«Type»}
 use Rattle.graphql_documents.specs.declared.documents.values.Value.{Value}
 use Rattle.graphql_documents.specs.declared.documents.values.Value.TheVariants as literal
 use Rattle.graphql_documents.specs.declared.documents.schemas.InputObjectType.{InputObjectType}
 use Rattle.graphql_documents.specs.declared.documents.schemas.Schema.{Schema}
 use Rattle.graphql_documents.proofs.ListLemmas.{stands_first, stands_behind, each_standing}
-use Rattle.graphql_documents.proofs.NameLemmas.{same_text, same_name_itself}
+use Rattle.graphql_nodes.proofs.NameLemmas.{same_text, same_name_itself}
 use Rattle.graphql_schema_laws.specs.InputFields.{HasFieldsOfMap}
 use Rattle.graphql_schema_laws.proofs.ValueLemmas.{HasValue, IsFiniteValue, vec_of, node_of, object_not_null}
 

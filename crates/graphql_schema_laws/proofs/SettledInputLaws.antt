@@ -2,7 +2,7 @@
 use Rattle.std.proofs.Common.{◌≡◌, ◌⊎◌, ◌↔◌, inl, inr, Bool, true, false, List, Option, Some, None, refl, sym, ap, ◌∙◌, Contains}
 use Rattle.std.specs.Prelude.{IsTrue, IsSome, is_some}
 use Rattle.std.proofs.lemmas.List.Elements.{All-contains, All-weaker}
-use Rattle.graphql_documents.specs.Names.{NameText}
+use Rattle.graphql_nodes.specs.Names.{NameText}
 use Rattle.graphql_documents.specs.Paths.{Path, path_of_one, path_of_more}
 use Rattle.graphql_documents.specs.Schemas.{Implements, IsInputObject, IsListed, interfaces_of, is_built_in, is_input_type, own_name, type_definition}
 use Rattle.graphql_documents.specs.SchemaReferences.{InputObjectHasNoCycle, RequiresBy, input_object_of}
@@ -10,7 +10,7 @@ use Rattle.graphql_documents.specs.SchemaRules.{NamesType}
 use Rattle.graphql_documents.specs.TypeMaps.{IsSettledSchema, OnlyScalarsHaveBuiltInNames, is_scalar_type, names_built_in_scalar}
 use Rattle.graphql_documents.specs.TypeReferences.{inner_named_type}
 use Rattle.graphql_documents.specs.declared.documents.definitions.InputValueDefinition.{InputValueDefinition}
-use Rattle.graphql_documents.specs.declared.documents.nodes.Node.{Node}
+use Rattle.graphql_nodes.specs.declared.nodes.Node.{Node}
 use Rattle.graphql_documents.specs.declared.documents.schemas.InputObjectType.{InputObjectType}
 use Rattle.graphql_documents.specs.declared.documents.schemas.Schema.{Schema}
 use Rattle.graphql_documents.specs.declared.documents.schemas.ExtendedType.{ExtendedType}

@@ -7,7 +7,7 @@ use Rattle.std.proofs.lemmas.List.Concat.{flat_map-append}
 use Rattle.std.proofs.lemmas.List.Elements.{All-nil, All-cons, All-head, All-tail, All-append, All-contains, All-weaker, Contains-append_left, Contains-append_right, filter_passes}
 use Rattle.std.proofs.lemmas.List.Folds.{Any-from_list_any, list_any-from_Any}
 use Rattle.std.proofs.lemmas.Slice.Eq.{bytes_eq-Decides}
-use Rattle.graphql_documents.specs.Names.{NameText}
+use Rattle.graphql_nodes.specs.Names.{NameText}
 use Rattle.graphql_documents.specs.Schemas.{is_built_in}
 use Rattle.graphql_documents.specs.TypeMaps.{built_in_scalar_names, names_built_in_scalar, uses_type, has_type, types_referred, types_referred_by, argument_types, is_scalar_type, is_unused_built_in, kept_types, missing_scalars, IsAddedScalar, IsSettled, IsSettledSchema, OnlyScalarsHaveBuiltInNames}
 use Rattle.graphql_documents.specs.declared.documents.schemas.Schema.{Schema}

@@ -6,14 +6,14 @@ use Rattle.std.proofs.lemmas.List.Elements.{All-from_recursion, All-contains}
 use Rattle.std.proofs.lemmas.List.Folds.{Any-from_list_any}
 use denote.RawPtr.{null_ptr}
 use Rattle.indexmap.specs.IndexMap.{get}
-use Rattle.graphql_documents.specs.Names.{NameText, same_name}
+use Rattle.graphql_nodes.specs.Names.{NameText, same_name}
 use Rattle.graphql_documents.specs.Numbers.{FitsInt, integer_value}
 use Rattle.graphql_documents.specs.TypeReferences.{inner_named_type, is_list, is_non_null}
 use Rattle.graphql_documents.specs.Values.{VariablesIn, in_null, in_enum, in_string, in_int, in_boolean, in_list, no_items}
 use Rattle.graphql_documents.specs.InputCoercion.{Accepts, AcceptsLeaf, accepts_undefined, accepts_null, accepts_leaf, accepts_list, is_custom_scalar, is_built_in_scalar}
 use Rattle.graphql_documents.specs.Schemas.{type_definition, is_built_in, is_input_type}
 use Rattle.graphql_documents.specs.TypeMaps.{built_in_scalar_names, names_built_in_scalar}
-use Rattle.graphql_documents.specs.declared.documents.nodes.Node.{Node}
+use Rattle.graphql_nodes.specs.declared.nodes.Node.{Node}
 use Rattle.graphql_documents.specs.declared.documents.type_references.Type.{«Type»}
 use Rattle.graphql_documents.specs.declared.documents.values.Value.{Value}
 use Rattle.graphql_documents.specs.declared.documents.values.Value.TheVariants as literal
@@ -23,7 +23,7 @@ use Rattle.graphql_documents.specs.declared.documents.schemas.Schema.{Schema}
 use Rattle.graphql_documents.specs.declared.documents.schemas.ExtendedType.{ExtendedType}
 use Rattle.graphql_documents.specs.declared.documents.schemas.ExtendedType.TheVariants.{Scalar, Enum}
 use Rattle.graphql_documents.proofs.ListLemmas.{none_stands}
-use Rattle.graphql_documents.proofs.NameLemmas.{same_name_itself}
+use Rattle.graphql_nodes.proofs.NameLemmas.{same_name_itself}
 
 -- a list as a vector, and a value as a node, of which only what they hold matters
 abbrev pub vec_of : {X : Type 0} → Global → (items : List X) → length items < 2 ^ 63 → Vec X Global

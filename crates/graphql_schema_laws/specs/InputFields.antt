@@ -1,8 +1,8 @@
 -- The fields of input objects, as every map holds them.
 use Rattle.std.specs.Prelude.{◌≡◌, ◌<◌, ◌^◌, All}
 use Rattle.indexmap.specs.IndexMap.{IsUnique, index_map_len}
-use Rattle.graphql_documents.specs.Names.{same_name}
-use Rattle.graphql_documents.specs.declared.documents.nodes.Node.{Node}
+use Rattle.graphql_nodes.specs.Names.{same_name}
+use Rattle.graphql_nodes.specs.declared.nodes.Node.{Node}
 use Rattle.graphql_documents.specs.declared.documents.schemas.ExtendedType.TheVariants.{InputObject}
 use Rattle.graphql_documents.specs.declared.documents.schemas.InputObjectType.{InputObjectType}
 use Rattle.graphql_documents.specs.declared.documents.schemas.Schema.{Schema}

@@ -1,7 +1,7 @@
 //! What every schema that exists has: the fields of its input objects are those of maps.
 
 ghost use Rattle.std.specs.Prelude.{◌≡◌};
-ghost use Rattle.graphql_documents.specs.declared.documents.nodes.Node.{Node};
+ghost use Rattle.graphql_nodes.specs.declared.nodes.Node.{Node};
 ghost use Rattle.graphql_documents.specs.declared.documents.schemas.ExtendedType.TheVariants.{InputObject};
 ghost use Rattle.graphql_documents.specs.declared.documents.schemas.InputObjectType.{InputObjectType};
 ghost use Rattle.graphql_schema_laws.specs.InputFields.{HasFieldsOfMap, InputObjectsHaveFieldsOfMaps};

@@ -2,7 +2,7 @@
 
 ghost use Rattle.std.specs.Prelude.{◌↔◌, Contains};
 ghost use Rattle.graphql_documents.specs.Built.{StandsUnderOwnNames};
-ghost use Rattle.graphql_documents.specs.Names.{NameText};
+ghost use Rattle.graphql_nodes.specs.Names.{NameText};
 ghost use Rattle.graphql_documents.specs.SchemaRules.{SchemaHolds};
 ghost use Rattle.graphql_documents.specs.Schemas.{Implements, IsListed, NamesKind, interfaces_of, is_interface_type};
 ghost use Rattle.graphql_documents.specs.TypeMaps.{IsSettledSchema, OnlyScalarsHaveBuiltInNames};

@@ -1,7 +1,7 @@
 //! Laws of the type map that a schema has once its built-in scalars are settled.
 
 ghost use Rattle.std.specs.Prelude.{◌≡◌, List, Contains, IsFalse, IsSome};
-ghost use Rattle.graphql_documents.specs.Names.{NameText};
+ghost use Rattle.graphql_nodes.specs.Names.{NameText};
 ghost use Rattle.graphql_documents.specs.SchemaRules.{SchemaHolds};
 ghost use Rattle.graphql_documents.specs.Schemas.{type_definition};
 ghost use Rattle.graphql_documents.specs.TypeMaps.{names_built_in_scalar, types_referred, IsSettled, IsSettledSchema, OnlyScalarsHaveBuiltInNames};

@@ -8,7 +8,7 @@ use Rattle.std.proofs.lemmas.Grind.{flat_map-append}
 use Rattle.std.proofs.lemmas.List.{append-nil, map-append}
 use Rattle.std.proofs.lemmas.List.Folds.{list_any-append}
 use Rattle.std.proofs.lemmas.Slice.Eq.{bytes_eq-Decides}
-use Rattle.graphql_documents.specs.Names.{NameText}
+use Rattle.graphql_nodes.specs.Names.{NameText}
 use Rattle.graphql_documents.specs.TypeMaps.{is_recorded, names_built_in_scalar}
 use Rattle.graphql_schemas.specs.BuiltInScalarUses.{Keeps, Records, holds_text}
 use Rattle.graphql_schemas.specs.declared.schema_rules.built_in_scalars.BuiltInScalars.{BuiltInScalars}

@@ -5,22 +5,22 @@ use Rattle.std.proofs.lemmas.Grind.{flat_map-append}
 use Rattle.std.proofs.lemmas.List.{append-nil}
 use Rattle.std.proofs.lemmas.List.Elements.{All-append, All-cons, All-head, All-nil, Contains-append_left, Contains-append_right}
 use Rattle.std.proofs.lemmas.Option.{none-some, same_Some}
-use Rattle.graphql_documents.specs.DefaultValues.{DefaultValueHolds, DefaultValuesHold, HasWrongDefaultValue, inputs_of}
-use Rattle.graphql_documents.specs.Diagnostics.{IsDiagnostic}
+use Rattle.graphql_diagnostics.specs.DefaultValues.{DefaultValueHolds, DefaultValuesHold, HasWrongDefaultValue, inputs_of}
+use Rattle.graphql_diagnostics.specs.Diagnostics.{IsDiagnostic}
 use Rattle.graphql_documents.specs.InputCoercion.{Accepts}
-use Rattle.graphql_documents.specs.Reports.{KeepsReports, Reports}
+use Rattle.graphql_diagnostics.specs.Reports.{KeepsReports, Reports}
 use Rattle.graphql_documents.specs.Schemas.{NamesKind, is_input_type, type_definition}
 use Rattle.graphql_documents.specs.TypeReferences.{inner_named_type, reference_of}
-use Rattle.graphql_documents.specs.ValueReports.{ValueReport}
-use Rattle.graphql_documents.specs.declared.diagnostics.lists.DiagnosticEntry.{DiagnosticEntry}
+use Rattle.graphql_diagnostics.specs.ValueReports.{ValueReport}
+use Rattle.graphql_diagnostics.specs.declared.lists.DiagnosticEntry.{DiagnosticEntry}
 use Rattle.graphql_documents.specs.declared.documents.definitions.InputValueDefinition.{InputValueDefinition}
-use Rattle.graphql_documents.specs.declared.documents.nodes.Node.{Node}
+use Rattle.graphql_nodes.specs.declared.nodes.Node.{Node}
 use Rattle.graphql_documents.specs.declared.documents.schemas.ExtendedType.{ExtendedType}
 use Rattle.graphql_documents.specs.declared.documents.schemas.Schema.{Schema}
 use Rattle.graphql_documents.specs.declared.documents.values.Value.{Value}
-use Rattle.graphql_documents.proofs.DiagnosticLemmas.{diagnostic_wider}
-use Rattle.graphql_documents.proofs.ListLemmas.{stands_first, stands_flat}
-use Rattle.graphql_documents.proofs.ReportLemmas.{All-append_left, All-append_right, ChecksList, both, checks_after, checks_words, in_words, kept_by, kept_then, kept_wider, stands_next, wider}
+use Rattle.graphql_diagnostics.proofs.DiagnosticLemmas.{diagnostic_wider}
+use Rattle.graphql_documents.proofs.ListLemmas.{All-append_left, All-append_right, stands_first, stands_flat, stands_next}
+use Rattle.graphql_diagnostics.proofs.ReportLemmas.{ChecksList, both, checks_after, checks_words, in_words, kept_by, kept_then, kept_wider, wider}
 use Rattle.graphql_schemas.specs.DefaultValueReports.{DefaultValueBreaks, DefaultValuesBreak}
 
 module _ (schema : Schema) where

@@ -2,24 +2,25 @@
 use Rattle.std.proofs.Common.{◌⊎◌, inl, inr, [], ◌∷◌, ◌++◌, All, Contains, List, Option}
 use Rattle.std.specs.Prelude.{Result, codes}
 use Rattle.std.proofs.lemmas.List.Elements.{All-append, All-cons, All-head, All-nil}
-use Rattle.graphql_documents.specs.Diagnostics.{IsDiagnostic, IsLimitEntry}
-use Rattle.graphql_documents.specs.FieldDefinitionReports.{ArgumentDefinitionsBreak, NameBreaks, of_reserved_name}
-use Rattle.graphql_documents.specs.Limits.{DirectiveLimit, DirectivesLimit}
-use Rattle.graphql_documents.specs.Names.{IsFreeName, NameText}
-use Rattle.graphql_documents.specs.Reports.{Reports, ReportsWithin}
+use Rattle.graphql_diagnostics.specs.Diagnostics.{IsDiagnostic, IsLimitEntry}
+use Rattle.graphql_diagnostics.specs.FieldDefinitionReports.{ArgumentDefinitionsBreak, NameBreaks, of_reserved_name}
+use Rattle.graphql_diagnostics.specs.Limits.{DirectiveLimit, DirectivesLimit}
+use Rattle.graphql_nodes.specs.Names.{IsFreeName, NameText}
+use Rattle.graphql_diagnostics.specs.Reports.{Reports, ReportsWithin}
 use Rattle.graphql_documents.specs.SchemaReferences.{DirectiveHasNoCycle}
-use Rattle.graphql_documents.specs.SchemaReports.{DirectiveDefinitionBreaks, DirectiveDefinitionsBreak, directive_definition_arguments, directive_definition_name}
+use Rattle.graphql_diagnostics.specs.SchemaReports.{DirectiveDefinitionBreaks, DirectiveDefinitionsBreak, directive_definition_arguments, directive_definition_name}
 use Rattle.graphql_documents.specs.SchemaRules.{ArgumentDefinitionsHold, DirectiveDefinitionHolds}
-use Rattle.graphql_documents.proofs.DiagnosticLemmas.{diagnostic_wider}
-use Rattle.graphql_documents.proofs.ReportLemmas.{All-append_left, All-append_right, wider}
-use Rattle.graphql_documents.proofs.ReportWithinLemmas.{ChecksListWithin, both_within, checks_after_within, checks_words_within, in_words_within, within}
-use Rattle.graphql_documents.specs.declared.diagnostics.data.DiagnosticData.{DiagnosticData}
-use Rattle.graphql_documents.specs.declared.diagnostics.lists.DiagnosticEntry.{DiagnosticEntry}
+use Rattle.graphql_diagnostics.proofs.DiagnosticLemmas.{diagnostic_wider}
+use Rattle.graphql_diagnostics.proofs.ReportLemmas.{wider}
+use Rattle.graphql_documents.proofs.ListLemmas.{All-append_left, All-append_right}
+use Rattle.graphql_diagnostics.proofs.ReportWithinLemmas.{ChecksListWithin, both_within, checks_after_within, checks_words_within, in_words_within, within}
+use Rattle.graphql_diagnostics.specs.declared.data.DiagnosticData.{DiagnosticData}
+use Rattle.graphql_diagnostics.specs.declared.lists.DiagnosticEntry.{DiagnosticEntry}
 use Rattle.graphql_documents.specs.declared.documents.definitions.DirectiveDefinition.{DirectiveDefinition}
 use Rattle.graphql_documents.specs.declared.documents.definitions.DirectiveLocation.TheVariants as allowed_at
-use Rattle.graphql_documents.specs.declared.documents.nodes.Node.{Node}
+use Rattle.graphql_nodes.specs.declared.nodes.Node.{Node}
 use Rattle.graphql_documents.specs.declared.documents.schemas.Schema.{Schema}
-use Rattle.graphql_documents.specs.declared.documents.spans.SourceSpan.{SourceSpan}
+use Rattle.graphql_nodes.specs.declared.spans.SourceSpan.{SourceSpan}
 use Rattle.graphql_values.proofs.FirstPlaceLemmas.{holds_on_ok}
 
 -- a true report on a directive definition, of a rule or of a limit

@@ -9,7 +9,7 @@ use Rattle.graphql_documents.specs.Extensions.{extension_in, extensions_among, e
 use Rattle.graphql_documents.specs.declared.documents.components.ComponentOrigin.TheVariants as origin
 use Rattle.graphql_documents.specs.declared.documents.components.ComponentOrigin.{ComponentOrigin}
 use Rattle.graphql_documents.specs.declared.documents.components.ExtensionId.{ExtensionId}
-use Rattle.graphql_documents.proofs.ReportLemmas.{more_is}
+use Rattle.graphql_documents.proofs.ListLemmas.{more_is}
 
 -- those of some parts, and then of more
 pub among_then : (known : List ExtensionId) (xs ys : List ComponentOrigin) →

@@ -1,25 +1,25 @@
 -- Fields of objects and interfaces, one by one, and what is reported of them.
 use Rattle.std.proofs.Common.{[], Contains, List, Option, Some, inl, inr}
 use Rattle.std.specs.Prelude.{Result, codes}
-use Rattle.graphql_documents.specs.Diagnostics.{IsDiagnostic}
-use Rattle.graphql_documents.specs.DirectiveReports.{DirectivesBreak}
-use Rattle.graphql_documents.specs.FieldDefinitionReports.{ArgumentDefinitionsBreak, FieldDefinitionBreaks, FieldDefinitionsBreak, FieldTypeBreaks, NameBreaks, field_arguments, field_directives, field_name, of_one_field, of_reserved_name, of_type_of_one}
+use Rattle.graphql_diagnostics.specs.Diagnostics.{IsDiagnostic}
+use Rattle.graphql_diagnostics.specs.DirectiveReports.{DirectivesBreak}
+use Rattle.graphql_diagnostics.specs.FieldDefinitionReports.{ArgumentDefinitionsBreak, FieldDefinitionBreaks, FieldDefinitionsBreak, FieldTypeBreaks, NameBreaks, field_arguments, field_directives, field_name, of_one_field, of_reserved_name, of_type_of_one}
 use Rattle.graphql_documents.specs.Implementations.{FieldList}
-use Rattle.graphql_documents.specs.Names.{IsFreeName, NameText}
-use Rattle.graphql_documents.specs.Reports.{Reports}
+use Rattle.graphql_nodes.specs.Names.{IsFreeName, NameText}
+use Rattle.graphql_diagnostics.specs.Reports.{Reports}
 use Rattle.graphql_documents.specs.SchemaRules.{ArgumentDefinitionsHold, DirectivesHoldAt, FieldDefinitionHolds, NamesType}
 use Rattle.graphql_documents.specs.Schemas.{is_output_type}
 use Rattle.graphql_documents.specs.TypeReferences.{inner_named_type}
-use Rattle.graphql_documents.proofs.DiagnosticLemmas.{diagnostic_wider}
-use Rattle.graphql_documents.proofs.ReportLemmas.{ChecksList, checks_after, checks_words, wider}
-use Rattle.graphql_documents.specs.declared.diagnostics.data.DiagnosticData.{DiagnosticData}
-use Rattle.graphql_documents.specs.declared.diagnostics.lists.DiagnosticEntry.{DiagnosticEntry}
+use Rattle.graphql_diagnostics.proofs.DiagnosticLemmas.{diagnostic_wider}
+use Rattle.graphql_diagnostics.proofs.ReportLemmas.{ChecksList, checks_after, checks_words, wider}
+use Rattle.graphql_diagnostics.specs.declared.data.DiagnosticData.{DiagnosticData}
+use Rattle.graphql_diagnostics.specs.declared.lists.DiagnosticEntry.{DiagnosticEntry}
 use Rattle.graphql_documents.specs.declared.documents.components.Component.{Component}
 use Rattle.graphql_documents.specs.declared.documents.definitions.DirectiveLocation.TheVariants as allowed_at
 use Rattle.graphql_documents.specs.declared.documents.definitions.FieldDefinition.{FieldDefinition}
-use Rattle.graphql_documents.specs.declared.documents.nodes.Node.{Node}
+use Rattle.graphql_nodes.specs.declared.nodes.Node.{Node}
 use Rattle.graphql_documents.specs.declared.documents.schemas.Schema.{Schema}
-use Rattle.graphql_documents.specs.declared.documents.spans.SourceSpan.{SourceSpan}
+use Rattle.graphql_nodes.specs.declared.spans.SourceSpan.{SourceSpan}
 use Rattle.graphql_schemas.specs.FieldDefinitionSteps.{TypedFieldBreaks, TypedFieldHolds}
 
 module _ (schema : Schema) (d : Node FieldDefinition) where

@@ -1,23 +1,23 @@
 -- Arguments and input fields, one by one, and what is reported of them.
 use Rattle.std.proofs.Common.{All, List, [], ℕ, Option, Some, Contains, map}
 use Rattle.std.specs.Prelude.{Result, codes}
-use Rattle.graphql_documents.specs.Diagnostics.{IsDiagnostic}
-use Rattle.graphql_documents.specs.DirectiveReports.{DirectivesBreak}
-use Rattle.graphql_documents.specs.FieldDefinitionReports.{ArgumentDefinitionsBreak, InputValueBreaks, InputValuesBreak, NameBreaks, of_argument, of_input_directives, of_input_name, of_input_type, of_repeated_definition, of_reserved_name, of_undefined_input_type}
-use Rattle.graphql_documents.specs.Names.{AreDistinct, IsFreeName, NameText}
-use Rattle.graphql_documents.specs.Reports.{Reports}
+use Rattle.graphql_diagnostics.specs.Diagnostics.{IsDiagnostic}
+use Rattle.graphql_diagnostics.specs.DirectiveReports.{DirectivesBreak}
+use Rattle.graphql_diagnostics.specs.FieldDefinitionReports.{ArgumentDefinitionsBreak, InputValueBreaks, InputValuesBreak, NameBreaks, of_argument, of_input_directives, of_input_name, of_input_type, of_repeated_definition, of_reserved_name, of_undefined_input_type}
+use Rattle.graphql_nodes.specs.Names.{AreDistinct, IsFreeName, NameText}
+use Rattle.graphql_diagnostics.specs.Reports.{Reports}
 use Rattle.graphql_documents.specs.SchemaRules.{ArgumentDefinitionsHold, DirectivesHoldAt, InputValueDefinitionHolds, NamesType}
 use Rattle.graphql_documents.specs.Schemas.{is_input_type}
 use Rattle.graphql_documents.specs.TypeReferences.{inner_named_type}
-use Rattle.graphql_documents.proofs.DiagnosticLemmas.{diagnostic_wider}
-use Rattle.graphql_documents.proofs.ReportLemmas.{ChecksList, checks_after, checks_words, wider}
-use Rattle.graphql_documents.specs.declared.diagnostics.data.DiagnosticData.{DiagnosticData}
-use Rattle.graphql_documents.specs.declared.diagnostics.lists.DiagnosticEntry.{DiagnosticEntry}
+use Rattle.graphql_diagnostics.proofs.DiagnosticLemmas.{diagnostic_wider}
+use Rattle.graphql_diagnostics.proofs.ReportLemmas.{ChecksList, checks_after, checks_words, wider}
+use Rattle.graphql_diagnostics.specs.declared.data.DiagnosticData.{DiagnosticData}
+use Rattle.graphql_diagnostics.specs.declared.lists.DiagnosticEntry.{DiagnosticEntry}
 use Rattle.graphql_documents.specs.declared.documents.definitions.DirectiveLocation.{DirectiveLocation}
 use Rattle.graphql_documents.specs.declared.documents.definitions.InputValueDefinition.{InputValueDefinition}
-use Rattle.graphql_documents.specs.declared.documents.nodes.Node.{Node}
+use Rattle.graphql_nodes.specs.declared.nodes.Node.{Node}
 use Rattle.graphql_documents.specs.declared.documents.schemas.Schema.{Schema}
-use Rattle.graphql_documents.specs.declared.documents.spans.SourceSpan.{SourceSpan}
+use Rattle.graphql_nodes.specs.declared.spans.SourceSpan.{SourceSpan}
 use Rattle.graphql_schemas.specs.FieldDefinitionSteps.{InputTypeBreaks, RepetitionsBreak, of_other_kind, of_repetition, of_undefined}
 
 -- the type of an argument or input field, without its wrappers

@@ -1,25 +1,25 @@
 -- Types of a schema, each under its name.
 use Rattle.std.proofs.Common.{◌≡◌, ◌⊎◌, inl, inr, List, refl, Contains}
 use Rattle.std.specs.Prelude.{Option, Result}
-use Rattle.graphql_documents.specs.Diagnostics.{IsDiagnostic, IsLimitEntry, Says}
-use Rattle.graphql_documents.specs.FieldDefinitionReports.{NameBreaks, of_reserved_name}
-use Rattle.graphql_documents.specs.Limits.{SchemaLimit, input_object_nests, required_fields_nest}
-use Rattle.graphql_documents.specs.Names.{IsFreeName, NameText}
-use Rattle.graphql_documents.specs.Reports.{Reports}
-use Rattle.graphql_documents.specs.SchemaReports.{SchemaReport, name_of_type, type_breaks}
+use Rattle.graphql_diagnostics.specs.Diagnostics.{IsDiagnostic, IsLimitEntry, Says}
+use Rattle.graphql_diagnostics.specs.FieldDefinitionReports.{NameBreaks, of_reserved_name}
+use Rattle.graphql_diagnostics.specs.Limits.{SchemaLimit, input_object_nests, required_fields_nest}
+use Rattle.graphql_nodes.specs.Names.{IsFreeName, NameText}
+use Rattle.graphql_diagnostics.specs.Reports.{Reports}
+use Rattle.graphql_diagnostics.specs.SchemaReports.{SchemaReport, name_of_type, type_breaks}
 use Rattle.graphql_documents.specs.SchemaRules.{TypeHolds}
 use Rattle.graphql_documents.specs.Schemas.{kind_text}
-use Rattle.graphql_documents.specs.TypeReports.{TypeBreaks}
-use Rattle.graphql_documents.specs.declared.diagnostics.data.DiagnosticData.{DiagnosticData}
-use Rattle.graphql_documents.specs.declared.diagnostics.details.Details.{Details}
-use Rattle.graphql_documents.specs.declared.diagnostics.lists.DiagnosticEntry.{DiagnosticEntry}
+use Rattle.graphql_diagnostics.specs.TypeReports.{TypeBreaks}
+use Rattle.graphql_diagnostics.specs.declared.data.DiagnosticData.{DiagnosticData}
+use Rattle.graphql_diagnostics.specs.declared.details.Details.{Details}
+use Rattle.graphql_diagnostics.specs.declared.lists.DiagnosticEntry.{DiagnosticEntry}
 use Rattle.graphql_documents.specs.declared.documents.schemas.ExtendedType.TheVariants as types
 use Rattle.graphql_documents.specs.declared.documents.schemas.ExtendedType.{ExtendedType}
 use Rattle.graphql_documents.specs.declared.documents.schemas.Schema.{Schema}
-use Rattle.graphql_documents.specs.declared.documents.spans.SourceSpan.{SourceSpan}
-use Rattle.graphql_documents.proofs.DiagnosticLemmas.{diagnostic_wider}
-use Rattle.graphql_documents.proofs.ReportLemmas.{wider}
-use Rattle.graphql_documents.proofs.ReportWithinLemmas.{ChecksListWithin, checks_after_within, within}
+use Rattle.graphql_nodes.specs.declared.spans.SourceSpan.{SourceSpan}
+use Rattle.graphql_diagnostics.proofs.DiagnosticLemmas.{diagnostic_wider}
+use Rattle.graphql_diagnostics.proofs.ReportLemmas.{wider}
+use Rattle.graphql_diagnostics.proofs.ReportWithinLemmas.{ChecksListWithin, checks_after_within, within}
 use Rattle.graphql_schemas.proofs.TypeLemmas.{checks_wider_within}
 use Rattle.graphql_schemas.specs.TypeSteps.{NamedTypeBreaks, TypeLimit}
 

@@ -3,25 +3,26 @@ use Rattle.std.proofs.Common.{◌≡◌, ◌↔◌, ◌∷◌, ◌++◌, [], Boo
 use Rattle.std.specs.Option.{option_map}
 use Rattle.std.specs.Prelude.{IsSome, Result}
 use Rattle.std.proofs.lemmas.List.Elements.{All-append, All-cons, All-head, All-nil}
-use Rattle.graphql_documents.specs.Diagnostics.{IsDiagnostic}
-use Rattle.graphql_documents.specs.DirectiveReports.{DirectivesBreak}
-use Rattle.graphql_documents.specs.Names.{NameText, same_name}
-use Rattle.graphql_documents.specs.Reports.{Reports}
-use Rattle.graphql_documents.specs.SchemaReports.{RootsBreak, SchemaDefinitionBreaks, of_roots, root_is_no_object, root_is_undefined, schema_directives}
+use Rattle.graphql_diagnostics.specs.Diagnostics.{IsDiagnostic}
+use Rattle.graphql_diagnostics.specs.DirectiveReports.{DirectivesBreak}
+use Rattle.graphql_nodes.specs.Names.{NameText, same_name}
+use Rattle.graphql_diagnostics.specs.Reports.{Reports}
+use Rattle.graphql_diagnostics.specs.SchemaReports.{RootsBreak, SchemaDefinitionBreaks, of_roots, root_is_no_object, root_is_undefined, schema_directives}
 use Rattle.graphql_documents.specs.SchemaRules.{DirectivesHoldAt, RootsHold, SchemaDefinitionHolds}
 use Rattle.graphql_documents.specs.Schemas.{NamesKind, is_object_type, roots_of}
-use Rattle.graphql_documents.proofs.DiagnosticLemmas.{diagnostic_wider}
-use Rattle.graphql_documents.proofs.ReportLemmas.{All-append_left, All-append_right, ChecksList, checks_after, checks_words, wider}
-use Rattle.graphql_documents.specs.declared.diagnostics.data.DiagnosticData.TheVariants as report
-use Rattle.graphql_documents.specs.declared.diagnostics.data.DiagnosticData.{DiagnosticData}
-use Rattle.graphql_documents.specs.declared.diagnostics.lists.DiagnosticEntry.{DiagnosticEntry}
+use Rattle.graphql_diagnostics.proofs.DiagnosticLemmas.{diagnostic_wider}
+use Rattle.graphql_diagnostics.proofs.ReportLemmas.{ChecksList, checks_after, checks_words, wider}
+use Rattle.graphql_documents.proofs.ListLemmas.{All-append_left, All-append_right}
+use Rattle.graphql_diagnostics.specs.declared.data.DiagnosticData.TheVariants as report
+use Rattle.graphql_diagnostics.specs.declared.data.DiagnosticData.{DiagnosticData}
+use Rattle.graphql_diagnostics.specs.declared.lists.DiagnosticEntry.{DiagnosticEntry}
 use Rattle.graphql_documents.specs.declared.documents.components.ComponentName.{ComponentName}
 use Rattle.graphql_documents.specs.declared.documents.definitions.DirectiveLocation.TheVariants as allowed_at
 use Rattle.graphql_documents.specs.declared.documents.definitions.OperationType.{OperationType}
-use Rattle.graphql_documents.specs.declared.documents.nodes.Node.{Node}
+use Rattle.graphql_nodes.specs.declared.nodes.Node.{Node}
 use Rattle.graphql_documents.specs.declared.documents.schemas.Schema.{Schema}
 use Rattle.graphql_documents.specs.declared.documents.schemas.SchemaDefinition.{SchemaDefinition}
-use Rattle.graphql_documents.specs.declared.documents.spans.SourceSpan.{SourceSpan}
+use Rattle.graphql_nodes.specs.declared.spans.SourceSpan.{SourceSpan}
 use Rattle.graphql_values.proofs.FirstPlaceLemmas.{distinct_names_more}
 use Rattle.graphql_schemas.specs.RootSteps.{AreRoots, FollowsWell, RootBreaks, lent_root, of_no_object, of_undefined_root, root_named}
 

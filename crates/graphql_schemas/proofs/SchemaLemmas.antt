@@ -2,27 +2,27 @@
 use Rattle.std.proofs.Common.{◌≡◌, ◌↔◌, ℕ, Bool, true, false, not, ◌&&◌, List, ◌++◌, refl, ap, subst, ◌∙◌, ◌⊎◌, inl, inr, All}
 use Rattle.std.specs.Prelude.{Result, Ok, Err, IsErr, OnErr, OnOk, Option, IsFalse, ⊤, ◌||◌, filter}
 use Rattle.std.proofs.lemmas.Result.{MatchResult-from_err}
-use Rattle.graphql_documents.specs.DefaultValues.{HasWrongDefaultValue}
-use Rattle.graphql_documents.specs.Diagnostics.{IsDiagnostic, IsLimitEntry, Says}
-use Rattle.graphql_documents.specs.Limits.{DirectiveLimit, DirectivesLimit, SchemaLimit}
-use Rattle.graphql_documents.specs.Limits.DirectiveLimit.{references_nest}
-use Rattle.graphql_documents.specs.Limits.SchemaLimit.{directive_nests}
-use Rattle.graphql_documents.specs.Names.{IsFreeName, NameText}
-use Rattle.graphql_documents.specs.Reports.{Reports, ReportsWithin}
-use Rattle.graphql_documents.specs.SchemaReports.{DirectiveDefinitionsBreak, SchemaDefinitionBreaks, SchemaReport}
-use Rattle.graphql_documents.specs.SchemaReports.SchemaReport.{of_default_value, of_directive_definition, of_schema_definition}
+use Rattle.graphql_diagnostics.specs.DefaultValues.{HasWrongDefaultValue}
+use Rattle.graphql_diagnostics.specs.Diagnostics.{IsDiagnostic, IsLimitEntry, Says}
+use Rattle.graphql_diagnostics.specs.Limits.{DirectiveLimit, DirectivesLimit, SchemaLimit}
+use Rattle.graphql_diagnostics.specs.Limits.DirectiveLimit.{references_nest}
+use Rattle.graphql_diagnostics.specs.Limits.SchemaLimit.{directive_nests}
+use Rattle.graphql_nodes.specs.Names.{IsFreeName, NameText}
+use Rattle.graphql_diagnostics.specs.Reports.{Reports, ReportsWithin}
+use Rattle.graphql_diagnostics.specs.SchemaReports.{DirectiveDefinitionsBreak, SchemaDefinitionBreaks, SchemaReport}
+use Rattle.graphql_diagnostics.specs.SchemaReports.SchemaReport.{of_default_value, of_directive_definition, of_schema_definition}
 use Rattle.graphql_documents.specs.SchemaRules.{DirectiveDefinitionHolds, SchemaDefinitionHolds, SchemaHolds, TypeHolds}
 use Rattle.graphql_documents.specs.Schemas.{is_built_in}
 use Rattle.graphql_documents.specs.TypeMaps.{IsSettled, IsSettledSchema, is_recorded, is_unused_built_in, names_built_in_scalar, types_referred, uses_type}
-use Rattle.graphql_documents.specs.declared.diagnostics.details.Details.{Details}
-use Rattle.graphql_documents.specs.declared.diagnostics.lists.DiagnosticEntry.{DiagnosticEntry}
+use Rattle.graphql_diagnostics.specs.declared.details.Details.{Details}
+use Rattle.graphql_diagnostics.specs.declared.lists.DiagnosticEntry.{DiagnosticEntry}
 use Rattle.graphql_documents.specs.declared.documents.definitions.DirectiveDefinition.{DirectiveDefinition}
-use Rattle.graphql_documents.specs.declared.documents.nodes.Node.{Node}
+use Rattle.graphql_nodes.specs.declared.nodes.Node.{Node}
 use Rattle.graphql_documents.specs.declared.documents.schemas.ExtendedType.{ExtendedType}
 use Rattle.graphql_documents.specs.declared.documents.schemas.Schema.{Schema}
-use Rattle.graphql_documents.specs.declared.documents.spans.SourceSpan.{SourceSpan}
-use Rattle.graphql_documents.proofs.DiagnosticLemmas.{diagnostic_wider}
-use Rattle.graphql_documents.proofs.ReportWithinLemmas.{ChecksListWithin, both_within, checks_after_within, checks_words_within, wider_within, within}
+use Rattle.graphql_nodes.specs.declared.spans.SourceSpan.{SourceSpan}
+use Rattle.graphql_diagnostics.proofs.DiagnosticLemmas.{diagnostic_wider}
+use Rattle.graphql_diagnostics.proofs.ReportWithinLemmas.{ChecksListWithin, both_within, checks_after_within, checks_words_within, wider_within, within}
 use Rattle.graphql_schemas.specs.BuiltInScalarUses.{Records, holds_text}
 use Rattle.graphql_schemas.specs.SchemaChecks.{SchemaTruth}
 use Rattle.graphql_schemas.specs.TypeMapChanges.{Settles, is_unused}

@@ -4,28 +4,28 @@ use Rattle.std.proofs.lemmas.List.{append-nil, nil_from_length}
 use Rattle.std.proofs.lemmas.List.Elements.{All-append, All-cons, All-contains, All-head, All-map, All-nil}
 use Rattle.std.specs.List.{list_any}
 use Rattle.std.specs.Prelude.{◌≢◌, codes, IsTrue, IsFalse, Option, Some, Result, Ok, Err, OnOk, flat_map}
-use Rattle.graphql_documents.specs.Diagnostics.{IsDiagnostic, IsLimitEntry}
-use Rattle.graphql_documents.specs.DirectiveReports.{DirectivesBreak}
-use Rattle.graphql_documents.specs.FieldDefinitionReports.{FieldDefinitionsBreak, InputValueBreaks, InputValuesBreak, NameBreaks, of_one_field, of_reserved_name, of_type_of_one}
-use Rattle.graphql_documents.specs.ImplementationReports.{ImplementationBreaks, InterfacesBreak, InterfaceFieldsBreak, ImplementationFieldTypesBreak, ImplementationFieldArgumentsBreak, of_interfaces, of_interface_fields, of_field_types, of_field_arguments}
+use Rattle.graphql_diagnostics.specs.Diagnostics.{IsDiagnostic, IsLimitEntry}
+use Rattle.graphql_diagnostics.specs.DirectiveReports.{DirectivesBreak}
+use Rattle.graphql_diagnostics.specs.FieldDefinitionReports.{FieldDefinitionsBreak, InputValueBreaks, InputValuesBreak, NameBreaks, of_one_field, of_reserved_name, of_type_of_one}
+use Rattle.graphql_diagnostics.specs.ImplementationReports.{ImplementationBreaks, InterfacesBreak, InterfaceFieldsBreak, ImplementationFieldTypesBreak, ImplementationFieldArgumentsBreak, of_interfaces, of_interface_fields, of_field_types, of_field_arguments}
 use Rattle.graphql_documents.specs.Implementations.{DoesNotListItself, FieldArgumentsImplement, FieldList, FieldTypesImplement, HasInterfaceFields, ImplementationsHold, ListedInterfacesAreDefined, ListsTransitiveInterfaces}
-use Rattle.graphql_documents.specs.Names.{IsFreeName, NameText, same_name}
-use Rattle.graphql_documents.specs.Reports.{KeepsReports, Reports, ReportsWithin}
+use Rattle.graphql_nodes.specs.Names.{IsFreeName, NameText, same_name}
+use Rattle.graphql_diagnostics.specs.Reports.{KeepsReports, Reports, ReportsWithin}
 use Rattle.graphql_documents.specs.SchemaReferences.{InputObjectHasNoCycle, directives_of_type}
 use Rattle.graphql_documents.specs.SchemaRules.{DirectivesHoldAt, EnumHolds, EnumValueHolds, FieldDefinitionsHold, InputObjectHolds, InputValueDefinitionHolds, InterfaceHolds, ObjectHolds, ScalarHolds, UnionHolds}
 use Rattle.graphql_documents.specs.Schemas.{IsListed, NamesKind, fields_of, input_fields_of, interfaces_of, is_built_in, is_object_type, location_of, own_name}
 use Rattle.graphql_documents.specs.TypeMaps.{argument_types, field_types, types_referred_by}
 use Rattle.graphql_documents.specs.TypeReferences.{inner_named_type}
-use Rattle.graphql_documents.specs.TypeReports.{EnumValueBreaks, TypeBreaks, directive_location_of, enum_value_breaks, enum_value_directives, enum_value_name, input_field_breaks, is_unchecked, type_directives, type_field_breaks, type_implementation, type_of_field_breaks}
-use Rattle.graphql_documents.specs.declared.diagnostics.data.DiagnosticData.{DiagnosticData}
-use Rattle.graphql_documents.specs.declared.diagnostics.lists.DiagnosticEntry.{DiagnosticEntry}
+use Rattle.graphql_diagnostics.specs.TypeReports.{EnumValueBreaks, TypeBreaks, directive_location_of, enum_value_breaks, enum_value_directives, enum_value_name, input_field_breaks, is_unchecked, type_directives, type_field_breaks, type_implementation, type_of_field_breaks}
+use Rattle.graphql_diagnostics.specs.declared.data.DiagnosticData.{DiagnosticData}
+use Rattle.graphql_diagnostics.specs.declared.lists.DiagnosticEntry.{DiagnosticEntry}
 use Rattle.graphql_documents.specs.declared.documents.components.Component.{Component}
 use Rattle.graphql_documents.specs.declared.documents.components.ComponentName.{ComponentName}
 use Rattle.graphql_documents.specs.declared.documents.definitions.DirectiveLocation.TheVariants as allowed_at
 use Rattle.graphql_documents.specs.declared.documents.definitions.EnumValueDefinition.{EnumValueDefinition}
 use Rattle.graphql_documents.specs.declared.documents.definitions.InputValueDefinition.{InputValueDefinition}
 use Rattle.graphql_documents.specs.declared.documents.directives.Directive.{Directive}
-use Rattle.graphql_documents.specs.declared.documents.nodes.Node.{Node}
+use Rattle.graphql_nodes.specs.declared.nodes.Node.{Node}
 use Rattle.graphql_documents.specs.declared.documents.schemas.EnumType.{EnumType}
 use Rattle.graphql_documents.specs.declared.documents.schemas.ExtendedType.TheVariants as types
 use Rattle.graphql_documents.specs.declared.documents.schemas.ExtendedType.{ExtendedType}
@@ -35,11 +35,11 @@ use Rattle.graphql_documents.specs.declared.documents.schemas.ObjectType.{Object
 use Rattle.graphql_documents.specs.declared.documents.schemas.ScalarType.{ScalarType}
 use Rattle.graphql_documents.specs.declared.documents.schemas.Schema.{Schema}
 use Rattle.graphql_documents.specs.declared.documents.schemas.UnionType.{UnionType}
-use Rattle.graphql_documents.specs.declared.documents.spans.SourceSpan.{SourceSpan}
-use Rattle.graphql_documents.proofs.DiagnosticLemmas.{diagnostic_wider}
-use Rattle.graphql_documents.proofs.ListLemmas.{each_standing, made_of, stands_mapped}
-use Rattle.graphql_documents.proofs.ReportLemmas.{All-append_left, All-append_right, kept_wider, wider}
-use Rattle.graphql_documents.proofs.ReportWithinLemmas.{ChecksListWithin, both_within, in_words_within, wider_within}
+use Rattle.graphql_nodes.specs.declared.spans.SourceSpan.{SourceSpan}
+use Rattle.graphql_diagnostics.proofs.DiagnosticLemmas.{diagnostic_wider}
+use Rattle.graphql_documents.proofs.ListLemmas.{All-append_left, All-append_right, each_standing, made_of, stands_mapped}
+use Rattle.graphql_diagnostics.proofs.ReportLemmas.{kept_wider, wider}
+use Rattle.graphql_diagnostics.proofs.ReportWithinLemmas.{ChecksListWithin, both_within, in_words_within, wider_within}
 use Rattle.graphql_documents.proofs.SubtypeLemmas.{listed_asked}
 use Rattle.graphql_schemas.specs.BuiltInScalarUses.{Records}
 use Rattle.graphql_schemas.specs.TypeSteps.{AreOf}

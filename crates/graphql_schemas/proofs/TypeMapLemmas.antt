@@ -19,8 +19,8 @@ use Rattle.std.proofs.lemmas.Option.{slice_get_within}
 use Rattle.indexmap.specs.IndexMap.{insert_entry, move_index}
 use Rattle.indexmap.proofs.MapLemmas.{absent_before, absent_from_lookup, insert_entry-absent, or_len-absent}
 use Rattle.graphql_documents.proofs.ListLemmas.{all_pass}
-use Rattle.graphql_documents.proofs.ReportLemmas.{appended_then}
-use Rattle.graphql_documents.specs.Names.{NameText, same_name}
+use Rattle.graphql_diagnostics.proofs.ReportLemmas.{appended_then}
+use Rattle.graphql_nodes.specs.Names.{NameText, same_name}
 use Rattle.graphql_documents.specs.TypeMaps.{IsAddedScalar, built_in_scalar_names}
 use Rattle.graphql_documents.specs.declared.documents.schemas.ExtendedType.{ExtendedType}
 use Rattle.graphql_schemas.specs.TypeMapChanges.{AddsMissing, FitBack, Settles, is_missing, is_unused, restored}

@@ -1,7 +1,7 @@
 -- Names that are to stand for types of some kinds.
 use Rattle.std.proofs.Common.{◌≡◌, Bool, IsFalse, IsTrue, None, Some, ⊎_elim, subst, sym, ◌∙◌}
 use Rattle.std.proofs.lemmas.Option.{none-some, same_Some}
-use Rattle.graphql_documents.specs.Names.{NameText}
+use Rattle.graphql_nodes.specs.Names.{NameText}
 use Rattle.graphql_documents.specs.SchemaRules.{NamesType}
 use Rattle.graphql_documents.specs.Schemas.{NamesKind, type_definition}
 use Rattle.graphql_documents.specs.TypeMaps.{names_built_in_scalar}

@@ -1,7 +1,7 @@
 -- The built-in scalars that were met, as contracts see them. Specification: 3.5 Scalars, Built-in Scalars.
 use Rattle.std.specs.Prelude.{◌≡◌, ℕ, Bool, false, ◌||◌, List, IsTrue, codes, if◌then◌else◌}
 use Rattle.std.specs.Str.{bytes_eq}
-use Rattle.graphql_documents.specs.Names.{NameText}
+use Rattle.graphql_nodes.specs.Names.{NameText}
 use Rattle.graphql_documents.specs.TypeMaps.{is_recorded}
 use Rattle.graphql_schemas.specs.declared.schema_rules.built_in_scalars.BuiltInScalars.{BuiltInScalars}
 

@@ -1,18 +1,18 @@
 -- What is checked of the default values of a schema, argument by argument and field by field. Specification:
 -- 3.6.1 Field Arguments, 3.10 Input Objects.
 use Rattle.std.specs.Prelude.{◌≡◌, List, [], Option, Result, Some, All, Contains}
-use Rattle.graphql_documents.specs.DefaultValues.{DefaultValueHolds}
-use Rattle.graphql_documents.specs.Diagnostics.{IsDiagnostic}
-use Rattle.graphql_documents.specs.Reports.{Checks}
+use Rattle.graphql_diagnostics.specs.DefaultValues.{DefaultValueHolds}
+use Rattle.graphql_diagnostics.specs.Diagnostics.{IsDiagnostic}
+use Rattle.graphql_diagnostics.specs.Reports.{Checks}
 use Rattle.graphql_documents.specs.Schemas.{NamesKind, is_input_type}
 use Rattle.graphql_documents.specs.TypeReferences.{inner_named_type, reference_of}
-use Rattle.graphql_documents.specs.ValueReports.{ValueReport}
-use Rattle.graphql_documents.specs.declared.diagnostics.data.DiagnosticData.{DiagnosticData}
-use Rattle.graphql_documents.specs.declared.diagnostics.lists.DiagnosticList.{DiagnosticList}
+use Rattle.graphql_diagnostics.specs.ValueReports.{ValueReport}
+use Rattle.graphql_diagnostics.specs.declared.data.DiagnosticData.{DiagnosticData}
+use Rattle.graphql_diagnostics.specs.declared.lists.DiagnosticList.{DiagnosticList}
 use Rattle.graphql_documents.specs.declared.documents.definitions.InputValueDefinition.{InputValueDefinition}
-use Rattle.graphql_documents.specs.declared.documents.nodes.Node.{Node}
+use Rattle.graphql_nodes.specs.declared.nodes.Node.{Node}
 use Rattle.graphql_documents.specs.declared.documents.schemas.Schema.{Schema}
-use Rattle.graphql_documents.specs.declared.documents.spans.SourceSpan.{SourceSpan}
+use Rattle.graphql_nodes.specs.declared.spans.SourceSpan.{SourceSpan}
 use Rattle.graphql_documents.specs.declared.documents.values.Value.{Value}
 
 -- the report names what is wrong with the default value of an argument or input field

@@ -1,15 +1,15 @@
 -- The steps of the checks of root operation types, for the contracts of their private functions.
 use Rattle.std.specs.Prelude.{◌≡◌, ℕ, All, List, None, Option, find, map}
 use Rattle.std.specs.Borrow.{Bor}
-use Rattle.graphql_documents.specs.FieldDefinitionReports.{IsOfOtherKind}
-use Rattle.graphql_documents.specs.Names.{AreDistinct, NameText, same_name}
+use Rattle.graphql_diagnostics.specs.FieldDefinitionReports.{IsOfOtherKind}
+use Rattle.graphql_nodes.specs.Names.{AreDistinct, NameText, same_name}
 use Rattle.graphql_documents.specs.Schemas.{NamesKind, is_object_type, type_definition}
-use Rattle.graphql_documents.specs.declared.diagnostics.data.DiagnosticData.TheVariants as report
-use Rattle.graphql_documents.specs.declared.diagnostics.data.DiagnosticData.{DiagnosticData}
+use Rattle.graphql_diagnostics.specs.declared.data.DiagnosticData.TheVariants as report
+use Rattle.graphql_diagnostics.specs.declared.data.DiagnosticData.{DiagnosticData}
 use Rattle.graphql_documents.specs.declared.documents.components.ComponentName.{ComponentName}
 use Rattle.graphql_documents.specs.declared.documents.definitions.OperationType.{OperationType}
 use Rattle.graphql_documents.specs.declared.documents.schemas.Schema.{Schema}
-use Rattle.graphql_documents.specs.declared.documents.spans.SourceSpan.{SourceSpan}
+use Rattle.graphql_nodes.specs.declared.spans.SourceSpan.{SourceSpan}
 
 -- a root that is lent
 abbrev pub lent_root : OperationType × Bor ComponentName → OperationType × ComponentName

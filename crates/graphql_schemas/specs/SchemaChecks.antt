@@ -1,9 +1,9 @@
 -- What the check of a whole schema reports, and what it leaves. Specification: 3 Type System.
 use Rattle.std.specs.Prelude.{◌≡◌, ◌⊎◌}
-use Rattle.graphql_documents.specs.Diagnostics.{Says}
-use Rattle.graphql_documents.specs.Limits.{SchemaLimit}
-use Rattle.graphql_documents.specs.SchemaReports.{SchemaReport}
-use Rattle.graphql_documents.specs.declared.diagnostics.lists.DiagnosticEntry.{DiagnosticEntry}
+use Rattle.graphql_diagnostics.specs.Diagnostics.{Says}
+use Rattle.graphql_diagnostics.specs.Limits.{SchemaLimit}
+use Rattle.graphql_diagnostics.specs.SchemaReports.{SchemaReport}
+use Rattle.graphql_diagnostics.specs.declared.lists.DiagnosticEntry.{DiagnosticEntry}
 use Rattle.graphql_documents.specs.declared.documents.schemas.Schema.{Schema}
 
 -- the entry names a rule that the schema breaks, or a bound that one of its definitions passes

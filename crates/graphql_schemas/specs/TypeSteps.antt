@@ -1,18 +1,18 @@
 -- The steps of the checks of types, for the contracts of their private functions.
 use Rattle.std.specs.Prelude.{◌≡◌, ◌⊎◌, List, Option}
-use Rattle.graphql_documents.specs.FieldDefinitionReports.{NameBreaks}
+use Rattle.graphql_diagnostics.specs.FieldDefinitionReports.{NameBreaks}
 use Rattle.graphql_documents.specs.Implementations.{FieldList}
-use Rattle.graphql_documents.specs.Limits.{InputObjectLimit}
-use Rattle.graphql_documents.specs.Names.{NameText}
+use Rattle.graphql_diagnostics.specs.Limits.{InputObjectLimit}
+use Rattle.graphql_nodes.specs.Names.{NameText}
 use Rattle.graphql_documents.specs.Schemas.{fields_of, interfaces_of, kind_text, location_of, own_name}
-use Rattle.graphql_documents.specs.TypeReports.{TypeBreaks}
-use Rattle.graphql_documents.specs.declared.diagnostics.data.DiagnosticData.{DiagnosticData}
-use Rattle.graphql_documents.specs.declared.diagnostics.details.Details.{Details}
+use Rattle.graphql_diagnostics.specs.TypeReports.{TypeBreaks}
+use Rattle.graphql_diagnostics.specs.declared.data.DiagnosticData.{DiagnosticData}
+use Rattle.graphql_diagnostics.specs.declared.details.Details.{Details}
 use Rattle.graphql_documents.specs.declared.documents.components.ComponentName.{ComponentName}
 use Rattle.graphql_documents.specs.declared.documents.schemas.ExtendedType.TheVariants as types
 use Rattle.graphql_documents.specs.declared.documents.schemas.ExtendedType.{ExtendedType}
 use Rattle.graphql_documents.specs.declared.documents.schemas.Schema.{Schema}
-use Rattle.graphql_documents.specs.declared.documents.spans.SourceSpan.{SourceSpan}
+use Rattle.graphql_nodes.specs.declared.spans.SourceSpan.{SourceSpan}
 
 -- the type has this name, stands there, and has these fields and these listed interfaces
 pub record AreOf (d : ExtendedType) (name : NameText) (location : Option SourceSpan) (fields : FieldList) (interfaces : List ComponentName) : Type 0 where

@@ -5,7 +5,7 @@ ghost use Rattle.std.specs.List.{list_any};
 ghost use Rattle.graphql_documents.specs.Extensions.{extensions_among, extensions_in, origins_of};
 ghost use Rattle.graphql_documents.specs.declared.documents.schemas.ExtendedType.TheVariants as types;
 
-use graphql_documents::diagnostics::ValidationError;
+use graphql_diagnostics::ValidationError;
 use graphql_documents::documents::{
     Component, ComponentName, ComponentOrigin, EnumType, ExtendedType, ExtensionId,
     InputObjectType, InterfaceType, Name, Node, ObjectType, ScalarType, SourceSpan, UnionType,

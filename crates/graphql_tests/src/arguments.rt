@@ -1,5 +1,5 @@
 use super::fixtures::{name, query_of_itself, reports};
-use graphql_documents::diagnostics::DiagnosticList;
+use graphql_diagnostics::DiagnosticList;
 use graphql_documents::documents::Schema;
 use graphql_rows::build::{arguments, inputs};
 use graphql_values::argument::{

@@ -1,5 +1,5 @@
 use super::fixtures::{is_text, name, schema_of};
-use graphql_documents::diagnostics::DiagnosticList;
+use graphql_diagnostics::DiagnosticList;
 use graphql_documents::documents::{ExecutableDocument, Selection, SelectionSet};
 use graphql_merging::field_selections::FieldSelection;
 use graphql_rows::build::document;

@@ -1,5 +1,5 @@
 use super::fixtures::{reports_in_full, schema_of};
-use graphql_documents::diagnostics::DiagnosticList;
+use graphql_diagnostics::DiagnosticList;
 use graphql_documents::documents::{FileId, Schema};
 use graphql_rows::build::document_in_file;
 use graphql_rows::rows::up_to_26::DEFER;

@@ -1,4 +1,4 @@
-use graphql_documents::diagnostics::{Details, DiagnosticList, RecursionLimitError};
+use graphql_diagnostics::{Details, DiagnosticList, RecursionLimitError};
 use graphql_documents::documents::{FileId, SourceSpan};
 
 #[test]

@@ -1,5 +1,5 @@
 use super::fixtures::{query_of_itself, reports};
-use graphql_documents::diagnostics::DiagnosticList;
+use graphql_diagnostics::DiagnosticList;
 use graphql_documents::documents::{DirectiveLocation, Schema};
 use graphql_rows::build::directives;
 use graphql_values::directive::validate_directives;

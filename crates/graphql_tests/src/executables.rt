@@ -1,6 +1,6 @@
 use super::fixtures::reports;
 use graphql_built::built_against;
-use graphql_documents::diagnostics::DiagnosticList;
+use graphql_diagnostics::DiagnosticList;
 use graphql_rows::rows::up_to_19::SUBSCRIPTION;
 use graphql_rows::{Case, Row, Subject, Validated, build_case};
 use graphql_rows_more::find;

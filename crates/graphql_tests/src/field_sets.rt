@@ -1,5 +1,5 @@
 use super::fixtures::{reports, schema_of};
-use graphql_documents::diagnostics::DiagnosticList;
+use graphql_diagnostics::DiagnosticList;
 use graphql_rows::build::field_set;
 use graphql_rows::{Row, Subject};
 use graphql_rows_more::find;

@@ -1,5 +1,5 @@
 //! What tests build and print. Where memory is refused, the test ends.
-use graphql_documents::diagnostics::{BuildError, Details, DiagnosticList};
+use graphql_diagnostics::{BuildError, Details, DiagnosticList};
 use graphql_documents::documents::{InputValueDefinition, Name, Node, Schema, SourceSpan, Valid};
 use graphql_rows::build::{inputs, schema};
 use std::alloc::Global;

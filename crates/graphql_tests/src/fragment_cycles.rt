@@ -1,5 +1,5 @@
 use super::fixtures::{query_of_itself, reports};
-use graphql_documents::diagnostics::{Details, DiagnosticData, DiagnosticList};
+use graphql_diagnostics::{Details, DiagnosticData, DiagnosticList};
 use graphql_documents::documents::{ExecutableDocument, FragmentSpread, Node};
 use graphql_rows::build::document;
 use graphql_rules::operations::validate_fragment_cycles;

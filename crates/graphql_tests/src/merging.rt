@@ -1,5 +1,5 @@
 use super::fixtures::reports_in_full;
-use graphql_documents::diagnostics::DiagnosticList;
+use graphql_diagnostics::DiagnosticList;
 use graphql_documents::documents::{ExecutableDocument, Schema};
 use graphql_merging::merging::FieldsInSetCanMerge;
 use graphql_rows::{Case, Row, Subject, Validated, build_case};

@@ -1,6 +1,6 @@
 //! The texts of reports, each written out in full.
 use super::fixtures::{is_text, name, node, text};
-use graphql_documents::diagnostics::{
+use graphql_diagnostics::{
     BuildError, Details, DiagnosticData, NameOrAnon, RecursionLimitError, ValidationError,
 };
 use graphql_documents::documents::{

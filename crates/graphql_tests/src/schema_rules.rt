@@ -1,5 +1,5 @@
 use super::fixtures::{is_text, name, query_of_itself, reports, schema_of, text};
-use graphql_documents::diagnostics::{Details, DiagnosticData, DiagnosticList, ValidationError};
+use graphql_diagnostics::{Details, DiagnosticData, DiagnosticList, ValidationError};
 use graphql_documents::documents::{
     DirectiveLocation, ExtendedType, FieldDefinition, FileId, InputValueDefinition, Name, Node,
     ObjectType, Schema, SourceSpan,

@@ -1,5 +1,5 @@
 use super::fixtures::{is_text, reports, schema_of};
-use graphql_documents::diagnostics::DiagnosticList;
+use graphql_diagnostics::DiagnosticList;
 use graphql_documents::documents::{Schema, Valid};
 use graphql_rows_more::find;
 use graphql_schemas::schema_rules::validate_schema;

@@ -1,5 +1,5 @@
 use super::fixtures::{argument_definition, reports, schema_of};
-use graphql_documents::diagnostics::DiagnosticList;
+use graphql_diagnostics::DiagnosticList;
 use graphql_documents::documents::{Argument, Node, VariableDefinition};
 use graphql_rows::build::{arguments, variables};
 use graphql_values::value::validate_values;

@@ -1,5 +1,5 @@
 use super::fixtures::{name, node, reports, schema_of, text};
-use graphql_documents::diagnostics::DiagnosticList;
+use graphql_diagnostics::DiagnosticList;
 use graphql_documents::documents::{IntValue, Node, Type, Value};
 use graphql_rows::build::arguments;
 use graphql_values::value::value_of_correct_type;

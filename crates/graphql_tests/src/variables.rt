@@ -1,5 +1,5 @@
 use super::fixtures::{is_text, query_of_itself, reports};
-use graphql_documents::diagnostics::DiagnosticList;
+use graphql_diagnostics::DiagnosticList;
 use graphql_documents::documents::{ExecutableDocument, FileId, SourceSpan, Value};
 use graphql_rows::build::{arguments, document, document_in_file, schema, variables};
 use graphql_values::directive::validate_variable_definitions;

@@ -8,9 +8,9 @@ use Rattle.std.proofs.lemmas.List.Elements.{All-contains, All-contains_itself, A
 use Rattle.graphql_documents.specs.Built.{IsBuilt, OperationIsBuilt, SetsAreBuilt}
 use Rattle.graphql_documents.specs.CollectFields.{AppliesTo, CollectedFrom, CollectsFrom, Gathered, applies_interface, applies_itself, applies_union, collected_here, collected_in_inline_fragment, collected_in_spread, gathered_at_root, gathered_below}
 use Rattle.graphql_documents.specs.Defer.{operations_of}
-use Rattle.graphql_documents.specs.MergedGroups.{key_of, under_key}
+use Rattle.graphql_diagnostics.specs.MergedGroups.{key_of, under_key}
 use Rattle.graphql_documents.specs.Merging.{Chain, FieldInside, FieldSelection, MayOverlap, Merges, OverlapThroughout, ParentsMayOverlap, SameKey, SameNameAndArguments, SameShape, Together, chain_of_more, chain_of_one, set_of, type_of}
-use Rattle.graphql_documents.specs.Names.{NameText, SameName, same_name}
+use Rattle.graphql_nodes.specs.Names.{NameText, SameName, same_name}
 use Rattle.graphql_documents.specs.Schemas.{is_composite, is_object_type, type_definition, type_field}
 use Rattle.graphql_documents.specs.Selections.{Fragments, fragments_of, includes_inline_fragment, includes_itself, includes_spread, response_key, set_in_field, set_in_inline_fragment, set_itself}
 use Rattle.graphql_documents.specs.declared.documents.components.Component.{Component}
@@ -19,12 +19,12 @@ use Rattle.graphql_documents.specs.declared.documents.executables.ExecutableDocu
 use Rattle.graphql_documents.specs.declared.documents.executables.Fragment.{Fragment}
 use Rattle.graphql_documents.specs.declared.documents.executables.Operation.{Operation}
 use Rattle.graphql_documents.specs.declared.documents.executables.SelectionSet.{SelectionSet}
-use Rattle.graphql_documents.specs.declared.documents.nodes.Node.{Node}
+use Rattle.graphql_nodes.specs.declared.nodes.Node.{Node}
 use Rattle.graphql_documents.specs.declared.documents.schemas.ExtendedType.TheVariants.{Enum, InputObject, Interface, Object, Scalar, Union}
 use Rattle.graphql_documents.specs.declared.documents.schemas.ExtendedType.{ExtendedType}
 use Rattle.graphql_documents.specs.declared.documents.schemas.Schema.{Schema}
-use Rattle.graphql_documents.proofs.NameLemmas.{same_name_back, same_name_itself, same_name_then}
-use Rattle.graphql_documents.proofs.ReportLemmas.{All-append_right}
+use Rattle.graphql_nodes.proofs.NameLemmas.{same_name_back, same_name_itself, same_name_then}
+use Rattle.graphql_documents.proofs.ListLemmas.{All-append_right}
 use Rattle.graphql_documents.proofs.SelectionLemmas.{one_fragment_found}
 use Rattle.graphql_laws.proofs.SchemaLaws.{one_type_found}
 use Rattle.graphql_values.proofs.UseLemmas.{any_has}

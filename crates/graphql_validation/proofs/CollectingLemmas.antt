@@ -6,7 +6,7 @@ use Rattle.std.proofs.lemmas.List.Folds.{list_any-append}
 use Rattle.std.specs.Prelude.{◌↔◌, IfSome, IsTrue}
 use Rattle.graphql_documents.specs.CollectFields.{AppliesTo, CollectedFrom, CollectsAmong, CollectsFrom, CollectsIn, collect_next, collected_all, collected_here, collected_in_inline_fragment, collected_in_spread, collects_field, collects_inline_fragment, collects_none, collects_past_inline_fragment, collects_past_set, collects_past_spread, collects_set, collects_spread}
 use Rattle.graphql_documents.specs.Merging.{FieldSelection}
-use Rattle.graphql_documents.specs.Names.{NameText, SameName, same_name, stands_on}
+use Rattle.graphql_nodes.specs.Names.{NameText, SameName, same_name, stands_on}
 use Rattle.graphql_documents.specs.Selections.{Fragments, selections_of}
 use Rattle.graphql_documents.specs.declared.documents.executables.Field.{Field}
 use Rattle.graphql_documents.specs.declared.documents.executables.Fragment.{Fragment}
@@ -15,10 +15,10 @@ use Rattle.graphql_documents.specs.declared.documents.executables.InlineFragment
 use Rattle.graphql_documents.specs.declared.documents.executables.Selection.TheVariants as kind
 use Rattle.graphql_documents.specs.declared.documents.executables.Selection.{Selection}
 use Rattle.graphql_documents.specs.declared.documents.executables.SelectionSet.{SelectionSet}
-use Rattle.graphql_documents.specs.declared.documents.nodes.Node.{Node}
+use Rattle.graphql_nodes.specs.declared.nodes.Node.{Node}
 use Rattle.graphql_documents.specs.declared.documents.schemas.Schema.{Schema}
 use Rattle.graphql_documents.proofs.ListLemmas.{none_stands, stands_behind, stands_first}
-use Rattle.graphql_documents.proofs.NameLemmas.{same_name_itself}
+use Rattle.graphql_nodes.proofs.NameLemmas.{same_name_itself}
 use Rattle.graphql_documents.proofs.SelectionLemmas.{not_inline, not_spread, same_field, same_inline, same_spread, spread_not_inline}
 use Rattle.graphql_laws.proofs.MetNameLemmas.{behind_true, either_true}
 use Rattle.graphql_values.proofs.UseLemmas.{any_has, has_any}

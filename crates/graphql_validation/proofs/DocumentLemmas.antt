@@ -3,23 +3,23 @@ use Rattle.std.proofs.Common.{◌≡◌, ◌⊎◌, inl, inr, Bool, true, false,
 use Rattle.std.specs.Map.{lookup, values_of}
 use Rattle.std.proofs.lemmas.List.Elements.{Contains-append_left, Contains-append_right, Contains-push}
 use Rattle.graphql_documents.specs.Defer.{operations_of}
-use Rattle.graphql_documents.specs.DeferReports as defer
-use Rattle.graphql_documents.specs.Diagnostics.{Says}
-use Rattle.graphql_documents.specs.DocumentReports.{DocumentReport, FragmentUseReport, OperationsReport, of_defer, of_one, of_operation, of_subscription}
-use Rattle.graphql_documents.specs.Limits.{DeferLimit, DocumentLimit, FragmentLimit, FragmentWalkLimit, OperationsLimit, SubscriptionLimit, condition_walk_passes, defer_root_walk_passes, fragment_nests, label_walk_passes, one_passes, spread_passes, spreads_nest, subscription_walk_passes, variable_walk_passes, walk_of_conditions, walk_of_labels, walk_of_root, walk_of_variables}
-use Rattle.graphql_documents.specs.Names.{NameText, same_name}
+use Rattle.graphql_diagnostics.specs.DeferReports as defer
+use Rattle.graphql_diagnostics.specs.Diagnostics.{Says}
+use Rattle.graphql_diagnostics.specs.DocumentReports.{DocumentReport, FragmentUseReport, OperationsReport, of_defer, of_one, of_operation, of_subscription}
+use Rattle.graphql_diagnostics.specs.Limits.{DeferLimit, DocumentLimit, FragmentLimit, FragmentWalkLimit, OperationsLimit, SubscriptionLimit, condition_walk_passes, defer_root_walk_passes, fragment_nests, label_walk_passes, one_passes, spread_passes, spreads_nest, subscription_walk_passes, variable_walk_passes, walk_of_conditions, walk_of_labels, walk_of_root, walk_of_variables}
+use Rattle.graphql_nodes.specs.Names.{NameText, same_name}
 use Rattle.graphql_documents.specs.Selections.{fragments_of}
-use Rattle.graphql_documents.specs.SubscriptionReports as subscription
+use Rattle.graphql_diagnostics.specs.SubscriptionReports as subscription
 use Rattle.graphql_documents.specs.declared.documents.executables.Fragment.{Fragment}
-use Rattle.graphql_documents.specs.declared.documents.nodes.Node.{Node}
-use Rattle.graphql_documents.specs.declared.diagnostics.details.Details.{Details}
-use Rattle.graphql_documents.specs.declared.diagnostics.details.Details.TheVariants as details
-use Rattle.graphql_documents.specs.declared.diagnostics.lists.DiagnosticEntry.{DiagnosticEntry}
+use Rattle.graphql_nodes.specs.declared.nodes.Node.{Node}
+use Rattle.graphql_diagnostics.specs.declared.details.Details.{Details}
+use Rattle.graphql_diagnostics.specs.declared.details.Details.TheVariants as details
+use Rattle.graphql_diagnostics.specs.declared.lists.DiagnosticEntry.{DiagnosticEntry}
 use Rattle.graphql_documents.specs.declared.documents.executables.ExecutableDocument.{ExecutableDocument}
 use Rattle.graphql_documents.specs.declared.documents.executables.Field.{Field}
 use Rattle.graphql_documents.specs.declared.documents.executables.Operation.{Operation}
 use Rattle.graphql_documents.specs.declared.documents.schemas.Schema.{Schema}
-use Rattle.graphql_documents.specs.declared.documents.spans.SourceSpan.{SourceSpan}
+use Rattle.graphql_nodes.specs.declared.spans.SourceSpan.{SourceSpan}
 use Rattle.graphql_rules.proofs.OperationLemmas.{OperationsTruth}
 use Rattle.graphql_rules.proofs.UsedFragmentLemmas.{is_document_limit, is_document_report}
 

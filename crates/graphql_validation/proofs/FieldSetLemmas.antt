@@ -3,16 +3,16 @@ use Rattle.std.proofs.Common.{◌≡◌, inl, inr, true, false, List, [], Some, 
 use Rattle.std.specs.Map.{lookup}
 use Rattle.std.proofs.lemmas.Option.{none-some}
 use Rattle.std.proofs.lemmas.List.Elements.{All-weaker}
-use Rattle.graphql_documents.specs.Diagnostics.{IsLimitEntry}
-use Rattle.graphql_documents.specs.FieldSets.{FieldSetHolds, NamesBrokenFieldSetRule}
-use Rattle.graphql_documents.specs.Names.{NameText, same_name}
-use Rattle.graphql_documents.specs.Reports.{KeepsReports, Reports}
+use Rattle.graphql_diagnostics.specs.Diagnostics.{IsLimitEntry}
+use Rattle.graphql_diagnostics.specs.FieldSets.{FieldSetHolds, NamesBrokenFieldSetRule}
+use Rattle.graphql_nodes.specs.Names.{NameText, same_name}
+use Rattle.graphql_diagnostics.specs.Reports.{KeepsReports, Reports}
 use Rattle.graphql_documents.specs.Selections.{Fragments, fragments_of, no_fragments, selections_of}
-use Rattle.graphql_documents.specs.declared.diagnostics.lists.DiagnosticEntry.{DiagnosticEntry}
+use Rattle.graphql_diagnostics.specs.declared.lists.DiagnosticEntry.{DiagnosticEntry}
 use Rattle.graphql_documents.specs.declared.documents.executables.ExecutableDocument.{ExecutableDocument}
 use Rattle.graphql_documents.specs.declared.documents.executables.Fragment.{Fragment}
 use Rattle.graphql_documents.specs.declared.documents.executables.SelectionSet.{SelectionSet}
-use Rattle.graphql_documents.specs.declared.documents.nodes.Node.{Node}
+use Rattle.graphql_nodes.specs.declared.nodes.Node.{Node}
 use Rattle.graphql_documents.specs.declared.documents.schemas.Schema.{Schema}
 use Rattle.graphql_validation.proofs.LimitLemmas.{limit_says, says_bound, says_no_bound}
 use Rattle.graphql_rules.specs.SelectionSteps.{SelectionTruth, WalkAnswers, WalkStops}

@@ -1,24 +1,24 @@
 -- No report of a broken rule is one of a limit, and each of a limit is.
 use Rattle.std.proofs.Common.{◌≡◌, ◌⊎◌, inl, inr, Bool, true, false, List, [], Option, refl}
-use Rattle.graphql_documents.specs.Diagnostics.{IsLimit, IsLimitEntry, Says, limit_of_depth, limit_of_path, limit_of_walk}
-use Rattle.graphql_documents.specs.DirectiveReports.{ApplicationBreaks, ArgumentValuesBreak, DirectivesBreak, of_application, of_argument_values, of_misplaced_directive, of_missing_argument, of_repeated_argument, of_repeated_directive, of_undefined_directive, of_unknown_argument, of_usage, of_value}
-use Rattle.graphql_documents.specs.DocumentReports as document_report
-use Rattle.graphql_documents.specs.DocumentReports.{DocumentReport, OperationReport}
-use Rattle.graphql_documents.specs.FieldReports.{FieldBreaks}
-use Rattle.graphql_documents.specs.Limits as limits
-use Rattle.graphql_documents.specs.Limits.{DocumentLimit}
-use Rattle.graphql_documents.specs.Names.{NameText}
-use Rattle.graphql_documents.specs.SelectionReports.{FragmentBreaks, InlineFragmentBreaks, SelectionReport, SpreadBreaks, of_field_directives, of_field_form, of_field_values, of_fragment, of_fragment_directives, of_inline_fragment, of_inline_fragment_directives, of_spread, of_spread_directives}
+use Rattle.graphql_diagnostics.specs.Diagnostics.{IsLimit, IsLimitEntry, Says, limit_of_depth, limit_of_path, limit_of_walk}
+use Rattle.graphql_diagnostics.specs.DirectiveReports.{ApplicationBreaks, ArgumentValuesBreak, DirectivesBreak, of_application, of_argument_values, of_misplaced_directive, of_missing_argument, of_repeated_argument, of_repeated_directive, of_undefined_directive, of_unknown_argument, of_usage, of_value}
+use Rattle.graphql_diagnostics.specs.DocumentReports as document_report
+use Rattle.graphql_diagnostics.specs.DocumentReports.{DocumentReport, OperationReport}
+use Rattle.graphql_diagnostics.specs.FieldReports.{FieldBreaks}
+use Rattle.graphql_diagnostics.specs.Limits as limits
+use Rattle.graphql_diagnostics.specs.Limits.{DocumentLimit}
+use Rattle.graphql_nodes.specs.Names.{NameText}
+use Rattle.graphql_diagnostics.specs.SelectionReports.{FragmentBreaks, InlineFragmentBreaks, SelectionReport, SpreadBreaks, of_field_directives, of_field_form, of_field_values, of_fragment, of_fragment_directives, of_inline_fragment, of_inline_fragment_directives, of_spread, of_spread_directives}
 use Rattle.graphql_documents.specs.Selections.{Fragments}
 use Rattle.graphql_documents.specs.TypeReferences.{TypeReference}
-use Rattle.graphql_documents.specs.ValueReports.{ValueBreaks}
-use Rattle.graphql_documents.specs.VariableReports.{VariableBreaks, VariablesReport, of_default, of_no_input_type, of_repetition, of_undefined_type, of_variable, of_variable_directives}
+use Rattle.graphql_diagnostics.specs.ValueReports.{ValueBreaks}
+use Rattle.graphql_diagnostics.specs.VariableReports.{VariableBreaks, VariablesReport, of_default, of_no_input_type, of_repetition, of_undefined_type, of_variable, of_variable_directives}
 use Rattle.graphql_documents.specs.declared.documents.executables.Operation.{Operation}
-use Rattle.graphql_documents.specs.declared.diagnostics.data.DiagnosticData.{DiagnosticData}
-use Rattle.graphql_documents.specs.declared.diagnostics.data.DiagnosticData.TheVariants as report
-use Rattle.graphql_documents.specs.declared.diagnostics.details.Details.{Details}
-use Rattle.graphql_documents.specs.declared.diagnostics.details.Details.TheVariants as details
-use Rattle.graphql_documents.specs.declared.diagnostics.lists.DiagnosticEntry.{DiagnosticEntry}
+use Rattle.graphql_diagnostics.specs.declared.data.DiagnosticData.{DiagnosticData}
+use Rattle.graphql_diagnostics.specs.declared.data.DiagnosticData.TheVariants as report
+use Rattle.graphql_diagnostics.specs.declared.details.Details.{Details}
+use Rattle.graphql_diagnostics.specs.declared.details.Details.TheVariants as details
+use Rattle.graphql_diagnostics.specs.declared.lists.DiagnosticEntry.{DiagnosticEntry}
 use Rattle.graphql_documents.specs.declared.documents.definitions.DirectiveLocation.{DirectiveLocation}
 use Rattle.graphql_documents.specs.declared.documents.definitions.VariableDefinition.{VariableDefinition}
 use Rattle.graphql_documents.specs.declared.documents.definitions.DirectiveDefinition.{DirectiveDefinition}
@@ -31,9 +31,9 @@ use Rattle.graphql_documents.specs.declared.documents.executables.Fragment.{Frag
 use Rattle.graphql_documents.specs.declared.documents.executables.FragmentSpread.{FragmentSpread}
 use Rattle.graphql_documents.specs.declared.documents.executables.InlineFragment.{InlineFragment}
 use Rattle.graphql_documents.specs.declared.documents.executables.Selection.{Selection}
-use Rattle.graphql_documents.specs.declared.documents.nodes.Node.{Node}
+use Rattle.graphql_nodes.specs.declared.nodes.Node.{Node}
 use Rattle.graphql_documents.specs.declared.documents.schemas.Schema.{Schema}
-use Rattle.graphql_documents.specs.declared.documents.spans.SourceSpan.{SourceSpan}
+use Rattle.graphql_nodes.specs.declared.spans.SourceSpan.{SourceSpan}
 use Rattle.graphql_documents.specs.declared.documents.values.Value.{Value}
 
 -- the broken rules that are limits

@@ -5,27 +5,27 @@ use Rattle.std.proofs.lemmas.List.Elements.{All-append, All-cons, All-contains_i
 use Rattle.std.specs.Prelude.{IsFalse, Option}
 use Rattle.graphql_documents.specs.Built.{IsBuilt}
 use Rattle.graphql_documents.specs.Defer.{DeferHolds, operations_of}
-use Rattle.graphql_documents.specs.Diagnostics.{IsLimitEntry, limit_of_depth}
-use Rattle.graphql_documents.specs.DocumentReports as document_report
-use Rattle.graphql_documents.specs.DocumentReports.{DocumentReport}
+use Rattle.graphql_diagnostics.specs.Diagnostics.{IsLimitEntry, limit_of_depth}
+use Rattle.graphql_diagnostics.specs.DocumentReports as document_report
+use Rattle.graphql_diagnostics.specs.DocumentReports.{DocumentReport}
 use Rattle.graphql_documents.specs.Documents.{DocumentHolds, IsFragmentUsed, OperationHolds, OperationSubscriptionHolds}
 use Rattle.indexmap.specs.IndexMap.{values}
 use Rattle.std.proofs.lemmas.Option.{same_Some}
-use Rattle.graphql_documents.specs.Limits.{DocumentLimit, MergingLimit, merging_limit, merging_nests}
+use Rattle.graphql_diagnostics.specs.Limits.{DocumentLimit, MergingLimit, merging_limit, merging_nests}
 use Rattle.graphql_documents.specs.Merging.{Merges}
-use Rattle.graphql_documents.specs.MergingReports.{MergingReport, of_conflict}
-use Rattle.graphql_documents.specs.Reports.{Appends, KeepsReports, ReportsWithin}
+use Rattle.graphql_diagnostics.specs.MergingReports.{MergingReport, of_conflict}
+use Rattle.graphql_diagnostics.specs.Reports.{Appends, KeepsReports, ReportsWithin}
 use Rattle.graphql_documents.specs.Selections.{fragments_of}
-use Rattle.graphql_documents.specs.declared.diagnostics.details.Details.{Details}
-use Rattle.graphql_documents.specs.declared.diagnostics.lists.DiagnosticEntry.{DiagnosticEntry}
+use Rattle.graphql_diagnostics.specs.declared.details.Details.{Details}
+use Rattle.graphql_diagnostics.specs.declared.lists.DiagnosticEntry.{DiagnosticEntry}
 use Rattle.graphql_documents.specs.declared.documents.definitions.FieldDefinition.{FieldDefinition}
 use Rattle.graphql_documents.specs.declared.documents.executables.ExecutableDocument.{ExecutableDocument}
 use Rattle.graphql_documents.specs.declared.documents.executables.Operation.{Operation}
-use Rattle.graphql_documents.specs.declared.documents.nodes.Node.{Node}
+use Rattle.graphql_nodes.specs.declared.nodes.Node.{Node}
 use Rattle.graphql_documents.specs.declared.documents.schemas.Schema.{Schema}
-use Rattle.graphql_documents.specs.declared.documents.spans.SourceSpan.{SourceSpan}
-use Rattle.graphql_documents.proofs.ReportLemmas.{All-append_left, All-append_right, appended_then, both_nil, kept_wider, more_is}
-use Rattle.graphql_documents.proofs.ListLemmas.{stands_first}
+use Rattle.graphql_nodes.specs.declared.spans.SourceSpan.{SourceSpan}
+use Rattle.graphql_diagnostics.proofs.ReportLemmas.{appended_then, both_nil, kept_wider}
+use Rattle.graphql_documents.proofs.ListLemmas.{All-append_left, All-append_right, more_is, stands_first}
 use Rattle.graphql_merging.specs.FieldSelections.{same_field}
 use Rattle.graphql_merging.specs.MergedOperations.{AreLimits, HasMerged, MergesOneMore, Merging, beyond_bound, within_bound}
 use Rattle.graphql_merging.proofs.MergedOperationLemmas.{conflicts_decide}

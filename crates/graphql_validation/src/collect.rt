@@ -4,13 +4,13 @@ ghost use Rattle.std.specs.Prelude.{◌≡◌, ◌↔◌, ◌∷◌, [], IfOk, I
 ghost use Rattle.std.specs.Option.{option_copied};
 ghost use Rattle.graphql_documents.specs.CollectFields.{AppliesTo, CollectsFrom};
 ghost use Rattle.graphql_documents.specs.Merging as merging;
-ghost use Rattle.graphql_documents.specs.Names.{stands_on, with_name};
+ghost use Rattle.graphql_nodes.specs.Names.{stands_on, with_name};
 ghost use Rattle.graphql_documents.specs.Selections.{fragments_of};
 ghost use Rattle.graphql_documents.specs.declared.documents.executables.Selection.TheVariants as kind;
 ghost use Rattle.graphql_merging.specs.Groups.{by_keys, named_fields};
 ghost use Rattle.graphql_validation.specs.CollectionSteps.{CollectsMore, WalksAmong, WalksIn, met_of};
 
-use graphql_documents::diagnostics::ValidationError;
+use graphql_diagnostics::ValidationError;
 use graphql_documents::documents::{
     ExecutableDocument, ExtendedType, FragmentSpread, Name, NamedType, Node, Schema, Selection,
     SelectionSet,

@@ -5,19 +5,19 @@ ghost use Rattle.std.specs.Option.{option_copied};
 ghost use Rattle.std.specs.Prelude.{◌≡◌, ◌↔◌, ◌⊎◌, [], All, Bool, None, OnOk, Some};
 ghost use Rattle.graphql_documents.specs.Built.{IsBuilt};
 ghost use Rattle.graphql_documents.specs.Defer.{DeferHolds, operations_of};
-ghost use Rattle.graphql_documents.specs.Diagnostics.{IsLimitEntry, entries};
-ghost use Rattle.graphql_documents.specs.DocumentReports.{DocumentReport};
+ghost use Rattle.graphql_diagnostics.specs.Diagnostics.{IsLimitEntry, entries};
+ghost use Rattle.graphql_diagnostics.specs.DocumentReports.{DocumentReport};
 ghost use Rattle.graphql_documents.specs.Documents.{DocumentHolds, IsFragmentUsed, OperationHolds, OperationSubscriptionHolds};
-ghost use Rattle.graphql_documents.specs.FieldSets.{FieldSetHolds, NamesBrokenFieldSetRule};
-ghost use Rattle.graphql_documents.specs.Limits.{DocumentLimit};
+ghost use Rattle.graphql_diagnostics.specs.FieldSets.{FieldSetHolds, NamesBrokenFieldSetRule};
+ghost use Rattle.graphql_diagnostics.specs.Limits.{DocumentLimit};
 ghost use Rattle.graphql_documents.specs.Merging.{Merges};
-ghost use Rattle.graphql_documents.specs.Reports.{Appends, Checks, ChecksWithin, KeepsReports, ReportsWithin};
+ghost use Rattle.graphql_diagnostics.specs.Reports.{Appends, Checks, ChecksWithin, KeepsReports, ReportsWithin};
 ghost use Rattle.graphql_documents.specs.Selections.{fragments_of};
 ghost use Rattle.graphql_documents.specs.declared.documents.definitions.FieldDefinition.{FieldDefinition};
 ghost use Rattle.graphql_documents.specs.declared.documents.executables.Field.{Field};
 ghost use Rattle.graphql_merging.specs.FieldSelections.{same_field};
 
-use graphql_documents::diagnostics::{DiagnosticList, ValidationError};
+use graphql_diagnostics::{DiagnosticList, ValidationError};
 use graphql_documents::documents::{ExecutableDocument, FieldSet, OperationMap, Schema, Valid};
 use graphql_merging::merging::FieldsInSetCanMerge;
 use graphql_rules::operations::{

@@ -5,15 +5,15 @@ ghost use Rattle.std.specs.Prelude.{◌↔◌, [], All, Any, Bool, Contains, Lis
 ghost use Rattle.graphql_documents.specs.Built.{IsBuilt};
 ghost use Rattle.graphql_documents.specs.CollectFields.{CollectedFrom, CollectsFrom, Gathered};
 ghost use Rattle.graphql_documents.specs.Defer.{operations_of};
-ghost use Rattle.graphql_documents.specs.MergedGroups.{under_key};
+ghost use Rattle.graphql_diagnostics.specs.MergedGroups.{under_key};
 ghost use Rattle.graphql_documents.specs.Merging.{FieldSelection, Merges, SameNameAndArguments, SameShape, type_of};
-ghost use Rattle.graphql_documents.specs.Names.{NameText};
+ghost use Rattle.graphql_nodes.specs.Names.{NameText};
 ghost use Rattle.graphql_documents.specs.Selections.{fragments_of};
 ghost use Rattle.graphql_documents.specs.declared.documents.definitions.FieldDefinition.{FieldDefinition};
 ghost use Rattle.graphql_documents.specs.declared.documents.executables.ExecutableDocument.{ExecutableDocument};
 ghost use Rattle.graphql_documents.specs.declared.documents.executables.Operation.{Operation};
 ghost use Rattle.graphql_documents.specs.declared.documents.executables.SelectionSet.{SelectionSet};
-ghost use Rattle.graphql_documents.specs.declared.documents.nodes.Node.{Node};
+ghost use Rattle.graphql_nodes.specs.declared.nodes.Node.{Node};
 ghost use Rattle.graphql_documents.specs.declared.documents.schemas.Schema.{Schema};
 
 /// The walk that collects fields lists exactly those that are collected from one of the sets: each stands there,

@@ -4,14 +4,14 @@ use Rattle.std.specs.declared.alloc.Global.{Global}
 use Rattle.std.proofs.lemmas.List.Elements.{All-weaker, All-contains, All-contains_itself}
 use Rattle.std.proofs.lemmas.Option.{same_Some, none-some}
 use Rattle.graphql_documents.specs.InputCoercion.{Accepts, accepts_undefined, accepts_null, accepts_variable, accepts_leaf, accepts_list, accepts_custom_object, accepts_object, AcceptsLeaf, IsFieldGiven, IsInputField, is_custom_scalar}
-use Rattle.graphql_documents.specs.Names.{NameText, SameName}
+use Rattle.graphql_nodes.specs.Names.{NameText, SameName}
 use Rattle.graphql_documents.specs.SchemaReferences.{as_input_object}
 use Rattle.graphql_documents.specs.Schemas.{IsInputObject, is_input_type, type_definition}
 use Rattle.graphql_documents.specs.TypeReferences.{inner_named_type, is_non_null, item_type}
-use Rattle.graphql_documents.specs.ValueReports.{CannotStandFor, null_for_non_null, variable_of_other_type, leaf_of_other_type, list_for_no_list, list_of_no_input, object_for_no_object, TakesLists, is_leaf_literal}
+use Rattle.graphql_diagnostics.specs.ValueReports.{CannotStandFor, null_for_non_null, variable_of_other_type, leaf_of_other_type, list_for_no_list, list_of_no_input, object_for_no_object, TakesLists, is_leaf_literal}
 use Rattle.graphql_documents.specs.VariableUsage.{variable_named}
 use Rattle.graphql_documents.specs.declared.documents.definitions.VariableDefinition.{VariableDefinition}
-use Rattle.graphql_documents.specs.declared.documents.nodes.Node.{Node}
+use Rattle.graphql_nodes.specs.declared.nodes.Node.{Node}
 use Rattle.graphql_documents.specs.declared.documents.schemas.ExtendedType.{ExtendedType}
 use Rattle.graphql_documents.specs.declared.documents.schemas.ExtendedType.TheVariants as types
 use Rattle.graphql_documents.specs.declared.documents.schemas.InputObjectType.{InputObjectType}

@@ -2,26 +2,26 @@
 use Rattle.std.proofs.Common.{◌≡◌, ◌↔◌, ℕ, ◌<◌, List, [], ◌∷◌, ◌++◌, length, get_or, Option, Some, None, Result, refl, sym, ◌∙◌, subst, find, All, Contains}
 use Rattle.std.proofs.lemmas.List.Elements.{All-append, All-cons, All-contains, All-head, All-nil, All-weaker}
 use Rattle.std.proofs.lemmas.Option.{same_Some, none-some}
-use Rattle.graphql_documents.specs.ArgumentReports.{RepetitionReport}
+use Rattle.graphql_diagnostics.specs.ArgumentReports.{RepetitionReport}
 use Rattle.graphql_documents.specs.Arguments.{ArgumentNamesHold, ArgumentValuesHold, HasDistinctNames, IsDefined, IsGivenIfRequired, ValueHoldsBy}
-use Rattle.graphql_documents.specs.Diagnostics.{IsDiagnostic}
-use Rattle.graphql_documents.specs.DirectiveReports.{DirectivesBreak, IsApplied, of_application, of_argument_values, of_missing_argument, of_repeated_argument, of_unknown_argument}
+use Rattle.graphql_diagnostics.specs.Diagnostics.{IsDiagnostic}
+use Rattle.graphql_diagnostics.specs.DirectiveReports.{DirectivesBreak, IsApplied, of_application, of_argument_values, of_missing_argument, of_repeated_argument, of_unknown_argument}
 use Rattle.graphql_documents.specs.Directives.{ApplicationHolds, ApplicationsHold, IsRepeatable, RepetitionsHold, directive_definition, directive_in}
-use Rattle.graphql_documents.specs.Names.{SameName, same_name}
-use Rattle.graphql_documents.specs.Reports.{Reports}
-use Rattle.graphql_documents.proofs.DiagnosticLemmas.{diagnostic_wider}
-use Rattle.graphql_documents.proofs.ListLemmas.{each_standing}
-use Rattle.graphql_documents.proofs.ReportLemmas.{All-append_left, All-append_right, both, checks_after, checks_words, ChecksList, in_words, wider}
-use Rattle.graphql_documents.specs.declared.diagnostics.data.DiagnosticData.TheVariants as report
-use Rattle.graphql_documents.specs.declared.diagnostics.data.DiagnosticData.{DiagnosticData}
-use Rattle.graphql_documents.specs.declared.diagnostics.lists.DiagnosticEntry.{DiagnosticEntry}
+use Rattle.graphql_nodes.specs.Names.{SameName, same_name}
+use Rattle.graphql_diagnostics.specs.Reports.{Reports}
+use Rattle.graphql_diagnostics.proofs.DiagnosticLemmas.{diagnostic_wider}
+use Rattle.graphql_documents.proofs.ListLemmas.{All-append_left, All-append_right, each_standing}
+use Rattle.graphql_diagnostics.proofs.ReportLemmas.{both, checks_after, checks_words, ChecksList, in_words, wider}
+use Rattle.graphql_diagnostics.specs.declared.data.DiagnosticData.TheVariants as report
+use Rattle.graphql_diagnostics.specs.declared.data.DiagnosticData.{DiagnosticData}
+use Rattle.graphql_diagnostics.specs.declared.lists.DiagnosticEntry.{DiagnosticEntry}
 use Rattle.graphql_documents.specs.declared.documents.definitions.DirectiveDefinition.{DirectiveDefinition}
 use Rattle.graphql_documents.specs.declared.documents.definitions.DirectiveLocation.{DirectiveLocation}
 use Rattle.graphql_documents.specs.declared.documents.definitions.VariableDefinition.{VariableDefinition}
 use Rattle.graphql_documents.specs.declared.documents.directives.Directive.{Directive}
-use Rattle.graphql_documents.specs.declared.documents.nodes.Node.{Node}
+use Rattle.graphql_nodes.specs.declared.nodes.Node.{Node}
 use Rattle.graphql_documents.specs.declared.documents.schemas.Schema.{Schema}
-use Rattle.graphql_documents.specs.declared.documents.spans.SourceSpan.{SourceSpan}
+use Rattle.graphql_nodes.specs.declared.spans.SourceSpan.{SourceSpan}
 use Rattle.graphql_values.specs.DirectiveSteps.{FollowsWell, IsAppliedWell, RepetitionHolds}
 use Rattle.graphql_values.specs.GivenArguments.{AreOfDirective, GivenArgumentHolds, GivenArgumentReport, MissingArgumentReport}
 use Rattle.graphql_values.specs.GivenArguments as given

@@ -9,8 +9,8 @@ use Rattle.std.proofs.lemmas.Option.{same_Some}
 use Rattle.std.proofs.lemmas.List.{get_or_append_left, get_or_push, length-append, map-append}
 use Rattle.std.proofs.lemmas.List.Folds.{find-append}
 use Rattle.std.proofs.lemmas.List.Quantifiers.{all_pairs_push}
-use Rattle.graphql_documents.specs.Names.{NameText, AreDistinct, DifferentNames, same_name}
-use Rattle.graphql_documents.specs.declared.documents.spans.SourceSpan.{SourceSpan}
+use Rattle.graphql_nodes.specs.Names.{NameText, AreDistinct, DifferentNames, same_name}
+use Rattle.graphql_nodes.specs.declared.spans.SourceSpan.{SourceSpan}
 use Rattle.graphql_values.specs.FirstPlaces.{IsNext, Remembers, place_in}
 use Rattle.graphql_values.proofs.ObjectLemmas.{split_at}
 

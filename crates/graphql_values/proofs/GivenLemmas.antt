@@ -3,22 +3,22 @@ use Rattle.std.proofs.Common.{◌≡◌, ◌↔◌, List, Some, sym, ap, ◌∙�
 use Rattle.std.specs.Prelude.{Option, is_some}
 use Rattle.std.proofs.lemmas.Option.{same_Some}
 use Rattle.graphql_documents.specs.Arguments.{ArgumentValueHolds, definition_named}
-use Rattle.graphql_documents.specs.Diagnostics.{IsDiagnostic}
-use Rattle.graphql_documents.specs.DirectiveReports.{UsageReport, of_usage, of_value}
+use Rattle.graphql_diagnostics.specs.Diagnostics.{IsDiagnostic}
+use Rattle.graphql_diagnostics.specs.DirectiveReports.{UsageReport, of_usage, of_value}
 use Rattle.graphql_documents.specs.InputCoercion.{Accepts}
 use Rattle.graphql_documents.specs.TypeReferences.{reference_of}
-use Rattle.graphql_documents.specs.ValueReports.{ValueReport}
+use Rattle.graphql_diagnostics.specs.ValueReports.{ValueReport}
 use Rattle.graphql_documents.specs.VariableUsage.{UsageHolds}
-use Rattle.graphql_documents.proofs.DiagnosticLemmas.{diagnostic_wider}
-use Rattle.graphql_documents.specs.declared.diagnostics.data.DiagnosticData.TheVariants as report
-use Rattle.graphql_documents.specs.declared.diagnostics.data.DiagnosticData.{DiagnosticData}
-use Rattle.graphql_documents.specs.declared.diagnostics.lists.DiagnosticEntry.{DiagnosticEntry}
+use Rattle.graphql_diagnostics.proofs.DiagnosticLemmas.{diagnostic_wider}
+use Rattle.graphql_diagnostics.specs.declared.data.DiagnosticData.TheVariants as report
+use Rattle.graphql_diagnostics.specs.declared.data.DiagnosticData.{DiagnosticData}
+use Rattle.graphql_diagnostics.specs.declared.lists.DiagnosticEntry.{DiagnosticEntry}
 use Rattle.graphql_documents.specs.declared.documents.definitions.InputValueDefinition.{InputValueDefinition}
 use Rattle.graphql_documents.specs.declared.documents.definitions.VariableDefinition.{VariableDefinition}
 use Rattle.graphql_documents.specs.declared.documents.directives.Argument.{Argument}
-use Rattle.graphql_documents.specs.declared.documents.nodes.Node.{Node}
+use Rattle.graphql_nodes.specs.declared.nodes.Node.{Node}
 use Rattle.graphql_documents.specs.declared.documents.schemas.Schema.{Schema}
-use Rattle.graphql_documents.specs.declared.documents.spans.SourceSpan.{SourceSpan}
+use Rattle.graphql_nodes.specs.declared.spans.SourceSpan.{SourceSpan}
 use Rattle.graphql_values.specs.GivenArguments.{GivenArgumentHolds, GivenArgumentReport, of_argument_values}
 use Rattle.graphql_values.specs.declared.argument.owners.GivenArguments.{GivenArguments}
 

@@ -9,10 +9,9 @@ use Rattle.std.proofs.lemmas.List.Folds.{Any-from_list_any, list_any-from_Any}
 use Rattle.indexmap.specs.IndexMap.{insert_entry}
 use Rattle.indexmap.specs.IndexSet.{insert_key}
 use mathlib.Core.Logic.{inl, inr}
-use Rattle.graphql_documents.specs.Names.{NameText, SameName, same_name, with_name}
-use Rattle.graphql_documents.proofs.ListLemmas.{made_of, only_one, stands_first, stands_mapped}
-use Rattle.graphql_documents.proofs.NameLemmas.{same_name_back, same_name_then}
-use Rattle.graphql_documents.proofs.ReportLemmas.{more_is}
+use Rattle.graphql_nodes.specs.Names.{NameText, SameName, same_name, with_name}
+use Rattle.graphql_documents.proofs.ListLemmas.{made_of, more_is, only_one, stands_first, stands_mapped}
+use Rattle.graphql_nodes.proofs.NameLemmas.{same_name_back, same_name_then}
 use Rattle.graphql_values.specs.Uses.{IsNamedIn, names_of}
 use Rattle.graphql_values.proofs.UseLemmas.{any_has, has_any}
 

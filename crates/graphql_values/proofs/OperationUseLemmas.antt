@@ -5,7 +5,7 @@ use Rattle.std.proofs.lemmas.Option.{none-some, same_Some}
 use Rattle.std.specs.Borrow.{Bor}
 use Rattle.std.specs.List.{Any}
 use mathlib.Core.Logic.{inl, inr}
-use Rattle.graphql_documents.specs.Names.{NameText}
+use Rattle.graphql_nodes.specs.Names.{NameText}
 use Rattle.graphql_documents.specs.Selections.{Fragments, Reached, arguments_of, directives_of}
 use Rattle.graphql_documents.specs.Variables.{StandsInArguments, StandsInDirectives, UsesVariable, in_arguments, in_directives, in_fragment_definition, in_operation}
 use Rattle.graphql_documents.specs.declared.documents.executables.Field.{Field}
@@ -16,7 +16,7 @@ use Rattle.graphql_documents.specs.declared.documents.executables.Operation.{Ope
 use Rattle.graphql_documents.specs.declared.documents.executables.Selection.TheOpen as Open
 use Rattle.graphql_documents.specs.declared.documents.executables.Selection.TheVariants as kind
 use Rattle.graphql_documents.specs.declared.documents.executables.Selection.{Selection, out-Selection}
-use Rattle.graphql_documents.specs.declared.documents.nodes.Node.{Node}
+use Rattle.graphql_nodes.specs.declared.nodes.Node.{Node}
 use Rattle.graphql_documents.proofs.ListLemmas.{made_of, stands_mapped}
 use Rattle.graphql_documents.proofs.SelectionLemmas.{not_spread, same_spread, spread_not_inline}
 use Rattle.graphql_values.specs.Uses.{IsNamedIn, NamesAlso, UsedAt, in_definition, in_own_arguments, in_own_directives, names_of}

@@ -9,10 +9,9 @@ use Rattle.std.proofs.lemmas.List.Elements.{All-nil, All-cons, All-weaker, Conta
 use Rattle.std.proofs.lemmas.List.Folds.{list_any-append}
 use Rattle.std.proofs.lemmas.List.Kept.{AllPairs-cons}
 use Rattle.graphql_documents.proofs.SelectionLemmas.{one_fragment_found, not_inline, not_spread, same_field, same_inline, spread_not_inline, same_spread}
-use Rattle.graphql_documents.proofs.ListLemmas.{stands_first, only_one}
-use Rattle.graphql_documents.proofs.NameLemmas.{same_name_back, same_name_itself, same_text}
-use Rattle.graphql_documents.proofs.ReportLemmas.{more_is}
-use Rattle.graphql_documents.specs.Names.{DifferentNames, NameText, SameName, same_name, stands_on, with_name}
+use Rattle.graphql_documents.proofs.ListLemmas.{more_is, only_one, stands_first}
+use Rattle.graphql_nodes.proofs.NameLemmas.{same_name_back, same_name_itself, same_text}
+use Rattle.graphql_nodes.specs.Names.{DifferentNames, NameText, SameName, same_name, stands_on, with_name}
 use Rattle.graphql_documents.specs.Selections.{Fragments, fragments_of, selections_of}
 use Rattle.graphql_documents.specs.Walks.{Walk, descent_ends, descent_into_field, descent_into_fragment, descent_into_inline_fragment}
 use Rattle.graphql_documents.specs.declared.documents.executables.Field.{Field}
@@ -22,7 +21,7 @@ use Rattle.graphql_documents.specs.declared.documents.executables.InlineFragment
 use Rattle.graphql_documents.specs.declared.documents.executables.Selection.TheVariants as kind
 use Rattle.graphql_documents.specs.declared.documents.executables.Selection.{Selection}
 use Rattle.graphql_documents.specs.declared.documents.executables.SelectionSet.{SelectionSet}
-use Rattle.graphql_documents.specs.declared.documents.nodes.Node.{Node}
+use Rattle.graphql_nodes.specs.declared.nodes.Node.{Node}
 use Rattle.graphql_values.proofs.ObjectLemmas.{split_at}
 use Rattle.graphql_values.proofs.SearchLemmas.{finds_nothing, searched_before, finds_from_more, searched_words, finds_then, searched_then, finds_below, searched_below}
 use Rattle.graphql_values.specs.Searches.{Finds, Searched}

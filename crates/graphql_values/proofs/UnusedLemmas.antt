@@ -9,25 +9,26 @@ use Rattle.std.proofs.lemmas.List.Elements.{All-nil, All-cons, All-head, All-tai
 use Rattle.std.proofs.lemmas.Grind.{fold-append}
 use Rattle.std.proofs.lemmas.List.Folds.{find-append}
 use Rattle.indexmap.specs.IndexMap.{insert_entry}
-use Rattle.graphql_documents.specs.Diagnostics.{IsDiagnostic}
-use Rattle.graphql_documents.specs.Names.{NameText, SameName, different_names, same_name, with_name}
-use Rattle.graphql_documents.specs.Reports.{Appends, KeepsReports}
+use Rattle.graphql_diagnostics.specs.Diagnostics.{IsDiagnostic}
+use Rattle.graphql_nodes.specs.Names.{NameText, SameName, different_names, same_name, with_name}
+use Rattle.graphql_diagnostics.specs.Reports.{Appends, KeepsReports}
 use Rattle.graphql_documents.specs.Selections.{Fragments}
-use Rattle.graphql_documents.specs.Spans.{recompose}
-use Rattle.graphql_documents.specs.VariableReports.{AreUnusedReports, AreUsesReports, IsBoundReport, IsUnusedReport, UsesReport, are_unused, defined_names, is_bound, no_name, unused_name, used_name}
+use Rattle.graphql_nodes.specs.Spans.{recompose}
+use Rattle.graphql_diagnostics.specs.VariableReports.{AreUnusedReports, AreUsesReports, IsBoundReport, IsUnusedReport, UsesReport, are_unused, defined_names, is_bound, no_name, unused_name, used_name}
 use Rattle.graphql_documents.specs.Variables.{UsesVariable}
 use Rattle.graphql_documents.specs.Walks.{HasListed}
-use Rattle.graphql_documents.specs.declared.diagnostics.data.DiagnosticData.TheVariants as report
-use Rattle.graphql_documents.specs.declared.diagnostics.data.DiagnosticData.{DiagnosticData}
-use Rattle.graphql_documents.specs.declared.diagnostics.lists.DiagnosticEntry.{DiagnosticEntry}
+use Rattle.graphql_diagnostics.specs.declared.data.DiagnosticData.TheVariants as report
+use Rattle.graphql_diagnostics.specs.declared.data.DiagnosticData.{DiagnosticData}
+use Rattle.graphql_diagnostics.specs.declared.lists.DiagnosticEntry.{DiagnosticEntry}
 use Rattle.graphql_documents.specs.declared.documents.definitions.VariableDefinition.{VariableDefinition}
 use Rattle.graphql_documents.specs.declared.documents.executables.Operation.{Operation}
 use Rattle.graphql_documents.specs.declared.documents.executables.Selection.{Selection}
-use Rattle.graphql_documents.specs.declared.documents.nodes.Node.{Node}
-use Rattle.graphql_documents.specs.declared.documents.spans.SourceSpan.{SourceSpan}
-use Rattle.graphql_documents.proofs.DiagnosticLemmas.{diagnostic_wider}
-use Rattle.graphql_documents.proofs.NameLemmas.{same_name_back, same_name_itself}
-use Rattle.graphql_documents.proofs.ReportLemmas.{appended_then, more_is}
+use Rattle.graphql_nodes.specs.declared.nodes.Node.{Node}
+use Rattle.graphql_nodes.specs.declared.spans.SourceSpan.{SourceSpan}
+use Rattle.graphql_diagnostics.proofs.DiagnosticLemmas.{diagnostic_wider}
+use Rattle.graphql_nodes.proofs.NameLemmas.{same_name_back, same_name_itself}
+use Rattle.graphql_diagnostics.proofs.ReportLemmas.{appended_then}
+use Rattle.graphql_documents.proofs.ListLemmas.{more_is}
 use Rattle.graphql_values.specs.Uses.{IsLastDefinition}
 use Rattle.graphql_values.proofs.NameSetLemmas.{apart, apart_back, entry_names, names_inserted, same_key}
 use Rattle.graphql_documents.proofs.VariableUseLemmas.{uses_same}

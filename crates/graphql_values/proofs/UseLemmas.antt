@@ -7,14 +7,13 @@ use Rattle.std.specs.declared.alloc.Global.{Global}
 use Rattle.std.proofs.lemmas.List.{append-nil, append_assoc, map-append, take_all}
 use Rattle.std.proofs.lemmas.List.Elements.{Contains-append_left, Contains-append_right, Contains-append_cases}
 use mathlib.Core.Logic.{inl, inr}
-use Rattle.graphql_documents.specs.Names.{NameText, SameName}
+use Rattle.graphql_nodes.specs.Names.{NameText, SameName}
 use Rattle.graphql_documents.specs.Values.{StandsIn, VariablesIn, in_boolean, in_enum, in_float, in_int, in_null, in_string, VariablesInEntries, VariablesInItems, next_entry, next_item, no_entries, no_items}
-use Rattle.graphql_documents.specs.declared.documents.nodes.Node.{Node}
+use Rattle.graphql_nodes.specs.declared.nodes.Node.{Node}
 use Rattle.graphql_documents.specs.declared.documents.values.Value.{Value, out-Value, roll-Value, roll-out-Value}
 use Rattle.graphql_documents.specs.declared.documents.values.Value.TheOpen as Open
 use Rattle.graphql_documents.specs.declared.documents.values.Value.TheVariants as literal
-use Rattle.graphql_documents.proofs.ListLemmas.{only_one, stands_first}
-use Rattle.graphql_documents.proofs.ReportLemmas.{more_is}
+use Rattle.graphql_documents.proofs.ListLemmas.{more_is, only_one, stands_first}
 use Rattle.graphql_documents.proofs.VariableUseLemmas.{one_list_only}
 use Rattle.graphql_values.specs.Uses.{AddsNames, IsNamedIn, NamesAlso, names_of}
 

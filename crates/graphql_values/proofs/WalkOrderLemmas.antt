@@ -6,8 +6,8 @@ use Rattle.std.specs.List.{cons_option, list_any}
 use Rattle.std.proofs.lemmas.List.{append-nil, reverse-append, take_all}
 use Rattle.std.proofs.lemmas.List.Elements.{filter_map-append}
 use Rattle.std.proofs.lemmas.List.Sorted.{IsPermutation-reverse, list_any-IsPermutation}
-use Rattle.graphql_documents.proofs.ReportLemmas.{more_is}
-use Rattle.graphql_documents.specs.Names.{NameText, same_name, stands_on}
+use Rattle.graphql_documents.proofs.ListLemmas.{more_is}
+use Rattle.graphql_nodes.specs.Names.{NameText, same_name, stands_on}
 use Rattle.graphql_documents.specs.Selections.{Fragments, selections_of}
 use Rattle.graphql_documents.specs.Subscriptions.{WalkedFields, fields_among, field_of, walked_field, walked_inline_fragment, walked_known_spread, walked_none, walked_spread, walked_undefined_spread}
 use Rattle.graphql_documents.specs.declared.documents.executables.Field.{Field}
@@ -18,7 +18,7 @@ use Rattle.graphql_documents.specs.declared.documents.executables.Selection.TheO
 use Rattle.graphql_documents.specs.declared.documents.executables.Selection.TheVariants as kind
 use Rattle.graphql_documents.specs.declared.documents.executables.Selection.{Selection}
 use Rattle.graphql_documents.specs.declared.documents.executables.SelectionSet.{SelectionSet}
-use Rattle.graphql_documents.specs.declared.documents.nodes.Node.{Node}
+use Rattle.graphql_nodes.specs.declared.nodes.Node.{Node}
 use Rattle.graphql_values.proofs.SelectionWalkLemmas.{Entered, Listed}
 use Rattle.graphql_values.specs.WalkSteps.{ListsInOrder, entered_names, listed_of}
 use Rattle.graphql_values.specs.declared.variable.walks.Met.{Met}

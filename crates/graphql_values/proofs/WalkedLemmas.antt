@@ -3,7 +3,7 @@
 use Rattle.std.proofs.Common.{◌≡◌, ◌↔◌, Bool, true, false, not, List, [], Some, IsTrue, IsFalse, refl, sym, ◌∙◌, subst, Contains, arith}
 use Rattle.std.proofs.lemmas.List.Elements.{All-contains}
 use Rattle.graphql_documents.specs.Defer.{Open, can_be_excluded, open_here, open_in_field, open_in_inline_fragment, open_in_spread}
-use Rattle.graphql_documents.specs.Names.{NameText, SameName, stands_on}
+use Rattle.graphql_nodes.specs.Names.{NameText, SameName, stands_on}
 use Rattle.graphql_documents.proofs.ListLemmas.{each_standing, none_stands}
 use Rattle.graphql_documents.specs.Selections.{Fragments, fragments_of, selections_of, Includes, includes_itself, includes_inline_fragment, includes_spread, Inside, Reached, reached_inside, reached_below}
 use Rattle.graphql_documents.specs.Walks.{HasListed, PassesDepth, Walk, full_walk, open_walk, root_walk}
@@ -14,8 +14,8 @@ use Rattle.graphql_documents.specs.declared.documents.executables.InlineFragment
 use Rattle.graphql_documents.specs.declared.documents.executables.Selection.TheVariants as kind
 use Rattle.graphql_documents.specs.declared.documents.executables.Selection.{Selection}
 use Rattle.graphql_documents.specs.declared.documents.executables.SelectionSet.{SelectionSet}
-use Rattle.graphql_documents.specs.declared.documents.nodes.Node.{Node}
-use Rattle.graphql_documents.proofs.NameLemmas.{same_name_itself}
+use Rattle.graphql_nodes.specs.declared.nodes.Node.{Node}
+use Rattle.graphql_nodes.proofs.NameLemmas.{same_name_itself}
 use Rattle.graphql_values.proofs.SearchLemmas.{all_seen, leads_then, only_found}
 use Rattle.graphql_values.specs.Searches.{Leads, leads_to_itself, leads_by}
 use Rattle.graphql_values.specs.WalkSteps.{Stop, at_selection, at_name, IsInSet, IsName, Step, into_field, into_inline_fragment, to_name, into_fragment, BeginsIn, MetFrom, StepOf, walk_of, entered_names, listed_of, IsMet, PassesFrom, HasWalked}

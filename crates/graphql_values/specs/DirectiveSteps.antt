@@ -2,20 +2,20 @@
 use Rattle.std.specs.Prelude.{◌≡◌, List, Option, Some, Contains, Result, find}
 use Rattle.std.specs.Option.{option_map}
 use Rattle.graphql_documents.specs.Arguments.{ArgumentNamesHold, ArgumentValuesHold, HasDistinctNames}
-use Rattle.graphql_documents.specs.Diagnostics.{IsDiagnostic}
-use Rattle.graphql_documents.specs.DirectiveReports.{DirectivesBreak}
+use Rattle.graphql_diagnostics.specs.Diagnostics.{IsDiagnostic}
+use Rattle.graphql_diagnostics.specs.DirectiveReports.{DirectivesBreak}
 use Rattle.graphql_documents.specs.Directives.{IsRepeatable, directive_definition}
-use Rattle.graphql_documents.specs.Names.{NameText, same_name}
-use Rattle.graphql_documents.specs.Reports.{Checks}
-use Rattle.graphql_documents.specs.Spans.{recompose}
-use Rattle.graphql_documents.specs.declared.diagnostics.lists.DiagnosticList.{DiagnosticList}
+use Rattle.graphql_nodes.specs.Names.{NameText, same_name}
+use Rattle.graphql_diagnostics.specs.Reports.{Checks}
+use Rattle.graphql_nodes.specs.Spans.{recompose}
+use Rattle.graphql_diagnostics.specs.declared.lists.DiagnosticList.{DiagnosticList}
 use Rattle.graphql_documents.specs.declared.documents.definitions.DirectiveDefinition.{DirectiveDefinition}
 use Rattle.graphql_documents.specs.declared.documents.definitions.DirectiveLocation.{DirectiveLocation}
 use Rattle.graphql_documents.specs.declared.documents.definitions.VariableDefinition.{VariableDefinition}
 use Rattle.graphql_documents.specs.declared.documents.directives.Directive.{Directive}
-use Rattle.graphql_documents.specs.declared.documents.nodes.Node.{Node}
+use Rattle.graphql_nodes.specs.declared.nodes.Node.{Node}
 use Rattle.graphql_documents.specs.declared.documents.schemas.Schema.{Schema}
-use Rattle.graphql_documents.specs.declared.documents.spans.SourceSpan.{SourceSpan}
+use Rattle.graphql_nodes.specs.declared.spans.SourceSpan.{SourceSpan}
 use Rattle.graphql_values.specs.FirstPlaces.{IsNext}
 
 -- the head of an application: up to the end of its name

@@ -3,8 +3,8 @@ use Rattle.std.specs.Prelude.{◌≡◌, List, ◌∷◌, ◌++◌, Option, find
 use Rattle.std.specs.Borrow.{Bor}
 use Rattle.std.specs.HashMap.{HashMap, get_by}
 use Rattle.std.specs.Option.{option_map}
-use Rattle.graphql_documents.specs.Names.{NameText, same_name}
-use Rattle.graphql_documents.specs.declared.documents.spans.SourceSpan.{SourceSpan}
+use Rattle.graphql_nodes.specs.Names.{NameText, same_name}
+use Rattle.graphql_nodes.specs.declared.spans.SourceSpan.{SourceSpan}
 
 -- the location beside the first of the names that is this one
 abbrev pub place_in : List (NameText × Option SourceSpan) → NameText → Option (Option SourceSpan)

@@ -1,11 +1,11 @@
 -- Arguments beside their definitions, for the calls that fields and directives share.
 use Rattle.std.specs.Prelude.{◌≡◌, List, Option}
-use Rattle.graphql_documents.specs.ArgumentReports.{LacksArgument, MissesArgument}
+use Rattle.graphql_diagnostics.specs.ArgumentReports.{LacksArgument, MissesArgument}
 use Rattle.graphql_documents.specs.Arguments.{IsDefined, ValueHoldsBy}
-use Rattle.graphql_documents.specs.DirectiveReports.{ArgumentValuesBreak}
-use Rattle.graphql_documents.specs.Names.{NameText}
-use Rattle.graphql_documents.specs.declared.diagnostics.data.DiagnosticData.TheVariants as report
-use Rattle.graphql_documents.specs.declared.diagnostics.data.DiagnosticData.{DiagnosticData}
+use Rattle.graphql_diagnostics.specs.DirectiveReports.{ArgumentValuesBreak}
+use Rattle.graphql_nodes.specs.Names.{NameText}
+use Rattle.graphql_diagnostics.specs.declared.data.DiagnosticData.TheVariants as report
+use Rattle.graphql_diagnostics.specs.declared.data.DiagnosticData.{DiagnosticData}
 use Rattle.graphql_documents.specs.declared.documents.components.Component.{Component}
 use Rattle.graphql_documents.specs.declared.documents.coordinates.SchemaCoordinate.TheVariants as coordinate
 use Rattle.graphql_documents.specs.declared.documents.coordinates.SchemaCoordinate.{SchemaCoordinate}
@@ -16,9 +16,9 @@ use Rattle.graphql_documents.specs.declared.documents.definitions.VariableDefini
 use Rattle.graphql_documents.specs.declared.documents.directives.Argument.{Argument}
 use Rattle.graphql_documents.specs.declared.documents.directives.Directive.{Directive}
 use Rattle.graphql_documents.specs.declared.documents.executables.Field.{Field}
-use Rattle.graphql_documents.specs.declared.documents.nodes.Node.{Node}
+use Rattle.graphql_nodes.specs.declared.nodes.Node.{Node}
 use Rattle.graphql_documents.specs.declared.documents.schemas.Schema.{Schema}
-use Rattle.graphql_documents.specs.declared.documents.spans.SourceSpan.{SourceSpan}
+use Rattle.graphql_nodes.specs.declared.spans.SourceSpan.{SourceSpan}
 use Rattle.graphql_documents.specs.declared.documents.type_references.Type.{«Type»}
 use Rattle.graphql_values.specs.declared.argument.owners.ArgumentOwner.TheVariants as owner
 use Rattle.graphql_values.specs.declared.argument.owners.ArgumentOwner.{ArgumentOwner}

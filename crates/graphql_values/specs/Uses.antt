@@ -2,7 +2,7 @@
 use Rattle.std.specs.Prelude.{◌≡◌, ◌↔◌, ◌⊎◌, List, ◌∷◌, ◌++◌, None, Some, Contains, map}
 use Rattle.std.specs.Borrow.{Bor}
 use Rattle.indexmap.specs.IndexSet.{IndexSet}
-use Rattle.graphql_documents.specs.Names.{NameText, SameName}
+use Rattle.graphql_nodes.specs.Names.{NameText, SameName}
 use Rattle.graphql_documents.specs.Selections.{Fragments, arguments_of, directives_of}
 use Rattle.graphql_documents.specs.VariableUsage.{variable_named}
 use Rattle.graphql_documents.specs.Variables.{StandsInArguments, StandsInDirectives}
@@ -11,7 +11,7 @@ use Rattle.graphql_documents.specs.declared.documents.executables.Fragment.{Frag
 use Rattle.graphql_documents.specs.declared.documents.executables.FragmentSpread.{FragmentSpread}
 use Rattle.graphql_documents.specs.declared.documents.executables.Selection.TheVariants as kind
 use Rattle.graphql_documents.specs.declared.documents.executables.Selection.{Selection}
-use Rattle.graphql_documents.specs.declared.documents.nodes.Node.{Node}
+use Rattle.graphql_nodes.specs.declared.nodes.Node.{Node}
 
 -- the new list is the old one with more names behind it, of which this holds
 pub record AddsNames (Are : List NameText → Type 0) (old new : List (Bor NameText)) : Type 0 where

@@ -3,10 +3,10 @@ use Rattle.std.specs.Prelude.{◌≡◌, List}
 use Rattle.std.specs.Borrow.{Bor}
 use Rattle.std.specs.HashMap.{HashMap, get_by}
 use Rattle.std.specs.Option.{option_copied}
-use Rattle.graphql_documents.specs.Names.{NameText, same_name}
+use Rattle.graphql_nodes.specs.Names.{NameText, same_name}
 use Rattle.graphql_documents.specs.VariableUsage.{variable_named}
 use Rattle.graphql_documents.specs.declared.documents.definitions.VariableDefinition.{VariableDefinition}
-use Rattle.graphql_documents.specs.declared.documents.nodes.Node.{Node}
+use Rattle.graphql_nodes.specs.declared.nodes.Node.{Node}
 
 -- the map has for each name the first variable that has it
 pub record FindsFirst {S : Type 0} (first : HashMap (Bor NameText) (Bor (Node VariableDefinition)) S) (definitions : List (Node VariableDefinition)) : Type 0 where

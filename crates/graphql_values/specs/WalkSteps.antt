@@ -1,7 +1,7 @@
 -- The steps of a walk over selections, for the contracts of its private functions.
 use Rattle.std.specs.Prelude.{◌≡◌, ◌+◌, ◌<◌, ℕ, Bool, List, [], ◌∷◌, ◌++◌, Some, IsTrue, IsFalse, All, Contains, map, reverse}
 use Rattle.graphql_guards.specs.Guards.{depth_limit, depth_of}
-use Rattle.graphql_documents.specs.Names.{AreDistinct, NameText, SameName, stands_on}
+use Rattle.graphql_nodes.specs.Names.{AreDistinct, NameText, SameName, stands_on}
 use Rattle.graphql_documents.specs.Selections.{Fragments, fragments_of, selections_of}
 use Rattle.graphql_documents.specs.Subscriptions.{WalkedFields, fields_among}
 use Rattle.graphql_documents.specs.Walks.{Descent, Walk, full_walk, open_walk, root_walk}
@@ -12,7 +12,7 @@ use Rattle.graphql_documents.specs.declared.documents.executables.InlineFragment
 use Rattle.graphql_documents.specs.declared.documents.executables.Selection.TheVariants as kind
 use Rattle.graphql_documents.specs.declared.documents.executables.Selection.{Selection}
 use Rattle.graphql_documents.specs.declared.documents.executables.SelectionSet.{SelectionSet}
-use Rattle.graphql_documents.specs.declared.documents.nodes.Node.{Node}
+use Rattle.graphql_nodes.specs.declared.nodes.Node.{Node}
 use Rattle.graphql_guards.specs.declared.depth.DepthCounter.{DepthCounter}
 use Rattle.graphql_values.specs.Searches.{Finds, Leads, Searched}
 use Rattle.graphql_values.specs.declared.variable.walks.Extent.TheVariants as extent

@@ -5,17 +5,17 @@ mod owners;
 mod required;
 
 ghost use Rattle.std.specs.Prelude.{◌≡◌, List, MatchResult, OnOk};
-ghost use Rattle.graphql_documents.specs.ArgumentReports.{AreRepetitionReports, AreReportsOf, RepetitionReport, repetition_after};
+ghost use Rattle.graphql_diagnostics.specs.ArgumentReports.{AreRepetitionReports, AreReportsOf, RepetitionReport, repetition_after};
 ghost use Rattle.graphql_documents.specs.Arguments.{HasDistinctNames};
-ghost use Rattle.graphql_documents.specs.Diagnostics.{IsDiagnostic, entries};
-ghost use Rattle.graphql_documents.specs.Reports.{Appends, Checks};
+ghost use Rattle.graphql_diagnostics.specs.Diagnostics.{IsDiagnostic, entries};
+ghost use Rattle.graphql_diagnostics.specs.Reports.{Appends, Checks};
 ghost use Rattle.graphql_documents.specs.declared.documents.directives.Argument.{Argument};
-ghost use Rattle.graphql_documents.specs.declared.documents.nodes.Node.{Node};
+ghost use Rattle.graphql_nodes.specs.declared.nodes.Node.{Node};
 ghost use Rattle.graphql_values.specs.Repetitions.{argument_place_in};
 
 use crate::first_places::first_place;
 pub use given::validate_given_arguments;
-use graphql_documents::diagnostics::{Details, DiagnosticData, DiagnosticList, ValidationError};
+use graphql_diagnostics::{Details, DiagnosticData, DiagnosticList, ValidationError};
 use graphql_documents::documents::{Argument, Name, Node, SourceSpan};
 pub use owners::{ArgumentOwner, GivenArguments};
 pub use required::validate_required_arguments;

@@ -6,12 +6,12 @@ mod variable_definitions;
 
 ghost use Rattle.std.specs.Prelude.{◌≡◌, ◌∷◌, ◌++◌, [], IfOk, List, OnOk, map};
 ghost use Rattle.std.specs.Option.{option_copied};
-ghost use Rattle.graphql_documents.specs.Diagnostics.{IsDiagnostic};
-ghost use Rattle.graphql_documents.specs.DirectiveReports.{DirectivesBreak};
+ghost use Rattle.graphql_diagnostics.specs.Diagnostics.{IsDiagnostic};
+ghost use Rattle.graphql_diagnostics.specs.DirectiveReports.{DirectivesBreak};
 ghost use Rattle.graphql_documents.specs.Directives.{ApplicationsHold};
-ghost use Rattle.graphql_documents.specs.Reports.{Checks};
+ghost use Rattle.graphql_diagnostics.specs.Reports.{Checks};
 ghost use Rattle.graphql_documents.specs.declared.documents.directives.Directive.{Directive};
-ghost use Rattle.graphql_documents.specs.declared.documents.nodes.Node.{Node};
+ghost use Rattle.graphql_nodes.specs.declared.nodes.Node.{Node};
 ghost use Rattle.graphql_values.specs.DirectiveSteps.{ChecksNext, FollowsWell, met_directive};
 ghost use Rattle.graphql_values.specs.FirstPlaces.{Remembers};
 
@@ -19,7 +19,7 @@ use crate::argument::validate_arguments;
 use crate::first_places::first_place;
 use crate::variable::VariablesByName;
 use applications::{check_repetition, validate_application};
-use graphql_documents::diagnostics::{DiagnosticList, ValidationError};
+use graphql_diagnostics::{DiagnosticList, ValidationError};
 use graphql_documents::documents::{
     Directive, DirectiveLocation, Name, Node, Schema, SourceSpan, VariableDefinition,
 };

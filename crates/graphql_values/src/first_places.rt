@@ -1,11 +1,11 @@
 //! Names that were met, each with the location of the first.
 
 ghost use Rattle.std.specs.Prelude.{◌≡◌, ◌∷◌, ◌++◌, [], IfOk, List, OnOk, Option};
-ghost use Rattle.graphql_documents.specs.Names.{NameText};
-ghost use Rattle.graphql_documents.specs.declared.documents.spans.SourceSpan.{SourceSpan};
+ghost use Rattle.graphql_nodes.specs.Names.{NameText};
+ghost use Rattle.graphql_nodes.specs.declared.spans.SourceSpan.{SourceSpan};
 ghost use Rattle.graphql_values.specs.FirstPlaces.{Remembers, place_in};
 
-use graphql_documents::diagnostics::ValidationError;
+use graphql_diagnostics::ValidationError;
 use graphql_documents::documents::{Name, SourceSpan};
 use std::collections::HashMap;
 

@@ -5,16 +5,16 @@ mod objects;
 mod reports;
 
 ghost use Rattle.std.specs.Prelude.{◌≡◌, Some, All};
-ghost use Rattle.graphql_documents.specs.Diagnostics.{IsDiagnostic};
+ghost use Rattle.graphql_diagnostics.specs.Diagnostics.{IsDiagnostic};
 ghost use Rattle.graphql_documents.specs.InputCoercion.{Accepts};
-ghost use Rattle.graphql_documents.specs.Reports.{Checks};
+ghost use Rattle.graphql_diagnostics.specs.Reports.{Checks};
 ghost use Rattle.graphql_documents.specs.Schemas.{IsInputObject, type_definition};
 ghost use Rattle.graphql_documents.specs.TypeReferences.{TypeReference, inner_named_type, reference_of};
-ghost use Rattle.graphql_documents.specs.ValueReports.{ValueReport};
+ghost use Rattle.graphql_diagnostics.specs.ValueReports.{ValueReport};
 ghost use Rattle.graphql_values.specs.ValueSteps.{AcceptsEntry, AcceptsField, AcceptsItem, ChecksValue, EntryReport, HasEntries, HasItems, ItemReport, written_at};
 
 use crate::variable::VariablesByName;
-use graphql_documents::diagnostics::{DiagnosticList, ValidationError};
+use graphql_diagnostics::{DiagnosticList, ValidationError};
 use graphql_documents::documents::{
     Argument, Component, ExtendedType, InputObjectType, InputValueDefinition, Name, Node, Schema,
     SourceSpan, Type, Value, VariableDefinition,

@@ -2,7 +2,7 @@
 
 ghost use Rattle.std.specs.Prelude.{◌↔◌, All, IsTrue};
 ghost use Rattle.graphql_documents.specs.Built.{StandsUnderOwnNames, TypeStandsUnderItsName};
-ghost use Rattle.graphql_documents.specs.Names.{SameName};
+ghost use Rattle.graphql_nodes.specs.Names.{SameName};
 
 use graphql_documents::documents::{
     Component, DirectiveDefinition, EnumValueDefinition, ExtendedType, FieldDefinition,

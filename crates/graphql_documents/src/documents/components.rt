@@ -1,11 +1,9 @@
 ghost use Rattle.std.proofs.Common.{ap};
 ghost use Rattle.std.specs.Cmp.Lexicographic.{bytes_decides, nat_list_eq_equiv};
 ghost use Rattle.std.specs.Hash as fed;
-ghost use Rattle.graphql_documents.specs.Names.{same_name};
+ghost use Rattle.graphql_nodes.specs.Names.{same_name};
 
-use super::names::Name;
-use super::nodes::Node;
-use super::spans::SourceSpan;
+use graphql_nodes::{Name, Node, SourceSpan};
 use indexmap::Equivalent;
 
 /// An extension of a definition, by its number in the document.

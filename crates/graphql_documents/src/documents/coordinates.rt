@@ -1,8 +1,7 @@
 ghost use Rattle.std.specs.Prelude.{◌≡◌, IfOk, Some};
 ghost use Rattle.graphql_documents.specs.Coordinates.{type_coordinate_text, type_attribute_text, field_argument_text, directive_text, directive_argument_text, coordinate_text};
 
-use super::names::{Name, NamedType};
-use crate::diagnostics::errors::ValidationError;
+use graphql_nodes::{Name, NamedType, ValidationError};
 use std::fmt;
 
 /// The coordinate of a type: `T`.

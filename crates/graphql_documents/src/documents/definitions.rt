@@ -6,10 +6,9 @@ ghost use Rattle.graphql_documents.specs.OperationTypes.{operation_type_text};
 ghost use Rattle.graphql_documents.specs.VariableUsage.{variable_named};
 
 use super::directives::Directive;
-use super::names::Name;
-use super::nodes::Node;
 use super::type_references::Type;
 use super::values::Value;
+use graphql_nodes::{Name, Node};
 use std::fmt;
 
 /// An argument of a field or directive definition, or a field of an input object.

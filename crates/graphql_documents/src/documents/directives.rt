@@ -2,9 +2,8 @@ ghost use Rattle.std.specs.Option.{option_copied};
 ghost use Rattle.std.specs.Prelude.{◌≡◌};
 ghost use Rattle.graphql_documents.specs.Arguments.{argument_named};
 
-use super::names::Name;
-use super::nodes::Node;
 use super::values::Value;
+use graphql_nodes::{Name, Node};
 
 /// An argument as given: a name and a value.
 ///

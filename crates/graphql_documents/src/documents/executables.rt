@@ -1,7 +1,6 @@
 use super::definitions::{FieldDefinition, OperationType, VariableDefinition};
 use super::directives::{Argument, Directive};
-use super::names::{Name, NamedType};
-use super::nodes::Node;
+use graphql_nodes::{Name, NamedType, Node};
 use indexmap::IndexMap;
 
 /// Fields, fragment spreads and inline fragments, to be selected from a type.

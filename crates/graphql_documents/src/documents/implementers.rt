@@ -2,9 +2,8 @@ ghost use Rattle.std.specs.Prelude.{◌≡◌, IfOk, OnOk, fold};
 ghost use Rattle.graphql_documents.specs.Implementers.{implementer_entries, implementer_names, listings_of, with_implementer, with_own_name};
 ghost use Rattle.graphql_documents.specs.Schemas.{implementers_map};
 
-use super::names::Name;
 use super::schemas::{ExtendedType, Schema};
-use crate::diagnostics::errors::ValidationError;
+use graphql_nodes::{Name, ValidationError};
 use indexmap::{IndexMap, IndexSet};
 use std::alloc::Global;
 

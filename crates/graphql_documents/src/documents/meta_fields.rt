@@ -1,14 +1,12 @@
 ghost use Rattle.std.specs.Prelude.{◌≡◌, None, IsTrue, IfOk, codes, false, length};
 ghost use Rattle.std.proofs.Props.{props};
-ghost use Rattle.graphql_documents.specs.Names.{is_name};
+ghost use Rattle.graphql_nodes.specs.Names.{is_name};
 ghost use Rattle.graphql_documents.specs.MetaFields.{IsTypename, IsSchemaField, IsTypeField, argument_signature};
 
 use super::components::{Component, ComponentOrigin};
 use super::definitions::{FieldDefinition, InputValueDefinition};
-use super::names::Name;
-use super::nodes::Node;
 use super::type_references::Type;
-use crate::diagnostics::errors::ValidationError;
+use graphql_nodes::{Name, Node, ValidationError};
 use std::alloc::Global;
 
 /// The fields that a schema has without defining them: `__typename: String!` on every composite

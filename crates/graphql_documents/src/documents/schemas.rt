@@ -4,9 +4,7 @@ use super::definitions::{
 };
 use super::directives::Directive;
 use super::meta_fields::MetaFields;
-use super::names::{Name, NamedType};
-use super::nodes::Node;
-use super::spans::{FileId, SourceSpan};
+use graphql_nodes::{FileId, Name, NamedType, Node, SourceSpan};
 use indexmap::{IndexMap, IndexSet};
 
 /// A scalar type.

@@ -1,7 +1,7 @@
 ghost use Rattle.std.specs.Prelude.{◌≡◌, Some};
 ghost use Rattle.graphql_documents.specs.TypeReferences.{IsTypeCopy, inner_named_type, is_assignable, is_list, is_named, is_non_null, item_type, type_text};
 
-use super::names::NamedType;
+use graphql_nodes::NamedType;
 use std::alloc::AllocError;
 use std::fmt;
 

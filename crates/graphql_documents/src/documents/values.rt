@@ -1,7 +1,6 @@
 use super::floats::FloatValue;
 use super::integers::IntValue;
-use super::names::Name;
-use super::nodes::Node;
+use graphql_nodes::{Name, Node};
 
 /// An input value as written.
 ///

@@ -5,7 +5,7 @@ ghost use Rattle.std.proofs.Props.{props};
 ghost use Rattle.graphql_documents.specs.contracts.documents.schemas.Schema as schema_type;
 
 use super::possible_types::PossibleTypes;
-use graphql_documents::diagnostics::ValidationError;
+use graphql_diagnostics::ValidationError;
 use graphql_documents::documents::{ExtendedType, Name, Node, Schema, VariableDefinition};
 use graphql_values::variable::VariablesByName;
 use indexmap::IndexSet;
@@ -27,7 +27,7 @@ impl<'a> OperationValidationContext<'a> {
     ghost use Rattle.std.specs.Option.{option_copied};
     ghost use Rattle.std.specs.Prelude.{◌≡◌, ◌↔◌, [], not, IfOk, IsTrue, OnErr, OnOk, Some};
     ghost use Rattle.graphql_documents.specs.FragmentSpreads.{HaveCommonObject};
-    ghost use Rattle.graphql_documents.specs.Names.{stands_on, with_name};
+    ghost use Rattle.graphql_nodes.specs.Names.{stands_on, with_name};
     ghost use Rattle.graphql_rules.specs.Contexts.{SharesWith, entered_names, schema_of, variables_of};
 
     /// The context of an operation with these variables, which has gone into no fragment. The only error

@@ -2,9 +2,9 @@
 
 ghost use Rattle.std.specs.Prelude.{All};
 ghost use Rattle.graphql_documents.specs.Defer.{DeferHolds, OperationDeferHolds, operations_of};
-ghost use Rattle.graphql_documents.specs.DeferReports.{DeferReport};
-ghost use Rattle.graphql_documents.specs.Limits.{DeferLimit};
-ghost use Rattle.graphql_documents.specs.Reports.{ChecksWithin};
+ghost use Rattle.graphql_diagnostics.specs.DeferReports.{DeferReport};
+ghost use Rattle.graphql_diagnostics.specs.Limits.{DeferLimit};
+ghost use Rattle.graphql_diagnostics.specs.Reports.{ChecksWithin};
 ghost use Rattle.graphql_documents.specs.Selections.{fragments_of};
 
 mod conditions;
@@ -15,7 +15,7 @@ mod rules;
 mod written;
 
 use super::fragments_used::operations_of;
-use graphql_documents::diagnostics::{DiagnosticList, ValidationError};
+use graphql_diagnostics::{DiagnosticList, ValidationError};
 use graphql_documents::documents::ExecutableDocument;
 use labels::validate_labels;
 use operation::check_operation_defer;

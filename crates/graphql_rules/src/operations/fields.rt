@@ -1,16 +1,16 @@
 ghost use Rattle.std.specs.Prelude.{◌≡◌, ◌↔◌, Some, false, [], IfOk, IsTrue, MatchOption};
 ghost use Rattle.std.specs.Option.{option_copied};
-ghost use Rattle.graphql_documents.specs.Diagnostics.{IsDiagnostic};
+ghost use Rattle.graphql_diagnostics.specs.Diagnostics.{IsDiagnostic};
 ghost use Rattle.graphql_documents.specs.Directives.{ApplicationsHold};
-ghost use Rattle.graphql_documents.specs.FieldReports.{SelectionIsMissing};
+ghost use Rattle.graphql_diagnostics.specs.FieldReports.{SelectionIsMissing};
 ghost use Rattle.graphql_documents.specs.Fields.{FieldHolds, HasNeededSelection};
-ghost use Rattle.graphql_documents.specs.Reports.{Checks};
+ghost use Rattle.graphql_diagnostics.specs.Reports.{Checks};
 ghost use Rattle.graphql_documents.specs.Selections.{definition_at, selections_of};
 ghost use Rattle.graphql_rules.specs.Contexts.{IsAgainst, parent_of, schema_of, variables_of};
 ghost use Rattle.graphql_rules.specs.SelectionSteps.{DefinedFieldHolds, FieldArgumentsHold, FieldSays, IsBelow, IsUnselected};
 
 use super::context::OperationValidationContext;
-use graphql_documents::diagnostics::{Details, DiagnosticData, DiagnosticList, ValidationError};
+use graphql_diagnostics::{Details, DiagnosticData, DiagnosticList, ValidationError};
 use graphql_documents::documents::{
     Component, DirectiveLocation, ExtendedType, Field, FieldDefinition, NamedType, Node, Schema,
     Type, TypeAttributeCoordinate,

@@ -1,10 +1,10 @@
 ghost use Rattle.std.specs.Prelude.{◌≡◌, ◌≢◌, Some, None, false, IfOk};
 ghost use Rattle.std.specs.Option.{option_copied};
-ghost use Rattle.graphql_documents.specs.Diagnostics.{IsDiagnostic, entries};
+ghost use Rattle.graphql_diagnostics.specs.Diagnostics.{IsDiagnostic, entries};
 ghost use Rattle.graphql_documents.specs.FragmentSpreads.{FragmentHolds, InlineFragmentHolds, IsPossibleIn, TargetHolds};
-ghost use Rattle.graphql_documents.specs.Limits.{FragmentLimit};
-ghost use Rattle.graphql_documents.specs.Reports.{Checks, ChecksWithin};
-ghost use Rattle.graphql_documents.specs.SelectionReports.{FragmentBreaks, InlineFragmentBreaks, SpreadBreaks};
+ghost use Rattle.graphql_diagnostics.specs.Limits.{FragmentLimit};
+ghost use Rattle.graphql_diagnostics.specs.Reports.{Checks, ChecksWithin};
+ghost use Rattle.graphql_diagnostics.specs.SelectionReports.{FragmentBreaks, InlineFragmentBreaks, SpreadBreaks};
 ghost use Rattle.graphql_documents.specs.Selections.{Fragments, fragments_of};
 ghost use Rattle.graphql_rules.specs.Contexts.{IsAgainst, StaysAsItWas, parent_of, schema_of, variables_of};
 ghost use Rattle.graphql_rules.specs.SelectionSteps.{ConditionHolds, FragmentSays, InlineFragmentSays, SpreadSays, SpreadStands, IsUndefined};
@@ -13,7 +13,7 @@ use super::context::OperationValidationContext;
 use super::spread_types::{FragmentUse, validate_fragment_spread_type};
 use super::type_conditions::validate_fragment_type_condition;
 use graphql_cycles::fragments::validate_fragment_cycles;
-use graphql_documents::diagnostics::{Details, DiagnosticData, DiagnosticList, ValidationError};
+use graphql_diagnostics::{Details, DiagnosticData, DiagnosticList, ValidationError};
 use graphql_documents::documents::{
     DirectiveLocation, ExecutableDocument, Fragment, FragmentSpread, InlineFragment, NamedType,
     Node, Schema,

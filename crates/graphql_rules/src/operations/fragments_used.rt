@@ -1,15 +1,15 @@
 ghost use Rattle.indexmap.specs.IndexMap.{values};
 ghost use Rattle.std.specs.Prelude.{◌≡◌, [], ◌∷◌, All, IfOk, MatchOption, MatchResult, OnOk, map};
 ghost use Rattle.graphql_documents.specs.Defer.{operations_of};
-ghost use Rattle.graphql_documents.specs.Diagnostics.{entries};
-ghost use Rattle.graphql_documents.specs.DocumentReports.{AreFragmentUseReports, AreUnusedFragmentReports, FragmentUseReport};
+ghost use Rattle.graphql_diagnostics.specs.Diagnostics.{entries};
+ghost use Rattle.graphql_diagnostics.specs.DocumentReports.{AreFragmentUseReports, AreUnusedFragmentReports, FragmentUseReport};
 ghost use Rattle.graphql_documents.specs.Documents.{IsFragmentUsed};
-ghost use Rattle.graphql_documents.specs.Limits.{FragmentWalkLimit};
-ghost use Rattle.graphql_documents.specs.Reports.{Appends, ChecksWithin, KeepsReports};
+ghost use Rattle.graphql_diagnostics.specs.Limits.{FragmentWalkLimit};
+ghost use Rattle.graphql_diagnostics.specs.Reports.{Appends, ChecksWithin, KeepsReports};
 ghost use Rattle.graphql_rules.specs.UsedFragments.{AddsSpreads, AnyPasses, IsSpreadAmong, IsSpreadByAny};
 ghost use Rattle.graphql_values.specs.Uses.{HasUsed, NamesAlso};
 
-use graphql_documents::diagnostics::{
+use graphql_diagnostics::{
     Details, DiagnosticData, DiagnosticList, RecursionLimitError, ValidationError,
 };
 use graphql_documents::documents::{

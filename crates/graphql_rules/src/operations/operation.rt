@@ -1,17 +1,17 @@
 ghost use Rattle.std.specs.Option.{option_copied};
 ghost use Rattle.std.specs.Prelude.{◌≡◌, [], All};
 ghost use Rattle.graphql_documents.specs.Defer.{operations_of};
-ghost use Rattle.graphql_documents.specs.Diagnostics.{IsDiagnostic};
-ghost use Rattle.graphql_documents.specs.DocumentReports.{OperationReport, OperationsReport};
+ghost use Rattle.graphql_diagnostics.specs.Diagnostics.{IsDiagnostic};
+ghost use Rattle.graphql_diagnostics.specs.DocumentReports.{OperationReport, OperationsReport};
 ghost use Rattle.graphql_documents.specs.Documents.{OperationHolds, operation_location, root_type};
-ghost use Rattle.graphql_documents.specs.Limits.{OperationLimit, OperationsLimit};
-ghost use Rattle.graphql_documents.specs.Reports.{ChecksWithin};
+ghost use Rattle.graphql_diagnostics.specs.Limits.{OperationLimit, OperationsLimit};
+ghost use Rattle.graphql_diagnostics.specs.Reports.{ChecksWithin};
 ghost use Rattle.graphql_rules.specs.Contexts.{IsAgainst, entered_names, parent_of, schema_of, variables_of};
 
 use super::context::OperationValidationContext;
 use super::fragments_used::operations_of;
 use super::selections::validate_selection_set;
-use graphql_documents::diagnostics::{DiagnosticList, ValidationError};
+use graphql_diagnostics::{DiagnosticList, ValidationError};
 use graphql_documents::documents::{
     DirectiveLocation, ExecutableDocument, NamedType, Operation, OperationType, Schema,
 };

@@ -2,11 +2,11 @@ ghost use Rattle.std.specs.List.{list_any};
 ghost use Rattle.std.specs.Prelude.{◌≡◌, ◌↔◌, IfOk, IsTrue, length};
 ghost use Rattle.graphql_documents.specs.FragmentSpreads.{HaveCommonObject};
 ghost use Rattle.graphql_documents.specs.Implementers.{implementer_entries};
-ghost use Rattle.graphql_documents.specs.Names.{NameText, stands_on};
+ghost use Rattle.graphql_nodes.specs.Names.{NameText, stands_on};
 ghost use Rattle.graphql_documents.specs.Schemas.{IsImplementedBy, IsPossibleType, implementers_map};
 ghost use Rattle.graphql_rules.specs.PossibleTypes.{object_names};
 
-use graphql_documents::diagnostics::ValidationError;
+use graphql_diagnostics::ValidationError;
 use graphql_documents::documents::{ComponentName, ExtendedType, Implementers, Name, Schema};
 use indexmap::{IndexMap, IndexSet};
 use std::alloc::Global;

@@ -2,7 +2,7 @@
 
 ghost use Rattle.std.specs.Option.{option_copied};
 ghost use Rattle.std.specs.Prelude.{◌≡◌, ◌∷◌, []};
-ghost use Rattle.graphql_documents.specs.Diagnostics.{entries};
+ghost use Rattle.graphql_diagnostics.specs.Diagnostics.{entries};
 ghost use Rattle.graphql_documents.specs.Selections.{fragments_of, selections_of, type_under};
 ghost use Rattle.graphql_documents.specs.declared.documents.executables.Selection.TheVariants as kind;
 ghost use Rattle.graphql_rules.specs.Contexts.{IsAgainst, SharesWith, entered_names, parent_of, schema_of, variables_of};
@@ -11,7 +11,7 @@ ghost use Rattle.graphql_rules.specs.SelectionSteps.{FragmentWalks, Walks};
 use super::context::OperationValidationContext;
 use super::fields::{Below, check_field};
 use super::fragments::{check_fragment, check_inline_fragment, check_spread};
-use graphql_documents::diagnostics::{DiagnosticList, ValidationError};
+use graphql_diagnostics::{DiagnosticList, ValidationError};
 use graphql_documents::documents::{
     ExecutableDocument, Field, Fragment, FragmentSpread, InlineFragment, NamedType, Node, Schema,
     Selection, SelectionSet,

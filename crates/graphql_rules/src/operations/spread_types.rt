@@ -1,14 +1,14 @@
 ghost use Rattle.std.specs.Option.{option_copied};
 ghost use Rattle.std.specs.Prelude.{◌≡◌, Some};
-ghost use Rattle.graphql_documents.specs.Diagnostics.{IsDiagnostic};
+ghost use Rattle.graphql_diagnostics.specs.Diagnostics.{IsDiagnostic};
 ghost use Rattle.graphql_documents.specs.FragmentSpreads.{IsPossibleAt};
-ghost use Rattle.graphql_documents.specs.Reports.{Checks};
+ghost use Rattle.graphql_diagnostics.specs.Reports.{Checks};
 ghost use Rattle.graphql_documents.specs.Schemas.{type_definition};
 ghost use Rattle.graphql_documents.specs.declared.documents.schemas.Schema.{Schema};
 ghost use Rattle.graphql_rules.specs.FragmentUses.{UseReport};
 
 use super::context::OperationValidationContext;
-use graphql_documents::diagnostics::{Details, DiagnosticData, DiagnosticList, ValidationError};
+use graphql_diagnostics::{Details, DiagnosticData, DiagnosticList, ValidationError};
 use graphql_documents::documents::{
     ExtendedType, Fragment, FragmentSpread, InlineFragment, Name, NamedType, Node, Schema,
     SourceSpan,

@@ -1,18 +1,16 @@
 ghost use Rattle.std.specs.Option.{option_copied};
 ghost use Rattle.std.specs.Prelude.{◌≡◌, [], All, IfOk, List, find, map};
 ghost use Rattle.graphql_documents.specs.Documents.{OperationSubscriptionHolds};
-ghost use Rattle.graphql_documents.specs.Limits.{SubscriptionLimit};
-ghost use Rattle.graphql_documents.specs.Names.{NameText};
-ghost use Rattle.graphql_documents.specs.Reports.{Checks, ChecksWithin};
+ghost use Rattle.graphql_diagnostics.specs.Limits.{SubscriptionLimit};
+ghost use Rattle.graphql_nodes.specs.Names.{NameText};
+ghost use Rattle.graphql_diagnostics.specs.Reports.{Checks, ChecksWithin};
 ghost use Rattle.graphql_documents.specs.Selections.{Fragments, Inside, directives_of, fragments_of, selections_of};
-ghost use Rattle.graphql_documents.specs.SubscriptionReports.{SubscriptionReport};
+ghost use Rattle.graphql_diagnostics.specs.SubscriptionReports.{SubscriptionReport};
 ghost use Rattle.graphql_documents.specs.Subscriptions.{HasOneRootField, WalkedFields, field_of, fields_among, is_conditional, is_introspection};
 ghost use Rattle.graphql_documents.specs.declared.documents.definitions.OperationType.TheVariants.{Subscription};
 ghost use Rattle.graphql_rules.specs.Subscriptions.{ChecksAtRoot, IsNoIntrospection, IsUnconditional, RootSelectionHolds, SaysOfSubscription};
 
-use graphql_documents::diagnostics::{
-    BuildError, Details, DiagnosticData, DiagnosticList, ValidationError,
-};
+use graphql_diagnostics::{BuildError, Details, DiagnosticData, DiagnosticList, ValidationError};
 use graphql_documents::documents::{
     Directive, ExecutableDocument, Field, Name, Node, Operation, OperationType, Selection,
 };

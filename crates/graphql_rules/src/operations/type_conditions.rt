@@ -1,10 +1,10 @@
 ghost use Rattle.std.specs.Prelude.{◌↔◌, IsTrue, Some};
-ghost use Rattle.graphql_documents.specs.Diagnostics.{IsDiagnostic};
+ghost use Rattle.graphql_diagnostics.specs.Diagnostics.{IsDiagnostic};
 ghost use Rattle.graphql_documents.specs.FragmentSpreads.{NamesComposite};
-ghost use Rattle.graphql_documents.specs.Reports.{Checks};
-ghost use Rattle.graphql_documents.specs.SelectionReports.{InvalidTargetReport};
+ghost use Rattle.graphql_diagnostics.specs.Reports.{Checks};
+ghost use Rattle.graphql_diagnostics.specs.SelectionReports.{InvalidTargetReport};
 
-use graphql_documents::diagnostics::{Details, DiagnosticData, DiagnosticList, ValidationError};
+use graphql_diagnostics::{Details, DiagnosticData, DiagnosticList, ValidationError};
 use graphql_documents::documents::{Name, NamedType, Schema, SourceSpan};
 
 /// Reports a fragment whose type condition names no object, interface or union of the schema, at the

@@ -1,12 +1,12 @@
 //! The default values of arguments and input fields.
 
 ghost use Rattle.std.specs.Prelude.{flat_map, map};
-ghost use Rattle.graphql_documents.specs.DefaultValues.{DefaultValueHolds, DefaultValuesHold, HasWrongDefaultValue, inputs_of_type};
-ghost use Rattle.graphql_documents.specs.Diagnostics.{IsDiagnostic};
-ghost use Rattle.graphql_documents.specs.Reports.{Checks};
+ghost use Rattle.graphql_diagnostics.specs.DefaultValues.{DefaultValueHolds, DefaultValuesHold, HasWrongDefaultValue, inputs_of_type};
+ghost use Rattle.graphql_diagnostics.specs.Diagnostics.{IsDiagnostic};
+ghost use Rattle.graphql_diagnostics.specs.Reports.{Checks};
 ghost use Rattle.graphql_schemas.specs.DefaultValueReports.{ChecksDefaults, DefaultValueBreaks};
 
-use graphql_documents::diagnostics::{DiagnosticList, ValidationError};
+use graphql_diagnostics::{DiagnosticList, ValidationError};
 use graphql_documents::documents::{
     Component, ExtendedType, FieldDefinition, InputValueDefinition, Name, Node, Schema,
 };

@@ -1,8 +1,8 @@
 ghost use Rattle.std.specs.Prelude.{All, OnOk, flat_map};
-ghost use Rattle.graphql_documents.specs.Diagnostics.{IsDiagnostic};
-ghost use Rattle.graphql_documents.specs.Limits.{DirectiveLimit, DirectivesLimit};
-ghost use Rattle.graphql_documents.specs.Reports.{ChecksWithin};
-ghost use Rattle.graphql_documents.specs.SchemaReports.{DirectiveDefinitionBreaks, DirectiveDefinitionsBreak};
+ghost use Rattle.graphql_diagnostics.specs.Diagnostics.{IsDiagnostic};
+ghost use Rattle.graphql_diagnostics.specs.Limits.{DirectiveLimit, DirectivesLimit};
+ghost use Rattle.graphql_diagnostics.specs.Reports.{ChecksWithin};
+ghost use Rattle.graphql_diagnostics.specs.SchemaReports.{DirectiveDefinitionBreaks, DirectiveDefinitionsBreak};
 ghost use Rattle.graphql_documents.specs.SchemaRules.{DirectiveDefinitionHolds};
 ghost use Rattle.graphql_documents.specs.TypeMaps.{argument_types};
 ghost use Rattle.graphql_schemas.specs.BuiltInScalarUses.{Keeps, Records};
@@ -11,7 +11,7 @@ use super::built_in_scalars::BuiltInScalars;
 use super::input_values::{each_argument, validate_argument_definitions};
 use super::names::validate_type_system_name;
 use graphql_cycles::directives::validate_directive_cycles;
-use graphql_documents::diagnostics::{DiagnosticList, ValidationError};
+use graphql_diagnostics::{DiagnosticList, ValidationError};
 use graphql_documents::documents::{DirectiveDefinition, DirectiveLocation, Node, Schema};
 
 /// Validates a directive definition: its name, its arguments, and that it does not lead back to itself. Where

@@ -1,15 +1,15 @@
 ghost use Rattle.std.specs.Prelude.{◌≢◌, [], All};
-ghost use Rattle.graphql_documents.specs.Diagnostics.{IsDiagnostic};
-ghost use Rattle.graphql_documents.specs.Reports.{Checks};
+ghost use Rattle.graphql_diagnostics.specs.Diagnostics.{IsDiagnostic};
+ghost use Rattle.graphql_diagnostics.specs.Reports.{Checks};
 ghost use Rattle.graphql_documents.specs.SchemaRules.{EnumHolds, EnumValueHolds};
-ghost use Rattle.graphql_documents.specs.TypeReports.{EnumValueBreaks, TypeBreaks};
+ghost use Rattle.graphql_diagnostics.specs.TypeReports.{EnumValueBreaks, TypeBreaks};
 ghost use Rattle.graphql_documents.specs.declared.documents.schemas.ExtendedType.TheVariants as types;
 ghost use Rattle.graphql_documents.specs.declared.documents.schemas.Schema.{Schema};
 
 use super::definition_directives::{validate_component_directives, validate_definition_directives};
 use super::names::validate_type_system_name;
 use crate::extensions::{enum_extensions, locations_of};
-use graphql_documents::diagnostics::{Details, DiagnosticData, DiagnosticList, ValidationError};
+use graphql_diagnostics::{Details, DiagnosticData, DiagnosticList, ValidationError};
 use graphql_documents::documents::{
     DirectiveLocation, EnumType, EnumValueDefinition, Node, Schema,
 };

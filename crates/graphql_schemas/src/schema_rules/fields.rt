@@ -1,7 +1,7 @@
 ghost use Rattle.std.specs.Prelude.{◌≡◌, ◌∷◌, [], IsFalse, OnOk, Some, flat_map};
-ghost use Rattle.graphql_documents.specs.Diagnostics.{IsDiagnostic};
-ghost use Rattle.graphql_documents.specs.FieldDefinitionReports.{FieldDefinitionBreaks, FieldDefinitionsBreak, FieldTypeBreaks};
-ghost use Rattle.graphql_documents.specs.Reports.{Checks};
+ghost use Rattle.graphql_diagnostics.specs.Diagnostics.{IsDiagnostic};
+ghost use Rattle.graphql_diagnostics.specs.FieldDefinitionReports.{FieldDefinitionBreaks, FieldDefinitionsBreak, FieldTypeBreaks};
+ghost use Rattle.graphql_diagnostics.specs.Reports.{Checks};
 ghost use Rattle.graphql_documents.specs.SchemaRules.{FieldDefinitionHolds, FieldDefinitionsHold, NamesType};
 ghost use Rattle.graphql_documents.specs.Schemas.{is_output_type, type_definition};
 ghost use Rattle.graphql_documents.specs.TypeMaps.{argument_types, field_types};
@@ -14,7 +14,7 @@ use super::definition_directives::validate_definition_directives;
 use super::input_values::{each_argument, validate_argument_definitions};
 use super::names::validate_type_system_name;
 use super::referred_types::report_undefined_type;
-use graphql_documents::diagnostics::{Details, DiagnosticData, DiagnosticList, ValidationError};
+use graphql_diagnostics::{Details, DiagnosticData, DiagnosticList, ValidationError};
 use graphql_documents::documents::{
     Component, DirectiveLocation, ExtendedType, FieldDefinition, Name, Node, Schema,
 };

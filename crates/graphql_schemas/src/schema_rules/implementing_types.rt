@@ -1,11 +1,11 @@
-ghost use Rattle.graphql_documents.specs.Diagnostics.{IsDiagnostic};
-ghost use Rattle.graphql_documents.specs.ImplementationReports.{ImplementationBreaks};
+ghost use Rattle.graphql_diagnostics.specs.Diagnostics.{IsDiagnostic};
+ghost use Rattle.graphql_diagnostics.specs.ImplementationReports.{ImplementationBreaks};
 ghost use Rattle.graphql_documents.specs.Implementations.{ImplementationsHold};
-ghost use Rattle.graphql_documents.specs.Reports.{Checks};
+ghost use Rattle.graphql_diagnostics.specs.Reports.{Checks};
 ghost use Rattle.graphql_documents.specs.declared.documents.schemas.ExtendedType.{ExtendedType};
 ghost use Rattle.graphql_schemas.specs.TypeSteps.{AreOf};
 
-use graphql_documents::diagnostics::{DiagnosticList, ValidationError};
+use graphql_diagnostics::{DiagnosticList, ValidationError};
 use graphql_documents::documents::{
     Component, ComponentName, FieldDefinition, Name, Schema, SourceSpan,
 };

@@ -1,10 +1,10 @@
 ghost use Rattle.std.specs.Prelude.{◌≡◌, ◌≢◌, [], All, IfOk, OnOk, map};
-ghost use Rattle.graphql_documents.specs.Diagnostics.{IsDiagnostic};
-ghost use Rattle.graphql_documents.specs.Limits.{InputObjectLimit};
-ghost use Rattle.graphql_documents.specs.Reports.{Checks, ChecksWithin};
+ghost use Rattle.graphql_diagnostics.specs.Diagnostics.{IsDiagnostic};
+ghost use Rattle.graphql_diagnostics.specs.Limits.{InputObjectLimit};
+ghost use Rattle.graphql_diagnostics.specs.Reports.{Checks, ChecksWithin};
 ghost use Rattle.graphql_documents.specs.SchemaRules.{InputObjectHolds, InputValueDefinitionHolds};
 ghost use Rattle.graphql_documents.specs.TypeMaps.{types_referred_by};
-ghost use Rattle.graphql_documents.specs.TypeReports.{TypeBreaks};
+ghost use Rattle.graphql_diagnostics.specs.TypeReports.{TypeBreaks};
 ghost use Rattle.graphql_documents.specs.declared.documents.definitions.DirectiveLocation.TheVariants as at;
 ghost use Rattle.graphql_documents.specs.declared.documents.schemas.ExtendedType.TheVariants as types;
 ghost use Rattle.graphql_documents.specs.declared.documents.schemas.Schema.{Schema};
@@ -15,7 +15,7 @@ use super::definition_directives::validate_component_directives;
 use super::input_values::validate_input_value_definitions;
 use crate::extensions::{input_object_extensions, locations_of};
 use graphql_cycles::input_objects::validate_input_object_cycles;
-use graphql_documents::diagnostics::{Details, DiagnosticData, DiagnosticList, ValidationError};
+use graphql_diagnostics::{Details, DiagnosticData, DiagnosticList, ValidationError};
 use graphql_documents::documents::{
     Component, DirectiveLocation, InputObjectType, InputValueDefinition, Name, Node, Schema,
 };

@@ -1,7 +1,7 @@
 ghost use Rattle.std.specs.Prelude.{◌≡◌, ◌∷◌, [], All, IfOk, IsFalse, OnOk, Some, map};
-ghost use Rattle.graphql_documents.specs.Diagnostics.{IsDiagnostic};
-ghost use Rattle.graphql_documents.specs.FieldDefinitionReports.{ArgumentDefinitionsBreak, InputValueBreaks, InputValuesBreak};
-ghost use Rattle.graphql_documents.specs.Reports.{Checks};
+ghost use Rattle.graphql_diagnostics.specs.Diagnostics.{IsDiagnostic};
+ghost use Rattle.graphql_diagnostics.specs.FieldDefinitionReports.{ArgumentDefinitionsBreak, InputValueBreaks, InputValuesBreak};
+ghost use Rattle.graphql_diagnostics.specs.Reports.{Checks};
 ghost use Rattle.graphql_documents.specs.SchemaRules.{ArgumentDefinitionsHold, InputValueDefinitionHolds, NamesType};
 ghost use Rattle.graphql_documents.specs.Schemas.{is_input_type, type_definition};
 ghost use Rattle.graphql_documents.specs.TypeMaps.{argument_types};
@@ -14,7 +14,7 @@ use super::built_in_scalars::BuiltInScalars;
 use super::definition_directives::validate_definition_directives;
 use super::names::validate_type_system_name;
 use super::referred_types::report_undefined_type;
-use graphql_documents::diagnostics::{Details, DiagnosticData, DiagnosticList, ValidationError};
+use graphql_diagnostics::{Details, DiagnosticData, DiagnosticList, ValidationError};
 use graphql_documents::documents::{
     DirectiveLocation, ExtendedType, InputValueDefinition, Node, Schema,
 };

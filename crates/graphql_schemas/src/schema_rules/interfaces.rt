@@ -1,10 +1,10 @@
 ghost use Rattle.std.specs.Prelude.{◌≢◌, [], OnOk};
-ghost use Rattle.graphql_documents.specs.Diagnostics.{IsDiagnostic};
+ghost use Rattle.graphql_diagnostics.specs.Diagnostics.{IsDiagnostic};
 ghost use Rattle.graphql_documents.specs.Implementations.{DoesNotListItself};
-ghost use Rattle.graphql_documents.specs.Reports.{Checks};
+ghost use Rattle.graphql_diagnostics.specs.Reports.{Checks};
 ghost use Rattle.graphql_documents.specs.SchemaRules.{InterfaceHolds};
 ghost use Rattle.graphql_documents.specs.TypeMaps.{types_referred_by};
-ghost use Rattle.graphql_documents.specs.TypeReports.{TypeBreaks};
+ghost use Rattle.graphql_diagnostics.specs.TypeReports.{TypeBreaks};
 ghost use Rattle.graphql_documents.specs.declared.documents.schemas.ExtendedType.TheVariants as types;
 ghost use Rattle.graphql_documents.specs.declared.documents.schemas.Schema.{Schema};
 ghost use Rattle.graphql_schemas.specs.BuiltInScalarUses.{Keeps, Records};
@@ -14,7 +14,7 @@ use super::definition_directives::validate_component_directives;
 use super::fields::validate_field_definitions;
 use super::implementing_types::validate_implementations;
 use crate::extensions::{interface_extensions, locations_of};
-use graphql_documents::diagnostics::{Details, DiagnosticData, DiagnosticList, ValidationError};
+use graphql_diagnostics::{Details, DiagnosticData, DiagnosticList, ValidationError};
 use graphql_documents::documents::{DirectiveLocation, InterfaceType, Node, Schema};
 
 /// Validates an interface: the directives on it, that it does not list itself, its fields, that there is one,

@@ -1,10 +1,10 @@
 ghost use Rattle.std.specs.Prelude.{◌≡◌, ◌↔◌, IsTrue};
-ghost use Rattle.graphql_documents.specs.Diagnostics.{IsDiagnostic};
-ghost use Rattle.graphql_documents.specs.FieldDefinitionReports.{NameBreaks};
-ghost use Rattle.graphql_documents.specs.Names.{IsFreeName, begins_with_two_underscores, is_built_in_location};
-ghost use Rattle.graphql_documents.specs.Reports.{Checks};
+ghost use Rattle.graphql_diagnostics.specs.Diagnostics.{IsDiagnostic};
+ghost use Rattle.graphql_diagnostics.specs.FieldDefinitionReports.{NameBreaks};
+ghost use Rattle.graphql_nodes.specs.Names.{IsFreeName, begins_with_two_underscores, is_built_in_location};
+ghost use Rattle.graphql_diagnostics.specs.Reports.{Checks};
 
-use graphql_documents::diagnostics::{Details, DiagnosticData, DiagnosticList, ValidationError};
+use graphql_diagnostics::{Details, DiagnosticData, DiagnosticList, ValidationError};
 use graphql_documents::documents::{FileId, Name, SourceSpan};
 
 /// Reports a name that begins with two underscores, unless it is one of those that every schema has. The

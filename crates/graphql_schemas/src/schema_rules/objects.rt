@@ -1,9 +1,9 @@
 ghost use Rattle.std.specs.Prelude.{◌≢◌, [], OnOk};
-ghost use Rattle.graphql_documents.specs.Diagnostics.{IsDiagnostic};
-ghost use Rattle.graphql_documents.specs.Reports.{Checks};
+ghost use Rattle.graphql_diagnostics.specs.Diagnostics.{IsDiagnostic};
+ghost use Rattle.graphql_diagnostics.specs.Reports.{Checks};
 ghost use Rattle.graphql_documents.specs.SchemaRules.{ObjectHolds};
 ghost use Rattle.graphql_documents.specs.TypeMaps.{types_referred_by};
-ghost use Rattle.graphql_documents.specs.TypeReports.{TypeBreaks};
+ghost use Rattle.graphql_diagnostics.specs.TypeReports.{TypeBreaks};
 ghost use Rattle.graphql_documents.specs.declared.documents.schemas.ExtendedType.TheVariants as types;
 ghost use Rattle.graphql_documents.specs.declared.documents.schemas.Schema.{Schema};
 ghost use Rattle.graphql_schemas.specs.BuiltInScalarUses.{Keeps, Records};
@@ -13,7 +13,7 @@ use super::definition_directives::validate_component_directives;
 use super::fields::validate_field_definitions;
 use super::implementing_types::validate_implementations;
 use crate::extensions::{locations_of, object_extensions};
-use graphql_documents::diagnostics::{Details, DiagnosticData, DiagnosticList, ValidationError};
+use graphql_diagnostics::{Details, DiagnosticData, DiagnosticList, ValidationError};
 use graphql_documents::documents::{DirectiveLocation, Node, ObjectType, Schema};
 
 /// Validates an object: the directives on it, its fields, that there is one, and that it implements what it

@@ -1,9 +1,9 @@
 ghost use Rattle.std.specs.Prelude.{◌≡◌, ◌∷◌, ◌++◌, [], OnErr, OnOk};
-ghost use Rattle.graphql_documents.specs.Diagnostics.{entries};
-ghost use Rattle.graphql_documents.specs.declared.diagnostics.data.DiagnosticData.TheVariants as report;
-ghost use Rattle.graphql_documents.specs.declared.diagnostics.details.Details.TheVariants.{Diagnostic};
+ghost use Rattle.graphql_diagnostics.specs.Diagnostics.{entries};
+ghost use Rattle.graphql_diagnostics.specs.declared.data.DiagnosticData.TheVariants as report;
+ghost use Rattle.graphql_diagnostics.specs.declared.details.Details.TheVariants.{Diagnostic};
 
-use graphql_documents::diagnostics::{Details, DiagnosticData, DiagnosticList, ValidationError};
+use graphql_diagnostics::{Details, DiagnosticData, DiagnosticList, ValidationError};
 use graphql_documents::documents::NamedType;
 
 /// Reports, at the name, that it stands for no type.

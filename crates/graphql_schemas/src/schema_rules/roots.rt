@@ -1,9 +1,9 @@
 ghost use Rattle.std.specs.Option.{option_copied};
 ghost use Rattle.std.specs.Prelude.{◌≡◌, IsFalse, List, Some, find, map};
-ghost use Rattle.graphql_documents.specs.Diagnostics.{IsDiagnostic};
-ghost use Rattle.graphql_documents.specs.Names.{same_name};
-ghost use Rattle.graphql_documents.specs.Reports.{Checks};
-ghost use Rattle.graphql_documents.specs.SchemaReports.{RootsBreak};
+ghost use Rattle.graphql_diagnostics.specs.Diagnostics.{IsDiagnostic};
+ghost use Rattle.graphql_nodes.specs.Names.{same_name};
+ghost use Rattle.graphql_diagnostics.specs.Reports.{Checks};
+ghost use Rattle.graphql_diagnostics.specs.SchemaReports.{RootsBreak};
 ghost use Rattle.graphql_documents.specs.Schemas.{NamesKind, is_object_type, roots_of, type_definition};
 ghost use Rattle.graphql_documents.specs.declared.documents.components.ComponentName.{ComponentName};
 ghost use Rattle.graphql_documents.specs.declared.documents.definitions.OperationType.{OperationType};
@@ -13,7 +13,7 @@ ghost use Rattle.graphql_schemas.specs.RootSteps.{FollowsWell, RootBreaks, lent_
 ghost use Rattle.graphql_values.specs.FirstPlaces.{IsNext};
 
 use super::referred_types::report_undefined_type;
-use graphql_documents::diagnostics::{Details, DiagnosticData, DiagnosticList, ValidationError};
+use graphql_diagnostics::{Details, DiagnosticData, DiagnosticList, ValidationError};
 use graphql_documents::documents::{
     ComponentName, ExtendedType, Name, NamedType, OperationType, Schema,
 };

@@ -1,12 +1,12 @@
-ghost use Rattle.graphql_documents.specs.Diagnostics.{IsDiagnostic};
-ghost use Rattle.graphql_documents.specs.Reports.{Checks};
+ghost use Rattle.graphql_diagnostics.specs.Diagnostics.{IsDiagnostic};
+ghost use Rattle.graphql_diagnostics.specs.Reports.{Checks};
 ghost use Rattle.graphql_documents.specs.SchemaRules.{ScalarHolds};
-ghost use Rattle.graphql_documents.specs.TypeReports.{TypeBreaks};
+ghost use Rattle.graphql_diagnostics.specs.TypeReports.{TypeBreaks};
 ghost use Rattle.graphql_documents.specs.declared.documents.schemas.ExtendedType.TheVariants as types;
 
 use super::definition_directives::validate_component_directives;
 use super::names::is_built_in;
-use graphql_documents::diagnostics::{DiagnosticList, ValidationError};
+use graphql_diagnostics::{DiagnosticList, ValidationError};
 use graphql_documents::documents::{DirectiveLocation, Node, ScalarType, Schema};
 
 /// Validates a scalar: the directives on it, unless it is one that every schema has. The only error is want

@@ -1,9 +1,9 @@
 ghost use Rattle.std.specs.Prelude.{OnErr, OnOk};
-ghost use Rattle.graphql_documents.specs.DefaultValues.{DefaultValuesHold};
-ghost use Rattle.graphql_documents.specs.Diagnostics.{IsDiagnostic, IsLimitEntry, entries};
-ghost use Rattle.graphql_documents.specs.Limits.{SchemaLimit};
-ghost use Rattle.graphql_documents.specs.Reports.{ChecksWithin, KeepsReports, ReportsWithin};
-ghost use Rattle.graphql_documents.specs.SchemaReports.{SchemaReport};
+ghost use Rattle.graphql_diagnostics.specs.DefaultValues.{DefaultValuesHold};
+ghost use Rattle.graphql_diagnostics.specs.Diagnostics.{IsDiagnostic, IsLimitEntry, entries};
+ghost use Rattle.graphql_diagnostics.specs.Limits.{SchemaLimit};
+ghost use Rattle.graphql_diagnostics.specs.Reports.{ChecksWithin, KeepsReports, ReportsWithin};
+ghost use Rattle.graphql_diagnostics.specs.SchemaReports.{SchemaReport};
 ghost use Rattle.graphql_documents.specs.SchemaRules.{SchemaHolds};
 ghost use Rattle.graphql_documents.specs.TypeMaps.{IsSettledSchema, types_referred};
 ghost use Rattle.graphql_schemas.specs.BuiltInScalarUses.{Records};
@@ -15,7 +15,7 @@ use super::directive_definitions::validate_directive_definitions;
 use super::schema_definition::validate_schema_definition;
 use super::type_map::settle_types;
 use super::types::validate_types;
-use graphql_documents::diagnostics::{DiagnosticList, ValidationError};
+use graphql_diagnostics::{DiagnosticList, ValidationError};
 use graphql_documents::documents::Schema;
 
 /// Validates a schema and settles its types: what it says of itself, its directive definitions and its types,

@@ -1,12 +1,12 @@
 ghost use Rattle.std.specs.Prelude.{IsSome};
-ghost use Rattle.graphql_documents.specs.Diagnostics.{IsDiagnostic};
-ghost use Rattle.graphql_documents.specs.Reports.{Checks};
-ghost use Rattle.graphql_documents.specs.SchemaReports.{RootsBreak, SchemaDefinitionBreaks};
+ghost use Rattle.graphql_diagnostics.specs.Diagnostics.{IsDiagnostic};
+ghost use Rattle.graphql_diagnostics.specs.Reports.{Checks};
+ghost use Rattle.graphql_diagnostics.specs.SchemaReports.{RootsBreak, SchemaDefinitionBreaks};
 ghost use Rattle.graphql_documents.specs.SchemaRules.{RootsHold, SchemaDefinitionHolds};
 
 use super::definition_directives::validate_component_directives;
 use super::roots::{Root, validate_root};
-use graphql_documents::diagnostics::{Details, DiagnosticData, DiagnosticList, ValidationError};
+use graphql_diagnostics::{Details, DiagnosticData, DiagnosticList, ValidationError};
 use graphql_documents::documents::{DirectiveLocation, Schema};
 
 /// Validates what a schema says of itself: that it has a query root, its roots in order, and the directives on

@@ -6,14 +6,14 @@ ghost use Rattle.std.specs.List.{IsDistinct};
 ghost use Rattle.std.specs.Map.{keys_of};
 ghost use Rattle.std.specs.Vec.{vec_capacity, vec_len};
 ghost use Rattle.indexmap.specs.IndexMap.{index_map_len, spare};
-ghost use Rattle.graphql_documents.specs.Names.{NameText, is_name, same_name};
+ghost use Rattle.graphql_nodes.specs.Names.{NameText, is_name, same_name};
 ghost use Rattle.graphql_documents.specs.TypeMaps.{IsAddedScalar, built_in_scalar_names};
 ghost use Rattle.graphql_documents.specs.declared.documents.schemas.ExtendedType.{ExtendedType as Definition};
 ghost use Rattle.graphql_schemas.specs.BuiltInScalarUses.{holds_text};
 ghost use Rattle.graphql_schemas.specs.TypeMapChanges.{AddsMissing, CanUndo, FitBack, Settles, is_unused, restored};
 
 use super::built_in_scalars::BuiltInScalars;
-use graphql_documents::diagnostics::ValidationError;
+use graphql_diagnostics::ValidationError;
 use graphql_documents::documents::{ExtendedType, FileId, Name, Node, ScalarType, SourceSpan};
 use indexmap::IndexMap;
 use std::alloc::Global;

@@ -1,14 +1,14 @@
 //! The types of a schema, each by its kind.
 
 ghost use Rattle.std.specs.Prelude.{All, OnOk, flat_map};
-ghost use Rattle.graphql_documents.specs.Diagnostics.{IsDiagnostic};
-ghost use Rattle.graphql_documents.specs.Limits.{SchemaLimit};
-ghost use Rattle.graphql_documents.specs.Names.{IsFreeName};
-ghost use Rattle.graphql_documents.specs.Reports.{ChecksWithin};
-ghost use Rattle.graphql_documents.specs.SchemaReports.{SchemaReport};
+ghost use Rattle.graphql_diagnostics.specs.Diagnostics.{IsDiagnostic};
+ghost use Rattle.graphql_diagnostics.specs.Limits.{SchemaLimit};
+ghost use Rattle.graphql_nodes.specs.Names.{IsFreeName};
+ghost use Rattle.graphql_diagnostics.specs.Reports.{ChecksWithin};
+ghost use Rattle.graphql_diagnostics.specs.SchemaReports.{SchemaReport};
 ghost use Rattle.graphql_documents.specs.SchemaRules.{TypeHolds};
 ghost use Rattle.graphql_documents.specs.TypeMaps.{types_referred_by};
-ghost use Rattle.graphql_documents.specs.TypeReports.{TypeBreaks};
+ghost use Rattle.graphql_diagnostics.specs.TypeReports.{TypeBreaks};
 ghost use Rattle.graphql_schemas.specs.BuiltInScalarUses.{Keeps, Records};
 ghost use Rattle.graphql_schemas.specs.TypeSteps.{NamedTypeBreaks, TypeLimit};
 
@@ -20,7 +20,7 @@ use super::names::validate_type_system_name;
 use super::objects::validate_object_type_definition;
 use super::scalars::validate_scalar_definition;
 use super::unions::validate_union_definition;
-use graphql_documents::diagnostics::{DiagnosticList, ValidationError};
+use graphql_diagnostics::{DiagnosticList, ValidationError};
 use graphql_documents::documents::{ExtendedType, Name, Schema};
 
 /// Validates the types of a schema, in order. Types that they refer to are recorded.

@@ -1,10 +1,10 @@
 ghost use Rattle.std.specs.Prelude.{◌≡◌, ◌≢◌, [], All, Contains, IsFalse, Some};
-ghost use Rattle.graphql_documents.specs.Diagnostics.{IsDiagnostic};
-ghost use Rattle.graphql_documents.specs.Reports.{Checks};
+ghost use Rattle.graphql_diagnostics.specs.Diagnostics.{IsDiagnostic};
+ghost use Rattle.graphql_diagnostics.specs.Reports.{Checks};
 ghost use Rattle.graphql_documents.specs.SchemaRules.{UnionHolds};
 ghost use Rattle.graphql_documents.specs.Schemas.{NamesKind, is_object_type, type_definition};
-ghost use Rattle.graphql_documents.specs.TypeReports.{TypeBreaks};
-ghost use Rattle.graphql_documents.specs.declared.documents.nodes.Node.{Node};
+ghost use Rattle.graphql_diagnostics.specs.TypeReports.{TypeBreaks};
+ghost use Rattle.graphql_nodes.specs.declared.nodes.Node.{Node};
 ghost use Rattle.graphql_documents.specs.declared.documents.schemas.ExtendedType.TheVariants as types;
 ghost use Rattle.graphql_documents.specs.declared.documents.schemas.Schema.{Schema};
 ghost use Rattle.graphql_documents.specs.declared.documents.schemas.UnionType.{UnionType};
@@ -12,7 +12,7 @@ ghost use Rattle.graphql_documents.specs.declared.documents.schemas.UnionType.{U
 use super::definition_directives::validate_component_directives;
 use super::referred_types::report_undefined_type;
 use crate::extensions::{locations_of, union_extensions};
-use graphql_documents::diagnostics::{Details, DiagnosticData, DiagnosticList, ValidationError};
+use graphql_diagnostics::{Details, DiagnosticData, DiagnosticList, ValidationError};
 use graphql_documents::documents::{
     ComponentName, DirectiveLocation, ExtendedType, Node, Schema, UnionType,
 };

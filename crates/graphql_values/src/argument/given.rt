@@ -1,16 +1,16 @@
 ghost use Rattle.std.specs.Prelude.{All, Contains, List};
 ghost use Rattle.graphql_documents.specs.Arguments.{IsDefined};
-ghost use Rattle.graphql_documents.specs.Diagnostics.{IsDiagnostic};
-ghost use Rattle.graphql_documents.specs.Reports.{Checks};
+ghost use Rattle.graphql_diagnostics.specs.Diagnostics.{IsDiagnostic};
+ghost use Rattle.graphql_diagnostics.specs.Reports.{Checks};
 ghost use Rattle.graphql_documents.specs.declared.documents.definitions.VariableDefinition.{VariableDefinition};
-ghost use Rattle.graphql_documents.specs.declared.documents.nodes.Node.{Node};
+ghost use Rattle.graphql_nodes.specs.declared.nodes.Node.{Node};
 ghost use Rattle.graphql_documents.specs.declared.documents.schemas.Schema.{Schema};
 ghost use Rattle.graphql_values.specs.GivenArguments.{GivenArgumentHolds, GivenArgumentReport};
 
 use super::owners::GivenArguments;
 use crate::value::check_value_of_type;
 use crate::variable::{VariablesByName, check_variable_usage};
-use graphql_documents::diagnostics::{Details, DiagnosticData, DiagnosticList, ValidationError};
+use graphql_diagnostics::{Details, DiagnosticData, DiagnosticList, ValidationError};
 use graphql_documents::documents::{Argument, Node, Schema, definition_named};
 
 /// Reports for each argument, in order, that no definition has its name, or that it is a variable

@@ -1,7 +1,7 @@
 ghost use Rattle.std.specs.Prelude.{◌≡◌, IfOk};
 ghost use Rattle.graphql_values.specs.GivenArguments.{AreOfDirective, AreOfField, argument_coordinate_of, owner_coordinate};
 
-use graphql_documents::diagnostics::ValidationError;
+use graphql_diagnostics::ValidationError;
 use graphql_documents::documents::{
     Argument, Component, Directive, DirectiveArgumentCoordinate, DirectiveCoordinate,
     DirectiveDefinition, Field, FieldArgumentCoordinate, FieldDefinition, InputValueDefinition,

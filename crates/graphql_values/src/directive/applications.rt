@@ -3,14 +3,14 @@ ghost use Rattle.std.specs.Prelude.{◌≡◌, ◌↔◌, All, Contains, IsTrue,
 ghost use Rattle.graphql_documents.specs.Arguments.{IsGivenIfRequired};
 ghost use Rattle.graphql_documents.specs.Directives.{IsRepeatable, directive_definition, directive_in};
 ghost use Rattle.graphql_documents.specs.declared.documents.directives.Directive.{Directive};
-ghost use Rattle.graphql_documents.specs.declared.documents.nodes.Node.{Node};
+ghost use Rattle.graphql_nodes.specs.declared.nodes.Node.{Node};
 ghost use Rattle.graphql_documents.specs.declared.documents.schemas.Schema.{Schema};
 ghost use Rattle.graphql_values.specs.DirectiveSteps.{ChecksApplication, ChecksRepetition, IsAppliedWell, directive_named, head_in, head_place};
 ghost use Rattle.graphql_values.specs.GivenArguments.{GivenArgumentHolds};
 
 use crate::argument::{GivenArguments, validate_given_arguments, validate_required_arguments};
 use crate::variable::VariablesByName;
-use graphql_documents::diagnostics::{Details, DiagnosticData, DiagnosticList, ValidationError};
+use graphql_diagnostics::{Details, DiagnosticData, DiagnosticList, ValidationError};
 use graphql_documents::documents::{
     Directive, DirectiveDefinition, DirectiveLocation, Name, Node, Schema, SourceSpan,
 };

@@ -1,16 +1,16 @@
 ghost use Rattle.std.specs.Option.{option_copied};
 ghost use Rattle.std.specs.Prelude.{◌≡◌, ◌∷◌, ◌++◌, [], IfOk, IsFalse, List, None, OnOk, Some, map};
-ghost use Rattle.graphql_documents.specs.Diagnostics.{IsDiagnostic};
+ghost use Rattle.graphql_diagnostics.specs.Diagnostics.{IsDiagnostic};
 ghost use Rattle.graphql_documents.specs.Directives.{ApplicationsHold};
-ghost use Rattle.graphql_documents.specs.Reports.{Checks};
+ghost use Rattle.graphql_diagnostics.specs.Reports.{Checks};
 ghost use Rattle.graphql_documents.specs.Schemas.{is_input_type, type_definition};
 ghost use Rattle.graphql_documents.specs.TypeReferences.{inner_named_type};
-ghost use Rattle.graphql_documents.specs.VariableReports.{VariablesReport};
+ghost use Rattle.graphql_diagnostics.specs.VariableReports.{VariablesReport};
 ghost use Rattle.graphql_documents.specs.VariableUsage.{variable_named};
 ghost use Rattle.graphql_documents.specs.Variables.{DefaultHolds, HasInputType, VariableDefinitionsHold};
 ghost use Rattle.graphql_documents.specs.declared.documents.definitions.DirectiveLocation.TheVariants as at;
 ghost use Rattle.graphql_documents.specs.declared.documents.definitions.VariableDefinition.{VariableDefinition};
-ghost use Rattle.graphql_documents.specs.declared.documents.nodes.Node.{Node};
+ghost use Rattle.graphql_nodes.specs.declared.nodes.Node.{Node};
 ghost use Rattle.graphql_documents.specs.declared.documents.schemas.Schema.{Schema};
 ghost use Rattle.graphql_values.specs.FirstPlaces.{Remembers};
 ghost use Rattle.graphql_values.specs.VariableSteps.{ChecksNext, ChecksVariable, FollowsWell, IsNewName, TypeHolds, met_variable, variable_place_in};
@@ -19,7 +19,7 @@ use super::check_each_directive;
 use crate::first_places::first_place;
 use crate::value::value_of_correct_type;
 use crate::variable::VariablesByName;
-use graphql_documents::diagnostics::{Details, DiagnosticData, DiagnosticList, ValidationError};
+use graphql_diagnostics::{Details, DiagnosticData, DiagnosticList, ValidationError};
 use graphql_documents::documents::{
     DirectiveLocation, ExtendedType, Name, Node, Schema, SourceSpan, VariableDefinition,
 };

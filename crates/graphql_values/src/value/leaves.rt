@@ -1,6 +1,6 @@
 ghost use Rattle.std.specs.Prelude.{◌≡◌, ◌↔◌, ◌||◌, Some, IsTrue};
 ghost use Rattle.graphql_documents.specs.InputCoercion.{is_built_in_scalar, is_custom_scalar};
-ghost use Rattle.graphql_documents.specs.Names.{SameName};
+ghost use Rattle.graphql_nodes.specs.Names.{SameName};
 ghost use Rattle.graphql_documents.specs.Schemas.{is_input_type, type_definition};
 ghost use Rattle.graphql_documents.specs.TypeReferences.{inner_named_type, is_list};
 ghost use Rattle.graphql_documents.specs.declared.documents.schemas.Schema.{Schema};
@@ -9,7 +9,7 @@ ghost use Rattle.graphql_values.specs.ValueSteps.{ChecksDefined, ChecksValue, is
 
 use super::reports::unsupported_type;
 use crate::variable::VariablesByName;
-use graphql_documents::diagnostics::{Details, DiagnosticData, DiagnosticList, ValidationError};
+use graphql_diagnostics::{Details, DiagnosticData, DiagnosticList, ValidationError};
 use graphql_documents::documents::{
     ExtendedType, IntValue, Name, Node, SourceSpan, Type, Value, VariableDefinition,
 };

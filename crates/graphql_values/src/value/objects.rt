@@ -1,19 +1,19 @@
 ghost use Rattle.std.specs.Prelude.{◌≡◌, ◌↔◌, List, All, Contains, IsSome, IsFalse, IsTrue, find};
 ghost use Rattle.std.specs.Option.{option_copied};
-ghost use Rattle.graphql_documents.specs.Diagnostics.{IsDiagnostic};
+ghost use Rattle.graphql_diagnostics.specs.Diagnostics.{IsDiagnostic};
 ghost use Rattle.graphql_documents.specs.InputCoercion.{HasNoNullEntry, IsFieldGiven, IsInputField};
-ghost use Rattle.graphql_documents.specs.Names.{same_name};
-ghost use Rattle.graphql_documents.specs.Reports.{Checks};
+ghost use Rattle.graphql_nodes.specs.Names.{same_name};
+ghost use Rattle.graphql_diagnostics.specs.Reports.{Checks};
 ghost use Rattle.graphql_documents.specs.Schemas.{IsInputObject, is_required};
 ghost use Rattle.graphql_documents.specs.TypeReferences.{TypeReference, inner_named_type};
-ghost use Rattle.graphql_documents.specs.ValueReports.{ValueReport};
+ghost use Rattle.graphql_diagnostics.specs.ValueReports.{ValueReport};
 ghost use Rattle.graphql_documents.specs.Values.{entry_named};
 ghost use Rattle.graphql_documents.specs.declared.documents.definitions.VariableDefinition.{VariableDefinition};
-ghost use Rattle.graphql_documents.specs.declared.documents.nodes.Node.{Node};
+ghost use Rattle.graphql_nodes.specs.declared.nodes.Node.{Node};
 ghost use Rattle.graphql_documents.specs.declared.documents.schemas.Schema.{Schema};
 ghost use Rattle.graphql_values.specs.ValueSteps.{HasEntries};
 
-use graphql_documents::diagnostics::{Details, DiagnosticData, DiagnosticList, ValidationError};
+use graphql_diagnostics::{Details, DiagnosticData, DiagnosticList, ValidationError};
 use graphql_documents::documents::{
     Component, InputObjectType, InputValueDefinition, Name, Node, TypeAttributeCoordinate, Value,
 };

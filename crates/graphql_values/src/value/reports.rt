@@ -1,15 +1,15 @@
 ghost use Rattle.std.specs.Prelude.{◌≡◌, Some, List, IfOk};
 ghost use Rattle.graphql_documents.specs.Schemas.{type_definition};
 ghost use Rattle.graphql_documents.specs.TypeReferences.{IsReferenceCopy, inner_named_type};
-ghost use Rattle.graphql_documents.specs.ValueReports.{CannotStandFor};
+ghost use Rattle.graphql_diagnostics.specs.ValueReports.{CannotStandFor};
 ghost use Rattle.graphql_documents.specs.declared.documents.definitions.VariableDefinition.{VariableDefinition};
-ghost use Rattle.graphql_documents.specs.declared.documents.nodes.Node.{Node};
+ghost use Rattle.graphql_nodes.specs.declared.nodes.Node.{Node};
 ghost use Rattle.graphql_documents.specs.declared.documents.schemas.ExtendedType.{ExtendedType};
 ghost use Rattle.graphql_documents.specs.declared.documents.schemas.Schema.{Schema};
 ghost use Rattle.graphql_documents.specs.declared.documents.type_references.Type.{«Type»};
 ghost use Rattle.graphql_values.specs.ValueSteps.{ChecksValue, written_at};
 
-use graphql_documents::diagnostics::{Details, DiagnosticData, DiagnosticList, ValidationError};
+use graphql_diagnostics::{Details, DiagnosticData, DiagnosticList, ValidationError};
 use graphql_documents::documents::{Node, SourceSpan, Type, Value};
 use std::alloc::Global;
 use std::rc::Rc;

@@ -2,10 +2,10 @@ ghost use Rattle.std.specs.Option.{option_copied};
 ghost use Rattle.std.specs.Prelude.{◌≡◌, ◌∷◌, ◌++◌, [], IfOk, List, OnOk};
 ghost use Rattle.graphql_documents.specs.VariableUsage.{variable_named};
 ghost use Rattle.graphql_documents.specs.declared.documents.definitions.VariableDefinition.{VariableDefinition};
-ghost use Rattle.graphql_documents.specs.declared.documents.nodes.Node.{Node};
+ghost use Rattle.graphql_nodes.specs.declared.nodes.Node.{Node};
 ghost use Rattle.graphql_values.specs.VariablesByName.{FindsFirst};
 
-use graphql_documents::diagnostics::ValidationError;
+use graphql_diagnostics::ValidationError;
 use graphql_documents::documents::{Name, Node, VariableDefinition};
 use std::alloc::Global;
 use std::collections::HashMap;
@@ -24,7 +24,7 @@ pub struct VariablesByName<'a> {
 impl<'a> Model for VariablesByName<'a> {
     ghost use Rattle.std.specs.Prelude.{List};
     ghost use Rattle.graphql_documents.specs.declared.documents.definitions.VariableDefinition.{VariableDefinition};
-    ghost use Rattle.graphql_documents.specs.declared.documents.nodes.Node.{Node};
+    ghost use Rattle.graphql_nodes.specs.declared.nodes.Node.{Node};
     ghost use Rattle.graphql_values.specs.VariablesByName.{FindsFirst};
     ghost use Rattle.graphql_documents.specs.contracts.documents.type_references.Type as types;
     ghost use Rattle.graphql_documents.specs.contracts.documents.values.Value as values;

@@ -1,9 +1,9 @@
 ghost use Rattle.std.specs.Prelude.{◌≡◌, ◌↔◌, [], ◌∷◌, All, Contains, IsTrue, IfOk, OnOk, MatchResult, map};
-ghost use Rattle.graphql_documents.specs.Diagnostics.{IsDiagnostic, entries};
-ghost use Rattle.graphql_documents.specs.Names.{NameText, different_names};
-ghost use Rattle.graphql_documents.specs.Reports.{Appends, Checks, KeepsReports};
+ghost use Rattle.graphql_diagnostics.specs.Diagnostics.{IsDiagnostic, entries};
+ghost use Rattle.graphql_nodes.specs.Names.{NameText, different_names};
+ghost use Rattle.graphql_diagnostics.specs.Reports.{Appends, Checks, KeepsReports};
 ghost use Rattle.graphql_documents.specs.Selections.{Fragments, Reached, fragments_of};
-ghost use Rattle.graphql_documents.specs.VariableReports.{AreUnusedReports, AreUsesReports, UsesReport};
+ghost use Rattle.graphql_diagnostics.specs.VariableReports.{AreUnusedReports, AreUsesReports, UsesReport};
 ghost use Rattle.graphql_documents.specs.Variables.{UsesVariable};
 ghost use Rattle.graphql_documents.specs.declared.documents.executables.Operation.{Operation};
 ghost use Rattle.graphql_documents.specs.declared.documents.executables.Selection.{Selection};
@@ -11,7 +11,7 @@ ghost use Rattle.graphql_values.specs.Uses.{HasUsed, IsLastDefinition, IsNamedIn
 
 use super::uses::{add_in_arguments, add_in_directives};
 use super::walks::walk_selections_with_deduped_fragments;
-use graphql_documents::diagnostics::{Details, DiagnosticData, DiagnosticList, ValidationError};
+use graphql_diagnostics::{Details, DiagnosticData, DiagnosticList, ValidationError};
 use graphql_documents::documents::{
     ExecutableDocument, Name, Node, Operation, Selection, SourceSpan, VariableDefinition,
 };

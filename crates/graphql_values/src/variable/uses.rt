@@ -1,12 +1,12 @@
 //! The variables that stand in values, arguments and directives.
 
 ghost use Rattle.std.specs.Prelude.{◌≡◌, ◌++◌, IfOk, OnOk};
-ghost use Rattle.graphql_documents.specs.Names.{NameText};
+ghost use Rattle.graphql_nodes.specs.Names.{NameText};
 ghost use Rattle.graphql_documents.specs.Values.{StandsIn, VariablesIn, VariablesInEntries, VariablesInItems};
 ghost use Rattle.graphql_documents.specs.Variables.{StandsInArguments, StandsInDirectives};
 ghost use Rattle.graphql_values.specs.Uses.{AddsNames, NamesAlso, names_of};
 
-use graphql_documents::diagnostics::ValidationError;
+use graphql_diagnostics::ValidationError;
 use graphql_documents::documents::{Argument, Directive, Name, Node, Value};
 use std::alloc::Global;
 

@@ -2,7 +2,7 @@
 
 ghost use Rattle.std.specs.Prelude.{◌≡◌, ◌+◌, List, [], map, not, IfOk, IsTrue, OnOk};
 ghost use Rattle.graphql_guards.specs.Guards.{depth_limit, depth_of};
-ghost use Rattle.graphql_documents.specs.Names.{NameText, stands_on, with_name};
+ghost use Rattle.graphql_nodes.specs.Names.{NameText, stands_on, with_name};
 ghost use Rattle.graphql_documents.specs.Selections.{Inside, Reached, fragments_of, selections_of};
 ghost use Rattle.graphql_documents.specs.Defer.{Open};
 ghost use Rattle.graphql_documents.specs.Subscriptions.{WalkedFields, fields_among};
@@ -12,7 +12,7 @@ ghost use Rattle.graphql_values.specs.WalkSteps.{MetFrom, OrderBelow, OrderOver,
 ghost use Rattle.graphql_values.specs.declared.variable.walks.Extent.TheVariants as extent;
 
 use crate::conditions::can_be_excluded;
-use graphql_documents::diagnostics::ValidationError;
+use graphql_diagnostics::ValidationError;
 use graphql_documents::documents::{
     ExecutableDocument, FragmentSpread, Name, Node, Selection, SelectionSet,
 };

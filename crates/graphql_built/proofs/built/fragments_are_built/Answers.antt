@@ -3,10 +3,10 @@ use Rattle.std.proofs.lemmas.List.{append-nil}
 use Rattle.std.proofs.lemmas.List.Elements.{All-append, All-cons, All-nil}
 use Rattle.graphql_built.proofs.BuiltLemmas.{one_fails}
 use Rattle.graphql_built.specs.BuiltSelections.{FragmentIsBuilt}
-use Rattle.graphql_documents.proofs.ReportLemmas.{done_next, stands_next}
-use Rattle.graphql_documents.specs.Names.{NameText}
+use Rattle.graphql_documents.proofs.ListLemmas.{done_next, stands_next}
+use Rattle.graphql_nodes.specs.Names.{NameText}
 use Rattle.graphql_documents.specs.declared.documents.executables.Fragment.{Fragment}
-use Rattle.graphql_documents.specs.declared.documents.nodes.Node.{Node}
+use Rattle.graphql_nodes.specs.declared.nodes.Node.{Node}
 use Rattle.graphql_built.proofs.built.fragments_are_built.Goals as goal
 
 abbrev Entry : Type 0

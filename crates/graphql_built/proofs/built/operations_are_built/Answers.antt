@@ -4,7 +4,7 @@ use Rattle.graphql_built.proofs.BuiltLemmas.{all_of_both, not_all_of_first}
 use Rattle.graphql_built.specs.BuiltSelections.{same_definition}
 use Rattle.graphql_documents.specs.Built.{OperationIsBuilt}
 use Rattle.graphql_documents.specs.declared.documents.executables.Operation.{Operation}
-use Rattle.graphql_documents.specs.declared.documents.nodes.Node.{Node}
+use Rattle.graphql_nodes.specs.declared.nodes.Node.{Node}
 use Rattle.graphql_built.proofs.built.operations_are_built.Goals as goal
 
 pub returns-then-anonymous_operation_is_built : goal.returns-then-anonymous_operation_is_built

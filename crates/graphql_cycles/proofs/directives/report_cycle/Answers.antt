@@ -1,8 +1,8 @@
 use Rattle.std.proofs.Common.{rules, inl}
-use Rattle.graphql_documents.proofs.ReportLemmas.{checks-push}
-use Rattle.graphql_documents.proofs.ReportWithinLemmas.{checks_within}
-use Rattle.graphql_documents.specs.Diagnostics.{IsLimitEntry}
-use Rattle.graphql_documents.specs.SchemaReports.{directive_applies_itself}
+use Rattle.graphql_diagnostics.proofs.ReportLemmas.{checks-push}
+use Rattle.graphql_diagnostics.proofs.ReportWithinLemmas.{checks_within}
+use Rattle.graphql_diagnostics.specs.Diagnostics.{IsLimitEntry}
+use Rattle.graphql_diagnostics.specs.SchemaReports.{directive_applies_itself}
 use Rattle.graphql_cycles.proofs.directives.report_cycle.Goals as goal
 
 pub returns : goal.returns

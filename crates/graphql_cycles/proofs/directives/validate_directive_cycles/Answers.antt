@@ -1,9 +1,9 @@
 -- What the search from the arguments of the definition says of it.
 use Rattle.std.proofs.Common.{◌≡◌, [], ◌∷◌, ◌++◌, map, ap, ◌∙◌, subst}
-use Rattle.graphql_documents.proofs.ReportLemmas.{holds, kept}
-use Rattle.graphql_documents.proofs.ReportWithinLemmas.{checks_refused_within, within}
-use Rattle.graphql_documents.specs.Diagnostics.{IsLimitEntry}
-use Rattle.graphql_documents.specs.Names.{NameText}
+use Rattle.graphql_diagnostics.proofs.ReportLemmas.{holds, kept}
+use Rattle.graphql_diagnostics.proofs.ReportWithinLemmas.{checks_refused_within, within}
+use Rattle.graphql_diagnostics.specs.Diagnostics.{IsLimitEntry}
+use Rattle.graphql_nodes.specs.Names.{NameText}
 use Rattle.graphql_documents.specs.SchemaReferences.{AppliesBack, directive_part, references_of}
 use Rattle.graphql_documents.specs.declared.documents.definitions.DirectiveDefinition.{DirectiveDefinition}
 use Rattle.graphql_guards.specs.Guards.{path_of}

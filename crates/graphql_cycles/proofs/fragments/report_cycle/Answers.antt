@@ -1,7 +1,7 @@
 use Rattle.std.proofs.Common.{rules, inl}
-use Rattle.graphql_documents.proofs.ReportLemmas.{checks-push, kept}
-use Rattle.graphql_documents.proofs.ReportWithinLemmas.{checks_refused_within, checks_within}
-use Rattle.graphql_documents.specs.Diagnostics.{IsLimitEntry}
+use Rattle.graphql_diagnostics.proofs.ReportLemmas.{checks-push, kept}
+use Rattle.graphql_diagnostics.proofs.ReportWithinLemmas.{checks_refused_within, checks_within}
+use Rattle.graphql_diagnostics.specs.Diagnostics.{IsLimitEntry}
 use Rattle.graphql_cycles.proofs.fragments.report_cycle.Goals as goal
 
 pub returns-in_err-name : goal.returns-in_err-name

@@ -1,15 +1,15 @@
 -- What the search from the fragment's set says of the fragment.
 use Rattle.std.proofs.Common.{◌≡◌, ℕ, ◌+◌, List, [], ◌∷◌, ◌++◌, map, ap, ◌∙◌, subst}
-use Rattle.graphql_documents.proofs.ReportLemmas.{holds}
-use Rattle.graphql_documents.proofs.ReportWithinLemmas.{within}
-use Rattle.graphql_documents.specs.Diagnostics.{IsLimitEntry}
+use Rattle.graphql_diagnostics.proofs.ReportLemmas.{holds}
+use Rattle.graphql_diagnostics.proofs.ReportWithinLemmas.{within}
+use Rattle.graphql_diagnostics.specs.Diagnostics.{IsLimitEntry}
 use Rattle.graphql_documents.specs.FragmentSpreads.{SpreadsBack, SpreadsBy, fragment_of}
-use Rattle.graphql_documents.specs.Limits.{fragment_bound}
-use Rattle.graphql_documents.specs.Names.{HasDifferentNames, NameText}
+use Rattle.graphql_diagnostics.specs.Limits.{fragment_bound}
+use Rattle.graphql_nodes.specs.Names.{HasDifferentNames, NameText}
 use Rattle.graphql_documents.specs.Selections.{fragments_of}
 use Rattle.graphql_documents.specs.declared.documents.executables.Fragment.{Fragment}
 use Rattle.graphql_documents.specs.declared.documents.executables.FragmentSpread.{FragmentSpread}
-use Rattle.graphql_documents.specs.declared.documents.nodes.Node.{Node}
+use Rattle.graphql_nodes.specs.declared.nodes.Node.{Node}
 use Rattle.graphql_guards.specs.Guards.{path_limit, path_of}
 use Rattle.graphql_cycles.proofs.CycleLemmas.{closed_no_way_back, cycle_of, long_path}
 use Rattle.graphql_cycles.proofs.FragmentSearchLemmas.{ClosesOver, StopsOver, name_of}

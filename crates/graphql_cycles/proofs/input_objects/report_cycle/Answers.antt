@@ -1,8 +1,8 @@
 use Rattle.std.proofs.Common.{rules, inl}
-use Rattle.graphql_documents.proofs.ReportLemmas.{checks-push}
-use Rattle.graphql_documents.proofs.ReportWithinLemmas.{checks_within}
-use Rattle.graphql_documents.specs.Diagnostics.{IsLimitEntry}
-use Rattle.graphql_documents.specs.TypeReports.{input_object_requires_itself}
+use Rattle.graphql_diagnostics.proofs.ReportLemmas.{checks-push}
+use Rattle.graphql_diagnostics.proofs.ReportWithinLemmas.{checks_within}
+use Rattle.graphql_diagnostics.specs.Diagnostics.{IsLimitEntry}
+use Rattle.graphql_diagnostics.specs.TypeReports.{input_object_requires_itself}
 use Rattle.graphql_cycles.proofs.input_objects.report_cycle.Goals as goal
 
 pub returns : goal.returns

@@ -1,10 +1,10 @@
 -- What the search from the fields of the input object says of it.
 use Rattle.std.proofs.Common.{◌≡◌, ◌+◌, List, [], ◌∷◌, ◌++◌, map, ap, ◌∙◌, subst}
-use Rattle.graphql_documents.proofs.ReportLemmas.{holds}
-use Rattle.graphql_documents.proofs.ReportWithinLemmas.{within}
-use Rattle.graphql_documents.specs.Diagnostics.{IsLimitEntry}
-use Rattle.graphql_documents.specs.Limits.{input_object_bound}
-use Rattle.graphql_documents.specs.Names.{HasDifferentNames, NameText}
+use Rattle.graphql_diagnostics.proofs.ReportLemmas.{holds}
+use Rattle.graphql_diagnostics.proofs.ReportWithinLemmas.{within}
+use Rattle.graphql_diagnostics.specs.Diagnostics.{IsLimitEntry}
+use Rattle.graphql_diagnostics.specs.Limits.{input_object_bound}
+use Rattle.graphql_nodes.specs.Names.{HasDifferentNames, NameText}
 use Rattle.graphql_documents.specs.SchemaReferences.{RequiresBack, RequiresBy, input_object_of}
 use Rattle.graphql_documents.specs.declared.documents.schemas.InputObjectType.{InputObjectType}
 use Rattle.graphql_guards.specs.Guards.{path_limit, path_of}

@@ -1,8 +1,8 @@
 use Rattle.std.proofs.Common.{[], ◌∷◌, ◌++◌, map}
-use Rattle.graphql_documents.specs.Names.{NameText}
+use Rattle.graphql_nodes.specs.Names.{NameText}
 use Rattle.graphql_documents.specs.declared.documents.components.Component.{Component}
 use Rattle.graphql_documents.specs.declared.documents.definitions.EnumValueDefinition.{EnumValueDefinition}
-use Rattle.graphql_documents.proofs.ReportLemmas.{done_next}
+use Rattle.graphql_documents.proofs.ListLemmas.{done_next}
 use Rattle.graphql_cycles.proofs.ReferenceLemmas.{values_more}
 use Rattle.graphql_cycles.specs.References.{reference_of}
 use Rattle.graphql_cycles.proofs.schema_references.add_values.Goals as goal

@@ -1,14 +1,14 @@
 use Rattle.std.proofs.Common.{◌≡◌, ◌∙◌, ap, false, refl, subst, sym, true≢false}
 use Rattle.std.specs.Prelude.{IsTrue}
 use Rattle.std.proofs.lemmas.Option.{same_Some}
-use Rattle.graphql_documents.specs.ImplementationReports.{of_argument_type}
-use Rattle.graphql_documents.specs.Names.{NameText}
-use Rattle.graphql_documents.specs.Nodes.{SameNode}
+use Rattle.graphql_diagnostics.specs.ImplementationReports.{of_argument_type}
+use Rattle.graphql_nodes.specs.Names.{NameText}
+use Rattle.graphql_nodes.specs.Nodes.{SameNode}
 use Rattle.graphql_documents.specs.TypeReferences.{same_type}
-use Rattle.graphql_documents.specs.declared.diagnostics.data.DiagnosticData.TheVariants as report
+use Rattle.graphql_diagnostics.specs.declared.data.DiagnosticData.TheVariants as report
 use Rattle.graphql_documents.specs.declared.documents.definitions.InputValueDefinition.{InputValueDefinition}
-use Rattle.graphql_documents.specs.declared.documents.nodes.Node.{Node}
-use Rattle.graphql_documents.proofs.ReportLemmas.{checks-push, holds}
+use Rattle.graphql_nodes.specs.declared.nodes.Node.{Node}
+use Rattle.graphql_diagnostics.proofs.ReportLemmas.{checks-push, holds}
 use Rattle.graphql_implementations.specs.ImplementationSteps.{ArgumentsBreak, IsProvided, arguments_of}
 use Rattle.graphql_implementations.proofs.arguments.check_argument_type.Goals as goal
 

@@ -1,8 +1,9 @@
 use Rattle.std.proofs.Common.{◌≡◌, ◌++◌, [], ◌∷◌, Some, refl, sym}
 use Rattle.std.proofs.lemmas.List.Elements.{All-nil}
-use Rattle.graphql_documents.specs.Diagnostics.{IsDiagnostic}
+use Rattle.graphql_diagnostics.specs.Diagnostics.{IsDiagnostic}
 use Rattle.graphql_documents.specs.Schemas.{interface_named}
-use Rattle.graphql_documents.proofs.ReportLemmas.{checks-err, done_more, done_next, holds, kept_by, kept_then}
+use Rattle.graphql_diagnostics.proofs.ReportLemmas.{checks-err, done_more, holds, kept_by, kept_then}
+use Rattle.graphql_documents.proofs.ListLemmas.{done_next}
 use Rattle.graphql_implementations.specs.ImplementationSteps.{FieldEntry, ArgumentsBreak, FieldArgumentsAgree, OfOwnField}
 use Rattle.graphql_implementations.proofs.ImplementationLemmas.{all_fields, next_field}
 use Rattle.graphql_implementations.proofs.arguments.check_arguments.Goals as goal

@@ -1,4 +1,4 @@
-use Rattle.graphql_documents.proofs.ReportLemmas.{checks-err, checks_after, checks_words}
+use Rattle.graphql_diagnostics.proofs.ReportLemmas.{checks-err, checks_after, checks_words}
 use Rattle.graphql_implementations.proofs.ImplementationLemmas.{arguments_agree}
 use Rattle.graphql_implementations.proofs.arguments.check_field_arguments.Goals as goal
 

@@ -1,6 +1,6 @@
 use Rattle.std.proofs.Common.{All, take}
-use Rattle.graphql_documents.specs.Diagnostics.{IsDiagnostic, entries}
-use Rattle.graphql_documents.specs.Reports.{Reports}
+use Rattle.graphql_diagnostics.specs.Diagnostics.{IsDiagnostic, entries}
+use Rattle.graphql_diagnostics.specs.Reports.{Reports}
 use Rattle.graphql_implementations.specs.ImplementationSteps.{ArgumentsBreak, IsNoExtra, arguments_of}
 use Rattle.graphql_implementations.proofs.arguments.check_further_arguments.Given as goal
 

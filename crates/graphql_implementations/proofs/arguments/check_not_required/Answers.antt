@@ -1,11 +1,11 @@
 use Rattle.std.proofs.Common.{◌≡◌, ◌∙◌, ap, refl, subst, sym, true, true≢false}
 use Rattle.std.specs.Prelude.{is_some}
-use Rattle.graphql_documents.specs.ImplementationReports.{of_extra_argument}
-use Rattle.graphql_documents.specs.Names.{NameText}
+use Rattle.graphql_diagnostics.specs.ImplementationReports.{of_extra_argument}
+use Rattle.graphql_nodes.specs.Names.{NameText}
 use Rattle.graphql_documents.specs.Schemas.{is_required}
-use Rattle.graphql_documents.specs.declared.diagnostics.data.DiagnosticData.TheVariants as report
+use Rattle.graphql_diagnostics.specs.declared.data.DiagnosticData.TheVariants as report
 use Rattle.graphql_documents.specs.declared.documents.definitions.InputValueDefinition.{InputValueDefinition}
-use Rattle.graphql_documents.proofs.ReportLemmas.{checks-err, checks-push, holds, kept}
+use Rattle.graphql_diagnostics.proofs.ReportLemmas.{checks-err, checks-push, holds, kept}
 use Rattle.graphql_implementations.specs.ImplementationSteps.{ArgumentsBreak, IsNoExtra, arguments_of}
 use Rattle.graphql_implementations.proofs.arguments.check_not_required.Goals as goal
 

@@ -1,6 +1,6 @@
 use Rattle.std.proofs.Common.{◌≡◌, None, Some, sym, ◌∙◌}
 use Rattle.graphql_documents.specs.Implementations.{field_under}
-use Rattle.graphql_documents.proofs.ReportLemmas.{checks_words, holds}
+use Rattle.graphql_diagnostics.proofs.ReportLemmas.{checks_words, holds}
 use Rattle.graphql_implementations.specs.ImplementationSteps.{FieldArgumentsAgree}
 use Rattle.graphql_implementations.proofs.ImplementationLemmas.{found_under, of_no_own, of_own}
 use Rattle.graphql_implementations.proofs.arguments.check_own_arguments.Goals as goal

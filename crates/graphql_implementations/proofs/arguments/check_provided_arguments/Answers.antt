@@ -1,7 +1,7 @@
 use Rattle.std.proofs.Common.{◌∙◌, ap}
-use Rattle.graphql_documents.specs.Diagnostics.{IsDiagnostic}
+use Rattle.graphql_diagnostics.specs.Diagnostics.{IsDiagnostic}
 use Rattle.graphql_documents.specs.declared.documents.definitions.FieldDefinition.{FieldDefinition}
-use Rattle.graphql_documents.proofs.ReportLemmas.{checks-err, kept_by, kept_then, walked_all, walked_more, walked_none}
+use Rattle.graphql_diagnostics.proofs.ReportLemmas.{checks-err, kept_by, kept_then, walked_all, walked_more, walked_none}
 use Rattle.graphql_implementations.specs.ImplementationSteps.{ArgumentsBreak, IsProvided, arguments_of}
 use Rattle.graphql_implementations.proofs.ImplementationLemmas.{stands_at}
 use Rattle.graphql_implementations.proofs.arguments.check_provided_arguments.Goals as goal

@@ -1,9 +1,9 @@
 use Rattle.std.proofs.Common.{◌∙◌, ap, refl, subst, sym}
-use Rattle.graphql_documents.specs.ImplementationReports.{of_lacked_argument}
-use Rattle.graphql_documents.specs.Names.{NameText}
-use Rattle.graphql_documents.specs.declared.diagnostics.data.DiagnosticData.TheVariants as report
+use Rattle.graphql_diagnostics.specs.ImplementationReports.{of_lacked_argument}
+use Rattle.graphql_nodes.specs.Names.{NameText}
+use Rattle.graphql_diagnostics.specs.declared.data.DiagnosticData.TheVariants as report
 use Rattle.graphql_documents.specs.declared.documents.definitions.InputValueDefinition.{InputValueDefinition}
-use Rattle.graphql_documents.proofs.ReportLemmas.{checks-push}
+use Rattle.graphql_diagnostics.proofs.ReportLemmas.{checks-push}
 use Rattle.graphql_implementations.specs.ImplementationSteps.{ArgumentsBreak, IsProvided, arguments_of}
 use Rattle.graphql_implementations.proofs.arguments.report_missing_argument.Goals as goal
 

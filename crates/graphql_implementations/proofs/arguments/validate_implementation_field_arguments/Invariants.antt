@@ -1,7 +1,7 @@
 use Rattle.std.proofs.Common.{All, take}
-use Rattle.graphql_documents.specs.Diagnostics.{IsDiagnostic, entries}
-use Rattle.graphql_documents.specs.ImplementationReports.{ImplementationFieldArgumentsBreak}
-use Rattle.graphql_documents.specs.Reports.{Reports}
+use Rattle.graphql_diagnostics.specs.Diagnostics.{IsDiagnostic, entries}
+use Rattle.graphql_diagnostics.specs.ImplementationReports.{ImplementationFieldArgumentsBreak}
+use Rattle.graphql_diagnostics.specs.Reports.{Reports}
 use Rattle.graphql_implementations.specs.ImplementationSteps.{FieldArgumentsAgree, OfEachField, OfOwnField}
 use Rattle.graphql_implementations.proofs.arguments.validate_implementation_field_arguments.Given as goal
 

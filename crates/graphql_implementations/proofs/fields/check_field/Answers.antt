@@ -1,9 +1,9 @@
 use Rattle.std.proofs.Common.{◌≡◌, false, refl, sym, ap, ◌∙◌, subst, rules, true≢false}
 use Rattle.std.specs.Prelude.{IsSome, is_some}
-use Rattle.graphql_documents.specs.ImplementationReports.{of_missing_field}
+use Rattle.graphql_diagnostics.specs.ImplementationReports.{of_missing_field}
 use Rattle.graphql_documents.specs.Implementations.{field_under}
 use Rattle.graphql_documents.specs.declared.documents.definitions.FieldDefinition.{FieldDefinition}
-use Rattle.graphql_documents.proofs.ReportLemmas.{checks-push, holds}
+use Rattle.graphql_diagnostics.proofs.ReportLemmas.{checks-push, holds}
 use Rattle.graphql_implementations.proofs.ImplementationLemmas.{found_under, is_missing}
 use Rattle.graphql_implementations.proofs.fields.check_field.Goals as goal
 

@@ -1,7 +1,7 @@
-use Rattle.graphql_documents.specs.Diagnostics.{IsDiagnostic}
-use Rattle.graphql_documents.specs.ImplementationReports.{InterfaceFieldsBreak}
+use Rattle.graphql_diagnostics.specs.Diagnostics.{IsDiagnostic}
+use Rattle.graphql_diagnostics.specs.ImplementationReports.{InterfaceFieldsBreak}
 use Rattle.graphql_documents.specs.declared.documents.components.ComponentName.{ComponentName}
-use Rattle.graphql_documents.proofs.ReportLemmas.{checks-err, in_words, kept_by, kept_then, walked_all, walked_more, walked_none}
+use Rattle.graphql_diagnostics.proofs.ReportLemmas.{checks-err, in_words, kept_by, kept_then, walked_all, walked_more, walked_none}
 use Rattle.graphql_implementations.specs.ImplementationSteps.{HasFieldOf, OfEachField}
 use Rattle.graphql_implementations.proofs.ImplementationLemmas.{has_fields_decides, stands_at}
 use Rattle.graphql_implementations.proofs.fields.validate_interface_fields.Goals as goal

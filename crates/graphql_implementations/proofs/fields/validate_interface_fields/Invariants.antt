@@ -1,7 +1,7 @@
 use Rattle.std.proofs.Common.{All, take}
-use Rattle.graphql_documents.specs.Diagnostics.{IsDiagnostic, entries}
-use Rattle.graphql_documents.specs.ImplementationReports.{InterfaceFieldsBreak}
-use Rattle.graphql_documents.specs.Reports.{Reports}
+use Rattle.graphql_diagnostics.specs.Diagnostics.{IsDiagnostic, entries}
+use Rattle.graphql_diagnostics.specs.ImplementationReports.{InterfaceFieldsBreak}
+use Rattle.graphql_diagnostics.specs.Reports.{Reports}
 use Rattle.graphql_implementations.specs.ImplementationSteps.{HasFieldOf, OfEachField}
 use Rattle.graphql_implementations.proofs.fields.validate_interface_fields.Given as goal
 

@@ -1,4 +1,4 @@
-use Rattle.graphql_documents.proofs.ReportLemmas.{checks-err, checks_after}
+use Rattle.graphql_diagnostics.proofs.ReportLemmas.{checks-err, checks_after}
 use Rattle.graphql_implementations.proofs.names.validate_implements_interfaces.Goals as goal
 
 pub returns-in_err-check_defined : goal.returns-in_err-check_defined

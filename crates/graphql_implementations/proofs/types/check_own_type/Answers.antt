@@ -1,6 +1,6 @@
 use Rattle.std.proofs.Common.{◌≡◌, None, Some, sym, ◌∙◌}
 use Rattle.graphql_documents.specs.Implementations.{field_under}
-use Rattle.graphql_documents.proofs.ReportLemmas.{checks_words, holds}
+use Rattle.graphql_diagnostics.proofs.ReportLemmas.{checks_words, holds}
 use Rattle.graphql_implementations.specs.ImplementationSteps.{TypeImplements}
 use Rattle.graphql_implementations.proofs.ImplementationLemmas.{found_under, of_no_own, of_own}
 use Rattle.graphql_implementations.proofs.types.check_own_type.Goals as goal

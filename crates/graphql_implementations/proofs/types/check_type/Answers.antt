@@ -1,10 +1,10 @@
 use Rattle.std.proofs.Common.{◌∙◌, refl, subst, sym, true≢false}
-use Rattle.graphql_documents.specs.ImplementationReports.{of_implementing_type}
+use Rattle.graphql_diagnostics.specs.ImplementationReports.{of_implementing_type}
 use Rattle.graphql_documents.specs.Implementations.{IsValidImplementationType}
 use Rattle.graphql_documents.specs.TypeReferences.{IsTypeCopy}
-use Rattle.graphql_documents.specs.declared.diagnostics.data.DiagnosticData.TheVariants as report
+use Rattle.graphql_diagnostics.specs.declared.data.DiagnosticData.TheVariants as report
 use Rattle.graphql_documents.specs.declared.documents.definitions.FieldDefinition.{FieldDefinition}
-use Rattle.graphql_documents.proofs.ReportLemmas.{checks-push, holds}
+use Rattle.graphql_diagnostics.proofs.ReportLemmas.{checks-push, holds}
 use Rattle.graphql_implementations.specs.ImplementationSteps.{TypeImplements, TypesBreak}
 use Rattle.graphql_implementations.proofs.types.check_type.Goals as goal
 

@@ -1,6 +1,6 @@
 use Rattle.std.proofs.Common.{◌≡◌, ◌++◌, List, All}
-use Rattle.graphql_documents.specs.Diagnostics.{IsDiagnostic, entries}
-use Rattle.graphql_documents.specs.Reports.{Reports}
+use Rattle.graphql_diagnostics.specs.Diagnostics.{IsDiagnostic, entries}
+use Rattle.graphql_diagnostics.specs.Reports.{Reports}
 use Rattle.graphql_implementations.specs.ImplementationSteps.{FieldEntry, OfOwnField, TypeImplements, TypesBreak}
 use Rattle.graphql_implementations.proofs.types.check_types.Given as goal
 

@@ -1,7 +1,7 @@
-use Rattle.graphql_documents.specs.Diagnostics.{IsDiagnostic}
-use Rattle.graphql_documents.specs.ImplementationReports.{ImplementationFieldTypesBreak}
+use Rattle.graphql_diagnostics.specs.Diagnostics.{IsDiagnostic}
+use Rattle.graphql_diagnostics.specs.ImplementationReports.{ImplementationFieldTypesBreak}
 use Rattle.graphql_documents.specs.declared.documents.components.ComponentName.{ComponentName}
-use Rattle.graphql_documents.proofs.ReportLemmas.{checks-err, in_words, kept_by, kept_then, walked_all, walked_more, walked_none}
+use Rattle.graphql_diagnostics.proofs.ReportLemmas.{checks-err, in_words, kept_by, kept_then, walked_all, walked_more, walked_none}
 use Rattle.graphql_implementations.specs.ImplementationSteps.{OfEachField, OfOwnField, TypeImplements}
 use Rattle.graphql_implementations.proofs.ImplementationLemmas.{types_decide, stands_at}
 use Rattle.graphql_implementations.proofs.types.validate_implementation_field_types.Goals as goal

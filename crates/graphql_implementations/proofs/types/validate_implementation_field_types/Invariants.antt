@@ -1,7 +1,7 @@
 use Rattle.std.proofs.Common.{All, take}
-use Rattle.graphql_documents.specs.Diagnostics.{IsDiagnostic, entries}
-use Rattle.graphql_documents.specs.ImplementationReports.{ImplementationFieldTypesBreak}
-use Rattle.graphql_documents.specs.Reports.{Reports}
+use Rattle.graphql_diagnostics.specs.Diagnostics.{IsDiagnostic, entries}
+use Rattle.graphql_diagnostics.specs.ImplementationReports.{ImplementationFieldTypesBreak}
+use Rattle.graphql_diagnostics.specs.Reports.{Reports}
 use Rattle.graphql_implementations.specs.ImplementationSteps.{OfEachField, OfOwnField, TypeImplements}
 use Rattle.graphql_implementations.proofs.types.validate_implementation_field_types.Given as goal
 

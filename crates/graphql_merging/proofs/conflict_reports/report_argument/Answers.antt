@@ -2,7 +2,7 @@ use Rattle.std.proofs.Common.{◌∙◌, ap, refl, subst}
 use Rattle.graphql_documents.specs.Expansion.{field_pass}
 use Rattle.graphql_merging.proofs.ConflictReportLemmas.{conflict_pushed, copied_name}
 use Rattle.graphql_merging.specs.FieldSelections.{selection_of}
-use Rattle.graphql_documents.specs.MergingReports.{IsArgumentValue}
+use Rattle.graphql_diagnostics.specs.MergingReports.{IsArgumentValue}
 use Rattle.graphql_documents.specs.declared.documents.executables.Field.{Field}
 use Rattle.graphql_merging.proofs.conflict_reports.report_argument.Goals as goal
 

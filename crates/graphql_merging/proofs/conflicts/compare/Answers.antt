@@ -1,8 +1,8 @@
 use Rattle.std.proofs.Common.{◌∷◌, [], ◌∙◌, subst, sym}
-use Rattle.graphql_documents.specs.Diagnostics.{entries}
+use Rattle.graphql_diagnostics.specs.Diagnostics.{entries}
 use Rattle.graphql_documents.specs.Expansion.{field_pass, shape_pass}
-use Rattle.graphql_documents.specs.MergedGroups.{ConflictsWith}
-use Rattle.graphql_documents.specs.Reports.{Appends}
+use Rattle.graphql_diagnostics.specs.MergedGroups.{ConflictsWith}
+use Rattle.graphql_diagnostics.specs.Reports.{Appends}
 use Rattle.graphql_merging.proofs.ConflictLemmas.{compared_alike, compared_apart}
 use Rattle.graphql_merging.specs.Conflicts.{ComparesField}
 use Rattle.graphql_merging.specs.FieldSelections.{selection_of}

@@ -3,14 +3,14 @@ use Rattle.std.proofs.lemmas.List.{append-nil, map-append}
 use Rattle.std.proofs.lemmas.List.Sums.{sum_by_push}
 use Rattle.std.specs.Prelude.{sum_by}
 use Rattle.std.specs.declared.alloc.Global.{Global}
-use Rattle.graphql_documents.proofs.ListLemmas.{stands_mapped}
-use Rattle.graphql_documents.proofs.ReportLemmas.{kept, kept_then, more_is}
-use Rattle.graphql_documents.specs.Diagnostics.{entries}
+use Rattle.graphql_documents.proofs.ListLemmas.{more_is, stands_mapped}
+use Rattle.graphql_diagnostics.proofs.ReportLemmas.{kept, kept_then}
+use Rattle.graphql_diagnostics.specs.Diagnostics.{entries}
 use Rattle.graphql_documents.specs.Expansion.{Pass}
-use Rattle.graphql_documents.specs.MergedGroups.{AreConflicts, no_groups}
+use Rattle.graphql_diagnostics.specs.MergedGroups.{AreConflicts, no_groups}
 use Rattle.graphql_documents.specs.Merging as merging
-use Rattle.graphql_documents.specs.Reports.{Appends, KeepsReports}
-use Rattle.graphql_documents.specs.declared.diagnostics.lists.DiagnosticEntry.{DiagnosticEntry}
+use Rattle.graphql_diagnostics.specs.Reports.{Appends, KeepsReports}
+use Rattle.graphql_diagnostics.specs.declared.lists.DiagnosticEntry.{DiagnosticEntry}
 use Rattle.graphql_documents.specs.declared.documents.schemas.Schema.{Schema}
 use Rattle.graphql_merging.proofs.ConflictLemmas.{kept_among}
 use Rattle.graphql_merging.proofs.PassLemmas.{conflicts_then, counted_none, counted_then}

@@ -1,8 +1,8 @@
 use Rattle.std.proofs.Common.{◌≡◌, ◌-◌, length, take}
 use Rattle.std.specs.Prelude.{sum_by}
-use Rattle.graphql_documents.specs.Diagnostics.{entries}
-use Rattle.graphql_documents.specs.MergedGroups.{AreConflicts}
-use Rattle.graphql_documents.specs.Reports.{Appends, KeepsReports}
+use Rattle.graphql_diagnostics.specs.Diagnostics.{entries}
+use Rattle.graphql_diagnostics.specs.MergedGroups.{AreConflicts}
+use Rattle.graphql_diagnostics.specs.Reports.{Appends, KeepsReports}
 use Rattle.graphql_merging.specs.FieldSelections.{lists_of}
 use Rattle.graphql_merging.specs.Groups.{pass_of}
 use Rattle.graphql_merging.specs.Passes.{IsConflictAmong, counted}

@@ -2,7 +2,7 @@ use Rattle.std.proofs.Common.{◌∷◌, ◌++◌, [], ap, sym, ◌∙◌, List,
 use Rattle.std.specs.Borrow.{Bor}
 use Rattle.std.specs.declared.alloc.Global.{Global}
 use Rattle.indexmap.specs.IndexMap.{insert_entry}
-use Rattle.graphql_documents.specs.Names.{NameText, same_name}
+use Rattle.graphql_nodes.specs.Names.{NameText, same_name}
 use Rattle.graphql_merging.specs.Groups.{named_fields}
 use Rattle.graphql_merging.specs.declared.field_selections.FieldSelection.{FieldSelection}
 use Rattle.graphql_merging.proofs.GroupLemmas.{inserted_as_fields, set_as_fields}

@@ -1,12 +1,12 @@
 ghost use Rattle.std.specs.Prelude.{◌≡◌};
 ghost use Rattle.graphql_documents.specs.Defer.{DefersCanBeDisabled};
-ghost use Rattle.graphql_documents.specs.Reports.{ChecksWithin};
+ghost use Rattle.graphql_diagnostics.specs.Reports.{ChecksWithin};
 ghost use Rattle.graphql_documents.specs.Selections.{fragments_of};
 ghost use Rattle.graphql_documents.specs.declared.documents.definitions.OperationType.TheVariants as operation_type;
 ghost use Rattle.graphql_rules.specs.OperationDefers.{OperationDeferLimit, OperationDeferReport};
 
 use super::rules::DeferRule;
-use graphql_documents::diagnostics::{DiagnosticList, ValidationError};
+use graphql_diagnostics::{DiagnosticList, ValidationError};
 use graphql_documents::documents::{ExecutableDocument, Operation, OperationType};
 
 /// Reports each `@defer` of a subscription that can't be disabled, on a selection that is met whatever

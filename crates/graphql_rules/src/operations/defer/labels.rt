@@ -1,20 +1,18 @@
 ghost use Rattle.std.specs.Option.{option_copied};
 ghost use Rattle.std.specs.Prelude.{◌≡◌, ◌∷◌, ◌++◌, [], Contains, IfOk, List, OnOk, Some, map};
 ghost use Rattle.graphql_documents.specs.Defer.{DefersIn, DefersOn, LabelsHold, sets_of};
-ghost use Rattle.graphql_documents.specs.DeferReports.{DeferReport, HasLabel};
-ghost use Rattle.graphql_documents.specs.Diagnostics.{entries};
-ghost use Rattle.graphql_documents.specs.Limits.{DeferLimit};
-ghost use Rattle.graphql_documents.specs.Reports.{ChecksWithin, KeepsReports};
+ghost use Rattle.graphql_diagnostics.specs.DeferReports.{DeferReport, HasLabel};
+ghost use Rattle.graphql_diagnostics.specs.Diagnostics.{entries};
+ghost use Rattle.graphql_diagnostics.specs.Limits.{DeferLimit};
+ghost use Rattle.graphql_diagnostics.specs.Reports.{ChecksWithin, KeepsReports};
 ghost use Rattle.graphql_documents.specs.Selections.{selections_of};
-ghost use Rattle.graphql_documents.specs.declared.diagnostics.lists.DiagnosticEntry.{DiagnosticEntry};
+ghost use Rattle.graphql_diagnostics.specs.declared.lists.DiagnosticEntry.{DiagnosticEntry};
 ghost use Rattle.graphql_documents.specs.declared.documents.values.Value.TheVariants as literal;
 ghost use Rattle.graphql_rules.specs.DeferLabels.{DeferTruth, LabelsSoFar, PassesLabels, PassesLabelsIn, RemembersLabels, first_place_in, has_text, label_of, label_place};
 
 use super::written::written_defers;
 use crate::operations::fragments_used::operations_of;
-use graphql_documents::diagnostics::{
-    BuildError, Details, DiagnosticData, DiagnosticList, ValidationError,
-};
+use graphql_diagnostics::{BuildError, Details, DiagnosticData, DiagnosticList, ValidationError};
 use graphql_documents::documents::{
     Directive, ExecutableDocument, Node, SelectionSet, SourceSpan, Value,
 };

@@ -1,11 +1,11 @@
 ghost use Rattle.graphql_documents.specs.Defer.{OperationDeferHolds};
-ghost use Rattle.graphql_documents.specs.Reports.{ChecksWithin};
+ghost use Rattle.graphql_diagnostics.specs.Reports.{ChecksWithin};
 ghost use Rattle.graphql_documents.specs.Selections.{fragments_of};
 ghost use Rattle.graphql_rules.specs.OperationDefers.{OperationDeferLimit, OperationDeferReport};
 
 use super::conditions::check_conditions;
 use super::roots::check_root;
-use graphql_documents::diagnostics::{DiagnosticList, ValidationError};
+use graphql_diagnostics::{DiagnosticList, ValidationError};
 use graphql_documents::documents::{ExecutableDocument, Operation};
 
 /// Reports each `@defer` in an operation that breaks a rule: first those at the root of a mutation or

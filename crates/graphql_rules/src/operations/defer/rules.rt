@@ -1,18 +1,16 @@
 ghost use Rattle.std.specs.Prelude.{◌≡◌, ◌↔◌, All, Contains, IfOk, IsTrue, List, map};
 ghost use Rattle.graphql_documents.specs.Defer.{CanBeDisabled, defers};
-ghost use Rattle.graphql_documents.specs.Names.{NameText};
-ghost use Rattle.graphql_documents.specs.Reports.{Checks, ChecksWithin};
+ghost use Rattle.graphql_nodes.specs.Names.{NameText};
+ghost use Rattle.graphql_diagnostics.specs.Reports.{Checks, ChecksWithin};
 ghost use Rattle.graphql_documents.specs.Selections.{fragments_of};
 ghost use Rattle.graphql_documents.specs.Walks.{HasListed, PassesDepth};
 ghost use Rattle.graphql_documents.specs.declared.documents.directives.Directive.{Directive};
-ghost use Rattle.graphql_documents.specs.declared.documents.nodes.Node.{Node};
+ghost use Rattle.graphql_nodes.specs.declared.nodes.Node.{Node};
 ghost use Rattle.graphql_documents.specs.declared.documents.values.Value.TheVariants as literal;
 ghost use Rattle.graphql_rules.specs.OperationDefers.{BreaksAmong, BreaksAny, BreaksAt, HoldsAt, IsMet, MeetsIfDeferred, Meets, RuleBreaks, RuleHolds, RuleLimit, broken_by, concerns, is_defer, walk_of};
 
 use super::DEFER_DIRECTIVE_NAME;
-use graphql_documents::diagnostics::{
-    BuildError, Details, DiagnosticData, DiagnosticList, ValidationError,
-};
+use graphql_diagnostics::{BuildError, Details, DiagnosticData, DiagnosticList, ValidationError};
 use graphql_documents::documents::{
     Directive, ExecutableDocument, Node, OperationType, Selection, SelectionSet, Value,
 };

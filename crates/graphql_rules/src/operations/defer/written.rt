@@ -5,7 +5,7 @@ ghost use Rattle.graphql_guards.specs.Guards.{depth_limit, depth_of};
 ghost use Rattle.graphql_rules.specs.DeferLabels.{HasMetDefers, MeetsDefers};
 
 use super::DEFER_DIRECTIVE_NAME;
-use graphql_documents::diagnostics::ValidationError;
+use graphql_diagnostics::ValidationError;
 use graphql_documents::documents::{Directive, Node, Selection, SelectionSet};
 use graphql_guards::DepthCounter;
 use graphql_values::conditions::directives_of;

@@ -1,9 +1,9 @@
 use Rattle.std.proofs.Common.{◌∷◌, ◌++◌, [], ap, map, sym, ◌∙◌}
 use Rattle.std.proofs.lemmas.List.{append-nil}
 use Rattle.graphql_documents.specs.Extensions.{extensions_among}
-use Rattle.graphql_documents.specs.Names.{NameText}
+use Rattle.graphql_nodes.specs.Names.{NameText}
 use Rattle.graphql_documents.specs.declared.documents.components.Component.{Component}
-use Rattle.graphql_documents.proofs.ReportLemmas.{done_next}
+use Rattle.graphql_documents.proofs.ListLemmas.{done_next}
 use Rattle.graphql_schemas.proofs.ExtensionLemmas.{among_done}
 use Rattle.graphql_schemas.proofs.extensions.add_entries.Goals as goal
 

@@ -2,7 +2,7 @@ use Rattle.std.proofs.Common.{◌∷◌, ◌++◌, ◌∙◌, [], Bor, List, ap,
 use Rattle.std.proofs.lemmas.List.{map-append, take_all}
 use Rattle.std.proofs.lemmas.Result.{MatchResult-weaker}
 use Rattle.graphql_documents.specs.declared.documents.executables.SelectionSet.{SelectionSet}
-use Rattle.graphql_documents.proofs.ReportLemmas.{more_is}
+use Rattle.graphql_documents.proofs.ListLemmas.{more_is}
 use Rattle.graphql_merging.specs.FieldSelections.{listed}
 use Rattle.graphql_merging.specs.Groups.{by_keys}
 use Rattle.graphql_validation.specs.declared.collect.FieldCollection.{FieldCollection}

@@ -1,7 +1,7 @@
 use Rattle.std.proofs.Common.{◌++◌, Some}
-use Rattle.graphql_documents.specs.Diagnostics.{IsLimitEntry}
-use Rattle.graphql_documents.proofs.ReportLemmas.{appended_then, both_nil, kept_then, kept_wider, on_ok}
-use Rattle.graphql_documents.proofs.ReportWithinLemmas.{both_within, in_words_within, kept_within}
+use Rattle.graphql_diagnostics.specs.Diagnostics.{IsLimitEntry}
+use Rattle.graphql_diagnostics.proofs.ReportLemmas.{appended_then, both_nil, kept_then, kept_wider, on_ok}
+use Rattle.graphql_diagnostics.proofs.ReportWithinLemmas.{both_within, in_words_within, kept_within}
 use Rattle.graphql_merging.specs.FieldSelections.{same_field}
 use Rattle.graphql_validation.proofs.LimitLemmas.{limit_if_one, report_unless_limit}
 use Rattle.graphql_validation.proofs.MergingStepLemmas.{document_holds, silent_holds}

@@ -1,7 +1,7 @@
 use Rattle.std.proofs.Common.{[], Some, refl, subst}
 use Rattle.std.proofs.lemmas.Result.{MatchResult-from_err, MatchResult-weaker}
-use Rattle.graphql_documents.proofs.ReportLemmas.{kept}
-use Rattle.graphql_documents.specs.Diagnostics.{entries}
+use Rattle.graphql_diagnostics.proofs.ReportLemmas.{kept}
+use Rattle.graphql_diagnostics.specs.Diagnostics.{entries}
 use Rattle.graphql_documents.specs.Selections.{fragments_of, selections_of}
 use Rattle.graphql_documents.proofs.SelectionLemmas.{one_fragment_found}
 use Rattle.graphql_rules.specs.Contexts.{entered_names}

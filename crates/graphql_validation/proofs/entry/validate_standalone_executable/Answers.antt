@@ -1,7 +1,7 @@
 use Rattle.std.proofs.lemmas.Option.{none-some}
 use Rattle.std.proofs.lemmas.Result.{MatchResult-weaker}
-use Rattle.graphql_documents.specs.Diagnostics.{IsLimitEntry}
-use Rattle.graphql_documents.proofs.ReportWithinLemmas.{in_words_within}
+use Rattle.graphql_diagnostics.specs.Diagnostics.{IsLimitEntry}
+use Rattle.graphql_diagnostics.proofs.ReportWithinLemmas.{in_words_within}
 use Rattle.graphql_validation.proofs.entry.validate_standalone_executable.Goals as goal
 
 pub returns : goal.returns

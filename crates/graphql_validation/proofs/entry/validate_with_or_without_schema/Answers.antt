@@ -1,8 +1,8 @@
 use Rattle.std.proofs.lemmas.Result.{MatchResult-from_err, MatchResult-weaker}
 use Rattle.std.specs.Option.{option_copied}
-use Rattle.graphql_documents.specs.Diagnostics.{IsLimitEntry}
-use Rattle.graphql_documents.proofs.ReportLemmas.{kept_then, kept_wider}
-use Rattle.graphql_documents.proofs.ReportWithinLemmas.{both_within, in_words_within, kept_within, wider_within}
+use Rattle.graphql_diagnostics.specs.Diagnostics.{IsLimitEntry}
+use Rattle.graphql_diagnostics.proofs.ReportLemmas.{kept_then, kept_wider}
+use Rattle.graphql_diagnostics.proofs.ReportWithinLemmas.{both_within, in_words_within, kept_within, wider_within}
 use Rattle.graphql_validation.proofs.DocumentLemmas.{of_all_defer, of_operations, of_used_fragments}
 use Rattle.graphql_validation.proofs.entry.validate_with_or_without_schema.Goals as goal
 

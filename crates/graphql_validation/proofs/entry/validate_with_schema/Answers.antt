@@ -1,11 +1,12 @@
 -- Each exit of the walk over the operations, and each of its turns.
 use Rattle.std.proofs.Common.{◌++◌, ◌∷◌, [], Bor, Contains, List, ap, drop, map, subst, sym, take, ◌∙◌, ◌+◌}
 use Rattle.std.proofs.lemmas.List.{map-append, take_all}
-use Rattle.graphql_documents.specs.Diagnostics.{IsLimitEntry, entries}
+use Rattle.graphql_diagnostics.specs.Diagnostics.{IsLimitEntry, entries}
 use Rattle.graphql_documents.specs.declared.documents.executables.Operation.{Operation}
-use Rattle.graphql_documents.specs.declared.documents.nodes.Node.{Node}
-use Rattle.graphql_documents.proofs.ReportLemmas.{kept_then, kept_wider, more_is}
-use Rattle.graphql_documents.proofs.ReportWithinLemmas.{kept_within, wider_within}
+use Rattle.graphql_nodes.specs.declared.nodes.Node.{Node}
+use Rattle.graphql_diagnostics.proofs.ReportLemmas.{kept_then, kept_wider}
+use Rattle.graphql_documents.proofs.ListLemmas.{more_is}
+use Rattle.graphql_diagnostics.proofs.ReportWithinLemmas.{kept_within, wider_within}
 use Rattle.graphql_merging.specs.FieldSelections.{same_field}
 use Rattle.graphql_merging.specs.MergedOperations.{MergesOneMore}
 use Rattle.graphql_merging.specs.Mergers.{merging_of}

@@ -1,7 +1,7 @@
 -- What holds of the operations that were validated so far.
 use Rattle.std.proofs.Common.{◌≡◌, map, take}
 use Rattle.std.specs.Prelude.{IsFalse}
-use Rattle.graphql_documents.specs.Diagnostics.{entries}
+use Rattle.graphql_diagnostics.specs.Diagnostics.{entries}
 use Rattle.graphql_merging.specs.Mergers.{IsSound, document_of, has_refused, merging_of, schema_of}
 use Rattle.graphql_validation.proofs.MergingStepLemmas.{ValidatedSoFar}
 use Rattle.graphql_validation.proofs.entry.validate_with_schema.Given as goal

@@ -1,11 +1,12 @@
 -- Each argument is looked up among those before it, by what `seen` has of them.
 use Rattle.std.proofs.Common.{◌≡◌, None, take, sym, ap, ◌∙◌, subst, rules, arith}
 use Rattle.std.proofs.lemmas.List.{take_all}
-use Rattle.graphql_documents.specs.ArgumentReports.{AreRepetitionReports, RepetitionReport}
+use Rattle.graphql_diagnostics.specs.ArgumentReports.{AreRepetitionReports, RepetitionReport}
 use Rattle.graphql_documents.specs.Arguments.{HasDistinctNames, argument_named}
-use Rattle.graphql_documents.specs.Diagnostics.{IsDiagnostic, entries}
-use Rattle.graphql_documents.specs.Reports.{Appends, KeepsReports, Reports}
-use Rattle.graphql_documents.proofs.ReportLemmas.{both, checks-err, holds, in_words, kept_by, more_is}
+use Rattle.graphql_diagnostics.specs.Diagnostics.{IsDiagnostic, entries}
+use Rattle.graphql_diagnostics.specs.Reports.{Appends, KeepsReports, Reports}
+use Rattle.graphql_diagnostics.proofs.ReportLemmas.{both, checks-err, holds, in_words, kept_by}
+use Rattle.graphql_documents.proofs.ListLemmas.{more_is}
 use Rattle.graphql_values.specs.Repetitions.{argument_name, argument_place_in, met_argument}
 use Rattle.graphql_values.proofs.FirstPlaceLemmas.{place_of_first, remembers_next}
 use Rattle.graphql_values.proofs.RepetitionLemmas.{appends_more, appends_none, distinct_at, reports_more}

@@ -1,8 +1,8 @@
 use Rattle.std.proofs.Common.{map, take}
-use Rattle.graphql_documents.specs.ArgumentReports.{AreRepetitionReports, RepetitionReport}
+use Rattle.graphql_diagnostics.specs.ArgumentReports.{AreRepetitionReports, RepetitionReport}
 use Rattle.graphql_documents.specs.Arguments.{HasDistinctNames}
-use Rattle.graphql_documents.specs.Diagnostics.{IsDiagnostic, entries}
-use Rattle.graphql_documents.specs.Reports.{Appends, Reports}
+use Rattle.graphql_diagnostics.specs.Diagnostics.{IsDiagnostic, entries}
+use Rattle.graphql_diagnostics.specs.Reports.{Appends, Reports}
 use Rattle.graphql_values.specs.FirstPlaces.{Remembers}
 use Rattle.graphql_values.specs.Repetitions.{met_argument}
 use Rattle.graphql_values.proofs.argument.validate_arguments.Given as goal

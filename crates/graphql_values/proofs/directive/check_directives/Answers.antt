@@ -2,11 +2,11 @@ use Rattle.std.proofs.Common.{take, subst, rules, arith}
 use Rattle.std.specs.Option.{option_copied}
 use Rattle.std.proofs.lemmas.List.{take_all}
 use Rattle.std.proofs.lemmas.List.Elements.{All-nil}
-use Rattle.graphql_documents.specs.Diagnostics.{IsDiagnostic, entries}
-use Rattle.graphql_documents.specs.DirectiveReports.{DirectivesBreak}
+use Rattle.graphql_diagnostics.specs.Diagnostics.{IsDiagnostic, entries}
+use Rattle.graphql_diagnostics.specs.DirectiveReports.{DirectivesBreak}
 use Rattle.graphql_documents.specs.Directives.{ApplicationsHold}
-use Rattle.graphql_documents.specs.Reports.{Reports}
-use Rattle.graphql_documents.proofs.ReportLemmas.{checks-err, holds, kept_by, kept_then}
+use Rattle.graphql_diagnostics.specs.Reports.{Reports}
+use Rattle.graphql_diagnostics.proofs.ReportLemmas.{checks-err, holds, kept_by, kept_then}
 use Rattle.graphql_values.proofs.DirectiveLemmas.{application_checked}
 use Rattle.graphql_values.proofs.ReferenceLemmas.{referred, referred_more, referred_next}
 use Rattle.graphql_values.proofs.directive.check_directives.Goals as goal

@@ -1,9 +1,9 @@
 use Rattle.std.proofs.Common.{map, take}
 use Rattle.std.specs.Option.{option_copied}
-use Rattle.graphql_documents.specs.Diagnostics.{IsDiagnostic, entries}
-use Rattle.graphql_documents.specs.DirectiveReports.{DirectivesBreak}
+use Rattle.graphql_diagnostics.specs.Diagnostics.{IsDiagnostic, entries}
+use Rattle.graphql_diagnostics.specs.DirectiveReports.{DirectivesBreak}
 use Rattle.graphql_documents.specs.Directives.{ApplicationsHold}
-use Rattle.graphql_documents.specs.Reports.{Reports}
+use Rattle.graphql_diagnostics.specs.Reports.{Reports}
 use Rattle.graphql_values.specs.DirectiveSteps.{met_directive}
 use Rattle.graphql_values.specs.FirstPlaces.{Remembers}
 use Rattle.graphql_values.proofs.directive.check_directives.Given as goal

@@ -1,8 +1,8 @@
 use Rattle.std.proofs.Common.{◌≡◌, None, Some, Bor, List, ℕ, sym, ap, ◌∙◌, rules}
 use Rattle.std.specs.HashMap.{get_by}
 use Rattle.std.specs.Str.{bytes_eq}
-use Rattle.graphql_documents.specs.Names.{NameText, SameName, same_name}
-use Rattle.graphql_documents.proofs.NameLemmas.{same_text}
+use Rattle.graphql_nodes.specs.Names.{NameText, SameName, same_name}
+use Rattle.graphql_nodes.proofs.NameLemmas.{same_text}
 use Rattle.graphql_values.proofs.FirstPlaceLemmas.{chosen_or, remembers_more}
 use Rattle.graphql_values.proofs.first_places.first_place.Goals as goal
 

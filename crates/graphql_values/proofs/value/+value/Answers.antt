@@ -5,18 +5,19 @@ use Rattle.std.proofs.lemmas.List.{append-nil, take_all}
 use Rattle.std.proofs.lemmas.List.Elements.{All-nil}
 use Rattle.std.proofs.lemmas.Option.{none-some}
 use Rattle.graphql_documents.specs.InputCoercion.{accepts_undefined, is_custom_scalar}
-use Rattle.graphql_documents.specs.Diagnostics.{IsDiagnostic, entries}
-use Rattle.graphql_documents.specs.Names.{NameText, same_name}
-use Rattle.graphql_documents.specs.Reports.{Reports}
+use Rattle.graphql_diagnostics.specs.Diagnostics.{IsDiagnostic, entries}
+use Rattle.graphql_nodes.specs.Names.{NameText, same_name}
+use Rattle.graphql_diagnostics.specs.Reports.{Reports}
 use Rattle.graphql_documents.specs.Values.{entry_named}
 use Rattle.graphql_documents.specs.declared.documents.components.Component.{Component}
 use Rattle.graphql_documents.specs.declared.documents.definitions.InputValueDefinition.{InputValueDefinition}
-use Rattle.graphql_documents.specs.declared.documents.nodes.Node.{Node}
+use Rattle.graphql_nodes.specs.declared.nodes.Node.{Node}
 use Rattle.graphql_documents.specs.declared.documents.values.Value.{Value}
 use Rattle.graphql_documents.specs.Schemas.{IsInputObject, is_input_type, type_definition}
 use Rattle.graphql_documents.specs.TypeReferences.{inner_named_type, is_list, reference_of}
-use Rattle.graphql_documents.specs.ValueReports.{CannotStandFor, ValueReport}
-use Rattle.graphql_documents.proofs.ReportLemmas.{both, checks-err, done_more, done_next, holds, kept_by, kept_then, kept_wider, stands_next, walked_all, walked_more, wider}
+use Rattle.graphql_diagnostics.specs.ValueReports.{CannotStandFor, ValueReport}
+use Rattle.graphql_diagnostics.proofs.ReportLemmas.{both, checks-err, done_more, holds, kept_by, kept_then, kept_wider, walked_all, walked_more, wider}
+use Rattle.graphql_documents.proofs.ListLemmas.{done_next, stands_next}
 use Rattle.graphql_values.proofs.WalkLemmas.{names_item, names_entry, entry_checked, find_first, find_later, no_list_cannot, no_input_cannot, custom_object_accepted, no_object_cannot, list_checked, object_checked}
 use Rattle.graphql_values.specs.ValueSteps.{AcceptsEntry, AcceptsField, AcceptsItem, EntryReport, ItemReport, written_at}
 use Rattle.graphql_values.proofs.value.+value.Goals as goal

@@ -1,6 +1,6 @@
 use Rattle.std.proofs.Common.{rules}
 use Rattle.graphql_built.proofs.BuiltLemmas.{enum_stands, input_object_stands, interface_stands, object_stands}
-use Rattle.graphql_documents.specs.Names.{SameName}
+use Rattle.graphql_nodes.specs.Names.{SameName}
 use Rattle.graphql_built.proofs.built.names.type_stands_under_its_name.Goals as goal
 
 pub returns-then-eq : goal.returns-then-eq

@@ -1,6 +1,6 @@
 use Rattle.std.proofs.Common.{rules, ◌≡◌, ◌∙◌, ap}
 use Rattle.graphql_built.proofs.BuiltLemmas.{set_found}
-use Rattle.graphql_documents.specs.Names.{SameName}
+use Rattle.graphql_nodes.specs.Names.{SameName}
 use Rattle.graphql_documents.specs.TypeReferences.{inner_named_type}
 use Rattle.graphql_documents.specs.declared.documents.definitions.FieldDefinition.{FieldDefinition}
 use Rattle.graphql_built.proofs.built.selections.has_set_of_output_type.Goals as goal

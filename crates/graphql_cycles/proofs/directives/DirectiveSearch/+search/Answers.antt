@@ -2,7 +2,7 @@
 use Rattle.std.proofs.Common.{rules, ◌≡◌, [], ◌∷◌, map, refl, sym, ap, ◌∙◌, subst}
 use Rattle.std.specs.List.{list_any}
 use Rattle.std.proofs.lemmas.Result.{MatchResult-weaker, err_from_is_err_and}
-use Rattle.graphql_documents.specs.Names.{DifferentNames}
+use Rattle.graphql_nodes.specs.Names.{DifferentNames}
 use Rattle.graphql_documents.specs.SchemaReferences.{by_directive, by_type, directive_part, references_of, type_part}
 use Rattle.graphql_cycles.proofs.DirectiveRoomLemmas.{directive_falls, names_type, off_path_falls, reference_falls, type_falls}
 use Rattle.graphql_cycles.proofs.DirectiveSearchLemmas.{application_back, application_begins, application_closes, application_closes_at, application_of, application_stops, application_stops_below, begins_still, closes_next, keeps_then, stops_among, stops_on, type_begins, type_begins_off_path, type_closes, type_closes_at, type_stops, type_stops_below, type_stops_off_path}

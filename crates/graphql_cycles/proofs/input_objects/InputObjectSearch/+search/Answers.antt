@@ -2,8 +2,8 @@
 use Rattle.std.proofs.Common.{rules, ◌≡◌, [], ◌∷◌, ◌++◌, sym, ap, ◌∙◌, subst}
 use Rattle.std.proofs.lemmas.List.{append-nil}
 use Rattle.std.proofs.lemmas.Result.{err_from_is_err_and}
-use Rattle.graphql_documents.proofs.ReportLemmas.{done_next}
-use Rattle.graphql_documents.specs.Names.{DifferentNames, NameText}
+use Rattle.graphql_documents.proofs.ListLemmas.{done_next}
+use Rattle.graphql_nodes.specs.Names.{DifferentNames, NameText}
 use Rattle.graphql_documents.specs.declared.documents.components.Component.{Component}
 use Rattle.graphql_documents.specs.declared.documents.definitions.InputValueDefinition.{InputValueDefinition}
 use Rattle.graphql_guards.specs.Guards.{path_limit, path_of}

@@ -1,7 +1,7 @@
 -- The search goes into input objects with a path that is longer each time; and it has searched what it
 -- has passed.
 use Rattle.std.proofs.Common.{◌≡◌, ◌+◌, ◌-◌, ◌*◌, ◌++◌, List, length}
-use Rattle.graphql_documents.specs.Names.{NameText}
+use Rattle.graphql_nodes.specs.Names.{NameText}
 use Rattle.graphql_documents.specs.declared.documents.components.Component.{Component}
 use Rattle.graphql_documents.specs.declared.documents.definitions.InputValueDefinition.{InputValueDefinition}
 use Rattle.graphql_guards.specs.Guards.{path_limit, path_of}

@@ -2,7 +2,7 @@ use Rattle.std.proofs.Common.{ap, sym, ◌∙◌, List, map}
 use Rattle.std.specs.Borrow.{Bor}
 use Rattle.indexmap.specs.IndexMap.{insert_entry}
 use Rattle.graphql_documents.specs.Implementers.{implementer_entries, with_own_name}
-use Rattle.graphql_documents.specs.Names.{NameText, same_name}
+use Rattle.graphql_nodes.specs.Names.{NameText, same_name}
 use Rattle.graphql_documents.specs.declared.documents.implementers.Implementers.{Implementers}
 use Rattle.graphql_documents.proofs.ImplementerLemmas.{inserted_as_names, names_are, set_as_names}
 use Rattle.graphql_documents.proofs.documents.implementers.add_implementer.Goals as goal

@@ -1,9 +1,9 @@
 use Rattle.std.proofs.Common.{◌≡◌, None, sym, ◌∙◌, subst}
-use Rattle.graphql_documents.specs.ImplementationReports.{of_undefined_interface}
-use Rattle.graphql_documents.specs.Names.{NameText}
+use Rattle.graphql_diagnostics.specs.ImplementationReports.{of_undefined_interface}
+use Rattle.graphql_nodes.specs.Names.{NameText}
 use Rattle.graphql_documents.specs.Schemas.{interface_named}
-use Rattle.graphql_documents.specs.declared.diagnostics.data.DiagnosticData.TheVariants as report
-use Rattle.graphql_documents.proofs.ReportLemmas.{checks-push, holds}
+use Rattle.graphql_diagnostics.specs.declared.data.DiagnosticData.TheVariants as report
+use Rattle.graphql_diagnostics.proofs.ReportLemmas.{checks-push, holds}
 use Rattle.graphql_implementations.specs.ImplementationSteps.{ListingBreaks}
 use Rattle.graphql_implementations.proofs.ImplementationLemmas.{interface_named_is, interface_not_named, no_interface}
 use Rattle.graphql_implementations.proofs.names.ListedInterfaces.check_is_interface.Goals as goal

@@ -1,7 +1,7 @@
 use Rattle.std.proofs.Common.{refl, sym, ◌∙◌, true≢false}
-use Rattle.graphql_documents.specs.ImplementationReports.{of_transitive_interface}
+use Rattle.graphql_diagnostics.specs.ImplementationReports.{of_transitive_interface}
 use Rattle.graphql_documents.specs.Schemas.{IsListed}
-use Rattle.graphql_documents.proofs.ReportLemmas.{checks-push, holds}
+use Rattle.graphql_diagnostics.proofs.ReportLemmas.{checks-push, holds}
 use Rattle.graphql_documents.proofs.SubtypeLemmas.{listed_asked}
 use Rattle.graphql_implementations.proofs.names.ListedInterfaces.check_is_listed.Goals as goal
 

@@ -1,10 +1,10 @@
 use Rattle.std.proofs.Common.{◌≡◌, Some, All, sym, ap, ◌∙◌}
-use Rattle.graphql_documents.specs.Diagnostics.{IsDiagnostic}
+use Rattle.graphql_diagnostics.specs.Diagnostics.{IsDiagnostic}
 use Rattle.graphql_documents.specs.Schemas.{IsListed, interface_named}
 use Rattle.graphql_documents.specs.declared.documents.components.ComponentName.{ComponentName}
-use Rattle.graphql_documents.specs.declared.documents.nodes.Node.{Node}
+use Rattle.graphql_nodes.specs.declared.nodes.Node.{Node}
 use Rattle.graphql_documents.specs.declared.documents.schemas.InterfaceType.{InterfaceType}
-use Rattle.graphql_documents.proofs.ReportLemmas.{checks-err, in_words, kept_by, kept_then, walked_all, walked_more, walked_none}
+use Rattle.graphql_diagnostics.proofs.ReportLemmas.{checks-err, in_words, kept_by, kept_then, walked_all, walked_more, walked_none}
 use Rattle.graphql_implementations.specs.ImplementationSteps.{ListingBreaks}
 use Rattle.graphql_implementations.proofs.ImplementationLemmas.{interface_is, of_found, stands_at}
 use Rattle.graphql_implementations.proofs.names.ListedInterfaces.check_lists_all_of.Goals as goal

@@ -1,6 +1,6 @@
-use Rattle.graphql_documents.specs.Diagnostics.{IsDiagnostic}
+use Rattle.graphql_diagnostics.specs.Diagnostics.{IsDiagnostic}
 use Rattle.graphql_documents.specs.declared.documents.components.ComponentName.{ComponentName}
-use Rattle.graphql_documents.proofs.ReportLemmas.{checks-err, in_words, kept_by, kept_then, walked_all, walked_more, walked_none}
+use Rattle.graphql_diagnostics.proofs.ReportLemmas.{checks-err, in_words, kept_by, kept_then, walked_all, walked_more, walked_none}
 use Rattle.graphql_implementations.specs.ImplementationSteps.{ListingBreaks, ListsAllOf}
 use Rattle.graphql_implementations.proofs.ImplementationLemmas.{stands_at, transitive_decides}
 use Rattle.graphql_implementations.proofs.names.ListedInterfaces.check_transitive.Goals as goal

@@ -1,9 +1,9 @@
 use Rattle.std.proofs.Common.{◌≡◌, List, None, Some, find, rules, sym, subst}
 use Rattle.graphql_documents.specs.Merging.{SameNameAndArguments}
-use Rattle.graphql_documents.specs.Names.{SameName}
+use Rattle.graphql_nodes.specs.Names.{SameName}
 use Rattle.graphql_documents.specs.declared.documents.directives.Argument.{Argument}
 use Rattle.graphql_documents.specs.declared.documents.executables.Field.{Field}
-use Rattle.graphql_documents.specs.declared.documents.nodes.Node.{Node}
+use Rattle.graphql_nodes.specs.declared.nodes.Node.{Node}
 use Rattle.graphql_merging.specs.Comparisons.{Conflicts, StandAmong}
 use Rattle.graphql_merging.specs.declared.comparisons.arguments.FieldConflict.TheVariants.{SecondAlone}
 use Rattle.graphql_merging.proofs.ArgumentComparisonLemmas.{lacks, missing_reached, same_arguments}

@@ -4,9 +4,9 @@ use Rattle.graphql_documents.specs.declared.documents.values.Value.TheVariants a
 use Rattle.std.proofs.Common.{List, inl, inr}
 use Rattle.std.proofs.lemmas.List.{take_all}
 use Rattle.std.specs.Prelude.{IsTrue, string_bytes}
-use Rattle.graphql_documents.specs.Names.{NameText}
+use Rattle.graphql_nodes.specs.Names.{NameText}
 use Rattle.graphql_documents.specs.Values.{SameValue}
-use Rattle.graphql_documents.specs.declared.documents.nodes.Node.{Node}
+use Rattle.graphql_nodes.specs.declared.nodes.Node.{Node}
 use Rattle.graphql_documents.specs.declared.documents.values.Value.{Value, out-Value}
 use Rattle.graphql_merging.specs.Comparisons.{SameEntries, SameItems, StandIn}
 use Rattle.graphql_merging.proofs.ValueComparisonLemmas.{entry_decides, more_stand_in, must_have, names_decide, same_objects, same_opened, texts_decide, truths_decide}

@@ -2,7 +2,7 @@
 use Rattle.std.proofs.Common.{◌≡◌, ℕ, ◌+◌, ◌*◌, ◌<◌, Some, length, take}
 use Rattle.std.specs.Prelude.{slice_get}
 use Rattle.graphql_documents.specs.Values.{SameValue}
-use Rattle.graphql_documents.specs.declared.documents.nodes.Node.{Node}
+use Rattle.graphql_nodes.specs.declared.nodes.Node.{Node}
 use Rattle.graphql_documents.specs.declared.documents.values.Value.{Value}
 use Rattle.graphql_merging.specs.Comparisons.{StandIn}
 use Rattle.graphql_merging.proofs.comparisons.values.+value.Given as goal

@@ -1,5 +1,5 @@
 use Rattle.std.proofs.Common.{sym, subst}
-use Rattle.graphql_documents.proofs.ReportLemmas.{more_is}
+use Rattle.graphql_documents.proofs.ListLemmas.{more_is}
 use Rattle.graphql_merging.specs.ExpansionSteps.{Expands}
 use Rattle.graphql_merging.proofs.ExpansionStepLemmas.{expands_none, expands_then}
 use Rattle.graphql_merging.proofs.expansion.FieldExpansion.expand_set.Goals as goal

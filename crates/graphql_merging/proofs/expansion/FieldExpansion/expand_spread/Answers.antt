@@ -2,7 +2,7 @@ use Rattle.std.proofs.Common.{◌≡◌, ◌++◌, ◌∷◌, [], Bor, IsFalse, 
 use Rattle.std.proofs.lemmas.List.{append-nil, map-append}
 use Rattle.std.specs.List.{list_any}
 use Rattle.graphql_documents.specs.Expansion.{followed_by}
-use Rattle.graphql_documents.specs.Names.{same_name}
+use Rattle.graphql_nodes.specs.Names.{same_name}
 use Rattle.graphql_documents.specs.declared.documents.executables.Fragment.{Fragment}
 use Rattle.graphql_documents.specs.declared.documents.executables.FragmentSpread.{FragmentSpread}
 use Rattle.graphql_documents.specs.declared.documents.executables.SelectionSet.{SelectionSet}

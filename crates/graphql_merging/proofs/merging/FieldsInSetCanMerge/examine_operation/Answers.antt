@@ -3,7 +3,7 @@ use Rattle.graphql_documents.specs.Expansion.{Expansion, field_pass, merged_oper
 use Rattle.graphql_documents.specs.Selections.{fragments_of}
 use Rattle.graphql_documents.specs.declared.documents.executables.Operation.{Operation}
 use Rattle.graphql_documents.proofs.ListLemmas.{stands_first}
-use Rattle.graphql_documents.proofs.ReportLemmas.{kept_then}
+use Rattle.graphql_diagnostics.proofs.ReportLemmas.{kept_then}
 use Rattle.graphql_documents.proofs.SelectionLemmas.{one_fragment_found}
 use Rattle.graphql_merging.specs.Mergers.{document_of, schema_of}
 use Rattle.graphql_merging.proofs.MergingReportLemmas.{conflicts_reported}

@@ -1,9 +1,9 @@
 use Rattle.std.proofs.Common.{◌↔◌, ◌<◌, ◌||◌, IsTrue, length, map, nat_lt, ◌∙◌, ap, inl}
 use Rattle.std.proofs.lemmas.List.{map-append}
-use Rattle.graphql_documents.specs.Diagnostics.{entries}
-use Rattle.graphql_documents.specs.Reports.{Appends}
+use Rattle.graphql_diagnostics.specs.Diagnostics.{entries}
+use Rattle.graphql_diagnostics.specs.Reports.{Appends}
 use Rattle.graphql_documents.specs.Selections.{fragments_of}
-use Rattle.graphql_documents.proofs.ReportLemmas.{kept_then, kept_wider, on_ok}
+use Rattle.graphql_diagnostics.proofs.ReportLemmas.{kept_then, kept_wider, on_ok}
 use Rattle.graphql_documents.proofs.SelectionLemmas.{one_fragment_found}
 use Rattle.graphql_merging.specs.MergedOperations.{AreLimits, MergesOneMore}
 use Rattle.graphql_merging.specs.Mergers.{document_of, merging_of, schema_of}

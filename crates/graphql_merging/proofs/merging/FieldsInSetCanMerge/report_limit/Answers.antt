@@ -1,6 +1,6 @@
 use Rattle.std.proofs.Common.{[], sym}
 use Rattle.std.proofs.lemmas.List.{append-nil}
-use Rattle.graphql_documents.specs.Diagnostics.{entries}
+use Rattle.graphql_diagnostics.specs.Diagnostics.{entries}
 use Rattle.graphql_merging.specs.MergedOperations.{beyond_bound, within_bound}
 use Rattle.graphql_merging.proofs.merging.FieldsInSetCanMerge.report_limit.Goals as goal
 

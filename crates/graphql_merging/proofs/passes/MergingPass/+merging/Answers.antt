@@ -2,13 +2,14 @@
 use Rattle.std.proofs.Common.{length, ◌+◌, ◌-◌, ◌<◌, ◌∷◌, ◌≢◌, [], map, take, refl, sym, ◌∙◌, ap, subst, arith}
 use Rattle.std.proofs.lemmas.List.{take_all, map-append}
 use Rattle.std.specs.Prelude.{sum_by}
-use Rattle.graphql_documents.specs.Diagnostics.{entries}
+use Rattle.graphql_diagnostics.specs.Diagnostics.{entries}
 use Rattle.graphql_documents.specs.Expansion.{Expansion, IsGroup, merged_below, nested_sets}
-use Rattle.graphql_documents.specs.Limits.{merging_bound}
-use Rattle.graphql_documents.specs.MergedGroups.{AreConflicts, comparisons_of, groups_of}
-use Rattle.graphql_documents.specs.Reports.{Appends}
+use Rattle.graphql_diagnostics.specs.Limits.{merging_bound}
+use Rattle.graphql_diagnostics.specs.MergedGroups.{AreConflicts, comparisons_of, groups_of}
+use Rattle.graphql_diagnostics.specs.Reports.{Appends}
 use Rattle.graphql_documents.specs.Selections.{fragments_of}
-use Rattle.graphql_documents.proofs.ReportLemmas.{kept, kept_then, more_is}
+use Rattle.graphql_diagnostics.proofs.ReportLemmas.{kept, kept_then}
+use Rattle.graphql_documents.proofs.ListLemmas.{more_is}
 use Rattle.graphql_guards.specs.Guards.{count_limit}
 use Rattle.graphql_laws.proofs.OrderedGroupLaws.{groups_listed}
 use Rattle.graphql_merging.specs.FieldSelections.{listed, lists_of}

@@ -1,13 +1,13 @@
 -- Each step goes deeper, and the groups that were passed have been examined below.
 use Rattle.std.proofs.Common.{◌≡◌, ◌+◌, ◌*◌, ◌-◌, List, take, All}
-use Rattle.graphql_documents.specs.Diagnostics.{entries}
+use Rattle.graphql_diagnostics.specs.Diagnostics.{entries}
 use Rattle.graphql_documents.specs.Expansion.{IsGroup, MergedSet}
-use Rattle.graphql_documents.specs.Limits.{merging_bound}
+use Rattle.graphql_diagnostics.specs.Limits.{merging_bound}
 use Rattle.graphql_documents.specs.Merging as merging
-use Rattle.graphql_documents.specs.Reports.{KeepsReports}
+use Rattle.graphql_diagnostics.specs.Reports.{KeepsReports}
 use Rattle.graphql_documents.specs.Selections.{fragments_of}
 use Rattle.graphql_documents.specs.declared.documents.executables.Operation.{Operation}
-use Rattle.graphql_documents.specs.declared.documents.nodes.Node.{Node}
+use Rattle.graphql_nodes.specs.declared.nodes.Node.{Node}
 use Rattle.graphql_guards.specs.Guards.{count_limit, count_of}
 use Rattle.graphql_merging.specs.FieldSelections.{lists_of}
 use Rattle.graphql_merging.specs.Groups.{pass_of}

@@ -1,5 +1,5 @@
 use Rattle.graphql_documents.specs.Selections.{fragments_of}
-use Rattle.graphql_documents.proofs.ReportLemmas.{on_ok}
+use Rattle.graphql_diagnostics.proofs.ReportLemmas.{on_ok}
 use Rattle.graphql_merging.specs.FieldSelections.{listed}
 use Rattle.graphql_merging.specs.Groups.{pass_of}
 use Rattle.graphql_merging.specs.Passes.{Examines, ExaminesSet}

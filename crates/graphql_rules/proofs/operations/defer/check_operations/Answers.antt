@@ -1,12 +1,12 @@
 use Rattle.std.proofs.Common.{◌≡◌, All, Bor, Contains, List, map, refl, sym, ap, ◌∙◌, subst}
 use Rattle.std.proofs.lemmas.Result.{MatchResult-from_err}
 use Rattle.graphql_documents.specs.Defer.{OperationDeferHolds, operations_of}
-use Rattle.graphql_documents.specs.Diagnostics.{IsLimitEntry, entries}
+use Rattle.graphql_diagnostics.specs.Diagnostics.{IsLimitEntry, entries}
 use Rattle.graphql_documents.specs.Selections.{fragments_of}
 use Rattle.graphql_documents.specs.declared.documents.executables.Operation.{Operation}
-use Rattle.graphql_documents.specs.declared.documents.nodes.Node.{Node}
-use Rattle.graphql_documents.proofs.ReportLemmas.{kept_then}
-use Rattle.graphql_documents.proofs.ReportWithinLemmas.{in_words_within, kept_within, walked_all_within, walked_more_within, walked_none_within}
+use Rattle.graphql_nodes.specs.declared.nodes.Node.{Node}
+use Rattle.graphql_diagnostics.proofs.ReportLemmas.{kept_then}
+use Rattle.graphql_diagnostics.proofs.ReportWithinLemmas.{in_words_within, kept_within, walked_all_within, walked_more_within, walked_none_within}
 use Rattle.graphql_rules.specs.DeferLabels.{DeferTruth}
 use Rattle.graphql_rules.proofs.DeferLemmas.{operation_checked, operation_kept}
 use Rattle.graphql_rules.proofs.OperationLemmas.{all_referred, stands_referred}

@@ -1,7 +1,7 @@
 use Rattle.std.proofs.Common.{All, take}
 use Rattle.graphql_documents.specs.Defer.{OperationDeferHolds}
-use Rattle.graphql_documents.specs.Diagnostics.{IsLimitEntry, entries}
-use Rattle.graphql_documents.specs.Reports.{ReportsWithin}
+use Rattle.graphql_diagnostics.specs.Diagnostics.{IsLimitEntry, entries}
+use Rattle.graphql_diagnostics.specs.Reports.{ReportsWithin}
 use Rattle.graphql_documents.specs.Selections.{fragments_of}
 use Rattle.graphql_rules.specs.DeferLabels.{DeferTruth}
 use Rattle.graphql_rules.proofs.operations.defer.check_operations.Given as goal

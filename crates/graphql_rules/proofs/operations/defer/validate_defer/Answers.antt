@@ -1,10 +1,10 @@
 use Rattle.std.proofs.Common.{All}
 use Rattle.graphql_documents.specs.Defer.{DeferHolds, LabelsHold, OperationDeferHolds, operations_of}
-use Rattle.graphql_documents.specs.Diagnostics.{IsLimitEntry, entries}
+use Rattle.graphql_diagnostics.specs.Diagnostics.{IsLimitEntry, entries}
 use Rattle.graphql_documents.specs.Selections.{fragments_of}
 use Rattle.graphql_documents.specs.declared.documents.executables.Operation.{Operation}
-use Rattle.graphql_documents.specs.declared.documents.nodes.Node.{Node}
-use Rattle.graphql_documents.proofs.ReportWithinLemmas.{checks_after_within, checks_words_within}
+use Rattle.graphql_nodes.specs.declared.nodes.Node.{Node}
+use Rattle.graphql_diagnostics.proofs.ReportWithinLemmas.{checks_after_within, checks_words_within}
 use Rattle.graphql_rules.specs.DeferLabels.{DeferTruth}
 use Rattle.graphql_rules.proofs.DeferLemmas.{defer_decides}
 use Rattle.graphql_values.proofs.FirstPlaceLemmas.{holds_on_ok}

@@ -1,8 +1,8 @@
 use Rattle.std.proofs.Common.{◌≡◌, Some, Err, Ok, ap, ◌∙◌, rules}
 use Rattle.std.specs.Result.{result_ok}
-use Rattle.graphql_documents.specs.Diagnostics.{IsDiagnostic}
+use Rattle.graphql_diagnostics.specs.Diagnostics.{IsDiagnostic}
 use Rattle.graphql_documents.specs.Schemas.{type_field}
-use Rattle.graphql_documents.proofs.ReportLemmas.{both, checks-err, checks_after, checks_words, in_words, kept_by, kept_then, kept_wider}
+use Rattle.graphql_diagnostics.proofs.ReportLemmas.{both, checks-err, checks_after, checks_words, in_words, kept_by, kept_then, kept_wider}
 use Rattle.graphql_documents.specs.declared.documents.executables.Field.{Field}
 use Rattle.graphql_rules.specs.Contexts.{parent_of, schema_of, variables_of}
 use Rattle.graphql_rules.specs.SelectionSteps.{DefinedFieldHolds, FieldSays, by_directives}

@@ -1,8 +1,8 @@
 use Rattle.std.proofs.Common.{◌≡◌, length, ap, sym, ◌∙◌, arith}
 use Rattle.std.proofs.lemmas.Bool.Decides.{nat_tests}
-use Rattle.graphql_documents.specs.Diagnostics.{IsLimitEntry, entries}
-use Rattle.graphql_documents.proofs.ReportLemmas.{kept_by, kept_then, kept_wider}
-use Rattle.graphql_documents.proofs.ReportWithinLemmas.{checks_refused_within, kept_within}
+use Rattle.graphql_diagnostics.specs.Diagnostics.{IsLimitEntry, entries}
+use Rattle.graphql_diagnostics.proofs.ReportLemmas.{kept_by, kept_then, kept_wider}
+use Rattle.graphql_diagnostics.proofs.ReportWithinLemmas.{checks_refused_within, kept_within}
 use Rattle.graphql_documents.specs.Selections.{fragments_of}
 use Rattle.graphql_documents.specs.declared.documents.executables.Fragment.{Fragment}
 use Rattle.graphql_rules.specs.Contexts.{schema_of, variables_of}

@@ -1,8 +1,8 @@
 use Rattle.std.proofs.Common.{ap, sym, ◌∙◌}
-use Rattle.graphql_documents.specs.Diagnostics.{IsDiagnostic}
+use Rattle.graphql_diagnostics.specs.Diagnostics.{IsDiagnostic}
 use Rattle.graphql_documents.specs.FragmentSpreads.{InlineFragmentHolds, TargetHolds}
-use Rattle.graphql_documents.specs.SelectionReports.{InlineFragmentBreaks}
-use Rattle.graphql_documents.proofs.ReportLemmas.{checks-err, checks_after, checks_words, in_words}
+use Rattle.graphql_diagnostics.specs.SelectionReports.{InlineFragmentBreaks}
+use Rattle.graphql_diagnostics.proofs.ReportLemmas.{checks-err, checks_after, checks_words, in_words}
 use Rattle.graphql_documents.specs.declared.documents.executables.InlineFragment.{InlineFragment}
 use Rattle.graphql_rules.specs.Contexts.{parent_of, schema_of, variables_of}
 use Rattle.graphql_rules.specs.SelectionSteps.{ConditionHolds, InlineFragmentSays, by_inline_directives}

@@ -1,5 +1,5 @@
 use Rattle.std.proofs.Common.{ap}
-use Rattle.graphql_documents.proofs.ReportLemmas.{holds}
+use Rattle.graphql_diagnostics.proofs.ReportLemmas.{holds}
 use Rattle.graphql_documents.specs.declared.documents.executables.Fragment.{Fragment}
 use Rattle.graphql_rules.specs.Contexts.{parent_of, schema_of}
 use Rattle.graphql_rules.proofs.FieldLemmas.{parent_against, schema_against}

@@ -1,6 +1,6 @@
 use Rattle.std.proofs.Common.{◌≡◌, Some, ap, ◌∙◌}
 use Rattle.std.specs.Option.{option_copied}
-use Rattle.graphql_documents.proofs.ReportLemmas.{holds}
+use Rattle.graphql_diagnostics.proofs.ReportLemmas.{holds}
 use Rattle.graphql_documents.specs.declared.documents.executables.Fragment.{Fragment}
 use Rattle.graphql_rules.proofs.FragmentLemmas.{target_checked, target_unasked}
 use Rattle.graphql_rules.proofs.operations.fragments.check_target.Goals as goal

@@ -1,6 +1,6 @@
 use Rattle.std.proofs.Common.{ap, sym, ◌∙◌, subst}
-use Rattle.graphql_documents.proofs.ReportLemmas.{checks-push}
-use Rattle.graphql_documents.specs.declared.diagnostics.data.DiagnosticData.TheVariants as report
+use Rattle.graphql_diagnostics.proofs.ReportLemmas.{checks-push}
+use Rattle.graphql_diagnostics.specs.declared.data.DiagnosticData.TheVariants as report
 use Rattle.graphql_documents.specs.declared.documents.executables.FragmentSpread.{FragmentSpread}
 use Rattle.graphql_rules.specs.SelectionSteps.{IsUndefined, is_undefined}
 use Rattle.graphql_rules.proofs.operations.fragments.report_undefined_fragment.Goals as goal

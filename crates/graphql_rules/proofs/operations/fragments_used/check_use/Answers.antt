@@ -2,12 +2,12 @@ use Rattle.std.proofs.Common.{[], ◌∙◌, refl, ap, subst, sym}
 use Rattle.std.specs.Borrow.{Bor}
 use Rattle.std.proofs.lemmas.List.{append-nil}
 use Rattle.graphql_documents.specs.Defer.{operations_of}
-use Rattle.graphql_documents.specs.DocumentReports.{no_fragment, unused_fragment, used_fragment}
-use Rattle.graphql_documents.specs.Names.{NameText}
-use Rattle.graphql_documents.specs.declared.diagnostics.data.DiagnosticData.TheVariants as report
-use Rattle.graphql_documents.specs.declared.diagnostics.details.Details.TheVariants as details
+use Rattle.graphql_diagnostics.specs.DocumentReports.{no_fragment, unused_fragment, used_fragment}
+use Rattle.graphql_nodes.specs.Names.{NameText}
+use Rattle.graphql_diagnostics.specs.declared.data.DiagnosticData.TheVariants as report
+use Rattle.graphql_diagnostics.specs.declared.details.Details.TheVariants as details
 use Rattle.graphql_documents.specs.declared.documents.executables.Fragment.{Fragment}
-use Rattle.graphql_documents.proofs.ReportLemmas.{appends_on_ok}
+use Rattle.graphql_diagnostics.proofs.ReportLemmas.{appends_on_ok}
 use Rattle.graphql_rules.specs.UsedFragments.{IsSpreadByAny}
 use Rattle.graphql_values.proofs.NameSetLemmas.{has_name, has_no_name}
 use Rattle.graphql_rules.proofs.operations.fragments_used.check_use.Goals as goal

@@ -3,13 +3,12 @@ use Rattle.std.proofs.lemmas.List.{append-nil}
 use Rattle.std.proofs.lemmas.List.Elements.{Contains-append_left}
 use Rattle.std.proofs.lemmas.Result.{MatchResult-from_err}
 use Rattle.indexmap.specs.IndexMap.{values}
-use Rattle.graphql_documents.specs.Diagnostics.{entries}
-use Rattle.graphql_documents.specs.DocumentReports.{AreUnusedFragmentReports, FragmentUseReport, no_fragment}
-use Rattle.graphql_documents.specs.Reports.{Appends, KeepsReports}
+use Rattle.graphql_diagnostics.specs.Diagnostics.{entries}
+use Rattle.graphql_diagnostics.specs.DocumentReports.{AreUnusedFragmentReports, FragmentUseReport, no_fragment}
+use Rattle.graphql_diagnostics.specs.Reports.{Appends, KeepsReports}
 use Rattle.graphql_documents.specs.declared.documents.executables.Fragment.{Fragment}
-use Rattle.graphql_documents.specs.declared.documents.nodes.Node.{Node}
-use Rattle.graphql_documents.proofs.ListLemmas.{each_standing}
-use Rattle.graphql_documents.proofs.ReportLemmas.{done_next}
+use Rattle.graphql_nodes.specs.declared.nodes.Node.{Node}
+use Rattle.graphql_documents.proofs.ListLemmas.{done_next, each_standing}
 use Rattle.graphql_rules.proofs.UsedFragmentLemmas.{unused_kept, unused_then}
 use Rattle.graphql_rules.proofs.operations.fragments_used.report_unused.Goals as goal
 

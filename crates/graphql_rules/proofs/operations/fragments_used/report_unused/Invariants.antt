@@ -1,11 +1,11 @@
 use Rattle.std.proofs.Common.{◌≡◌, ◌++◌, List}
 use Rattle.indexmap.specs.IndexMap.{values}
 use Rattle.graphql_documents.specs.Defer.{operations_of}
-use Rattle.graphql_documents.specs.Diagnostics.{entries}
-use Rattle.graphql_documents.specs.DocumentReports.{AreUnusedFragmentReports}
-use Rattle.graphql_documents.specs.Reports.{Appends}
+use Rattle.graphql_diagnostics.specs.Diagnostics.{entries}
+use Rattle.graphql_diagnostics.specs.DocumentReports.{AreUnusedFragmentReports}
+use Rattle.graphql_diagnostics.specs.Reports.{Appends}
 use Rattle.graphql_documents.specs.declared.documents.executables.Fragment.{Fragment}
-use Rattle.graphql_documents.specs.declared.documents.nodes.Node.{Node}
+use Rattle.graphql_nodes.specs.declared.nodes.Node.{Node}
 use Rattle.graphql_rules.specs.UsedFragments.{IsSpreadByAny}
 use Rattle.graphql_values.specs.Uses.{HasUsed}
 use Rattle.graphql_rules.proofs.operations.fragments_used.report_unused.Given as goal

@@ -5,11 +5,11 @@ use Rattle.std.specs.Prelude.{MatchOption}
 use Rattle.indexmap.specs.IndexMap.{values}
 use mathlib.Core.Logic.{inr}
 use Rattle.graphql_documents.specs.Defer.{operations_of}
-use Rattle.graphql_documents.specs.Diagnostics.{IsLimitEntry, limit_of_depth}
-use Rattle.graphql_documents.specs.Limits.{fragment_walk_passes}
+use Rattle.graphql_diagnostics.specs.Diagnostics.{IsLimitEntry, limit_of_depth}
+use Rattle.graphql_diagnostics.specs.Limits.{fragment_walk_passes}
 use Rattle.graphql_documents.specs.declared.documents.executables.Operation.{Operation}
-use Rattle.graphql_documents.specs.declared.documents.nodes.Node.{Node}
-use Rattle.graphql_documents.proofs.ReportWithinLemmas.{checks_limit}
+use Rattle.graphql_nodes.specs.declared.nodes.Node.{Node}
+use Rattle.graphql_diagnostics.proofs.ReportWithinLemmas.{checks_limit}
 use Rattle.graphql_rules.specs.UsedFragments.{AnyPasses, IsSpreadByAny}
 use Rattle.graphql_rules.proofs.UsedFragmentLemmas.{bound_exact, fragments_checked, fragments_exact, where_none, where_some}
 use Rattle.graphql_values.specs.Uses.{HasUsed}

@@ -1,10 +1,10 @@
 -- The parts of an operation, one after another.
 use Rattle.std.proofs.Common.{refl}
 use Rattle.std.proofs.lemmas.Result.{MatchResult-from_err, MatchResult-weaker}
-use Rattle.graphql_documents.specs.Diagnostics.{IsLimitEntry, entries}
+use Rattle.graphql_diagnostics.specs.Diagnostics.{IsLimitEntry, entries}
 use Rattle.graphql_documents.specs.Selections.{fragments_of}
-use Rattle.graphql_documents.proofs.ReportLemmas.{both, kept_by, kept_then, kept_wider}
-use Rattle.graphql_documents.proofs.ReportWithinLemmas.{both_within, in_words_within, kept_within, wider_within, within}
+use Rattle.graphql_diagnostics.proofs.ReportLemmas.{both, kept_by, kept_then, kept_wider}
+use Rattle.graphql_diagnostics.proofs.ReportWithinLemmas.{both_within, in_words_within, kept_within, wider_within, within}
 use Rattle.graphql_documents.proofs.SelectionLemmas.{one_fragment_found}
 use Rattle.graphql_rules.proofs.WalkLemmas.{walks_as}
 use Rattle.graphql_rules.specs.Contexts.{entered_names, schema_of}

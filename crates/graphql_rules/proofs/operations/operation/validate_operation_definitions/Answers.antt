@@ -2,12 +2,12 @@ use Rattle.std.proofs.Common.{◌≡◌, List, All, Bor, Contains, map, refl, sy
 use Rattle.std.proofs.lemmas.Result.{MatchResult-from_err}
 use Rattle.std.specs.Option.{option_copied}
 use Rattle.graphql_documents.specs.Defer.{operations_of}
-use Rattle.graphql_documents.specs.Diagnostics.{IsLimitEntry, entries}
+use Rattle.graphql_diagnostics.specs.Diagnostics.{IsLimitEntry, entries}
 use Rattle.graphql_documents.specs.Documents.{OperationHolds}
 use Rattle.graphql_documents.specs.declared.documents.executables.Operation.{Operation}
-use Rattle.graphql_documents.specs.declared.documents.nodes.Node.{Node}
-use Rattle.graphql_documents.proofs.ReportLemmas.{kept_then}
-use Rattle.graphql_documents.proofs.ReportWithinLemmas.{in_words_within, kept_within, walked_all_within, walked_more_within, walked_none_within}
+use Rattle.graphql_nodes.specs.declared.nodes.Node.{Node}
+use Rattle.graphql_diagnostics.proofs.ReportLemmas.{kept_then}
+use Rattle.graphql_diagnostics.proofs.ReportWithinLemmas.{in_words_within, kept_within, walked_all_within, walked_more_within, walked_none_within}
 use Rattle.graphql_rules.proofs.OperationLemmas.{OperationsTruth, all_referred, operation_checked, operation_kept, stands_referred}
 use Rattle.graphql_rules.proofs.operations.operation.validate_operation_definitions.Goals as goal
 

@@ -1,9 +1,9 @@
 -- The operations so far, and the schema of the context.
 use Rattle.std.proofs.Common.{◌≡◌, All, take}
 use Rattle.std.specs.Option.{option_copied}
-use Rattle.graphql_documents.specs.Diagnostics.{IsLimitEntry, entries}
+use Rattle.graphql_diagnostics.specs.Diagnostics.{IsLimitEntry, entries}
 use Rattle.graphql_documents.specs.Documents.{OperationHolds}
-use Rattle.graphql_documents.specs.Reports.{ReportsWithin}
+use Rattle.graphql_diagnostics.specs.Reports.{ReportsWithin}
 use Rattle.graphql_rules.specs.Contexts.{schema_of}
 use Rattle.graphql_rules.proofs.OperationLemmas.{OperationsTruth}
 use Rattle.graphql_rules.proofs.operations.operation.validate_operation_definitions.Given as goal

@@ -4,18 +4,19 @@ use Rattle.std.proofs.lemmas.List.{append-nil}
 use Rattle.std.proofs.lemmas.List.Elements.{All-contains, All-contains_itself, All-take}
 use Rattle.std.specs.Option.{option_copied}
 use Rattle.std.proofs.lemmas.Result.{MatchResult-from_err}
-use Rattle.graphql_documents.specs.Diagnostics.{entries}
-use Rattle.graphql_documents.specs.Names.{stands_on, with_name}
-use Rattle.graphql_documents.proofs.NameLemmas.{same_name_itself}
+use Rattle.graphql_diagnostics.specs.Diagnostics.{entries}
+use Rattle.graphql_nodes.specs.Names.{stands_on, with_name}
+use Rattle.graphql_nodes.proofs.NameLemmas.{same_name_itself}
 use Rattle.graphql_values.proofs.SelectionWalkLemmas.{stands_last}
-use Rattle.graphql_documents.specs.declared.documents.nodes.Node.{Node}
+use Rattle.graphql_nodes.specs.declared.nodes.Node.{Node}
 use Rattle.graphql_documents.specs.declared.documents.executables.FragmentSpread.{FragmentSpread}
 use Rattle.graphql_documents.specs.declared.documents.executables.Selection.{size-Selection}
 use Rattle.graphql_documents.specs.declared.documents.executables.SelectionSet.{size-SelectionSet}
 use Rattle.graphql_rules.specs.declared.operations.context.OperationValidationContext.{OperationValidationContext}
 use Rattle.graphql_documents.specs.Selections.{fragments_of, selections_of, type_under}
 use Rattle.graphql_documents.specs.declared.documents.executables.Selection.TheVariants as kind
-use Rattle.graphql_documents.proofs.ReportLemmas.{kept_by, kept_wider, more_is}
+use Rattle.graphql_diagnostics.proofs.ReportLemmas.{kept_by, kept_wider}
+use Rattle.graphql_documents.proofs.ListLemmas.{more_is}
 use Rattle.graphql_documents.proofs.SelectionLemmas.{one_fragment_found}
 use Rattle.graphql_rules.specs.Contexts.{IsAgainst, StaysAsItWas, entered_names, parent_of, schema_of, variables_of}
 use Rattle.graphql_rules.specs.SelectionSteps.{IsBelow, WalkAnswers, WalkStops, Walks}

@@ -1,7 +1,7 @@
 -- The walk goes down, or into a fragment that it has not gone into; what it has walked over is the beginning of
 -- a set.
 use Rattle.std.proofs.Common.{◌+◌, ◌*◌, take}
-use Rattle.graphql_documents.specs.Diagnostics.{entries}
+use Rattle.graphql_diagnostics.specs.Diagnostics.{entries}
 use Rattle.graphql_documents.specs.Selections.{fragments_of}
 use Rattle.graphql_documents.specs.declared.documents.executables.SelectionSet.{size-SelectionSet}
 use Rattle.graphql_rules.specs.Contexts.{SharesWith, entered_names, parent_of, schema_of, variables_of}

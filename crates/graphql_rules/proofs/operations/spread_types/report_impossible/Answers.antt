@@ -1,8 +1,8 @@
 use Rattle.std.proofs.Common.{Option, Some, refl, subst, sym}
-use Rattle.graphql_documents.proofs.ReportLemmas.{checks-err, checks-push, kept}
-use Rattle.graphql_documents.specs.Names.{NameText}
-use Rattle.graphql_documents.specs.SelectionReports.{ImpossibleReport, impossible_use}
-use Rattle.graphql_documents.specs.declared.diagnostics.data.DiagnosticData.TheVariants as report
+use Rattle.graphql_diagnostics.proofs.ReportLemmas.{checks-err, checks-push, kept}
+use Rattle.graphql_nodes.specs.Names.{NameText}
+use Rattle.graphql_diagnostics.specs.SelectionReports.{ImpossibleReport, impossible_use}
+use Rattle.graphql_diagnostics.specs.declared.data.DiagnosticData.TheVariants as report
 use Rattle.graphql_rules.specs.FragmentUses.{name_of_use, place_of_fragment, place_of_use}
 use Rattle.graphql_rules.proofs.operations.spread_types.report_impossible.Goals as goal
 

@@ -1,5 +1,5 @@
 use Rattle.std.proofs.Common.{sym, true≢false, ◌∙◌}
-use Rattle.graphql_documents.proofs.ReportLemmas.{holds}
+use Rattle.graphql_diagnostics.proofs.ReportLemmas.{holds}
 use Rattle.graphql_rules.proofs.PossibleTypeLemmas.{not_possible, possible_by_object, possible_without_condition, possible_without_parent}
 use Rattle.graphql_rules.proofs.operations.spread_types.validate_fragment_spread_type.Goals as goal
 

@@ -1,5 +1,5 @@
 use Rattle.std.proofs.Common.{sym}
-use Rattle.graphql_documents.proofs.ReportLemmas.{checks-push, holds}
+use Rattle.graphql_diagnostics.proofs.ReportLemmas.{checks-push, holds}
 use Rattle.graphql_rules.proofs.SubscriptionLemmas.{conditional, says_condition, unconditional}
 use Rattle.graphql_rules.proofs.operations.subscription.check_condition.Goals as goal
 

@@ -1,7 +1,7 @@
 use Rattle.std.proofs.Common.{◌≡◌, sym, ap, ◌∙◌, true}
 use Rattle.graphql_documents.specs.Subscriptions.{is_introspection}
 use Rattle.graphql_documents.specs.declared.documents.executables.Field.{Field}
-use Rattle.graphql_documents.proofs.ReportLemmas.{checks-push}
+use Rattle.graphql_diagnostics.proofs.ReportLemmas.{checks-push}
 use Rattle.graphql_rules.proofs.SubscriptionLemmas.{introspects, says_introspection}
 use Rattle.graphql_rules.proofs.operations.subscription.check_introspection.Goals as goal
 

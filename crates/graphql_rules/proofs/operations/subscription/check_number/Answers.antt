@@ -1,5 +1,5 @@
 use Rattle.std.proofs.Common.{◌<◌, length, refl, arith}
-use Rattle.graphql_documents.proofs.ReportLemmas.{checks-push, holds}
+use Rattle.graphql_diagnostics.proofs.ReportLemmas.{checks-push, holds}
 use Rattle.graphql_rules.proofs.SubscriptionLemmas.{few_fields, says_several, several_fields}
 use Rattle.graphql_rules.proofs.operations.subscription.check_number.Goals as goal
 

@@ -2,7 +2,7 @@ use Rattle.std.proofs.Common.{Bor, refl}
 use Rattle.std.proofs.lemmas.Result.{MatchResult-from_err}
 use Rattle.graphql_documents.specs.Selections.{Inside}
 use Rattle.graphql_documents.specs.declared.documents.executables.Selection.{Selection}
-use Rattle.graphql_documents.proofs.ReportLemmas.{both, kept_by, kept_then, walked_all, walked_more}
+use Rattle.graphql_diagnostics.proofs.ReportLemmas.{both, kept_by, kept_then, walked_all, walked_more}
 use Rattle.graphql_rules.specs.Subscriptions.{RootSelectionHolds, SaysOfSubscription}
 use Rattle.graphql_rules.proofs.SubscriptionLemmas.{each_next}
 use Rattle.graphql_rules.proofs.operations.subscription.check_selections.Goals as goal

@@ -1,6 +1,6 @@
 use Rattle.std.proofs.Common.{◌≡◌, All, take}
-use Rattle.graphql_documents.specs.Diagnostics.{entries}
-use Rattle.graphql_documents.specs.Reports.{Reports}
+use Rattle.graphql_diagnostics.specs.Diagnostics.{entries}
+use Rattle.graphql_diagnostics.specs.Reports.{Reports}
 use Rattle.graphql_documents.specs.Selections.{Fragments, Inside}
 use Rattle.graphql_documents.specs.declared.documents.definitions.OperationType.TheVariants.{Subscription}
 use Rattle.graphql_rules.specs.Subscriptions.{RootSelectionHolds, SaysOfSubscription}

@@ -1,7 +1,7 @@
 use Rattle.std.proofs.Common.{◌∙◌, sym, ap}
 use Rattle.std.specs.Prelude.{Vec}
 use Rattle.std.specs.declared.alloc.Global.{Global}
-use Rattle.graphql_documents.specs.Names.{NameText}
+use Rattle.graphql_nodes.specs.Names.{NameText}
 use Rattle.graphql_documents.specs.declared.documents.executables.Field.{Field}
 use Rattle.graphql_rules.proofs.SubscriptionLemmas.{names_more, names_same}
 use Rattle.graphql_rules.proofs.operations.subscription.field_names.Goals.{in-Some+in_ok-clone+in_ok-push, in_default}

@@ -6,7 +6,7 @@ use Rattle.graphql_documents.specs.Walks.{HasListed, PassesDepth, root_walk}
 use Rattle.graphql_documents.specs.declared.documents.definitions.OperationType.TheVariants.{Subscription}
 use Rattle.graphql_documents.specs.declared.documents.executables.Operation.{Operation}
 use Rattle.graphql_documents.specs.declared.documents.executables.Selection.{Selection}
-use Rattle.graphql_documents.proofs.ReportLemmas.{kept_wider}
+use Rattle.graphql_diagnostics.proofs.ReportLemmas.{kept_wider}
 use Rattle.graphql_rules.proofs.SubscriptionLemmas.{bound_reported, each_inside, number_checked, roots_checked, says}
 use Rattle.graphql_rules.proofs.operations.subscription.validate_subscription.Goals as goal
 

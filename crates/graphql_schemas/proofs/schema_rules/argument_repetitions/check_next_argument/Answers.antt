@@ -2,9 +2,9 @@ use Rattle.std.proofs.Common.{◌≡◌, ap, sym, ◌∙◌}
 use Rattle.std.specs.Option.{option_map}
 use Rattle.std.proofs.lemmas.Option.{none-some}
 use Rattle.graphql_documents.specs.Arguments.{definition_named}
-use Rattle.graphql_documents.proofs.ReportLemmas.{checks_words, holds}
+use Rattle.graphql_diagnostics.proofs.ReportLemmas.{checks_words, holds}
 use Rattle.graphql_documents.specs.declared.documents.definitions.InputValueDefinition.{InputValueDefinition}
-use Rattle.graphql_documents.specs.declared.documents.nodes.Node.{Node}
+use Rattle.graphql_nodes.specs.declared.nodes.Node.{Node}
 use Rattle.graphql_schemas.specs.FieldDefinitionSteps.{met_argument}
 use Rattle.graphql_values.proofs.FirstPlaceLemmas.{first_found, none_mapped, place_of_first}
 use Rattle.graphql_schemas.proofs.schema_rules.argument_repetitions.check_next_argument.Goals as goal

@@ -1,7 +1,7 @@
 use Rattle.std.proofs.Common.{◌≡◌, rules, subst, sym}
-use Rattle.graphql_documents.specs.Names.{SameName}
-use Rattle.graphql_documents.proofs.NameLemmas.{same_name_itself}
-use Rattle.graphql_documents.proofs.ReportLemmas.{checks-err, checks-push, kept}
+use Rattle.graphql_nodes.specs.Names.{SameName}
+use Rattle.graphql_nodes.proofs.NameLemmas.{same_name_itself}
+use Rattle.graphql_diagnostics.proofs.ReportLemmas.{checks-err, checks-push, kept}
 use Rattle.graphql_schemas.specs.FieldDefinitionSteps.{of_repetition}
 use Rattle.graphql_schemas.proofs.schema_rules.argument_repetitions.report_repetition.Goals as goal
 

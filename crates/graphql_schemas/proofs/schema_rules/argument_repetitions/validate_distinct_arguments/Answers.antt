@@ -1,11 +1,11 @@
 use Rattle.std.proofs.Common.{arith, map, rules, subst, take}
 use Rattle.std.proofs.lemmas.List.{take_all}
-use Rattle.graphql_documents.specs.Diagnostics.{IsDiagnostic, entries}
-use Rattle.graphql_documents.specs.Names.{AreDistinct}
-use Rattle.graphql_documents.specs.Reports.{Reports}
-use Rattle.graphql_documents.proofs.ReportLemmas.{both, checks-err, holds, in_words, kept_by, kept_then}
+use Rattle.graphql_diagnostics.specs.Diagnostics.{IsDiagnostic, entries}
+use Rattle.graphql_nodes.specs.Names.{AreDistinct}
+use Rattle.graphql_diagnostics.specs.Reports.{Reports}
+use Rattle.graphql_diagnostics.proofs.ReportLemmas.{both, checks-err, holds, in_words, kept_by, kept_then}
 use Rattle.graphql_documents.specs.declared.documents.definitions.InputValueDefinition.{InputValueDefinition}
-use Rattle.graphql_documents.specs.declared.documents.nodes.Node.{Node}
+use Rattle.graphql_nodes.specs.declared.nodes.Node.{Node}
 use Rattle.graphql_schemas.specs.FieldDefinitionSteps.{RepetitionsBreak}
 use Rattle.graphql_values.proofs.FirstPlaceLemmas.{distinct_names_more}
 use Rattle.graphql_values.proofs.ReferenceLemmas.{referred, referred_more, referred_next}

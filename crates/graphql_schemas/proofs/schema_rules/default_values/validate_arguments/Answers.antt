@@ -1,8 +1,8 @@
 use Rattle.std.proofs.Common.{refl, sym, Contains}
-use Rattle.graphql_documents.specs.DefaultValues.{DefaultValueHolds}
+use Rattle.graphql_diagnostics.specs.DefaultValues.{DefaultValueHolds}
 use Rattle.graphql_documents.specs.declared.documents.definitions.InputValueDefinition.{InputValueDefinition}
-use Rattle.graphql_documents.specs.declared.documents.nodes.Node.{Node}
-use Rattle.graphql_documents.proofs.ReportLemmas.{checks-err, kept_by, kept_then, kept_wider, walked_all, walked_more, wider}
+use Rattle.graphql_nodes.specs.declared.nodes.Node.{Node}
+use Rattle.graphql_diagnostics.proofs.ReportLemmas.{checks-err, kept_by, kept_then, kept_wider, walked_all, walked_more, wider}
 use Rattle.graphql_schemas.proofs.DefaultValueLemmas.{Break, one_breaks}
 use Rattle.graphql_schemas.proofs.schema_rules.default_values.validate_arguments.Goals as goal
 

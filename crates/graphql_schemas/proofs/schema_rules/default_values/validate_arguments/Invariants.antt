@@ -1,6 +1,6 @@
 use Rattle.std.proofs.Common.{take}
-use Rattle.graphql_documents.specs.Diagnostics.{entries}
-use Rattle.graphql_documents.specs.Reports.{Reports}
+use Rattle.graphql_diagnostics.specs.Diagnostics.{entries}
+use Rattle.graphql_diagnostics.specs.Reports.{Reports}
 use Rattle.graphql_schemas.proofs.DefaultValueLemmas.{Break, Hold}
 use Rattle.graphql_schemas.proofs.schema_rules.default_values.validate_arguments.Given as goal
 

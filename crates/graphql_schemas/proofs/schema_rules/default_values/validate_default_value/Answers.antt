@@ -1,12 +1,12 @@
 use Rattle.std.proofs.Common.{◌≡◌, [], sym, ap, subst, ◌∙◌}
 use Rattle.std.specs.Prelude.{None, Some}
-use Rattle.graphql_documents.specs.Diagnostics.{IsDiagnostic, entries}
+use Rattle.graphql_diagnostics.specs.Diagnostics.{IsDiagnostic, entries}
 use Rattle.graphql_documents.specs.InputCoercion.{Accepts}
 use Rattle.graphql_documents.specs.Schemas.{type_definition}
 use Rattle.graphql_documents.specs.TypeReferences.{inner_named_type, reference_of}
-use Rattle.graphql_documents.specs.ValueReports.{ValueReport}
+use Rattle.graphql_diagnostics.specs.ValueReports.{ValueReport}
 use Rattle.graphql_documents.specs.declared.documents.definitions.InputValueDefinition.{InputValueDefinition}
-use Rattle.graphql_documents.proofs.ReportLemmas.{ChecksList, holds}
+use Rattle.graphql_diagnostics.proofs.ReportLemmas.{ChecksList, holds}
 use Rattle.graphql_schemas.proofs.DefaultValueLemmas.{default_checked, no_input_type, no_type}
 use Rattle.graphql_schemas.proofs.schema_rules.default_values.validate_default_value.Goals as goal
 

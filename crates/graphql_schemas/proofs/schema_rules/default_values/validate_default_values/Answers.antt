@@ -1,7 +1,7 @@
 use Rattle.std.proofs.Common.{refl}
 use Rattle.std.specs.Prelude.{flat_map}
-use Rattle.graphql_documents.specs.DefaultValues.{inputs_of_type}
-use Rattle.graphql_documents.proofs.ReportLemmas.{checks-err}
+use Rattle.graphql_diagnostics.specs.DefaultValues.{inputs_of_type}
+use Rattle.graphql_diagnostics.proofs.ReportLemmas.{checks-err}
 use Rattle.graphql_schemas.proofs.DefaultValueLemmas.{defaults_first_refused, defaults_then}
 use Rattle.graphql_schemas.proofs.schema_rules.default_values.validate_default_values.Goals as goal
 

@@ -2,8 +2,9 @@ use Rattle.std.proofs.Common.{[], ◌∷◌, ◌++◌, sym, ap, ◌∙◌}
 use Rattle.std.proofs.lemmas.List.Elements.{All-nil}
 use Rattle.graphql_documents.specs.declared.documents.components.Component.{Component}
 use Rattle.graphql_documents.specs.declared.documents.definitions.FieldDefinition.{FieldDefinition}
-use Rattle.graphql_documents.specs.Names.{NameText}
-use Rattle.graphql_documents.proofs.ReportLemmas.{checks-err, done_next, holds}
+use Rattle.graphql_nodes.specs.Names.{NameText}
+use Rattle.graphql_diagnostics.proofs.ReportLemmas.{checks-err, holds}
+use Rattle.graphql_documents.proofs.ListLemmas.{done_next}
 use Rattle.graphql_schemas.proofs.DefaultValueLemmas.{defaults_all, defaults_more, defaults_refused, same_kept, same_reports}
 use Rattle.graphql_schemas.proofs.schema_rules.default_values.validate_fields.Goals as goal
 

@@ -1,8 +1,8 @@
 use Rattle.std.proofs.Common.{◌≡◌, [], ◌∷◌, ◌++◌, List}
 use Rattle.std.specs.Prelude.{flat_map}
-use Rattle.graphql_documents.specs.Diagnostics.{entries}
-use Rattle.graphql_documents.specs.Names.{NameText}
-use Rattle.graphql_documents.specs.Reports.{Reports}
+use Rattle.graphql_diagnostics.specs.Diagnostics.{entries}
+use Rattle.graphql_nodes.specs.Names.{NameText}
+use Rattle.graphql_diagnostics.specs.Reports.{Reports}
 use Rattle.graphql_documents.specs.declared.documents.components.Component.{Component}
 use Rattle.graphql_documents.specs.declared.documents.definitions.InputValueDefinition.{InputValueDefinition}
 use Rattle.graphql_schemas.proofs.DefaultValueLemmas.{Break, Hold}

@@ -1,7 +1,7 @@
 use Rattle.std.proofs.Common.{sym, ap, ◌∙◌}
 use Rattle.std.proofs.lemmas.List.{append-nil}
 use Rattle.std.specs.Prelude.{flat_map, map}
-use Rattle.graphql_documents.specs.DefaultValues.{inputs_of_type}
+use Rattle.graphql_diagnostics.specs.DefaultValues.{inputs_of_type}
 use Rattle.graphql_documents.specs.declared.documents.schemas.InputObjectType.{InputObjectType}
 use Rattle.graphql_documents.specs.declared.documents.schemas.InterfaceType.{InterfaceType}
 use Rattle.graphql_documents.specs.declared.documents.schemas.ObjectType.{ObjectType}

@@ -1,9 +1,10 @@
 use Rattle.std.proofs.Common.{[], ◌∷◌, ◌++◌, sym}
 use Rattle.std.proofs.lemmas.List.Elements.{All-nil}
-use Rattle.graphql_documents.specs.DefaultValues.{inputs_of_type}
+use Rattle.graphql_diagnostics.specs.DefaultValues.{inputs_of_type}
 use Rattle.graphql_documents.specs.declared.documents.schemas.ExtendedType.{ExtendedType}
-use Rattle.graphql_documents.specs.Names.{NameText}
-use Rattle.graphql_documents.proofs.ReportLemmas.{checks-err, done_next, holds}
+use Rattle.graphql_nodes.specs.Names.{NameText}
+use Rattle.graphql_diagnostics.proofs.ReportLemmas.{checks-err, holds}
+use Rattle.graphql_documents.proofs.ListLemmas.{done_next}
 use Rattle.graphql_schemas.proofs.DefaultValueLemmas.{defaults_all, defaults_more, defaults_refused}
 use Rattle.graphql_schemas.proofs.schema_rules.default_values.validate_types.Goals as goal
 

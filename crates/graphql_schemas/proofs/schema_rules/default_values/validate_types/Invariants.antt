@@ -1,9 +1,9 @@
 use Rattle.std.proofs.Common.{◌≡◌, ◌++◌, List}
 use Rattle.std.specs.Prelude.{flat_map}
-use Rattle.graphql_documents.specs.Diagnostics.{entries}
-use Rattle.graphql_documents.specs.Names.{NameText}
-use Rattle.graphql_documents.specs.Reports.{Reports}
-use Rattle.graphql_documents.specs.DefaultValues.{inputs_of_type}
+use Rattle.graphql_diagnostics.specs.Diagnostics.{entries}
+use Rattle.graphql_nodes.specs.Names.{NameText}
+use Rattle.graphql_diagnostics.specs.Reports.{Reports}
+use Rattle.graphql_diagnostics.specs.DefaultValues.{inputs_of_type}
 use Rattle.graphql_documents.specs.declared.documents.schemas.ExtendedType.{ExtendedType}
 use Rattle.graphql_schemas.proofs.DefaultValueLemmas.{Break, Hold}
 use Rattle.graphql_schemas.proofs.schema_rules.default_values.validate_types.Given as goal

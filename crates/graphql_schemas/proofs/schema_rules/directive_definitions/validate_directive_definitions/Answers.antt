@@ -1,14 +1,15 @@
 use Rattle.std.proofs.Common.{◌≡◌, ◌∷◌, ◌++◌, [], All, Contains, flat_map, sym, ap, subst, ◌∙◌}
 use Rattle.std.proofs.lemmas.List.{append-nil}
-use Rattle.graphql_documents.specs.Diagnostics.{IsLimitEntry, entries}
-use Rattle.graphql_documents.specs.Names.{NameText}
-use Rattle.graphql_documents.specs.Reports.{ReportsWithin}
+use Rattle.graphql_diagnostics.specs.Diagnostics.{IsLimitEntry, entries}
+use Rattle.graphql_nodes.specs.Names.{NameText}
+use Rattle.graphql_diagnostics.specs.Reports.{ReportsWithin}
 use Rattle.graphql_documents.specs.SchemaRules.{DirectiveDefinitionHolds}
 use Rattle.graphql_documents.specs.TypeMaps.{argument_types}
-use Rattle.graphql_documents.proofs.ReportLemmas.{done_next, kept_then, kept_wider, stands_next}
-use Rattle.graphql_documents.proofs.ReportWithinLemmas.{checks_refused_within, kept_within, wider_within}
+use Rattle.graphql_diagnostics.proofs.ReportLemmas.{kept_then, kept_wider}
+use Rattle.graphql_documents.proofs.ListLemmas.{done_next, stands_next}
+use Rattle.graphql_diagnostics.proofs.ReportWithinLemmas.{checks_refused_within, kept_within, wider_within}
 use Rattle.graphql_documents.specs.declared.documents.definitions.DirectiveDefinition.{DirectiveDefinition}
-use Rattle.graphql_documents.specs.declared.documents.nodes.Node.{Node}
+use Rattle.graphql_nodes.specs.declared.nodes.Node.{Node}
 use Rattle.graphql_schemas.specs.BuiltInScalarUses.{Records}
 use Rattle.graphql_schemas.proofs.BuiltInScalarLemmas.{keeps_by, keeps_then, records_done}
 use Rattle.graphql_schemas.proofs.DirectiveDefinitionLemmas.{NamesDefinitions, done_more_within, names_one}

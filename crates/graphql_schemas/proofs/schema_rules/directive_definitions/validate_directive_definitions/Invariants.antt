@@ -1,12 +1,12 @@
 -- The definitions that were gone over were checked, and what they refer to was recorded.
 use Rattle.std.proofs.Common.{◌≡◌, ◌++◌, All, List, flat_map}
-use Rattle.graphql_documents.specs.Diagnostics.{IsLimitEntry, entries}
-use Rattle.graphql_documents.specs.Names.{NameText}
-use Rattle.graphql_documents.specs.Reports.{ReportsWithin}
+use Rattle.graphql_diagnostics.specs.Diagnostics.{IsLimitEntry, entries}
+use Rattle.graphql_nodes.specs.Names.{NameText}
+use Rattle.graphql_diagnostics.specs.Reports.{ReportsWithin}
 use Rattle.graphql_documents.specs.SchemaRules.{DirectiveDefinitionHolds}
 use Rattle.graphql_documents.specs.TypeMaps.{argument_types}
 use Rattle.graphql_documents.specs.declared.documents.definitions.DirectiveDefinition.{DirectiveDefinition}
-use Rattle.graphql_documents.specs.declared.documents.nodes.Node.{Node}
+use Rattle.graphql_nodes.specs.declared.nodes.Node.{Node}
 use Rattle.graphql_schemas.proofs.DirectiveDefinitionLemmas.{NamesDefinitions}
 use Rattle.graphql_schemas.specs.BuiltInScalarUses.{Records}
 use Rattle.graphql_schemas.proofs.schema_rules.directive_definitions.validate_directive_definitions.Given as goal

@@ -1,13 +1,13 @@
 -- The directives, the contents, and that there are some.
 use Rattle.std.proofs.Common.{◌≡◌, List, map, refl, ap, ◌∙◌}
-use Rattle.graphql_documents.specs.Diagnostics.{IsDiagnostic}
+use Rattle.graphql_diagnostics.specs.Diagnostics.{IsDiagnostic}
 use Rattle.graphql_documents.specs.SchemaReferences.{directives_of_type}
 use Rattle.graphql_documents.specs.declared.documents.components.Component.{Component}
 use Rattle.graphql_documents.specs.declared.documents.directives.Directive.{Directive}
 use Rattle.graphql_documents.specs.declared.documents.schemas.ExtendedType.TheVariants as types
 use Rattle.graphql_documents.specs.declared.documents.schemas.EnumType.{EnumType}
-use Rattle.graphql_documents.specs.TypeReports.{TypeBreaks}
-use Rattle.graphql_documents.proofs.ReportLemmas.{both, checks-err, checks_after, checks_words, kept_by, kept_then}
+use Rattle.graphql_diagnostics.specs.TypeReports.{TypeBreaks}
+use Rattle.graphql_diagnostics.proofs.ReportLemmas.{both, checks-err, checks_after, checks_words, kept_by, kept_then}
 use Rattle.graphql_schemas.proofs.TypeLemmas.{directives_checked, directives_kept, enum_decides}
 use Rattle.graphql_schemas.proofs.schema_rules.enums.validate_enum_definition.Goals as goal
 

@@ -1,8 +1,8 @@
 use Rattle.std.proofs.Common.{◌≡◌, ap, ◌∙◌}
-use Rattle.graphql_documents.specs.Diagnostics.{IsDiagnostic}
-use Rattle.graphql_documents.specs.TypeReports.{EnumValueBreaks}
+use Rattle.graphql_diagnostics.specs.Diagnostics.{IsDiagnostic}
+use Rattle.graphql_diagnostics.specs.TypeReports.{EnumValueBreaks}
 use Rattle.graphql_documents.specs.declared.documents.definitions.EnumValueDefinition.{EnumValueDefinition}
-use Rattle.graphql_documents.proofs.ReportLemmas.{checks-err, checks_after, checks_words, kept_wider, wider}
+use Rattle.graphql_diagnostics.proofs.ReportLemmas.{checks-err, checks_after, checks_words, kept_wider, wider}
 use Rattle.graphql_schemas.proofs.TypeLemmas.{enum_value_decides, names_value_directives, names_value_name}
 use Rattle.graphql_schemas.proofs.schema_rules.enums.validate_enum_value.Goals as goal
 

@@ -1,14 +1,15 @@
 use Rattle.std.proofs.Common.{◌∷◌, ◌++◌, [], All, Contains, sym, ap, subst, ◌∙◌}
 use Rattle.std.proofs.lemmas.List.{append-nil}
-use Rattle.graphql_documents.specs.Diagnostics.{IsDiagnostic, entries}
-use Rattle.graphql_documents.specs.Names.{NameText}
-use Rattle.graphql_documents.specs.Reports.{Reports}
+use Rattle.graphql_diagnostics.specs.Diagnostics.{IsDiagnostic, entries}
+use Rattle.graphql_nodes.specs.Names.{NameText}
+use Rattle.graphql_diagnostics.specs.Reports.{Reports}
 use Rattle.graphql_documents.specs.SchemaRules.{EnumValueHolds}
-use Rattle.graphql_documents.specs.TypeReports.{TypeBreaks}
+use Rattle.graphql_diagnostics.specs.TypeReports.{TypeBreaks}
 use Rattle.graphql_documents.specs.declared.documents.components.Component.{Component}
 use Rattle.graphql_documents.specs.declared.documents.definitions.EnumValueDefinition.{EnumValueDefinition}
 use Rattle.graphql_documents.specs.declared.documents.schemas.ExtendedType.TheVariants as types
-use Rattle.graphql_documents.proofs.ReportLemmas.{checks-err, done_more, done_next, kept_by, kept_then, kept_wider, stands_next, wider}
+use Rattle.graphql_diagnostics.proofs.ReportLemmas.{checks-err, done_more, kept_by, kept_then, kept_wider, wider}
+use Rattle.graphql_documents.proofs.ListLemmas.{done_next, stands_next}
 use Rattle.graphql_schemas.proofs.TypeLemmas.{names_enum_value}
 use Rattle.graphql_schemas.proofs.schema_rules.enums.validate_values.Goals as goal
 

@@ -1,6 +1,6 @@
 use Rattle.std.proofs.Common.{rules}
-use Rattle.graphql_documents.proofs.ReportLemmas.{checks-push}
-use Rattle.graphql_documents.specs.FieldDefinitionReports.{field_type}
+use Rattle.graphql_diagnostics.proofs.ReportLemmas.{checks-push}
+use Rattle.graphql_diagnostics.specs.FieldDefinitionReports.{field_type}
 use Rattle.graphql_schemas.proofs.schema_rules.fields.report_no_output_type.Goals as goal
 
 pub returns : goal.returns

@@ -1,12 +1,13 @@
 use Rattle.std.proofs.Common.{◌≡◌, ◌∷◌, ◌++◌, [], All, Contains, sym, ap, subst, ◌∙◌}
 use Rattle.std.specs.Prelude.{flat_map}
 use Rattle.std.proofs.lemmas.List.{append-nil}
-use Rattle.graphql_documents.specs.Diagnostics.{IsDiagnostic, entries}
-use Rattle.graphql_documents.specs.FieldDefinitionReports.{FieldDefinitionsBreak}
-use Rattle.graphql_documents.specs.Names.{NameText}
-use Rattle.graphql_documents.specs.Reports.{Reports}
+use Rattle.graphql_diagnostics.specs.Diagnostics.{IsDiagnostic, entries}
+use Rattle.graphql_diagnostics.specs.FieldDefinitionReports.{FieldDefinitionsBreak}
+use Rattle.graphql_nodes.specs.Names.{NameText}
+use Rattle.graphql_diagnostics.specs.Reports.{Reports}
 use Rattle.graphql_documents.specs.TypeMaps.{field_types}
-use Rattle.graphql_documents.proofs.ReportLemmas.{checks-err, done_more, done_next, kept_by, kept_then, kept_wider, stands_next, wider}
+use Rattle.graphql_diagnostics.proofs.ReportLemmas.{checks-err, done_more, kept_by, kept_then, kept_wider, wider}
+use Rattle.graphql_documents.proofs.ListLemmas.{done_next, stands_next}
 use Rattle.graphql_documents.specs.declared.documents.components.Component.{Component}
 use Rattle.graphql_documents.specs.declared.documents.definitions.FieldDefinition.{FieldDefinition}
 use Rattle.graphql_schemas.specs.BuiltInScalarUses.{Records}

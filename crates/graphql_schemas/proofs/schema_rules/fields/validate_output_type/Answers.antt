@@ -2,8 +2,8 @@ use Rattle.std.proofs.Common.{◌≡◌, IsFalse, IsTrue, None, Some, inl, inr, 
 use Rattle.graphql_documents.specs.Schemas.{is_output_type, type_definition}
 use Rattle.graphql_documents.specs.TypeMaps.{names_built_in_scalar}
 use Rattle.graphql_documents.specs.TypeReferences.{inner_named_type}
-use Rattle.graphql_documents.proofs.ReportLemmas.{checks-push, checks_words, holds}
-use Rattle.graphql_documents.specs.FieldDefinitionReports.{field_type_undefined}
+use Rattle.graphql_diagnostics.proofs.ReportLemmas.{checks-push, checks_words, holds}
+use Rattle.graphql_diagnostics.specs.FieldDefinitionReports.{field_type_undefined}
 use Rattle.graphql_schemas.proofs.TypeNameLemmas.{no_such_type, no_type_at_all}
 use Rattle.graphql_schemas.proofs.schema_rules.fields.validate_output_type.Goals as goal
 

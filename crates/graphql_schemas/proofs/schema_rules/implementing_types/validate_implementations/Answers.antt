@@ -1,7 +1,7 @@
 -- The names, the fields, their types and their arguments, one after another.
-use Rattle.graphql_documents.specs.Diagnostics.{IsDiagnostic}
-use Rattle.graphql_documents.specs.ImplementationReports.{ImplementationBreaks}
-use Rattle.graphql_documents.proofs.ReportLemmas.{both, checks-err, checks_after, checks_words, kept_by, kept_then, kept_wider, wider}
+use Rattle.graphql_diagnostics.specs.Diagnostics.{IsDiagnostic}
+use Rattle.graphql_diagnostics.specs.ImplementationReports.{ImplementationBreaks}
+use Rattle.graphql_diagnostics.proofs.ReportLemmas.{both, checks-err, checks_after, checks_words, kept_by, kept_then, kept_wider, wider}
 use Rattle.graphql_schemas.proofs.TypeLemmas.{implementations_decide, names_field_arguments, names_field_types, names_interface_fields, names_interfaces}
 use Rattle.graphql_schemas.proofs.schema_rules.implementing_types.validate_implementations.Goals as goal
 

@@ -1,10 +1,10 @@
 use Rattle.std.proofs.Common.{◌∷◌, ◌++◌, [], Bor, map, sym, ap, ◌∙◌}
 use Rattle.std.proofs.lemmas.List.{append-nil, map-append}
-use Rattle.graphql_documents.specs.Names.{NameText}
+use Rattle.graphql_nodes.specs.Names.{NameText}
 use Rattle.graphql_documents.specs.declared.documents.components.Component.{Component}
 use Rattle.graphql_documents.specs.declared.documents.definitions.InputValueDefinition.{InputValueDefinition}
-use Rattle.graphql_documents.specs.declared.documents.nodes.Node.{Node}
-use Rattle.graphql_documents.proofs.ReportLemmas.{done_next}
+use Rattle.graphql_nodes.specs.declared.nodes.Node.{Node}
+use Rattle.graphql_documents.proofs.ListLemmas.{done_next}
 use Rattle.graphql_schemas.proofs.schema_rules.input_objects.field_nodes.Goals as goal
 
 pub loop-field-preserved : goal.loop-field-preserved

@@ -1,8 +1,8 @@
 use Rattle.std.proofs.Common.{◌≡◌, Bor, map, ap, ◌∙◌}
 use Rattle.graphql_documents.specs.declared.documents.definitions.InputValueDefinition.{InputValueDefinition}
-use Rattle.graphql_documents.specs.declared.documents.nodes.Node.{Node}
+use Rattle.graphql_nodes.specs.declared.nodes.Node.{Node}
 use Rattle.graphql_documents.specs.declared.documents.schemas.InputObjectType.{InputObjectType}
-use Rattle.graphql_documents.proofs.ReportLemmas.{checks_words, on_ok}
+use Rattle.graphql_diagnostics.proofs.ReportLemmas.{checks_words, on_ok}
 use Rattle.graphql_schemas.proofs.BuiltInScalarLemmas.{keeps_itself, records_as}
 use Rattle.graphql_schemas.proofs.TypeLemmas.{input_fields_decide, input_types, names_input_fields}
 use Rattle.graphql_schemas.proofs.schema_rules.input_objects.validate_input_fields.Goals as goal

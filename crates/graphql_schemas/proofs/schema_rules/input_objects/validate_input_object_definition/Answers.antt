@@ -1,13 +1,13 @@
 -- The directives, the cycle, the fields, and that there is one.
 use Rattle.std.proofs.Common.{◌≡◌, List, inl, map, refl, ap, ◌∙◌}
-use Rattle.graphql_documents.specs.Diagnostics.{IsLimitEntry}
+use Rattle.graphql_diagnostics.specs.Diagnostics.{IsLimitEntry}
 use Rattle.graphql_documents.specs.SchemaReferences.{directives_of_type}
 use Rattle.graphql_documents.specs.declared.documents.components.Component.{Component}
 use Rattle.graphql_documents.specs.declared.documents.directives.Directive.{Directive}
 use Rattle.graphql_documents.specs.declared.documents.schemas.ExtendedType.TheVariants as types
 use Rattle.graphql_documents.specs.declared.documents.schemas.InputObjectType.{InputObjectType}
-use Rattle.graphql_documents.proofs.ReportLemmas.{kept_then, kept_wider, wider}
-use Rattle.graphql_documents.proofs.ReportWithinLemmas.{both_within, checks_after_within, checks_refused_within, checks_within, kept_within, within}
+use Rattle.graphql_diagnostics.proofs.ReportLemmas.{kept_then, kept_wider, wider}
+use Rattle.graphql_diagnostics.proofs.ReportWithinLemmas.{both_within, checks_after_within, checks_refused_within, checks_within, kept_within, within}
 use Rattle.graphql_schemas.proofs.BuiltInScalarLemmas.{keeps_itself}
 use Rattle.graphql_schemas.proofs.NamedTypeLemmas.{KindTruth}
 use Rattle.graphql_schemas.proofs.TypeLemmas.{checks_iff_within, directives_checked, directives_kept, input_object_decides, on_ok_known}

@@ -1,11 +1,11 @@
 use Rattle.std.proofs.Common.{◌≡◌, false, true, List, [], map, refl, subst, ap, ◌∙◌, rules}
 use Rattle.std.specs.Prelude.{◌≢◌}
 use Rattle.graphql_documents.specs.Extensions.{extension_locations}
-use Rattle.graphql_documents.specs.TypeReports.{has_no_input_fields}
+use Rattle.graphql_diagnostics.specs.TypeReports.{has_no_input_fields}
 use Rattle.graphql_documents.specs.declared.documents.components.ExtensionId.{ExtensionId}
 use Rattle.graphql_documents.specs.declared.documents.schemas.ExtendedType.TheVariants as types
 use Rattle.graphql_documents.specs.declared.documents.schemas.InputObjectType.{InputObjectType}
-use Rattle.graphql_documents.proofs.ReportLemmas.{checks-push, holds}
+use Rattle.graphql_diagnostics.proofs.ReportLemmas.{checks-push, holds}
 use Rattle.graphql_schemas.proofs.TypeLemmas.{is_bare, is_filled}
 use Rattle.graphql_schemas.proofs.schema_rules.input_objects.validate_is_not_empty.Goals as goal
 

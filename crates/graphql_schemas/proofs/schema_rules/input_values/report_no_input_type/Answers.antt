@@ -1,5 +1,5 @@
 use Rattle.std.proofs.Common.{rules}
-use Rattle.graphql_documents.proofs.ReportLemmas.{checks-push}
+use Rattle.graphql_diagnostics.proofs.ReportLemmas.{checks-push}
 use Rattle.graphql_schemas.specs.FieldDefinitionSteps.{of_other_kind}
 use Rattle.graphql_schemas.proofs.schema_rules.input_values.report_no_input_type.Goals as goal
 

@@ -2,7 +2,7 @@ use Rattle.std.proofs.Common.{◌≡◌, IsFalse, IsTrue, None, Some, inl, inr, 
 use Rattle.graphql_documents.specs.Schemas.{is_input_type, type_definition}
 use Rattle.graphql_documents.specs.TypeMaps.{names_built_in_scalar}
 use Rattle.graphql_documents.specs.TypeReferences.{inner_named_type}
-use Rattle.graphql_documents.proofs.ReportLemmas.{checks-push, checks_words, holds}
+use Rattle.graphql_diagnostics.proofs.ReportLemmas.{checks-push, checks_words, holds}
 use Rattle.graphql_schemas.specs.FieldDefinitionSteps.{of_undefined}
 use Rattle.graphql_schemas.proofs.TypeNameLemmas.{no_such_type, no_type_at_all}
 use Rattle.graphql_schemas.proofs.schema_rules.input_values.validate_input_type.Goals as goal

@@ -1,6 +1,6 @@
 -- One check after another, each in words of the argument or input field.
 use Rattle.std.proofs.Common.{◌≡◌, ap, ◌∙◌}
-use Rattle.graphql_documents.proofs.ReportLemmas.{checks-err, kept_by, kept_then, kept_wider, wider}
+use Rattle.graphql_diagnostics.proofs.ReportLemmas.{checks-err, kept_by, kept_then, kept_wider, wider}
 use Rattle.graphql_schemas.proofs.InputValueLemmas.{input_value_checked, names_directives, names_name}
 use Rattle.graphql_schemas.proofs.schema_rules.input_values.validate_input_value.Goals as goal
 

@@ -1,14 +1,14 @@
 use Rattle.std.proofs.Common.{All, subst, take}
 use Rattle.std.proofs.lemmas.List.{take_all}
 use Rattle.std.proofs.lemmas.List.Elements.{All-nil}
-use Rattle.graphql_documents.specs.Diagnostics.{IsDiagnostic, entries}
-use Rattle.graphql_documents.specs.FieldDefinitionReports.{InputValuesBreak}
-use Rattle.graphql_documents.specs.Reports.{Reports}
+use Rattle.graphql_diagnostics.specs.Diagnostics.{IsDiagnostic, entries}
+use Rattle.graphql_diagnostics.specs.FieldDefinitionReports.{InputValuesBreak}
+use Rattle.graphql_diagnostics.specs.Reports.{Reports}
 use Rattle.graphql_documents.specs.SchemaRules.{InputValueDefinitionHolds}
 use Rattle.graphql_documents.specs.TypeMaps.{argument_types}
-use Rattle.graphql_documents.proofs.ReportLemmas.{checks-err, done_more, holds, kept_by, kept_then, kept_wider, wider}
+use Rattle.graphql_diagnostics.proofs.ReportLemmas.{checks-err, done_more, holds, kept_by, kept_then, kept_wider, wider}
 use Rattle.graphql_documents.specs.declared.documents.definitions.InputValueDefinition.{InputValueDefinition}
-use Rattle.graphql_documents.specs.declared.documents.nodes.Node.{Node}
+use Rattle.graphql_nodes.specs.declared.nodes.Node.{Node}
 use Rattle.graphql_values.proofs.FirstPlaceLemmas.{next_stands}
 use Rattle.graphql_values.proofs.ReferenceLemmas.{referred, referred_more, referred_next}
 use Rattle.graphql_schemas.specs.BuiltInScalarUses.{Records}

@@ -1,7 +1,7 @@
 use Rattle.std.proofs.Common.{All, map, take}
-use Rattle.graphql_documents.specs.Diagnostics.{IsDiagnostic, entries}
-use Rattle.graphql_documents.specs.FieldDefinitionReports.{InputValuesBreak}
-use Rattle.graphql_documents.specs.Reports.{Reports}
+use Rattle.graphql_diagnostics.specs.Diagnostics.{IsDiagnostic, entries}
+use Rattle.graphql_diagnostics.specs.FieldDefinitionReports.{InputValuesBreak}
+use Rattle.graphql_diagnostics.specs.Reports.{Reports}
 use Rattle.graphql_documents.specs.SchemaRules.{InputValueDefinitionHolds}
 use Rattle.graphql_documents.specs.TypeMaps.{argument_types}
 use Rattle.graphql_schemas.specs.BuiltInScalarUses.{Records}

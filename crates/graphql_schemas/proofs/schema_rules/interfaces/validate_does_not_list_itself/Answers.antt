@@ -1,11 +1,11 @@
 use Rattle.std.proofs.Common.{◌≡◌, true, false, rules}
 use Rattle.std.specs.List.{list_any}
 use Rattle.std.specs.Prelude.{find, Some}
-use Rattle.graphql_documents.specs.Names.{same_name}
-use Rattle.graphql_documents.specs.TypeReports.{interface_lists_itself}
+use Rattle.graphql_nodes.specs.Names.{same_name}
+use Rattle.graphql_diagnostics.specs.TypeReports.{interface_lists_itself}
 use Rattle.graphql_documents.specs.declared.documents.components.ComponentName.{ComponentName}
-use Rattle.graphql_documents.proofs.NameLemmas.{same_name_back}
-use Rattle.graphql_documents.proofs.ReportLemmas.{checks-push, holds}
+use Rattle.graphql_nodes.proofs.NameLemmas.{same_name_back}
+use Rattle.graphql_diagnostics.proofs.ReportLemmas.{checks-push, holds}
 use Rattle.graphql_documents.proofs.SubtypeLemmas.{listed_asked}
 use Rattle.graphql_values.proofs.FirstPlaceLemmas.{found_at}
 use Rattle.graphql_schemas.proofs.TypeLemmas.{not_listed}

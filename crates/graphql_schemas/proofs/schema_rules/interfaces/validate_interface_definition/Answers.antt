@@ -1,13 +1,13 @@
 -- One check after another, in words of the type.
 use Rattle.std.proofs.Common.{◌≡◌, List, map, refl, ap, ◌∙◌}
-use Rattle.graphql_documents.specs.Diagnostics.{IsDiagnostic}
+use Rattle.graphql_diagnostics.specs.Diagnostics.{IsDiagnostic}
 use Rattle.graphql_documents.specs.SchemaReferences.{directives_of_type}
-use Rattle.graphql_documents.specs.TypeReports.{TypeBreaks}
+use Rattle.graphql_diagnostics.specs.TypeReports.{TypeBreaks}
 use Rattle.graphql_documents.specs.declared.documents.components.Component.{Component}
 use Rattle.graphql_documents.specs.declared.documents.directives.Directive.{Directive}
 use Rattle.graphql_documents.specs.declared.documents.schemas.ExtendedType.TheVariants as types
 use Rattle.graphql_documents.specs.declared.documents.schemas.InterfaceType.{InterfaceType}
-use Rattle.graphql_documents.proofs.ReportLemmas.{both, checks-err, checks_after, checks_words, kept_by, kept_then}
+use Rattle.graphql_diagnostics.proofs.ReportLemmas.{both, checks-err, checks_after, checks_words, kept_by, kept_then}
 use Rattle.graphql_schemas.proofs.BuiltInScalarLemmas.{keeps_itself}
 use Rattle.graphql_schemas.proofs.TypeLemmas.{directives_checked, directives_kept, fields_checked, fields_kept, implementations_same, names_implementation, interface_decides, on_ok_known, records_fields}
 use Rattle.graphql_schemas.specs.TypeSteps.{AreOf}

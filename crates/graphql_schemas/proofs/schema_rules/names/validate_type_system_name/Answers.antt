@@ -1,7 +1,7 @@
 use Rattle.std.proofs.Common.{rules}
-use Rattle.graphql_documents.proofs.ReportLemmas.{checks-push}
-use Rattle.graphql_documents.specs.FieldDefinitionReports.{of_reserved_name}
-use Rattle.graphql_documents.specs.Names.{IsFreeName}
+use Rattle.graphql_diagnostics.proofs.ReportLemmas.{checks-push}
+use Rattle.graphql_diagnostics.specs.FieldDefinitionReports.{of_reserved_name}
+use Rattle.graphql_nodes.specs.Names.{IsFreeName}
 use Rattle.graphql_schemas.proofs.schema_rules.names.validate_type_system_name.Goals as goal
 
 pub returns : goal.returns

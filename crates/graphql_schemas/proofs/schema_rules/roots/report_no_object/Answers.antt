@@ -1,5 +1,5 @@
 use Rattle.std.proofs.Common.{rules}
-use Rattle.graphql_documents.proofs.ReportLemmas.{checks-push}
+use Rattle.graphql_diagnostics.proofs.ReportLemmas.{checks-push}
 use Rattle.graphql_schemas.specs.RootSteps.{of_no_object}
 use Rattle.graphql_schemas.proofs.schema_rules.roots.report_no_object.Goals as goal
 

@@ -1,6 +1,6 @@
 use Rattle.std.proofs.Common.{rules}
-use Rattle.graphql_documents.proofs.ReportLemmas.{checks-push}
-use Rattle.graphql_documents.specs.SchemaReports.{root_is_repeated}
+use Rattle.graphql_diagnostics.proofs.ReportLemmas.{checks-push}
+use Rattle.graphql_diagnostics.specs.SchemaReports.{root_is_repeated}
 use Rattle.graphql_schemas.specs.RootSteps.{lent_root}
 use Rattle.graphql_schemas.proofs.schema_rules.roots.report_repetition.Goals as goal
 

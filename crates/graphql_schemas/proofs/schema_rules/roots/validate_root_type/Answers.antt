@@ -1,6 +1,6 @@
 use Rattle.std.proofs.Common.{◌≡◌, None, Some, refl, rules}
 use Rattle.graphql_documents.specs.Schemas.{is_object_type, type_definition}
-use Rattle.graphql_documents.proofs.ReportLemmas.{checks-push, holds}
+use Rattle.graphql_diagnostics.proofs.ReportLemmas.{checks-push, holds}
 use Rattle.graphql_documents.specs.declared.documents.schemas.ExtendedType.TheVariants as types
 use Rattle.graphql_schemas.specs.RootSteps.{of_undefined_root}
 use Rattle.graphql_schemas.proofs.TypeNameLemmas.{of_no_type}

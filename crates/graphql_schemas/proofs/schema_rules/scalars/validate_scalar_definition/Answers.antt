@@ -6,7 +6,7 @@ use Rattle.graphql_documents.specs.declared.documents.components.Component.{Comp
 use Rattle.graphql_documents.specs.declared.documents.directives.Directive.{Directive}
 use Rattle.graphql_documents.specs.declared.documents.schemas.ExtendedType.TheVariants as types
 use Rattle.graphql_documents.specs.declared.documents.schemas.ScalarType.{ScalarType}
-use Rattle.graphql_documents.proofs.ReportLemmas.{checks_words, holds}
+use Rattle.graphql_diagnostics.proofs.ReportLemmas.{checks_words, holds}
 use Rattle.graphql_schemas.proofs.TypeLemmas.{names_directives, scalar_decides}
 use Rattle.graphql_schemas.proofs.schema_rules.scalars.validate_scalar_definition.Goals as goal
 

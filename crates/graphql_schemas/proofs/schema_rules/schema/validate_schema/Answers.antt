@@ -1,10 +1,10 @@
 use Rattle.std.proofs.Common.{refl, ◌∙◌}
 use Rattle.indexmap.specs.IndexMap.{spare}
-use Rattle.graphql_documents.specs.Diagnostics.{IsLimitEntry}
+use Rattle.graphql_diagnostics.specs.Diagnostics.{IsLimitEntry}
 use Rattle.graphql_documents.specs.TypeMaps.{IsSettledSchema}
 use Rattle.graphql_documents.specs.declared.documents.schemas.Schema.{Schema}
-use Rattle.graphql_documents.proofs.ReportLemmas.{kept_then, kept_wider, wider}
-use Rattle.graphql_documents.proofs.ReportWithinLemmas.{both_within, kept_within, within}
+use Rattle.graphql_diagnostics.proofs.ReportLemmas.{kept_then, kept_wider, wider}
+use Rattle.graphql_diagnostics.proofs.ReportWithinLemmas.{both_within, kept_within, within}
 use Rattle.graphql_schemas.proofs.SchemaLemmas.{defaults_break, refused_err, refused_ok, settled_schema}
 use Rattle.graphql_schemas.proofs.schema_rules.schema.validate_schema.Goals as goal
 

@@ -1,7 +1,7 @@
 use Rattle.std.proofs.Common.{◌≡◌, None, refl, rules, subst}
 use Rattle.std.specs.Prelude.{IsSome}
-use Rattle.graphql_documents.specs.SchemaReports.{no_query_root}
-use Rattle.graphql_documents.proofs.ReportLemmas.{checks-push}
+use Rattle.graphql_diagnostics.specs.SchemaReports.{no_query_root}
+use Rattle.graphql_diagnostics.proofs.ReportLemmas.{checks-push}
 use Rattle.graphql_schemas.proofs.schema_rules.schema_definition.validate_query_root.Goals as goal
 
 pub returns : goal.returns

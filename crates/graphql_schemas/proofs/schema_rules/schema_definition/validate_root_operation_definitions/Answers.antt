@@ -1,12 +1,13 @@
 use Rattle.std.proofs.Common.{◌≡◌, ◌∷◌, ◌++◌, [], ap, arith, map, rules, subst, sym, ◌∙◌}
 use Rattle.std.proofs.lemmas.List.{append-nil, map-append}
 use Rattle.std.proofs.lemmas.List.Elements.{All-nil}
-use Rattle.graphql_documents.specs.Diagnostics.{IsDiagnostic, entries}
-use Rattle.graphql_documents.specs.Reports.{Reports}
+use Rattle.graphql_diagnostics.specs.Diagnostics.{IsDiagnostic, entries}
+use Rattle.graphql_diagnostics.specs.Reports.{Reports}
 use Rattle.graphql_documents.specs.Roots.{roots_left}
-use Rattle.graphql_documents.specs.SchemaReports.{RootsBreak}
+use Rattle.graphql_diagnostics.specs.SchemaReports.{RootsBreak}
 use Rattle.graphql_documents.specs.Schemas.{roots_of}
-use Rattle.graphql_documents.proofs.ReportLemmas.{both, checks-err, done_next, holds, in_words, kept_by, kept_then}
+use Rattle.graphql_diagnostics.proofs.ReportLemmas.{both, checks-err, holds, in_words, kept_by, kept_then}
+use Rattle.graphql_documents.proofs.ListLemmas.{done_next}
 use Rattle.graphql_values.specs.FirstPlaces.{IsNext}
 use Rattle.graphql_schemas.specs.RootSteps.{AreRoots, lent_root}
 use Rattle.graphql_schemas.proofs.RootLemmas.{roots_hold, roots_more}

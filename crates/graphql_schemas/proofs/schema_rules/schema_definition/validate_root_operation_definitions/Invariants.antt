@@ -1,8 +1,8 @@
 use Rattle.std.proofs.Common.{◌≡◌, ◌++◌, map}
-use Rattle.graphql_documents.specs.Diagnostics.{IsDiagnostic, entries}
-use Rattle.graphql_documents.specs.Reports.{Reports}
+use Rattle.graphql_diagnostics.specs.Diagnostics.{IsDiagnostic, entries}
+use Rattle.graphql_diagnostics.specs.Reports.{Reports}
 use Rattle.graphql_documents.specs.Roots.{roots_left}
-use Rattle.graphql_documents.specs.SchemaReports.{RootsBreak}
+use Rattle.graphql_diagnostics.specs.SchemaReports.{RootsBreak}
 use Rattle.graphql_documents.specs.Schemas.{roots_of}
 use Rattle.graphql_schemas.specs.RootSteps.{AreRoots, lent_root}
 use Rattle.graphql_schemas.proofs.schema_rules.schema_definition.validate_root_operation_definitions.Given as goal

@@ -1,6 +1,6 @@
 -- One check after another, each in words of the schema definition.
 use Rattle.std.proofs.Common.{◌≡◌, ap, ◌∙◌}
-use Rattle.graphql_documents.proofs.ReportLemmas.{checks-err, kept_by, kept_then, kept_wider}
+use Rattle.graphql_diagnostics.proofs.ReportLemmas.{checks-err, kept_by, kept_then, kept_wider}
 use Rattle.graphql_documents.specs.declared.documents.schemas.SchemaDefinition.{SchemaDefinition}
 use Rattle.graphql_schemas.proofs.RootLemmas.{names_roots, schema_definition_checked}
 use Rattle.graphql_schemas.proofs.schema_rules.schema_definition.validate_schema_definition.Goals as goal

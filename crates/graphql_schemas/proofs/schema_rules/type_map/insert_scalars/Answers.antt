@@ -3,7 +3,7 @@ use Rattle.std.specs.List.{IsDistinct}
 use Rattle.std.specs.Map.{keys_of}
 use Rattle.std.specs.Prelude.{insert}
 use Rattle.std.specs.Vec.Iter.{into_iter_items}
-use Rattle.graphql_documents.specs.Names.{same_name}
+use Rattle.graphql_nodes.specs.Names.{same_name}
 use Rattle.graphql_schemas.proofs.TypeMapLemmas.{apart_next}
 use Rattle.graphql_schemas.proofs.schema_rules.type_map.insert_scalars.Goals as goal
 

@@ -3,7 +3,7 @@ use Rattle.std.specs.List.{IsDistinct}
 use Rattle.std.specs.Map.{keys_of}
 use Rattle.std.specs.Vec.Iter.{into_iter_items}
 use Rattle.indexmap.specs.IndexMap.{spare}
-use Rattle.graphql_documents.specs.Names.{same_name}
+use Rattle.graphql_nodes.specs.Names.{same_name}
 use Rattle.graphql_schemas.proofs.schema_rules.type_map.insert_scalars.Given as goal
 
 abbrev pub invariant-loop-name : goal.invariant-loop-name

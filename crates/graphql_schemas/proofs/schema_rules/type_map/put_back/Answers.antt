@@ -1,7 +1,7 @@
 use Rattle.std.proofs.Common.{◌≡◌, ◌∙◌, arith, subst, sym}
 use Rattle.std.specs.List.{IsDistinct}
 use Rattle.std.specs.Map.{keys_of}
-use Rattle.graphql_documents.specs.Names.{same_name}
+use Rattle.graphql_nodes.specs.Names.{same_name}
 use Rattle.graphql_schemas.specs.TypeMapChanges.{FitBack, restored}
 use Rattle.graphql_schemas.proofs.TypeMapLemmas.{puts_back}
 use Rattle.graphql_schemas.proofs.schema_rules.type_map.put_back.Goals as goal

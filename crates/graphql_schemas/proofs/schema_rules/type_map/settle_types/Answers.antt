@@ -2,7 +2,7 @@ use Rattle.std.proofs.Common.{◌≡◌, ◌++◌, length, arith, ap, subst, sym
 use Rattle.std.specs.List.{IsDistinct}
 use Rattle.std.specs.Map.{keys_of}
 use Rattle.std.specs.Prelude.{count_by, filter, not}
-use Rattle.graphql_documents.specs.Names.{same_name}
+use Rattle.graphql_nodes.specs.Names.{same_name}
 use Rattle.graphql_schemas.proofs.TypeMapLemmas.{all_added, settled_apart, settles}
 use Rattle.graphql_schemas.specs.BuiltInScalarUses.{holds_text}
 use Rattle.graphql_schemas.specs.TypeMapChanges.{is_unused}

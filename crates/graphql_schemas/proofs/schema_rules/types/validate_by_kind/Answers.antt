@@ -1,6 +1,6 @@
 use Rattle.std.proofs.Common.{inl}
-use Rattle.graphql_documents.specs.Diagnostics.{IsLimitEntry}
-use Rattle.graphql_documents.proofs.ReportWithinLemmas.{checks_within}
+use Rattle.graphql_diagnostics.specs.Diagnostics.{IsLimitEntry}
+use Rattle.graphql_diagnostics.proofs.ReportWithinLemmas.{checks_within}
 use Rattle.graphql_schemas.proofs.BuiltInScalarLemmas.{keeps_itself, records_none}
 use Rattle.graphql_schemas.proofs.TypeLemmas.{on_ok_known}
 use Rattle.graphql_schemas.proofs.schema_rules.types.validate_by_kind.Goals as goal

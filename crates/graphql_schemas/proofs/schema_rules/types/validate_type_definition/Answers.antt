@@ -1,6 +1,6 @@
-use Rattle.graphql_documents.specs.Diagnostics.{IsLimitEntry}
-use Rattle.graphql_documents.proofs.ReportLemmas.{kept_wider}
-use Rattle.graphql_documents.proofs.ReportWithinLemmas.{checks_refused_within}
+use Rattle.graphql_diagnostics.specs.Diagnostics.{IsLimitEntry}
+use Rattle.graphql_diagnostics.proofs.ReportLemmas.{kept_wider}
+use Rattle.graphql_diagnostics.proofs.ReportWithinLemmas.{checks_refused_within}
 use Rattle.graphql_schemas.proofs.BuiltInScalarLemmas.{keeps_itself}
 use Rattle.graphql_schemas.proofs.NamedTypeLemmas.{names_key, type_checked}
 use Rattle.graphql_schemas.proofs.schema_rules.types.validate_type_definition.Goals as goal

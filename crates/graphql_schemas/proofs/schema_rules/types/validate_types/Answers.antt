@@ -2,14 +2,15 @@ use Rattle.std.proofs.Common.{◌≡◌, ◌∷◌, ◌++◌, [], All, Contains,
 use Rattle.std.proofs.lemmas.List.{append-nil}
 use Rattle.std.proofs.lemmas.List.Elements.{All-nil}
 use Rattle.std.specs.Prelude.{flat_map}
-use Rattle.graphql_documents.specs.Diagnostics.{IsLimitEntry, entries}
-use Rattle.graphql_documents.specs.Names.{IsFreeName, NameText}
-use Rattle.graphql_documents.specs.Reports.{ReportsWithin}
+use Rattle.graphql_diagnostics.specs.Diagnostics.{IsLimitEntry, entries}
+use Rattle.graphql_nodes.specs.Names.{IsFreeName, NameText}
+use Rattle.graphql_diagnostics.specs.Reports.{ReportsWithin}
 use Rattle.graphql_documents.specs.SchemaRules.{TypeHolds}
 use Rattle.graphql_documents.specs.TypeMaps.{types_referred_by}
 use Rattle.graphql_documents.specs.declared.documents.schemas.ExtendedType.{ExtendedType}
-use Rattle.graphql_documents.proofs.ReportLemmas.{done_next, holds, kept_then, kept_wider, stands_next}
-use Rattle.graphql_documents.proofs.ReportWithinLemmas.{checks_refused_within, kept_within, wider_within, within}
+use Rattle.graphql_diagnostics.proofs.ReportLemmas.{holds, kept_then, kept_wider}
+use Rattle.graphql_documents.proofs.ListLemmas.{done_next, stands_next}
+use Rattle.graphql_diagnostics.proofs.ReportWithinLemmas.{checks_refused_within, kept_within, wider_within, within}
 use Rattle.graphql_schemas.specs.BuiltInScalarUses.{Records}
 use Rattle.graphql_schemas.proofs.BuiltInScalarLemmas.{keeps_by, keeps_then, records_done, records_none}
 use Rattle.graphql_schemas.proofs.NamedTypeLemmas.{SchemaTruth, names_type}

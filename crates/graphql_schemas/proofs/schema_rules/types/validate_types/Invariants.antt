@@ -1,10 +1,10 @@
 use Rattle.std.proofs.Common.{◌≡◌, ◌++◌, All, List}
 use Rattle.std.specs.Prelude.{◌⊎◌, flat_map}
-use Rattle.graphql_documents.specs.Diagnostics.{IsDiagnostic, IsLimitEntry, entries}
-use Rattle.graphql_documents.specs.Limits.{SchemaLimit}
-use Rattle.graphql_documents.specs.Names.{IsFreeName, NameText}
-use Rattle.graphql_documents.specs.Reports.{ReportsWithin}
-use Rattle.graphql_documents.specs.SchemaReports.{SchemaReport}
+use Rattle.graphql_diagnostics.specs.Diagnostics.{IsDiagnostic, IsLimitEntry, entries}
+use Rattle.graphql_diagnostics.specs.Limits.{SchemaLimit}
+use Rattle.graphql_nodes.specs.Names.{IsFreeName, NameText}
+use Rattle.graphql_diagnostics.specs.Reports.{ReportsWithin}
+use Rattle.graphql_diagnostics.specs.SchemaReports.{SchemaReport}
 use Rattle.graphql_documents.specs.SchemaRules.{TypeHolds}
 use Rattle.graphql_documents.specs.TypeMaps.{types_referred_by}
 use Rattle.graphql_documents.specs.declared.documents.schemas.ExtendedType.{ExtendedType}

@@ -1,6 +1,6 @@
 use Rattle.std.proofs.Common.{◌≡◌, rules}
-use Rattle.graphql_documents.specs.TypeReports.{member_is_no_object}
-use Rattle.graphql_documents.proofs.ReportLemmas.{checks-push}
+use Rattle.graphql_diagnostics.specs.TypeReports.{member_is_no_object}
+use Rattle.graphql_diagnostics.proofs.ReportLemmas.{checks-push}
 use Rattle.graphql_schemas.proofs.schema_rules.unions.report_other_kind.Goals as goal
 
 pub returns : goal.returns

@@ -1,10 +1,10 @@
 use Rattle.std.proofs.Common.{◌≡◌, refl, sym, ap, ◌∙◌, rules}
 use Rattle.std.specs.Prelude.{IsFalse, None, Some}
-use Rattle.graphql_documents.specs.Diagnostics.{IsDiagnostic}
+use Rattle.graphql_diagnostics.specs.Diagnostics.{IsDiagnostic}
 use Rattle.graphql_documents.specs.Schemas.{is_object_type, type_definition}
-use Rattle.graphql_documents.specs.TypeReports.{TypeBreaks, member_is_undefined}
+use Rattle.graphql_diagnostics.specs.TypeReports.{TypeBreaks, member_is_undefined}
 use Rattle.graphql_documents.specs.declared.documents.schemas.ExtendedType.TheVariants as types
-use Rattle.graphql_documents.proofs.ReportLemmas.{checks-push, checks_words, holds}
+use Rattle.graphql_diagnostics.proofs.ReportLemmas.{checks-push, checks_words, holds}
 use Rattle.graphql_schemas.proofs.TypeNameLemmas.{of_no_kind, of_no_type}
 use Rattle.graphql_schemas.proofs.schema_rules.unions.validate_member.Goals as goal
 

@@ -1,11 +1,11 @@
 use Rattle.std.proofs.Common.{◌≡◌, Contains, sym, ap, subst, ◌∙◌}
-use Rattle.graphql_documents.specs.Diagnostics.{IsDiagnostic}
+use Rattle.graphql_diagnostics.specs.Diagnostics.{IsDiagnostic}
 use Rattle.graphql_documents.specs.Schemas.{NamesKind, is_object_type}
-use Rattle.graphql_documents.specs.TypeReports.{TypeBreaks}
+use Rattle.graphql_diagnostics.specs.TypeReports.{TypeBreaks}
 use Rattle.graphql_documents.specs.declared.documents.components.ComponentName.{ComponentName}
 use Rattle.graphql_documents.specs.declared.documents.schemas.ExtendedType.TheVariants as types
 use Rattle.graphql_documents.specs.declared.documents.schemas.UnionType.{UnionType}
-use Rattle.graphql_documents.proofs.ReportLemmas.{checks-err, kept_by, kept_then, walked_all, walked_more, walked_none}
+use Rattle.graphql_diagnostics.proofs.ReportLemmas.{checks-err, kept_by, kept_then, walked_all, walked_more, walked_none}
 use Rattle.graphql_schemas.proofs.schema_rules.unions.validate_members.Goals as goal
 
 pub loop-member-init : goal.loop-member-init

@@ -1,8 +1,8 @@
 use Rattle.std.proofs.Common.{All, take}
-use Rattle.graphql_documents.specs.Diagnostics.{IsDiagnostic, entries}
-use Rattle.graphql_documents.specs.Reports.{Reports}
+use Rattle.graphql_diagnostics.specs.Diagnostics.{IsDiagnostic, entries}
+use Rattle.graphql_diagnostics.specs.Reports.{Reports}
 use Rattle.graphql_documents.specs.Schemas.{NamesKind, is_object_type}
-use Rattle.graphql_documents.specs.TypeReports.{TypeBreaks}
+use Rattle.graphql_diagnostics.specs.TypeReports.{TypeBreaks}
 use Rattle.graphql_documents.specs.declared.documents.schemas.ExtendedType.TheVariants as types
 use Rattle.graphql_schemas.proofs.schema_rules.unions.validate_members.Given as goal
 

@@ -5,15 +5,16 @@ use Rattle.std.specs.Prelude.{Vec}
 use Rattle.std.specs.declared.alloc.Global.{Global}
 use Rattle.std.specs.Prelude.{IfSome, IsFalse, IsTrue}
 use Rattle.graphql_documents.specs.CollectFields.{AppliesTo}
-use Rattle.graphql_documents.specs.Names.{stands_on}
+use Rattle.graphql_nodes.specs.Names.{stands_on}
 use Rattle.graphql_documents.specs.Selections.{fragments_of}
 use Rattle.graphql_documents.specs.declared.documents.executables.Fragment.{Fragment}
 use Rattle.graphql_documents.specs.declared.documents.executables.FragmentSpread.{FragmentSpread}
 use Rattle.graphql_documents.specs.declared.documents.executables.InlineFragment.{InlineFragment}
 use Rattle.graphql_documents.specs.declared.documents.executables.Selection.{size-Selection}
 use Rattle.graphql_documents.specs.declared.documents.executables.SelectionSet.{size-SelectionSet}
-use Rattle.graphql_documents.proofs.NameLemmas.{same_name_itself}
-use Rattle.graphql_documents.proofs.ReportLemmas.{more_is, on_ok}
+use Rattle.graphql_nodes.proofs.NameLemmas.{same_name_itself}
+use Rattle.graphql_diagnostics.proofs.ReportLemmas.{on_ok}
+use Rattle.graphql_documents.proofs.ListLemmas.{more_is}
 use Rattle.graphql_merging.specs.FieldSelections.{listed, selection_of}
 use Rattle.graphql_merging.specs.declared.field_selections.FieldSelection as Code
 use Rattle.graphql_rules.proofs.MeasureLemmas.{room_falls, room_stays, selection_is_smaller}

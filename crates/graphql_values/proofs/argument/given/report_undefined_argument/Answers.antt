@@ -1,5 +1,5 @@
 use Rattle.std.proofs.Common.{refl, rules}
-use Rattle.graphql_documents.proofs.ReportLemmas.{checks-push}
+use Rattle.graphql_diagnostics.proofs.ReportLemmas.{checks-push}
 use Rattle.graphql_values.specs.GivenArguments.{of_unknown_argument}
 use Rattle.graphql_values.proofs.argument.given.report_undefined_argument.Goals as goal
 

@@ -1,6 +1,6 @@
 use Rattle.std.proofs.Common.{All, take}
-use Rattle.graphql_documents.specs.Diagnostics.{IsDiagnostic, entries}
-use Rattle.graphql_documents.specs.Reports.{Reports}
+use Rattle.graphql_diagnostics.specs.Diagnostics.{IsDiagnostic, entries}
+use Rattle.graphql_diagnostics.specs.Reports.{Reports}
 use Rattle.graphql_values.specs.GivenArguments.{GivenArgumentHolds, GivenArgumentReport}
 use Rattle.graphql_values.proofs.argument.given.validate_given_arguments.Given as goal
 

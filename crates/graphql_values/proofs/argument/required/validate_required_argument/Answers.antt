@@ -1,7 +1,7 @@
 use Rattle.std.proofs.Common.{◌≡◌, true, refl, rules}
 use Rattle.graphql_documents.specs.Arguments.{IsGiven}
 use Rattle.graphql_documents.specs.Schemas.{is_required}
-use Rattle.graphql_documents.proofs.ReportLemmas.{checks-push}
+use Rattle.graphql_diagnostics.proofs.ReportLemmas.{checks-push}
 use Rattle.graphql_values.specs.GivenArguments.{of_missing_argument}
 use Rattle.graphql_values.proofs.argument.required.validate_required_argument.Goals as goal
 

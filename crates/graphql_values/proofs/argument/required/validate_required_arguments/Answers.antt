@@ -1,7 +1,7 @@
 use Rattle.std.proofs.Common.{refl}
 use Rattle.graphql_documents.specs.Arguments.{IsGivenIfRequired}
-use Rattle.graphql_documents.specs.Diagnostics.{IsDiagnostic}
-use Rattle.graphql_documents.proofs.ReportLemmas.{checks-err, kept_then, kept_by, walked_more, walked_all}
+use Rattle.graphql_diagnostics.specs.Diagnostics.{IsDiagnostic}
+use Rattle.graphql_diagnostics.proofs.ReportLemmas.{checks-err, kept_then, kept_by, walked_more, walked_all}
 use Rattle.graphql_values.specs.GivenArguments.{MissingArgumentReport}
 use Rattle.graphql_values.proofs.argument.required.validate_required_arguments.Goals as goal
 

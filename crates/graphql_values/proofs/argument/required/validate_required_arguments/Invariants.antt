@@ -1,7 +1,7 @@
 use Rattle.std.proofs.Common.{All, take}
 use Rattle.graphql_documents.specs.Arguments.{IsGivenIfRequired}
-use Rattle.graphql_documents.specs.Diagnostics.{IsDiagnostic, entries}
-use Rattle.graphql_documents.specs.Reports.{Reports}
+use Rattle.graphql_diagnostics.specs.Diagnostics.{IsDiagnostic, entries}
+use Rattle.graphql_diagnostics.specs.Reports.{Reports}
 use Rattle.graphql_values.specs.GivenArguments.{MissingArgumentReport}
 use Rattle.graphql_values.proofs.argument.required.validate_required_arguments.Given as goal
 

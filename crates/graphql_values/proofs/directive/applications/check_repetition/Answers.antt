@@ -2,7 +2,7 @@ use Rattle.std.proofs.Common.{◌≡◌, None, ◌∙◌, rules, sym}
 use Rattle.std.proofs.lemmas.Option.{none-some}
 use Rattle.std.specs.Option.{option_copied}
 use Rattle.graphql_documents.specs.Directives.{IsRepeatable}
-use Rattle.graphql_documents.proofs.ReportLemmas.{holds}
+use Rattle.graphql_diagnostics.proofs.ReportLemmas.{holds}
 use Rattle.graphql_values.specs.DirectiveSteps.{directive_named, head_place}
 use Rattle.graphql_values.proofs.FirstPlaceLemmas.{first_found, none_mapped}
 use Rattle.graphql_values.proofs.directive.applications.check_repetition.Goals as goal

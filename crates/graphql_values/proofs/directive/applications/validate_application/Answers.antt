@@ -1,7 +1,7 @@
 use Rattle.std.proofs.Common.{◌≡◌, Some, None, rules}
 use Rattle.graphql_documents.specs.Directives.{directive_definition, directive_in}
 use Rattle.std.specs.Option.{option_copied}
-use Rattle.graphql_documents.proofs.ReportLemmas.{checks_words}
+use Rattle.graphql_diagnostics.proofs.ReportLemmas.{checks_words}
 use Rattle.graphql_values.proofs.DirectiveLemmas.{applied_well, not_applied_well}
 use Rattle.graphql_values.proofs.directive.applications.validate_application.Goals as goal
 

@@ -1,7 +1,7 @@
 use Rattle.std.proofs.Common.{◌≡◌, IsFalse, IsTrue, None, Some, rules}
 use Rattle.graphql_documents.specs.Schemas.{is_input_type, type_definition}
 use Rattle.graphql_documents.specs.TypeReferences.{inner_named_type}
-use Rattle.graphql_documents.proofs.ReportLemmas.{checks_words}
+use Rattle.graphql_diagnostics.proofs.ReportLemmas.{checks_words}
 use Rattle.graphql_values.proofs.VariableLemmas.{no_input_type, no_type}
 use Rattle.graphql_values.proofs.directive.variable_definitions.validate_type_against.Goals as goal
 

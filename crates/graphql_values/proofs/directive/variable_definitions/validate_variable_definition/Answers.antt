@@ -1,7 +1,7 @@
 -- One check after another, each in words of the variables.
 use Rattle.std.proofs.Common.{◌≡◌, ap, ◌∙◌}
 use Rattle.std.specs.Option.{option_copied}
-use Rattle.graphql_documents.proofs.ReportLemmas.{checks-err, checks_after, kept_by, kept_then}
+use Rattle.graphql_diagnostics.proofs.ReportLemmas.{checks-err, checks_after, kept_by, kept_then}
 use Rattle.graphql_values.specs.VariableSteps.{met_variable, variable_place_in}
 use Rattle.graphql_values.proofs.FirstPlaceLemmas.{holds_on_ok, next_stands, place_of_first, remembers_next}
 use Rattle.graphql_values.proofs.directive.variable_definitions.validate_variable_definition.Goals as goal

@@ -2,11 +2,12 @@ use Rattle.std.proofs.Common.{take, subst, rules, arith}
 use Rattle.std.specs.Option.{option_copied}
 use Rattle.std.proofs.lemmas.List.{take_all}
 use Rattle.std.proofs.lemmas.List.Elements.{All-nil}
-use Rattle.graphql_documents.specs.Diagnostics.{IsDiagnostic, entries}
-use Rattle.graphql_documents.specs.Reports.{Reports}
-use Rattle.graphql_documents.specs.VariableReports.{VariablesReport}
+use Rattle.graphql_diagnostics.specs.Diagnostics.{IsDiagnostic, entries}
+use Rattle.graphql_diagnostics.specs.Reports.{Reports}
+use Rattle.graphql_diagnostics.specs.VariableReports.{VariablesReport}
 use Rattle.graphql_documents.specs.Variables.{VariableDefinitionsHold}
-use Rattle.graphql_documents.proofs.ReportLemmas.{checks-err, holds, kept_by, kept_then, more_is}
+use Rattle.graphql_diagnostics.proofs.ReportLemmas.{checks-err, holds, kept_by, kept_then}
+use Rattle.graphql_documents.proofs.ListLemmas.{more_is}
 use Rattle.graphql_values.proofs.FirstPlaceLemmas.{next_at}
 use Rattle.graphql_values.proofs.VariableLemmas.{variable_checked}
 use Rattle.graphql_values.proofs.directive.variable_definitions.validate_variable_definitions.Goals as goal

@@ -1,8 +1,8 @@
 use Rattle.std.proofs.Common.{map, take}
 use Rattle.std.specs.Option.{option_copied}
-use Rattle.graphql_documents.specs.Diagnostics.{IsDiagnostic, entries}
-use Rattle.graphql_documents.specs.Reports.{Reports}
-use Rattle.graphql_documents.specs.VariableReports.{VariablesReport}
+use Rattle.graphql_diagnostics.specs.Diagnostics.{IsDiagnostic, entries}
+use Rattle.graphql_diagnostics.specs.Reports.{Reports}
+use Rattle.graphql_diagnostics.specs.VariableReports.{VariablesReport}
 use Rattle.graphql_documents.specs.Variables.{VariableDefinitionsHold}
 use Rattle.graphql_values.specs.FirstPlaces.{Remembers}
 use Rattle.graphql_values.specs.VariableSteps.{met_variable}

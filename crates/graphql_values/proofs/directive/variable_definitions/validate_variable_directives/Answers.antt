@@ -1,13 +1,13 @@
 use Rattle.std.proofs.Common.{◌≡◌, List, [], ap, ◌∙◌, subst}
 use Rattle.std.specs.Option.{option_copied}
-use Rattle.graphql_documents.specs.Diagnostics.{IsDiagnostic, entries}
-use Rattle.graphql_documents.specs.DirectiveReports.{DirectivesBreak}
+use Rattle.graphql_diagnostics.specs.Diagnostics.{IsDiagnostic, entries}
+use Rattle.graphql_diagnostics.specs.DirectiveReports.{DirectivesBreak}
 use Rattle.graphql_documents.specs.Directives.{ApplicationsHold}
-use Rattle.graphql_documents.specs.VariableReports.{VariablesReport}
-use Rattle.graphql_documents.proofs.ReportLemmas.{checks_words, ChecksList}
+use Rattle.graphql_diagnostics.specs.VariableReports.{VariablesReport}
+use Rattle.graphql_diagnostics.proofs.ReportLemmas.{checks_words, ChecksList}
 use Rattle.graphql_documents.specs.declared.documents.definitions.DirectiveLocation.TheVariants as allowed_at
 use Rattle.graphql_documents.specs.declared.documents.directives.Directive.{Directive}
-use Rattle.graphql_documents.specs.declared.documents.nodes.Node.{Node}
+use Rattle.graphql_nodes.specs.declared.nodes.Node.{Node}
 use Rattle.graphql_values.proofs.VariableLemmas.{names_directives}
 use Rattle.graphql_values.proofs.directive.variable_definitions.validate_variable_directives.Goals as goal
 

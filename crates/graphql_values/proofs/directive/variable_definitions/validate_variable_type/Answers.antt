@@ -1,6 +1,6 @@
 use Rattle.std.proofs.Common.{◌≡◌, Some, ap}
 use Rattle.std.specs.Option.{option_copied}
-use Rattle.graphql_documents.proofs.ReportLemmas.{checks_words, holds}
+use Rattle.graphql_diagnostics.proofs.ReportLemmas.{checks_words, holds}
 use Rattle.graphql_values.proofs.VariableLemmas.{type_parts, type_without_schema}
 use Rattle.graphql_values.proofs.directive.variable_definitions.validate_variable_type.Goals as goal
 

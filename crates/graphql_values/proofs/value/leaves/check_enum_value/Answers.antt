@@ -1,8 +1,8 @@
 use Rattle.std.proofs.Common.{IsSome, refl, ◌∙◌, rules}
 use Rattle.indexmap.specs.IndexMap.{get}
-use Rattle.graphql_documents.proofs.ReportLemmas.{holds, checks-push}
-use Rattle.graphql_documents.specs.Names.{same_name}
-use Rattle.graphql_documents.specs.ValueReports.{within_itself}
+use Rattle.graphql_diagnostics.proofs.ReportLemmas.{holds, checks-push}
+use Rattle.graphql_nodes.specs.Names.{same_name}
+use Rattle.graphql_diagnostics.specs.ValueReports.{within_itself}
 use Rattle.graphql_values.proofs.LeafLemmas.{custom_enum_accepted, enum_cannot, known_enum_accepted, unknown_enum_refused}
 use Rattle.graphql_values.specs.ValueSteps.{written_at}
 use Rattle.graphql_values.proofs.value.leaves.check_enum_value.Goals as goal

@@ -1,5 +1,5 @@
 use Rattle.std.proofs.Common.{rules}
-use Rattle.graphql_documents.proofs.ReportLemmas.{holds}
+use Rattle.graphql_diagnostics.proofs.ReportLemmas.{holds}
 use Rattle.graphql_values.proofs.LeafLemmas.{null_accepted, null_cannot}
 use Rattle.graphql_values.proofs.value.leaves.check_null.Goals as goal
 

@@ -1,5 +1,5 @@
 use Rattle.std.proofs.Common.{rules}
-use Rattle.graphql_documents.proofs.ReportLemmas.{holds}
+use Rattle.graphql_diagnostics.proofs.ReportLemmas.{holds}
 use Rattle.graphql_values.proofs.LeafLemmas.{other_accepted, other_cannot}
 use Rattle.graphql_values.proofs.value.leaves.check_other_scalar.Goals as goal
 

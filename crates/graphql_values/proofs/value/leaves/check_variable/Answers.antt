@@ -1,10 +1,10 @@
 use Rattle.std.proofs.Common.{◌≡◌, Some, None, IsTrue, refl, subst, rules}
-use Rattle.graphql_documents.proofs.ReportLemmas.{holds, checks-push}
+use Rattle.graphql_diagnostics.proofs.ReportLemmas.{holds, checks-push}
 use Rattle.graphql_documents.specs.InputCoercion.{Accepts}
-use Rattle.graphql_documents.specs.Names.{SameName}
+use Rattle.graphql_nodes.specs.Names.{SameName}
 use Rattle.graphql_documents.specs.Schemas.{is_input_type}
 use Rattle.graphql_documents.specs.TypeReferences.{inner_named_type}
-use Rattle.graphql_documents.specs.ValueReports.{within_itself}
+use Rattle.graphql_diagnostics.specs.ValueReports.{within_itself}
 use Rattle.graphql_documents.specs.VariableUsage.{variable_named}
 use Rattle.graphql_values.proofs.AcceptsLemmas.{variable_refused}
 use Rattle.graphql_values.proofs.LeafLemmas.{variable_accepted, variable_cannot}

@@ -1,9 +1,9 @@
 use Rattle.std.proofs.Common.{rules}
-use Rattle.graphql_documents.proofs.ReportLemmas.{checks-push}
+use Rattle.graphql_diagnostics.proofs.ReportLemmas.{checks-push}
 use Rattle.graphql_documents.specs.InputCoercion.{IsInputField}
-use Rattle.graphql_documents.specs.Names.{NameText}
-use Rattle.graphql_documents.specs.ValueReports.{within_itself}
-use Rattle.graphql_documents.specs.declared.documents.nodes.Node.{Node}
+use Rattle.graphql_nodes.specs.Names.{NameText}
+use Rattle.graphql_diagnostics.specs.ValueReports.{within_itself}
+use Rattle.graphql_nodes.specs.declared.nodes.Node.{Node}
 use Rattle.graphql_documents.specs.declared.documents.values.Value.{Value}
 use Rattle.graphql_values.proofs.ObjectLemmas.{none_reported, not_all_known, unknown_entry}
 use Rattle.graphql_values.proofs.value.objects.check_known_entries.Goals as goal

@@ -1,7 +1,7 @@
 use Rattle.std.proofs.Common.{refl, subst, rules}
-use Rattle.graphql_documents.proofs.ReportLemmas.{holds, checks-push}
+use Rattle.graphql_diagnostics.proofs.ReportLemmas.{holds, checks-push}
 use Rattle.graphql_documents.specs.InputCoercion.{IsFieldGiven}
-use Rattle.graphql_documents.specs.ValueReports.{within_itself}
+use Rattle.graphql_diagnostics.specs.ValueReports.{within_itself}
 use Rattle.graphql_values.proofs.value.objects.check_required_field.Goals as goal
 
 pub returns-then-is_satisfied : goal.returns-then-is_satisfied

@@ -1,6 +1,6 @@
 use Rattle.std.proofs.Common.{refl, rules}
-use Rattle.graphql_documents.proofs.ReportLemmas.{checks-push}
-use Rattle.graphql_documents.specs.ValueReports.{within_itself}
+use Rattle.graphql_diagnostics.proofs.ReportLemmas.{checks-push}
+use Rattle.graphql_diagnostics.specs.ValueReports.{within_itself}
 use Rattle.graphql_values.specs.ValueSteps.{written_at}
 use Rattle.graphql_values.proofs.AcceptsLemmas.{cannot_accept}
 use Rattle.graphql_values.proofs.value.reports.unsupported_type.Goals as goal

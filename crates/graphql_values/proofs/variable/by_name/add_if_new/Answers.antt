@@ -2,10 +2,10 @@ use Rattle.std.proofs.Common.{◌≡◌, Bor, List, ℕ, None, Some, cond, sym, 
 use Rattle.std.specs.HashMap.{get_by}
 use Rattle.std.specs.Option.{is_some, option_copied}
 use Rattle.std.specs.Str.{bytes_eq}
-use Rattle.graphql_documents.specs.Names.{NameText, SameName, same_name}
-use Rattle.graphql_documents.proofs.NameLemmas.{same_text}
+use Rattle.graphql_nodes.specs.Names.{NameText, SameName, same_name}
+use Rattle.graphql_nodes.proofs.NameLemmas.{same_text}
 use Rattle.graphql_documents.specs.declared.documents.definitions.VariableDefinition.{VariableDefinition}
-use Rattle.graphql_documents.specs.declared.documents.nodes.Node.{Node}
+use Rattle.graphql_nodes.specs.declared.nodes.Node.{Node}
 use Rattle.graphql_values.proofs.FirstPlaceLemmas.{chosen_or, kept_or, map_in_front, none_mapped}
 use Rattle.graphql_values.proofs.VariablesByNameLemmas.{finds_more}
 use Rattle.graphql_values.proofs.variable.by_name.add_if_new.Goals as goal

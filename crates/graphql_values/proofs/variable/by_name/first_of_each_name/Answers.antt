@@ -1,6 +1,6 @@
 use Rattle.std.proofs.Common.{take, rules, subst}
 use Rattle.std.proofs.lemmas.List.{take_all}
-use Rattle.graphql_documents.proofs.ReportLemmas.{more_is}
+use Rattle.graphql_documents.proofs.ListLemmas.{more_is}
 use Rattle.graphql_values.specs.VariablesByName.{FindsFirst}
 use Rattle.graphql_values.proofs.variable.by_name.first_of_each_name.Goals as goal
 

@@ -7,10 +7,10 @@ use Rattle.graphql_documents.specs.declared.documents.executables.Field.{Field}
 use Rattle.graphql_documents.specs.declared.documents.executables.Fragment.{Fragment}
 use Rattle.graphql_documents.specs.declared.documents.executables.FragmentSpread.{FragmentSpread}
 use Rattle.graphql_documents.specs.declared.documents.executables.InlineFragment.{InlineFragment}
-use Rattle.graphql_documents.specs.declared.documents.nodes.Node.{Node}
+use Rattle.graphql_nodes.specs.declared.nodes.Node.{Node}
 use Rattle.graphql_values.specs.Uses.{NamesAlso}
 use Rattle.graphql_values.proofs.UseLemmas.{also_in_words, also_then}
-use Rattle.graphql_documents.proofs.ReportLemmas.{on_ok}
+use Rattle.graphql_diagnostics.proofs.ReportLemmas.{on_ok}
 use Rattle.graphql_values.proofs.OperationUseLemmas.{used_at_defined, used_at_field, used_at_inline, used_at_undefined}
 use Rattle.graphql_values.proofs.variable.unused.add_in_selection.Goals as goal
 

@@ -1,12 +1,12 @@
 use Rattle.std.proofs.Common.{[], ◌∙◌, ap, subst, sym}
 use Rattle.std.specs.Borrow.{Bor}
 use Rattle.std.proofs.lemmas.List.{append-nil}
-use Rattle.graphql_documents.specs.Names.{NameText}
-use Rattle.graphql_documents.specs.Spans.{recompose}
+use Rattle.graphql_nodes.specs.Names.{NameText}
+use Rattle.graphql_nodes.specs.Spans.{recompose}
 use Rattle.graphql_documents.specs.Variables.{UsesVariable}
 use Rattle.graphql_documents.specs.declared.documents.definitions.VariableDefinition.{VariableDefinition}
-use Rattle.graphql_documents.specs.VariableReports.{no_name, unused_name}
-use Rattle.graphql_documents.proofs.ReportLemmas.{appends_on_ok}
+use Rattle.graphql_diagnostics.specs.VariableReports.{no_name, unused_name}
+use Rattle.graphql_diagnostics.proofs.ReportLemmas.{appends_on_ok}
 use Rattle.graphql_values.proofs.NameSetLemmas.{has_name, has_no_name}
 use Rattle.graphql_values.proofs.UnusedLemmas.{unused_report, used_report}
 use Rattle.graphql_values.proofs.variable.unused.check_use.Goals as goal

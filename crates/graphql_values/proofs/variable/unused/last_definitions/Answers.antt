@@ -1,7 +1,7 @@
 use Rattle.std.proofs.Common.{[], ◌≡◌, ◌∙◌, ◌+◌, All, map, take, refl, sym, ap, subst}
 use Rattle.std.proofs.lemmas.List.{take_all}
 use Rattle.std.proofs.lemmas.List.Elements.{All-nil}
-use Rattle.graphql_documents.specs.Names.{different_names}
+use Rattle.graphql_nodes.specs.Names.{different_names}
 use Rattle.graphql_documents.specs.declared.documents.definitions.VariableDefinition.{VariableDefinition}
 use Rattle.graphql_values.proofs.NameSetLemmas.{entry_names}
 use Rattle.graphql_values.proofs.UnusedLemmas.{IsLast, last_more, names_more}

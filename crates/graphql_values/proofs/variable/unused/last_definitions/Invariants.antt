@@ -1,7 +1,7 @@
 use Rattle.std.proofs.Common.{◌≡◌, All, map, take}
 use Rattle.std.specs.List.{IsDistinct}
 use Rattle.std.specs.Map.{keys_of}
-use Rattle.graphql_documents.specs.Names.{different_names}
+use Rattle.graphql_nodes.specs.Names.{different_names}
 use Rattle.graphql_values.proofs.NameSetLemmas.{entry_names, same_key}
 use Rattle.graphql_values.proofs.UnusedLemmas.{IsLast}
 use Rattle.graphql_values.proofs.variable.unused.last_definitions.Given as goal

@@ -2,10 +2,10 @@ use Rattle.std.proofs.Common.{◌≡◌, ◌∙◌, ◌++◌, [], ◌∷◌, sym
 use Rattle.std.proofs.lemmas.List.{append-nil, map-append}
 use Rattle.std.proofs.lemmas.List.Elements.{All-contains}
 use Rattle.std.proofs.lemmas.Result.{MatchResult-from_err}
-use Rattle.graphql_documents.specs.Diagnostics.{IsDiagnostic, entries}
-use Rattle.graphql_documents.specs.Reports.{Appends, KeepsReports}
-use Rattle.graphql_documents.specs.VariableReports.{AreUnusedReports, UsesReport, no_name}
-use Rattle.graphql_documents.proofs.ReportLemmas.{done_next, stands_next}
+use Rattle.graphql_diagnostics.specs.Diagnostics.{IsDiagnostic, entries}
+use Rattle.graphql_diagnostics.specs.Reports.{Appends, KeepsReports}
+use Rattle.graphql_diagnostics.specs.VariableReports.{AreUnusedReports, UsesReport, no_name}
+use Rattle.graphql_documents.proofs.ListLemmas.{done_next, stands_next}
 use Rattle.graphql_values.proofs.NameSetLemmas.{entry_names}
 use Rattle.graphql_values.proofs.UnusedLemmas.{IsLast, LastEntry, appends_kept, appends_then}
 use Rattle.graphql_values.proofs.variable.unused.report_unused.Goals as goal

@@ -1,6 +1,6 @@
 use Rattle.std.proofs.Common.{[], ◌≡◌, ◌↔◌, ◌+◌, take, sym, subst}
 use Rattle.std.proofs.lemmas.List.{take_all}
-use Rattle.graphql_documents.specs.Names.{NameText}
+use Rattle.graphql_nodes.specs.Names.{NameText}
 use Rattle.graphql_values.specs.Uses.{IsNamedIn, names_of}
 use Rattle.graphql_values.proofs.NameSetLemmas.{named_more}
 use Rattle.graphql_values.proofs.variable.unused.set_of.Goals as goal

@@ -1,5 +1,5 @@
 use Rattle.std.proofs.Common.{◌↔◌, take}
-use Rattle.graphql_documents.specs.Names.{NameText}
+use Rattle.graphql_nodes.specs.Names.{NameText}
 use Rattle.graphql_values.specs.Uses.{IsNamedIn, names_of}
 use Rattle.graphql_values.proofs.variable.unused.set_of.Given as goal
 

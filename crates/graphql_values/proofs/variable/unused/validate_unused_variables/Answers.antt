@@ -1,14 +1,14 @@
 use Rattle.std.proofs.Common.{◌↔◌, Contains, ◌≡◌, ◌∙◌, List, refl, sym, ap, subst, All, map}
 use Rattle.std.specs.Borrow.{Bor}
 use Rattle.std.specs.Prelude.{MatchResult}
-use Rattle.graphql_documents.specs.Diagnostics.{IsDiagnostic, entries}
-use Rattle.graphql_documents.specs.Names.{NameText, different_names}
-use Rattle.graphql_documents.specs.Reports.{Appends, KeepsReports}
+use Rattle.graphql_diagnostics.specs.Diagnostics.{IsDiagnostic, entries}
+use Rattle.graphql_nodes.specs.Names.{NameText, different_names}
+use Rattle.graphql_diagnostics.specs.Reports.{Appends, KeepsReports}
 use Rattle.graphql_documents.specs.Selections.{Reached, fragments_of}
-use Rattle.graphql_documents.specs.VariableReports.{AreUnusedReports, UsesReport, defined_names}
+use Rattle.graphql_diagnostics.specs.VariableReports.{AreUnusedReports, UsesReport, defined_names}
 use Rattle.graphql_documents.specs.declared.documents.definitions.VariableDefinition.{VariableDefinition}
 use Rattle.graphql_documents.specs.declared.documents.executables.Selection.{Selection}
-use Rattle.graphql_documents.specs.declared.documents.nodes.Node.{Node}
+use Rattle.graphql_nodes.specs.declared.nodes.Node.{Node}
 use Rattle.graphql_values.proofs.NameSetLemmas.{entry_names}
 use Rattle.graphql_values.proofs.UnusedLemmas.{IsLast, bound_reported, lists_all, uses_kept, uses_reported}
 use Rattle.graphql_values.proofs.variable.unused.validate_unused_variables.Goals as goal

@@ -1,6 +1,6 @@
 use Rattle.std.proofs.Common.{rules}
 use Rattle.graphql_documents.specs.VariableUsage.{IsUsageAllowed, IsVariable}
-use Rattle.graphql_documents.proofs.ReportLemmas.{checks-err, holds, in_words}
+use Rattle.graphql_diagnostics.proofs.ReportLemmas.{checks-err, holds, in_words}
 use Rattle.graphql_values.proofs.UsageLemmas.{only_variable}
 use Rattle.graphql_values.proofs.variable.usage.check_variable_usage.Goals as goal
 

@@ -1,5 +1,5 @@
 use Rattle.std.proofs.Common.{refl, rules}
-use Rattle.graphql_documents.proofs.ReportLemmas.{checks-push}
+use Rattle.graphql_diagnostics.proofs.ReportLemmas.{checks-push}
 use Rattle.graphql_values.proofs.variable.usage.report_usage.Goals as goal
 
 pub returns : goal.returns

@@ -1,8 +1,8 @@
 use Rattle.std.proofs.Common.{ap, ◌∙◌, subst}
-use Rattle.graphql_documents.specs.Names.{NameText}
+use Rattle.graphql_nodes.specs.Names.{NameText}
 use Rattle.graphql_documents.specs.Variables.{StandsInArguments}
 use Rattle.graphql_documents.specs.declared.documents.directives.Directive.{Directive}
-use Rattle.graphql_documents.specs.declared.documents.nodes.Node.{Node}
+use Rattle.graphql_nodes.specs.declared.nodes.Node.{Node}
 use Rattle.graphql_values.specs.Uses.{NamesAlso}
 use Rattle.graphql_values.proofs.UseLemmas.{also_all, also_more, also_none_yet}
 use Rattle.graphql_values.proofs.variable.uses.add_in_directives.Goals as goal

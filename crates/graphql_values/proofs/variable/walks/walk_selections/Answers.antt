@@ -2,7 +2,7 @@ use Rattle.std.proofs.Common.{List, [], map, IsTrue, refl}
 use Rattle.std.proofs.lemmas.Result.{IfOk-weaker}
 use Rattle.graphql_documents.proofs.SelectionLemmas.{one_fragment_found}
 use Rattle.graphql_documents.specs.Selections.{Inside, fragments_of, selections_of}
-use Rattle.graphql_documents.specs.Names.{NameText}
+use Rattle.graphql_nodes.specs.Names.{NameText}
 use Rattle.graphql_documents.specs.Walks.{root_walk}
 use Rattle.graphql_documents.specs.Subscriptions.{WalkedFields, fields_among}
 use Rattle.graphql_values.specs.declared.variable.walks.Walked.{Walked}

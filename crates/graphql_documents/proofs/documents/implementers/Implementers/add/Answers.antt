@@ -1,7 +1,7 @@
 use Rattle.std.proofs.Common.{ap, sym, ◌∙◌, List, map, refl}
 use Rattle.std.specs.Borrow.{Bor}
 use Rattle.graphql_documents.specs.Implementers.{implementer_names, with_own_name}
-use Rattle.graphql_documents.specs.Names.{NameText, with_name}
+use Rattle.graphql_nodes.specs.Names.{NameText, with_name}
 use Rattle.graphql_documents.specs.declared.documents.schemas.InterfaceType.{InterfaceType}
 use Rattle.graphql_documents.specs.declared.documents.schemas.ObjectType.{ObjectType}
 use Rattle.graphql_documents.proofs.ImplementerLemmas.{key_inserted, names_are}

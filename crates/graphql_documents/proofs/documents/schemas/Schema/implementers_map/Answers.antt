@@ -1,10 +1,10 @@
 use Rattle.std.proofs.Common.{◌≡◌, ◌++◌, [], ◌∷◌, fold, sym, ap, ◌∙◌}
 use Rattle.std.proofs.lemmas.List.{append-nil}
 use Rattle.graphql_documents.specs.Implementers.{listings_of, with_implementer}
-use Rattle.graphql_documents.specs.Names.{NameText}
+use Rattle.graphql_nodes.specs.Names.{NameText}
 use Rattle.graphql_documents.specs.declared.documents.schemas.ExtendedType.{ExtendedType}
 use Rattle.graphql_documents.proofs.ImplementerLemmas.{listings_in, listings_more, made_of_types}
-use Rattle.graphql_documents.proofs.ReportLemmas.{done_next}
+use Rattle.graphql_documents.proofs.ListLemmas.{done_next}
 use Rattle.graphql_documents.proofs.documents.schemas.Schema.implementers_map.Goals as goal
 
 pub loop-definition-preserved : goal.loop-definition-preserved

@@ -1,6 +1,6 @@
 use Rattle.std.proofs.Common.{◌≡◌, ◌++◌, [], List, fold}
 use Rattle.graphql_documents.specs.Implementers.{implementer_entries, with_implementer}
-use Rattle.graphql_documents.specs.Names.{NameText}
+use Rattle.graphql_nodes.specs.Names.{NameText}
 use Rattle.graphql_documents.specs.declared.documents.schemas.ExtendedType.{ExtendedType}
 use Rattle.graphql_documents.proofs.ImplementerLemmas.{listings_in}
 use Rattle.graphql_documents.proofs.documents.schemas.Schema.implementers_map.Given as goal

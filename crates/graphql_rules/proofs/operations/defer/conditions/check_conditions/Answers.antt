@@ -1,6 +1,6 @@
-use Rattle.graphql_documents.specs.Diagnostics.{IsLimitEntry}
+use Rattle.graphql_diagnostics.specs.Diagnostics.{IsLimitEntry}
 use Rattle.graphql_documents.specs.Selections.{fragments_of}
-use Rattle.graphql_documents.proofs.ReportWithinLemmas.{checks_words_within}
+use Rattle.graphql_diagnostics.proofs.ReportWithinLemmas.{checks_words_within}
 use Rattle.graphql_rules.proofs.OperationDeferLemmas.{answered, condition_rule_where, condition_said}
 use Rattle.graphql_rules.proofs.operations.defer.conditions.check_conditions.Goals as goal
 

@@ -2,9 +2,9 @@ use Rattle.std.proofs.Common.{◌++◌, Bor, List, map, subst}
 use Rattle.std.proofs.lemmas.List.{take_all}
 use Rattle.std.proofs.lemmas.Result.{MatchResult-from_err}
 use Rattle.graphql_documents.specs.Defer.{DefersIn}
-use Rattle.graphql_documents.specs.Diagnostics.{entries}
+use Rattle.graphql_diagnostics.specs.Diagnostics.{entries}
 use Rattle.graphql_documents.specs.declared.documents.directives.Directive.{Directive}
-use Rattle.graphql_documents.specs.declared.documents.nodes.Node.{Node}
+use Rattle.graphql_nodes.specs.declared.nodes.Node.{Node}
 use Rattle.graphql_rules.specs.DeferLabels.{LabelsSoFar}
 use Rattle.graphql_rules.proofs.DeferWalkLemmas.{behind, refs_at, refs_more}
 use Rattle.graphql_rules.proofs.operations.defer.labels.check_labels.Goals as goal

@@ -1,10 +1,10 @@
 use Rattle.std.proofs.Common.{◌++◌, List, map, take}
 use Rattle.graphql_documents.specs.Defer.{DefersIn}
-use Rattle.graphql_documents.specs.Diagnostics.{entries}
-use Rattle.graphql_documents.specs.declared.diagnostics.lists.DiagnosticEntry.{DiagnosticEntry}
+use Rattle.graphql_diagnostics.specs.Diagnostics.{entries}
+use Rattle.graphql_diagnostics.specs.declared.lists.DiagnosticEntry.{DiagnosticEntry}
 use Rattle.graphql_documents.specs.declared.documents.directives.Directive.{Directive}
 use Rattle.graphql_documents.specs.declared.documents.executables.ExecutableDocument.{ExecutableDocument}
-use Rattle.graphql_documents.specs.declared.documents.nodes.Node.{Node}
+use Rattle.graphql_nodes.specs.declared.nodes.Node.{Node}
 use Rattle.graphql_rules.specs.DeferLabels.{LabelsSoFar}
 use Rattle.graphql_rules.proofs.operations.defer.labels.check_labels.Given as goal
 

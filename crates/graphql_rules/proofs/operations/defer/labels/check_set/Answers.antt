@@ -1,7 +1,7 @@
 use Rattle.std.proofs.Common.{◌++◌, Bor, List, map, sym, subst}
 use Rattle.std.proofs.lemmas.Result.{MatchResult-from_err}
 use Rattle.graphql_documents.specs.declared.documents.directives.Directive.{Directive}
-use Rattle.graphql_documents.specs.declared.documents.nodes.Node.{Node}
+use Rattle.graphql_nodes.specs.declared.nodes.Node.{Node}
 use Rattle.graphql_rules.specs.DeferLabels.{HasMetDefers}
 use Rattle.graphql_rules.proofs.DeferWalkLemmas.{at_set, set_cut, set_whole}
 use Rattle.graphql_rules.proofs.operations.defer.labels.check_set.Goals as goal

@@ -1,5 +1,5 @@
 use Rattle.std.proofs.Common.{◌≡◌, None, Some, sym, ◌∙◌}
-use Rattle.graphql_documents.specs.DeferReports.{HasLabel}
+use Rattle.graphql_diagnostics.specs.DeferReports.{HasLabel}
 use Rattle.graphql_rules.specs.DeferLabels.{first_place_in}
 use Rattle.graphql_rules.proofs.DeferLabelLemmas.{new_text_holds, passed_well, reported_repetition}
 use Rattle.graphql_rules.proofs.operations.defer.labels.check_text.Goals as goal

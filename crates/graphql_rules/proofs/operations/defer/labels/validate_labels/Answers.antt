@@ -1,7 +1,7 @@
 use Rattle.std.proofs.Common.{◌≡◌, Bor, Contains, List, map, rules, ap, ◌∙◌, subst}
 use Rattle.std.proofs.lemmas.Result.{MatchResult-from_err}
 use Rattle.graphql_documents.specs.Defer.{sets_of}
-use Rattle.graphql_documents.specs.Diagnostics.{entries}
+use Rattle.graphql_diagnostics.specs.Diagnostics.{entries}
 use Rattle.graphql_documents.specs.declared.documents.executables.SelectionSet.{SelectionSet}
 use Rattle.graphql_rules.specs.DeferLabels.{LabelsSoFar}
 use Rattle.graphql_rules.proofs.DeferWalkLemmas.{all_passed, defers_of_set, in_document, nothing_passed, on_set, sets_behind, sets_more}

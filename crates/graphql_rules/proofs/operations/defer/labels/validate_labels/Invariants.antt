@@ -1,6 +1,6 @@
 use Rattle.std.proofs.Common.{take}
 use Rattle.std.specs.Prelude.{flat_map}
-use Rattle.graphql_documents.specs.Diagnostics.{entries}
+use Rattle.graphql_diagnostics.specs.Diagnostics.{entries}
 use Rattle.graphql_rules.specs.DeferLabels.{LabelsSoFar}
 use Rattle.graphql_rules.proofs.DeferWalkLemmas.{defers_at}
 use Rattle.graphql_rules.proofs.operations.defer.labels.validate_labels.Given as goal

@@ -1,6 +1,6 @@
-use Rattle.graphql_documents.specs.Diagnostics.{IsLimitEntry}
+use Rattle.graphql_diagnostics.specs.Diagnostics.{IsLimitEntry}
 use Rattle.graphql_documents.specs.Selections.{fragments_of}
-use Rattle.graphql_documents.proofs.ReportWithinLemmas.{checks_after_within, checks_words_within}
+use Rattle.graphql_diagnostics.proofs.ReportWithinLemmas.{checks_after_within, checks_words_within}
 use Rattle.graphql_rules.proofs.OperationDeferLemmas.{answered, operation_holds}
 use Rattle.graphql_rules.proofs.operations.defer.operation.check_operation_defer.Goals as goal
 

@@ -5,7 +5,7 @@ use Rattle.graphql_documents.specs.Selections.{selections_of}
 use Rattle.graphql_documents.specs.declared.documents.directives.Directive.{Directive}
 use Rattle.graphql_documents.specs.declared.documents.executables.Field.{Field}
 use Rattle.graphql_documents.specs.declared.documents.executables.InlineFragment.{InlineFragment}
-use Rattle.graphql_documents.specs.declared.documents.nodes.Node.{Node}
+use Rattle.graphql_nodes.specs.declared.nodes.Node.{Node}
 use Rattle.graphql_guards.specs.Guards.{depth_limit, depth_of}
 use Rattle.graphql_rules.specs.DeferLabels.{MeetsDefers}
 use Rattle.graphql_rules.proofs.WrittenDeferLemmas.{meets_all, meets_at, meets_cut, meets_field, meets_inline_fragment, meets_limit, meets_next, meets_none, meets_spread}

@@ -4,7 +4,7 @@ use Rattle.std.specs.Prelude.{Vec, codes}
 use Rattle.std.specs.Str.{bytes_eq}
 use Rattle.std.specs.declared.alloc.Global.{Global}
 use Rattle.graphql_documents.specs.declared.documents.directives.Directive.{Directive}
-use Rattle.graphql_documents.specs.declared.documents.nodes.Node.{Node}
+use Rattle.graphql_nodes.specs.declared.nodes.Node.{Node}
 use Rattle.graphql_rules.proofs.WrittenDeferLemmas.{defers_added, defers_kept}
 use Rattle.graphql_rules.proofs.operations.defer.written.add_defers.Goals.{else-eq, then-eq+in_ok-push}
 use Rattle.graphql_rules.proofs.operations.defer.written.add_defers.Goals as goal

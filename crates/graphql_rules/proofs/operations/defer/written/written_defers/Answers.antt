@@ -1,7 +1,7 @@
 use Rattle.std.proofs.Common.{Bor, List, map, ◌∙◌, ap, subst}
 use Rattle.graphql_documents.specs.Selections.{selections_of}
 use Rattle.graphql_documents.specs.declared.documents.directives.Directive.{Directive}
-use Rattle.graphql_documents.specs.declared.documents.nodes.Node.{Node}
+use Rattle.graphql_nodes.specs.declared.nodes.Node.{Node}
 use Rattle.graphql_rules.specs.DeferLabels.{MeetsDefers}
 use Rattle.graphql_rules.proofs.WrittenDeferLemmas.{meets_at, meets_whole}
 use Rattle.graphql_rules.proofs.operations.defer.written.written_defers.Goals as goal

@@ -1,6 +1,6 @@
 use Rattle.std.proofs.Common.{ap, sym, ◌∙◌}
 use Rattle.std.specs.Borrow.{Bor}
-use Rattle.graphql_documents.specs.Names.{NameText, stands_on}
+use Rattle.graphql_nodes.specs.Names.{NameText, stands_on}
 use Rattle.graphql_documents.specs.declared.documents.components.ComponentName.{ComponentName}
 use Rattle.graphql_rules.specs.PossibleTypes.{object_names}
 use Rattle.graphql_rules.proofs.PossibleTypeLemmas.{any_named}

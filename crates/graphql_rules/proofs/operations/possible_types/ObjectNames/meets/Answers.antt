@@ -1,7 +1,7 @@
 use Rattle.std.proofs.Common.{List, ap, sym, ◌∙◌}
 use Rattle.std.specs.Borrow.{Bor}
 use Rattle.std.specs.List.{list_any}
-use Rattle.graphql_documents.specs.Names.{NameText, stands_on}
+use Rattle.graphql_nodes.specs.Names.{NameText, stands_on}
 use Rattle.graphql_documents.specs.declared.documents.components.ComponentName.{ComponentName}
 use Rattle.graphql_rules.specs.PossibleTypes.{object_names}
 use Rattle.graphql_rules.proofs.PossibleTypeLemmas.{any_tested}

@@ -1,6 +1,6 @@
 use Rattle.std.proofs.Common.{◌↔◌, subst, sym}
 use Rattle.std.specs.Prelude.{IsTrue}
-use Rattle.graphql_documents.specs.Names.{NameText, stands_on}
+use Rattle.graphql_nodes.specs.Names.{NameText, stands_on}
 use Rattle.graphql_documents.specs.Schemas.{IsImplementedBy, IsListed, IsPossibleType}
 use Rattle.graphql_documents.specs.declared.documents.schemas.ExtendedType.{ExtendedType}
 use Rattle.graphql_documents.specs.declared.documents.schemas.InterfaceType.{InterfaceType}

@@ -3,7 +3,7 @@ use Rattle.std.proofs.lemmas.Result.{IfOk-weaker}
 use Rattle.graphql_values.proofs.SelectionWalkLemmas.{walked_field, stood_there, was_entered, PassesBelow, walked_inline_fragment, walked_to_limit, walked_fragment, walked_entered, walked_undefined, walked_part, searched_next, searched_past, walked_whole, Entered, Listed}
 use Rattle.std.proofs.Common.{rules, ◌≡◌, subst, IsTrue, Some, None, refl, sym, ap, ◌∙◌, ◌+◌, map, ℕ, Bool, true, false, [], IsFalse}
 use Rattle.graphql_guards.specs.Guards.{depth_limit, depth_of}
-use Rattle.graphql_documents.specs.Names.{stands_on}
+use Rattle.graphql_nodes.specs.Names.{stands_on}
 use Rattle.std.proofs.lemmas.List.{map-append}
 use Rattle.graphql_values.specs.declared.variable.walks.Met.{Met}
 use Rattle.graphql_documents.specs.declared.documents.executables.Selection.TheVariants as kind

@@ -1,11 +1,11 @@
 use Rattle.std.proofs.Common.{Bor, List, map, refl, subst, sym}
 use mathlib.Core.Logic.{inl, inr}
-use Rattle.graphql_documents.specs.Diagnostics.{IsLimitEntry, limit_of_walk}
+use Rattle.graphql_diagnostics.specs.Diagnostics.{IsLimitEntry, limit_of_walk}
 use Rattle.graphql_documents.specs.Selections.{fragments_of}
 use Rattle.graphql_documents.specs.Walks.{HasListed, PassesDepth}
 use Rattle.graphql_documents.specs.declared.documents.executables.Selection.{Selection}
-use Rattle.graphql_documents.proofs.ReportLemmas.{kept_by, kept_wider, wider}
-use Rattle.graphql_documents.proofs.ReportWithinLemmas.{checks_refused_within, in_words_within, within}
+use Rattle.graphql_diagnostics.proofs.ReportLemmas.{kept_by, kept_wider, wider}
+use Rattle.graphql_diagnostics.proofs.ReportWithinLemmas.{checks_refused_within, in_words_within, within}
 use Rattle.graphql_rules.proofs.OperationDeferLemmas.{checks_to_limit, rule_broken, rule_decided}
 use Rattle.graphql_rules.specs.OperationDefers.{IsMet, walk_of}
 use Rattle.graphql_rules.proofs.operations.defer.rules.DeferRule.check.Goals as goal

@@ -1,7 +1,7 @@
 use Rattle.std.proofs.Common.{◌∙◌, ap, refl, sym}
-use Rattle.graphql_documents.specs.declared.diagnostics.details.Details.TheVariants as details
+use Rattle.graphql_diagnostics.specs.declared.details.Details.TheVariants as details
 use Rattle.graphql_documents.proofs.ListLemmas.{kept_by_filter}
-use Rattle.graphql_documents.proofs.ReportLemmas.{checks-push}
+use Rattle.graphql_diagnostics.proofs.ReportLemmas.{checks-push}
 use Rattle.graphql_rules.proofs.OperationDeferLemmas.{not_false}
 use Rattle.graphql_rules.specs.OperationDefers.{Meets, is_defer}
 use Rattle.graphql_rules.proofs.operations.defer.rules.DeferRule.check_directive.Goals as goal

@@ -1,5 +1,5 @@
 use Rattle.std.proofs.Common.{refl}
-use Rattle.graphql_documents.proofs.ReportLemmas.{checks-err, in_words, kept_by, kept_then, walked_all, walked_more}
+use Rattle.graphql_diagnostics.proofs.ReportLemmas.{checks-err, in_words, kept_by, kept_then, walked_all, walked_more}
 use Rattle.graphql_rules.proofs.OperationDeferLemmas.{all_deferred, item_stands}
 use Rattle.graphql_rules.specs.OperationDefers.{BreaksAmong, MeetsIfDeferred}
 use Rattle.graphql_rules.proofs.operations.defer.rules.DeferRule.check_directives.Goals as goal

@@ -1,6 +1,6 @@
 use Rattle.std.proofs.Common.{◌∙◌, All, subst, sym}
 use Rattle.graphql_documents.specs.Defer.{defers}
-use Rattle.graphql_documents.proofs.ReportLemmas.{checks_words}
+use Rattle.graphql_diagnostics.proofs.ReportLemmas.{checks_words}
 use Rattle.graphql_rules.specs.OperationDefers.{BreaksAmong, Meets}
 use Rattle.graphql_rules.proofs.operations.defer.rules.DeferRule.check_selection.Goals as goal
 

@@ -1,5 +1,5 @@
 use Rattle.std.proofs.Common.{refl}
-use Rattle.graphql_documents.proofs.ReportLemmas.{checks-err, kept_by, kept_then, kept_wider, walked_all, walked_more, wider}
+use Rattle.graphql_diagnostics.proofs.ReportLemmas.{checks-err, kept_by, kept_then, kept_wider, walked_all, walked_more, wider}
 use Rattle.graphql_rules.proofs.OperationDeferLemmas.{item_stands}
 use Rattle.graphql_rules.specs.OperationDefers.{BreaksAny, HoldsAt}
 use Rattle.graphql_rules.proofs.operations.defer.rules.DeferRule.check_selections.Goals as goal

@@ -1,6 +1,6 @@
 use Rattle.std.proofs.Common.{All, take}
-use Rattle.graphql_documents.specs.Diagnostics.{entries}
-use Rattle.graphql_documents.specs.Reports.{Reports}
+use Rattle.graphql_diagnostics.specs.Diagnostics.{entries}
+use Rattle.graphql_diagnostics.specs.Reports.{Reports}
 use Rattle.graphql_rules.specs.OperationDefers.{BreaksAny, HoldsAt}
 use Rattle.graphql_rules.proofs.operations.defer.rules.DeferRule.check_selections.Given as goal
 

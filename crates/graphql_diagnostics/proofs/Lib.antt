@@ -1,0 +1,4 @@
+pub mod DiagnosticLemmas
+pub mod ReportLemmas
+pub mod ReportWithinLemmas
+pub mod SelectionReportLemmas

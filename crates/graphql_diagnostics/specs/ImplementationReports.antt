@@ -1,0 +1,164 @@
+-- What a report says of the interfaces that a type lists. Specification: 3.6 Objects, IsValidImplementation.
+use Rattle.std.specs.Prelude.{◌≡◌, List, Option, None, Some, IsTrue, IsFalse, Contains}
+use Rattle.graphql_documents.specs.Arguments.{definition_named}
+use Rattle.graphql_documents.specs.Implementations.{FieldList, ImplementsField, IsListedInterface, IsValidImplementationType, field_under}
+use Rattle.graphql_nodes.specs.Names.{NameText}
+use Rattle.graphql_nodes.specs.Nodes.{SameNode}
+use Rattle.graphql_documents.specs.Schemas.{IsListed, fields_of, interface_named, interfaces_of, is_required, location_of, own_name}
+use Rattle.graphql_documents.specs.TypeReferences.{IsTypeCopy, same_type}
+use Rattle.graphql_diagnostics.specs.declared.data.DiagnosticData.TheVariants as report
+use Rattle.graphql_diagnostics.specs.declared.data.DiagnosticData.{DiagnosticData}
+use Rattle.graphql_documents.specs.declared.documents.components.Component.{Component}
+use Rattle.graphql_documents.specs.declared.documents.components.ComponentName.{ComponentName}
+use Rattle.graphql_documents.specs.declared.documents.definitions.FieldDefinition.{FieldDefinition}
+use Rattle.graphql_documents.specs.declared.documents.definitions.InputValueDefinition.{InputValueDefinition}
+use Rattle.graphql_nodes.specs.declared.nodes.Node.{Node}
+use Rattle.graphql_documents.specs.declared.documents.schemas.ExtendedType.{ExtendedType}
+use Rattle.graphql_documents.specs.declared.documents.schemas.InterfaceType.{InterfaceType}
+use Rattle.graphql_documents.specs.declared.documents.schemas.Schema.{Schema}
+use Rattle.graphql_nodes.specs.declared.spans.SourceSpan.{SourceSpan}
+use Rattle.graphql_documents.specs.declared.documents.type_references.Type.{«Type»}
+
+-- a listed interface lists another, which the type does not list: reported at the type, with the place
+-- of that name in the other list
+pub record LacksTransitiveInterface (schema : Schema) (name : NameText) (location : Option SourceSpan) (interfaces : List ComponentName) (interface via missing : NameText) (transitive_location at : Option SourceSpan) : Type 0 where
+  pub listed : ComponentName
+  pub via_interface : Node InterfaceType
+  pub further : ComponentName
+  pub is_listed : IsListedInterface schema interfaces listed via_interface
+  pub lists_further : Contains via_interface.value.value.implements_interfaces.keys further
+  pub lacks : ¬ IsListed further.name interfaces
+  pub interface_is : interface ≡ name
+  pub via_is : via ≡ listed.name
+  pub missing_is : missing ≡ further.name
+  pub transitive_location_is : transitive_location ≡ further.name.location
+  pub at_is : at ≡ location
+
+-- a field of a listed interface is missing: reported at the type, with the places of the listed name and
+-- of the interface's field
+pub record LacksInterfaceField (schema : Schema) (owner : NameText) (location : Option SourceSpan) (fields : FieldList) (interfaces : List ComponentName) (name interface field : NameText) (implements_location field_location at : Option SourceSpan) : Type 0 where
+  pub listed : ComponentName
+  pub of_interface : Node InterfaceType
+  pub entry : NameText × Component FieldDefinition
+  pub is_listed : IsListedInterface schema interfaces listed of_interface
+  pub stands : Contains of_interface.value.value.fields.entries entry
+  pub missing : field_under entry.1.node.value.value.name fields ≡ None
+  pub name_is : name ≡ owner
+  pub interface_is : interface ≡ listed.name
+  pub field_is : field ≡ entry.1.node.value.value.name
+  pub implements_location_is : implements_location ≡ listed.name.location
+  pub field_location_is : field_location ≡ entry.1.node.location
+  pub at_is : at ≡ location
+
+-- the type of a field does not implement an interface's: reported at the field
+pub record HasInvalidFieldType (schema : Schema) (owner : NameText) (fields : FieldList) (interfaces : List ComponentName) (name interface field : NameText) (interface_type actual_type : «Type») (field_location interface_field_location at : Option SourceSpan) : Type 0 where
+  pub listed : ComponentName
+  pub wanted : Component FieldDefinition
+  pub own : Component FieldDefinition
+  pub implements : ImplementsField schema fields interfaces listed field wanted own
+  pub invalid : ¬ IsValidImplementationType schema wanted.node.value.value.ty own.node.value.value.ty
+  pub name_is : name ≡ owner
+  pub interface_is : interface ≡ listed.name
+  pub interface_type_is : IsTypeCopy wanted.node.value.value.ty interface_type
+  pub actual_type_is : IsTypeCopy own.node.value.value.ty actual_type
+  pub field_location_is : field_location ≡ own.node.location
+  pub interface_field_location_is : interface_field_location ≡ wanted.node.location
+  pub at_is : at ≡ own.node.location
+
+-- an argument of an interface's field is missing: reported at the implementing field
+pub record LacksInterfaceArgument (schema : Schema) (owner : NameText) (fields : FieldList) (interfaces : List ComponentName) (name interface field argument : NameText) (field_location interface_argument_location at : Option SourceSpan) : Type 0 where
+  pub listed : ComponentName
+  pub wanted : Component FieldDefinition
+  pub own : Component FieldDefinition
+  pub wanted_argument : Node InputValueDefinition
+  pub implements : ImplementsField schema fields interfaces listed field wanted own
+  pub stands : Contains wanted.node.value.value.arguments.items wanted_argument
+  pub missing : definition_named wanted_argument.value.value.name own.node.value.value.arguments.items ≡ None
+  pub name_is : name ≡ owner
+  pub interface_is : interface ≡ listed.name
+  pub argument_is : argument ≡ wanted_argument.value.value.name
+  pub field_location_is : field_location ≡ own.node.location
+  pub interface_argument_location_is : interface_argument_location ≡ wanted_argument.location
+  pub at_is : at ≡ own.node.location
+
+-- an argument has another type than the interface's: reported at the implementing argument
+pub record HasOtherArgumentType (schema : Schema) (owner : NameText) (fields : FieldList) (interfaces : List ComponentName) (name interface field argument : NameText) (interface_type actual_type : Node «Type») (argument_location interface_argument_location at : Option SourceSpan) : Type 0 where
+  pub listed : ComponentName
+  pub wanted : Component FieldDefinition
+  pub own : Component FieldDefinition
+  pub wanted_argument : Node InputValueDefinition
+  pub own_argument : Node InputValueDefinition
+  pub implements : ImplementsField schema fields interfaces listed field wanted own
+  pub stands : Contains wanted.node.value.value.arguments.items wanted_argument
+  pub provided : definition_named wanted_argument.value.value.name own.node.value.value.arguments.items ≡ Some own_argument
+  pub differ : IsFalse (same_type wanted_argument.value.value.ty.value.value own_argument.value.value.ty.value.value)
+  pub name_is : name ≡ owner
+  pub interface_is : interface ≡ listed.name
+  pub argument_is : argument ≡ wanted_argument.value.value.name
+  pub interface_type_is : SameNode wanted_argument.value.value.ty interface_type
+  pub actual_type_is : SameNode own_argument.value.value.ty actual_type
+  pub argument_location_is : argument_location ≡ own_argument.location
+  pub interface_argument_location_is : interface_argument_location ≡ wanted_argument.location
+  pub at_is : at ≡ own_argument.location
+
+-- a required argument is not the interface's: reported at the argument
+pub record HasExtraArgument (schema : Schema) (owner : NameText) (fields : FieldList) (interfaces : List ComponentName) (name interface field argument : NameText) (argument_location interface_field_location at : Option SourceSpan) : Type 0 where
+  pub listed : ComponentName
+  pub wanted : Component FieldDefinition
+  pub own : Component FieldDefinition
+  pub own_argument : Node InputValueDefinition
+  pub implements : ImplementsField schema fields interfaces listed field wanted own
+  pub stands : Contains own.node.value.value.arguments.items own_argument
+  pub required : IsTrue (is_required own_argument.value.value)
+  pub extra : definition_named own_argument.value.value.name wanted.node.value.value.arguments.items ≡ None
+  pub name_is : name ≡ owner
+  pub interface_is : interface ≡ listed.name
+  pub argument_is : argument ≡ own_argument.value.value.name
+  pub argument_location_is : argument_location ≡ own_argument.location
+  pub interface_field_location_is : interface_field_location ≡ wanted.node.location
+  pub at_is : at ≡ own_argument.location
+
+-- the report names what is wrong with the names of interfaces that a type lists, which has this name and
+-- stands there
+pub data InterfacesBreak (schema : Schema) (owner : NameText) (location : Option SourceSpan) (interfaces : List ComponentName) : DiagnosticData → Option SourceSpan → Type 0 where
+  of_undefined_interface : {listed : ComponentName} {at : Option SourceSpan} →
+      Contains interfaces listed → interface_named schema listed.name ≡ None → at ≡ listed.name.location →
+      InterfacesBreak schema owner location interfaces (report.UndefinedDefinition listed.name) at
+  of_transitive_interface : {interface via missing : NameText} {transitive_location at : Option SourceSpan} →
+      LacksTransitiveInterface schema owner location interfaces interface via missing transitive_location at →
+      InterfacesBreak schema owner location interfaces (report.TransitiveImplementedInterfaces interface via missing transitive_location) at
+
+-- the report names a field of a listed interface that a type with these fields lacks
+pub data InterfaceFieldsBreak (schema : Schema) (owner : NameText) (location : Option SourceSpan) (fields : FieldList) (interfaces : List ComponentName) : DiagnosticData → Option SourceSpan → Type 0 where
+  of_missing_field : {name interface field : NameText} {implements_location field_location at : Option SourceSpan} →
+      LacksInterfaceField schema owner location fields interfaces name interface field implements_location field_location at →
+      InterfaceFieldsBreak schema owner location fields interfaces (report.MissingInterfaceField name interface field implements_location field_location) at
+
+-- the report names a field whose type does not implement an interface's
+pub data ImplementationFieldTypesBreak (schema : Schema) (owner : NameText) (fields : FieldList) (interfaces : List ComponentName) : DiagnosticData → Option SourceSpan → Type 0 where
+  of_implementing_type : {name interface field : NameText} {interface_type actual_type : «Type»} {field_location interface_field_location at : Option SourceSpan} →
+      HasInvalidFieldType schema owner fields interfaces name interface field interface_type actual_type field_location interface_field_location at →
+      ImplementationFieldTypesBreak schema owner fields interfaces (report.InvalidImplementationFieldType name interface field interface_type actual_type field_location interface_field_location) at
+
+-- the report names a field whose arguments do not implement an interface's
+pub data ImplementationFieldArgumentsBreak (schema : Schema) (owner : NameText) (fields : FieldList) (interfaces : List ComponentName) : DiagnosticData → Option SourceSpan → Type 0 where
+  of_lacked_argument : {name interface field argument : NameText} {field_location interface_argument_location at : Option SourceSpan} →
+      LacksInterfaceArgument schema owner fields interfaces name interface field argument field_location interface_argument_location at →
+      ImplementationFieldArgumentsBreak schema owner fields interfaces (report.MissingInterfaceFieldArgument name interface field argument field_location interface_argument_location) at
+  of_argument_type : {name interface field argument : NameText} {interface_type actual_type : Node «Type»} {argument_location interface_argument_location at : Option SourceSpan} →
+      HasOtherArgumentType schema owner fields interfaces name interface field argument interface_type actual_type argument_location interface_argument_location at →
+      ImplementationFieldArgumentsBreak schema owner fields interfaces (report.InvalidImplementationFieldArgumentType name interface field argument interface_type actual_type argument_location interface_argument_location) at
+  of_extra_argument : {name interface field argument : NameText} {argument_location interface_field_location at : Option SourceSpan} →
+      HasExtraArgument schema owner fields interfaces name interface field argument argument_location interface_field_location at →
+      ImplementationFieldArgumentsBreak schema owner fields interfaces (report.ExtraRequiredImplementationFieldArgument name interface field argument argument_location interface_field_location) at
+
+-- the report names what is wrong with the interfaces that a type lists, by one of these parts
+pub data ImplementationBreaks (schema : Schema) (d : ExtendedType) : DiagnosticData → Option SourceSpan → Type 0 where
+  of_interfaces : {r : DiagnosticData} {at : Option SourceSpan} →
+      InterfacesBreak schema (own_name d) (location_of d) (interfaces_of d) r at → ImplementationBreaks schema d r at
+  of_interface_fields : {r : DiagnosticData} {at : Option SourceSpan} →
+      InterfaceFieldsBreak schema (own_name d) (location_of d) (fields_of d) (interfaces_of d) r at → ImplementationBreaks schema d r at
+  of_field_types : {r : DiagnosticData} {at : Option SourceSpan} →
+      ImplementationFieldTypesBreak schema (own_name d) (fields_of d) (interfaces_of d) r at → ImplementationBreaks schema d r at
+  of_field_arguments : {r : DiagnosticData} {at : Option SourceSpan} →
+      ImplementationFieldArgumentsBreak schema (own_name d) (fields_of d) (interfaces_of d) r at → ImplementationBreaks schema d r at

@@ -1,0 +1,3 @@
+pub mod Names
+pub mod Nodes
+pub mod Spans
