@@ -1,6 +1,6 @@
 use super::fixtures::{is_text, name, schema_of};
 use graphql_diagnostics::DiagnosticList;
-use graphql_documents::documents::{ExecutableDocument, Selection, SelectionSet};
+use graphql_documents::documents::{ExecutableDocument, Schema, Selection, SelectionSet};
 use graphql_merging::field_selections::FieldSelection;
 use graphql_rows::build::document;
 use graphql_validation::collect::collect_fields;
@@ -33,7 +33,7 @@ const ITSELF: &str = "type Query { q: Query a: Int b: Int }";
 
 const BY_TYPES: &str = "{ p { x: n ... on D { x: n y: a } ... on C { y: n } } }";
 
-const COLLECTIONS: [Collection; 6] = [
+const COLLECTIONS: &[Collection] = &[
     Collection {
         schema: ABSTRACT,
         document: BY_TYPES,
@@ -107,32 +107,33 @@ fn shown(
     text
 }
 
-#[test]
-fn fields_are_collected_by_key_for_an_object(rt: HostRuntime) {
-    let alloc = rt.alloc();
-    for collection in &COLLECTIONS {
-        let schema = schema_of(&rt, alloc, collection.schema);
-        let document = document(alloc, &schema.0, collection.document).expect(&rt, "a document");
-        let object = name(&rt, alloc, collection.object);
-        let sets = [set_of(&rt, &document, collection.from)];
-        let collected = collect_fields(alloc, &schema.0, &document, &object, &sets);
-        let collected = collected.expect(&rt, "memory for fields");
-        is_text(
-            &rt,
-            shown(&rt, alloc, &collected).as_str(),
-            collection.expected,
-        );
-    }
+/// What the object answers of the document.
+fn answered(
+    rt: &impl Abort,
+    alloc: Global,
+    schema: &Schema,
+    document: &ExecutableDocument,
+    collection: &Collection,
+) -> String {
+    let object = name(rt, alloc, collection.object);
+    let sets = [set_of(rt, document, collection.from)];
+    let collected = collect_fields(alloc, schema, document, &object, &sets);
+    shown(rt, alloc, &collected.expect(rt, "memory for fields"))
+}
+
+/// The same, of the document's text.
+fn answered_of(rt: &impl Abort, alloc: Global, collection: &Collection) -> String {
+    let schema = schema_of(rt, alloc, collection.schema);
+    let document = document(alloc, &schema.0, collection.document).expect(rt, "a document");
+    answered(rt, alloc, &schema.0, &document, collection)
 }
 
 #[test]
-fn nothing_is_collected_from_no_set(rt: HostRuntime) {
-    let alloc = rt.alloc();
-    let schema = schema_of(&rt, alloc, ITSELF);
-    let document = document(alloc, &schema.0, "{ a }").expect(&rt, "a document");
-    let object = name(&rt, alloc, "Query");
-    let collected = collect_fields(alloc, &schema.0, &document, &object, &[]);
-    assert!(&rt; collected.expect(&rt, "memory for fields").is_empty());
+fn fields_are_collected_by_key_for_an_object(rt: HostRuntime) {
+    for collection in COLLECTIONS {
+        let found = answered_of(&rt, rt.alloc(), collection);
+        is_text(&rt, found.as_str(), collection.expected);
+    }
 }
 
 #[test]

@@ -8,7 +8,7 @@ use std::alloc::Global;
 use std::process::Abort;
 
 /// Documents, and what is reported of their `@defer`.
-const DOCUMENTS: [(&str, &str); 8] = [
+const DOCUMENTS: &[(&str, &str)] = &[
     (
         "{ ... @defer(label: \"x\") { a } q { ... @defer(label: \"y\") { a } } ... @defer { a } }",
         "",
@@ -80,7 +80,7 @@ fn deep(rt: &impl Abort, alloc: Global, depth: usize) -> String {
 }
 
 /// How deep the label of an operation stands, and what is reported. Operations come before fragments.
-const DEPTHS: [(usize, &str); 3] = [
+const DEPTHS: &[(usize, &str)] = &[
     (
         498,
         "40-43 DuplicateDeferLabel x 3102-3105\n\
@@ -104,7 +104,7 @@ fn a_label_repeats_the_first_that_was_met(rt: HostRuntime) {
     let alloc = rt.alloc();
     let schema = schema_of(&rt, alloc, DEFER);
     for (depth, expected) in DEPTHS {
-        let written = deep(&rt, alloc, depth);
+        let written = deep(&rt, alloc, *depth);
         brings(&rt, alloc, &schema.0, written.as_str(), expected);
     }
 }

@@ -7,7 +7,7 @@ use std::alloc::Global;
 use std::process::Abort;
 
 /// Directives on a field, and what is reported of them.
-const ON_A_FIELD: [(&str, &str); 5] = [
+const ON_A_FIELD: &[(&str, &str)] = &[
     (
         "@skip(if: true) @skip(if: true)",
         "- non-repeatable directive skip can only be used once per location\n",

@@ -11,7 +11,7 @@ use std::alloc::Global;
 use std::process::Abort;
 
 /// The examples of field sets and of documents that stand nowhere.
-const EXAMPLES: [&str; 78] = [
+const EXAMPLES: &[&str] = &[
     "1a", "1b", "1c", "1d", "3a", "3b", "4a", "4b", "5", "6", "7", "8", "9", "10a", "10b", "11",
     "12a", "12b", "15a", "15b", "17a", "17b", "17c", "17d", "17e", "18a", "18b", "18c", "19a",
     "19b", "19c", "20a", "20b", "21a", "21b", "22a", "22b", "23a", "23b", "24a", "24b", "24c",
@@ -62,7 +62,7 @@ fn walks_over_subscriptions_go_into_500_sets(rt: HostRuntime) {
 }
 
 /// Documents, and whether a builder could have made them with their schemas.
-const BUILT: [(&str, bool); 10] = [
+const BUILT: &[(&str, bool)] = &[
     ("7", true),
     ("8", true),
     ("20a", true),
@@ -90,6 +90,6 @@ fn documents_are_built_against_their_schemas_or_not(rt: HostRuntime) {
         let case = case.expect(&rt, "an example");
         let found = is_built(&rt, &case);
         drop(case);
-        assert_eq!(rt; found, expected, "{id}");
+        assert_eq!(rt; found, *expected, "{id}");
     }
 }

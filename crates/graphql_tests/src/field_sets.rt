@@ -8,7 +8,7 @@ use std::alloc::Global;
 use std::process::Abort;
 
 /// The examples whose selections can stand in a field set.
-const FIELD_SETS: [&str; 14] = [
+const FIELD_SETS: &[&str] = &[
     "1a", "1b", "1c", "17a", "17b", "17c", "17d", "17e", "18a", "18b", "18c", "19a", "19b", "19c",
 ];
 

@@ -33,7 +33,7 @@ fn is_counted(rt: &impl Abort, alloc: Global, row: &Row, counts: &[u64]) {
 }
 
 /// Examples, and how many shapes were compared after each of their operations.
-const COUNTS: [(&str, &[u64]); 8] = [
+const COUNTS: &[(&str, &[u64])] = &[
     ("2", &[1]),
     ("3a", &[1]),
     ("4b", &[3]),
@@ -62,7 +62,7 @@ fn the_first_field_is_compared_with_the_rest(rt: HostRuntime) {
 }
 
 /// Examples, and what they report, with the key of the fields and with both fields.
-const CONFLICTS: [(&str, &str); 6] = [
+const CONFLICTS: &[(&str, &str)] = &[
     ("3b", "- ConflictingFieldType x D.s C.n\n"),
     ("4a", "- ConflictingFieldName x D.a P.n\n"),
     ("4b", "- ConflictingFieldName y Query.a Query.b\n"),

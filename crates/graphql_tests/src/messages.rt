@@ -599,39 +599,43 @@ fn details_show_messages_and_names(rt: HostRuntime) {
     given.prints(Details::Build(conflict), "ConflictingFieldType");
 }
 
+const LOCATIONS: &[(DirectiveLocation, &str)] = &[
+    (DirectiveLocation::Query, "QUERY"),
+    (DirectiveLocation::Mutation, "MUTATION"),
+    (DirectiveLocation::Subscription, "SUBSCRIPTION"),
+    (DirectiveLocation::Field, "FIELD"),
+    (DirectiveLocation::FragmentDefinition, "FRAGMENT_DEFINITION"),
+    (DirectiveLocation::FragmentSpread, "FRAGMENT_SPREAD"),
+    (DirectiveLocation::InlineFragment, "INLINE_FRAGMENT"),
+    (DirectiveLocation::VariableDefinition, "VARIABLE_DEFINITION"),
+    (DirectiveLocation::Schema, "SCHEMA"),
+    (DirectiveLocation::Scalar, "SCALAR"),
+    (DirectiveLocation::Object, "OBJECT"),
+    (DirectiveLocation::FieldDefinition, "FIELD_DEFINITION"),
+    (DirectiveLocation::ArgumentDefinition, "ARGUMENT_DEFINITION"),
+    (DirectiveLocation::Interface, "INTERFACE"),
+    (DirectiveLocation::Union, "UNION"),
+    (DirectiveLocation::Enum, "ENUM"),
+    (DirectiveLocation::EnumValue, "ENUM_VALUE"),
+    (DirectiveLocation::InputObject, "INPUT_OBJECT"),
+    (
+        DirectiveLocation::InputFieldDefinition,
+        "INPUT_FIELD_DEFINITION",
+    ),
+];
+
+const OPERATION_TYPES: &[(OperationType, &str)] = &[
+    (OperationType::Query, "query"),
+    (OperationType::Mutation, "mutation"),
+    (OperationType::Subscription, "subscription"),
+];
+
 #[test]
 fn words_of_locations_and_operations(rt: HostRuntime) {
-    for (location, expected) in [
-        (DirectiveLocation::Query, "QUERY"),
-        (DirectiveLocation::Mutation, "MUTATION"),
-        (DirectiveLocation::Subscription, "SUBSCRIPTION"),
-        (DirectiveLocation::Field, "FIELD"),
-        (DirectiveLocation::FragmentDefinition, "FRAGMENT_DEFINITION"),
-        (DirectiveLocation::FragmentSpread, "FRAGMENT_SPREAD"),
-        (DirectiveLocation::InlineFragment, "INLINE_FRAGMENT"),
-        (DirectiveLocation::VariableDefinition, "VARIABLE_DEFINITION"),
-        (DirectiveLocation::Schema, "SCHEMA"),
-        (DirectiveLocation::Scalar, "SCALAR"),
-        (DirectiveLocation::Object, "OBJECT"),
-        (DirectiveLocation::FieldDefinition, "FIELD_DEFINITION"),
-        (DirectiveLocation::ArgumentDefinition, "ARGUMENT_DEFINITION"),
-        (DirectiveLocation::Interface, "INTERFACE"),
-        (DirectiveLocation::Union, "UNION"),
-        (DirectiveLocation::Enum, "ENUM"),
-        (DirectiveLocation::EnumValue, "ENUM_VALUE"),
-        (DirectiveLocation::InputObject, "INPUT_OBJECT"),
-        (
-            DirectiveLocation::InputFieldDefinition,
-            "INPUT_FIELD_DEFINITION",
-        ),
-    ] {
+    for (location, expected) in LOCATIONS {
         is_text(&rt, location.name(), expected);
     }
-    for (operation_type, expected) in [
-        (OperationType::Query, "query"),
-        (OperationType::Mutation, "mutation"),
-        (OperationType::Subscription, "subscription"),
-    ] {
+    for (operation_type, expected) in OPERATION_TYPES {
         is_text(&rt, operation_type.name(), expected);
     }
 }

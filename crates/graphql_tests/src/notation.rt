@@ -1,6 +1,7 @@
 use super::fixtures::{name, query_of_itself, schema_of};
 use graphql_documents::documents::{
-    ComponentOrigin, DirectiveLocation, ExtendedType, FileId, ObjectType, Schema,
+    ComponentOrigin, DirectiveDefinition, DirectiveLocation, ExtendedType, FileId, ObjectType,
+    Schema,
 };
 use graphql_rows::RowError;
 use graphql_rows::build::{document, schema};
@@ -34,16 +35,36 @@ fn extensions_add_parts_of_their_own_origin(rt: HostRuntime) {
     assert!(rt; roots.query.is_some() && roots.subscription.is_none());
 }
 
+/// The definition of the directive of this name.
+fn directive<'a>(
+    rt: &impl Abort,
+    alloc: Global,
+    schema: &'a Schema,
+    text: &str,
+) -> &'a DirectiveDefinition {
+    let found = schema.directive_definitions.get(&name(rt, alloc, text));
+    &found.expect(rt, "a definition").value
+}
+
 #[test]
 fn directives_are_defined_with_their_locations(rt: HostRuntime) {
     let alloc = rt.alloc();
     let written = "directive @d(a: Int = 1) repeatable on SCHEMA | FIELD";
     let schema = schema_of(&rt, alloc, written).0;
-    let found = schema.directive_definitions.get(&name(&rt, alloc, "d"));
-    let definition = &found.expect(&rt, "a definition").value;
+    let definition = directive(&rt, alloc, &schema, "d");
     assert!(rt; definition.repeatable && definition.arguments.len() == 1);
     let locations = [DirectiveLocation::Schema, DirectiveLocation::Field];
     assert_eq!(rt; definition.locations.as_slice(), locations.as_slice());
+}
+
+/// The type under this key, if there is one.
+fn type_under<'a>(
+    rt: &impl Abort,
+    alloc: Global,
+    schema: &'a Schema,
+    key: &str,
+) -> Option<&'a ExtendedType> {
+    schema.types.get(&name(rt, alloc, key))
 }
 
 #[test]
@@ -51,9 +72,9 @@ fn definitions_stand_under_chosen_keys(rt: HostRuntime) {
     let alloc = rt.alloc();
     let written = "without ID key X type Query { f: Int } key Float builtin type F { a: Int }";
     let schema = schema_of(&rt, alloc, written).0;
-    assert!(rt; !schema.types.contains_key(&name(&rt, alloc, "ID")));
+    assert!(rt; type_under(&rt, alloc, &schema, "ID").is_none());
     assert_eq!(rt; object(&rt, alloc, &schema, "X").name.as_str(), "Query");
-    let float = schema.types.get(&name(&rt, alloc, "Float"));
+    let float = type_under(&rt, alloc, &schema, "Float");
     let place = float.expect(&rt, "a type").location();
     assert!(rt; place.is_some_and(|place| place.file_id == FileId::BUILT_IN));
     assert_eq!(rt; schema.types.len(), 5);
@@ -64,21 +85,23 @@ fn fault_of_schema(alloc: Global, written: &str) -> Option<RowError> {
     schema(alloc, written).err()
 }
 
+const FAULTS_OF_SCHEMAS: &[(&str, RowError)] = &[
+    ("type Query { f: Int f: Int }", RowError::RepeatedName),
+    ("scalar Int", RowError::RepeatedName),
+    ("type Query { f: [Int }", RowError::NotInNotation),
+    ("type Query { : Int }", RowError::NotAName),
+    ("type Query { f Int }", RowError::NotInNotation),
+    ("scalar A extend scalar B @d", RowError::NotInNotation),
+    ("directive @d on NOWHERE", RowError::NotALocation),
+    ("<1-2 scalar A%>", RowError::NotARepetition),
+];
+
 #[test]
 fn faults_of_schemas_are_told_apart(rt: HostRuntime) {
-    for (written, fault) in [
-        ("type Query { f: Int f: Int }", RowError::RepeatedName),
-        ("scalar Int", RowError::RepeatedName),
-        ("type Query { f: [Int }", RowError::NotInNotation),
-        ("type Query { : Int }", RowError::NotAName),
-        ("type Query { f Int }", RowError::NotInNotation),
-        ("scalar A extend scalar B @d", RowError::NotInNotation),
-        ("directive @d on NOWHERE", RowError::NotALocation),
-        ("<1-2 scalar A%>", RowError::NotARepetition),
-    ] {
+    for (written, fault) in FAULTS_OF_SCHEMAS {
         assert_eq!(rt;
             fault_of_schema(rt.alloc(), written),
-            Some(fault),
+            Some(*fault),
             "{written}"
         );
     }
@@ -89,20 +112,22 @@ fn fault_of_document(alloc: Global, schema: &Schema, written: &str) -> Option<Ro
     document(alloc, schema, written).err()
 }
 
+const FAULTS_OF_DOCUMENTS: &[(&str, RowError)] = &[
+    ("{ x }", RowError::NoSuchField),
+    ("fragment F on X { x }", RowError::NoSuchType),
+    ("mutation { x }", RowError::NoSuchRoot),
+    ("{ a(x: 1e) }", RowError::NotANumber),
+    ("<1-520:{ q >{ a }<1-520: }>", RowError::TooDeep),
+];
+
 #[test]
 fn faults_of_documents_are_told_apart(rt: HostRuntime) {
     let alloc = rt.alloc();
     let schema = query_of_itself(&rt, alloc).0;
-    for (written, fault) in [
-        ("{ x }", RowError::NoSuchField),
-        ("fragment F on X { x }", RowError::NoSuchType),
-        ("mutation { x }", RowError::NoSuchRoot),
-        ("{ a(x: 1e) }", RowError::NotANumber),
-        ("<1-520:{ q >{ a }<1-520: }>", RowError::TooDeep),
-    ] {
+    for (written, fault) in FAULTS_OF_DOCUMENTS {
         assert_eq!(rt;
             fault_of_document(alloc, &schema, written),
-            Some(fault),
+            Some(*fault),
             "{written}"
         );
     }

@@ -2,7 +2,7 @@ use super::fixtures::text;
 use graphql_documents::documents::{FloatValue, IntValue};
 
 /// Texts, and whether each writes an integer and a float.
-const TEXTS: [(&str, bool, bool); 22] = [
+const TEXTS: &[(&str, bool, bool)] = &[
     ("-0", true, false),
     ("7", true, false),
     ("99999999999999999999", true, false),
@@ -31,8 +31,8 @@ const TEXTS: [(&str, bool, bool); 22] = [
 fn texts_write_integers_floats_or_neither(rt: HostRuntime) {
     for (written, is_integer, is_float) in TEXTS {
         let integer = IntValue::new(text(&rt, rt.alloc(), written));
-        assert_eq!(rt; integer.is_some(), is_integer, "{written}");
+        assert_eq!(rt; integer.is_some(), *is_integer, "{written}");
         let float = FloatValue::new(text(&rt, rt.alloc(), written));
-        assert_eq!(rt; float.is_some(), is_float, "{written}");
+        assert_eq!(rt; float.is_some(), *is_float, "{written}");
     }
 }

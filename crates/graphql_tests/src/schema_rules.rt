@@ -42,7 +42,7 @@ const BROKEN: &str = "
     input NoFields";
 
 /// Types of that schema, and what the call of its kind reports of each.
-const TYPES: [(&str, &str); 12] = [
+const TYPES: &[(&str, &str)] = &[
     (
         "Date",
         "- deprecated directive is not supported for SCALAR location\n",
@@ -366,7 +366,7 @@ fn reserved_names_stand_for_what_is_built_in(rt: HostRuntime) {
 }
 
 /// Names in order, whether each is a built-in scalar's, and whether all of these were met then.
-const RECORDED: [(&str, bool, bool); 7] = [
+const RECORDED: &[(&str, bool, bool)] = &[
     ("Int", true, false),
     ("ID", true, false),
     ("Query", false, false),
@@ -385,10 +385,10 @@ fn built_in_scalars_are_recorded(rt: HostRuntime) {
         let name = name(&rt, rt.alloc(), written);
         assert_eq!(rt;
             used.record_type_ref(&schema.0, &name),
-            is_built_in,
+            *is_built_in,
             "{written}"
         );
-        assert_eq!(rt; used.all_used(), are_all, "{written}");
+        assert_eq!(rt; used.all_used(), *are_all, "{written}");
     }
 }
 

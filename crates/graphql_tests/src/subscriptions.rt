@@ -8,7 +8,7 @@ use std::alloc::Global;
 use std::process::Abort;
 
 /// Documents of one operation, and what is reported of it as a subscription.
-const SUBSCRIPTIONS: [(&str, &str); 8] = [
+const SUBSCRIPTIONS: &[(&str, &str)] = &[
     ("subscription { a }", ""),
     ("{ a __typename a: a @skip(if: true) }", ""),
     (

@@ -15,7 +15,7 @@ struct Settled {
     types: &'static str,
 }
 
-const SETTLED: [Settled; 6] = [
+const SETTLED: &[Settled] = &[
     Settled {
         schema: "type Query { f: Int g: X }",
         reports: "- cannot find type `X` in this document\n",
@@ -71,7 +71,7 @@ fn is_settled(rt: &impl Abort, alloc: Global, schema: &mut Schema, expected: &Se
 #[test]
 fn types_are_settled_whatever_is_reported_and_stay_so(rt: HostRuntime) {
     let alloc = rt.alloc();
-    for expected in &SETTLED {
+    for expected in SETTLED {
         let mut schema = schema_of(&rt, alloc, expected.schema);
         is_settled(&rt, alloc, &mut schema.0, expected);
         is_settled(&rt, alloc, &mut schema.0, expected);

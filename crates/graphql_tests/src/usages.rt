@@ -1,6 +1,6 @@
 use super::fixtures::{argument_definition, reports, schema_of};
 use graphql_diagnostics::DiagnosticList;
-use graphql_documents::documents::{Argument, Node, VariableDefinition};
+use graphql_documents::documents::{Argument, Node, Schema, Type, VariableDefinition};
 use graphql_rows::build::{arguments, variables};
 use graphql_values::value::validate_values;
 use graphql_values::variable::{is_variable_usage_allowed, validate_variable_usage};
@@ -24,19 +24,22 @@ fn is_allowed(rt: &impl Abort, alloc: Global, written: &str, taken: &str) -> boo
     is_variable_usage_allowed(&variable.value, &place.value)
 }
 
+/// Variables, places where they stand, and whether they may.
+const USAGES: &[(&str, &str, bool)] = &[
+    ("($v: Int = 1)", "(n: Int!)", true),
+    ("($v: Int = null)", "(n: Int!)", false),
+    ("($v: Int)", "(n: Int! = 3)", true),
+    ("($v: [Int!])", "(n: [Int])", true),
+    ("($v: Int)", "(n: [Int])", false),
+    ("($v: [Int])", "(n: [Int!]! = [1])", false),
+];
+
 #[test]
 fn usages_are_allowed_or_not(rt: HostRuntime) {
-    for (variable, place, allowed) in [
-        ("($v: Int = 1)", "(n: Int!)", true),
-        ("($v: Int = null)", "(n: Int!)", false),
-        ("($v: Int)", "(n: Int! = 3)", true),
-        ("($v: [Int!])", "(n: [Int])", true),
-        ("($v: Int)", "(n: [Int])", false),
-        ("($v: [Int])", "(n: [Int!]! = [1])", false),
-    ] {
+    for (variable, place, allowed) in USAGES {
         assert_eq!(rt;
             is_allowed(&rt, rt.alloc(), variable, place),
-            allowed,
+            *allowed,
             "{variable}"
         );
     }
@@ -60,17 +63,31 @@ fn a_misused_variable_is_reported(rt: HostRuntime) {
     reports(&rt, alloc, &found, MISUSED);
 }
 
+/// What the value of the argument brings at a place of this type.
+fn checked(
+    rt: &impl Abort,
+    alloc: Global,
+    schema: &Schema,
+    ty: &Node<Type>,
+    argument: &Node<Argument>,
+    defined: &[Node<VariableDefinition>],
+) -> DiagnosticList {
+    let mut found = DiagnosticList::new(alloc);
+    validate_values(&mut found, schema, ty, argument, defined).expect(rt, "memory");
+    found
+}
+
+const IN_LISTS: &[(&str, &str)] = &[("($v: Int)", ""), ("($v: String)", WRONG_ITEM)];
+
 #[test]
 fn variables_in_lists_go_by_the_innermost_type(rt: HostRuntime) {
     let alloc = rt.alloc();
     let schema = schema_of(&rt, alloc, "");
     let place = argument_definition(&rt, alloc, "(n: [Int])");
     let argument = given(&rt, alloc, "(n: [$v])");
-    for (variable, expected) in [("($v: Int)", ""), ("($v: String)", WRONG_ITEM)] {
+    for (variable, expected) in IN_LISTS {
         let built = defined(&rt, alloc, variable);
-        let mut found = DiagnosticList::new(alloc);
-        let ty = &place.value.ty;
-        validate_values(&mut found, &schema.0, ty, &argument, &built).expect(&rt, "memory");
+        let found = checked(&rt, alloc, &schema.0, &place.value.ty, &argument, &built);
         reports(&rt, alloc, &found, expected);
     }
 }

@@ -1,6 +1,6 @@
 use super::fixtures::{is_text, query_of_itself, reports};
 use graphql_diagnostics::DiagnosticList;
-use graphql_documents::documents::{ExecutableDocument, FileId, SourceSpan, Value};
+use graphql_documents::documents::{ExecutableDocument, FileId, Schema, SourceSpan, Value};
 use graphql_rows::build::{arguments, document, document_in_file, schema, variables};
 use graphql_values::directive::validate_variable_definitions;
 use graphql_values::variable::{validate_unused_variables, variables_in_value};
@@ -8,7 +8,7 @@ use std::alloc::Global;
 use std::process::Abort;
 
 /// Definitions of variables, and what is reported of them.
-const DEFINITIONS: [(&str, &str); 5] = [
+const DEFINITIONS: &[(&str, &str)] = &[
     ("($v: Query)", "- `$v` variable must be of an input type\n"),
     ("($v: X)", "- cannot find type `X` in this document\n"),
     (
@@ -25,16 +25,20 @@ const DEFINITIONS: [(&str, &str); 5] = [
     ),
 ];
 
+/// What these definitions bring.
+fn defined(rt: &impl Abort, alloc: Global, schema: &Schema, written: &str) -> DiagnosticList {
+    let built = variables(alloc, written).expect(rt, "variables");
+    let mut found = DiagnosticList::new(alloc);
+    validate_variable_definitions(&mut found, Some(schema), &built).expect(rt, "memory");
+    found
+}
+
 #[test]
 fn definitions_of_variables_are_checked(rt: HostRuntime) {
-    let alloc = rt.alloc();
-    let schema = query_of_itself(&rt, alloc);
+    let schema = query_of_itself(&rt, rt.alloc());
     for (written, expected) in DEFINITIONS {
-        let built = variables(alloc, written).expect(&rt, "variables");
-        let mut found = DiagnosticList::new(alloc);
-        let answer = validate_variable_definitions(&mut found, Some(&schema.0), &built);
-        answer.expect(&rt, "memory");
-        reports(&rt, alloc, &found, expected);
+        let found = defined(&rt, rt.alloc(), &schema.0, written);
+        reports(&rt, rt.alloc(), &found, expected);
     }
 }
 
@@ -54,13 +58,17 @@ const LAST: SourceSpan = SourceSpan {
     end: 27,
 };
 
+/// The same, of a document in a file over a query of itself.
+fn uses_in_file(rt: &impl Abort, alloc: Global, written: &str) -> DiagnosticList {
+    let schema = query_of_itself(rt, alloc);
+    let document = document_in_file(alloc, &schema.0, written, FileId(1));
+    uses(rt, alloc, &document.expect(rt, "a document"))
+}
+
 #[test]
 fn unused_variables_come_in_order_of_first_definition(rt: HostRuntime) {
     let alloc = rt.alloc();
-    let schema = query_of_itself(&rt, alloc);
-    let written = "query ($b: Int, $a: Int, $b: Int) { a }";
-    let document = document_in_file(alloc, &schema.0, written, FileId(1));
-    let found = uses(&rt, alloc, &document.expect(&rt, "a document"));
+    let found = uses_in_file(&rt, alloc, "query ($b: Int, $a: Int, $b: Int) { a }");
     reports(
         &rt,
         alloc,
@@ -74,20 +82,20 @@ fn unused_variables_come_in_order_of_first_definition(rt: HostRuntime) {
 const ON_FRAGMENTS: &str =
     "type Query { q: Query a: Int } directive @onF(x: Boolean) on FRAGMENT_DEFINITION";
 
+/// The uses in a document of this text bring these reports.
+fn uses_bring(rt: &impl Abort, alloc: Global, schema: &Schema, written: &str, expected: &str) {
+    let document = document(alloc, schema, written).expect(rt, "a document");
+    reports(rt, alloc, &uses(rt, alloc, &document), expected);
+}
+
 #[test]
 fn uses_are_looked_for_in_directives_of_fragments_and_500_sets_deep(rt: HostRuntime) {
     let alloc = rt.alloc();
     let schema = schema(alloc, ON_FRAGMENTS).expect(&rt, "a schema");
-    for (written, expected) in [
-        (
-            "query ($v: Boolean) { ...F } fragment F on Query @onF(x: $v) { a }",
-            "",
-        ),
-        ("{ <1-501:q { ><1-501:} >}", "- too much recursion\n"),
-    ] {
-        let document = document(alloc, &schema.0, written).expect(&rt, "a document");
-        reports(&rt, alloc, &uses(&rt, alloc, &document), expected);
-    }
+    let used = "query ($v: Boolean) { ...F } fragment F on Query @onF(x: $v) { a }";
+    uses_bring(&rt, alloc, &schema.0, used, "");
+    let deep = "{ <1-501:q { ><1-501:} >}";
+    uses_bring(&rt, alloc, &schema.0, deep, "- too much recursion\n");
 }
 
 /// The names of the variables in a value, one behind another.

@@ -39,7 +39,7 @@ fn has_listed(rt: &impl Abort, alloc: Global, walked: &Walked<'_>, expected: &st
 }
 
 /// A document, what the walk inside the set of its operation lists, and what the one below fields does.
-const WALKS: [(&str, &str, &str); 2] = [
+const WALKS: &[(&str, &str, &str)] = &[
     (
         "query { ...F } fragment F on Query { q { ...F } x: a x: b }",
         " ...F q a b",
@@ -52,40 +52,40 @@ const WALKS: [(&str, &str, &str); 2] = [
     ),
 ];
 
+/// What the walk inside the set of the document's operation lists.
+fn inside<'a>(rt: &impl Abort, alloc: Global, document: &'a ExecutableDocument) -> Walked<'a> {
+    walk_selections(alloc, document, set_of(rt, document)).expect(rt, "memory")
+}
+
+/// What the walk below fields lists.
+fn below<'a>(rt: &impl Abort, alloc: Global, document: &'a ExecutableDocument) -> Walked<'a> {
+    let walked = walk_selections_with_deduped_fragments(alloc, document, set_of(rt, document));
+    walked.expect(rt, "memory")
+}
+
 #[test]
 fn walks_go_depth_first_and_into_each_fragment_once(rt: HostRuntime) {
     let alloc = rt.alloc();
-    for (written, inside, below) in WALKS {
+    for (written, listed, listed_below) in WALKS {
         let document = document_of(&rt, alloc, written);
-        let set = set_of(&rt, &document);
-        let walked = walk_selections(alloc, &document, set);
-        has_listed(&rt, alloc, &walked.expect(&rt, "memory"), inside);
-        let walked = walk_selections_with_deduped_fragments(alloc, &document, set);
-        has_listed(&rt, alloc, &walked.expect(&rt, "memory"), below);
+        has_listed(&rt, alloc, &inside(&rt, alloc, &document), listed);
+        has_listed(&rt, alloc, &below(&rt, alloc, &document), listed_below);
     }
+}
+
+fn is_complete_inside(rt: &impl Abort, alloc: Global, written: &str) -> bool {
+    inside(rt, alloc, &document_of(rt, alloc, written)).complete
+}
+
+fn is_complete_below(rt: &impl Abort, alloc: Global, written: &str) -> bool {
+    below(rt, alloc, &document_of(rt, alloc, written)).complete
 }
 
 #[test]
 fn walks_go_into_500_sets(rt: HostRuntime) {
     let alloc = rt.alloc();
-    for (inside, below, ends) in [
-        (
-            "{ <1-500:... { ><1-500:} >}",
-            "{ <1-500:q { ><1-500:} >}",
-            true,
-        ),
-        (
-            "{ <1-501:... { ><1-501:} >}",
-            "{ <1-501:q { ><1-501:} >}",
-            false,
-        ),
-    ] {
-        let document = document_of(&rt, alloc, inside);
-        let walked = walk_selections(alloc, &document, set_of(&rt, &document));
-        assert_eq!(rt; walked.expect(&rt, "memory").complete, ends);
-        let document = document_of(&rt, alloc, below);
-        let set = set_of(&rt, &document);
-        let walked = walk_selections_with_deduped_fragments(alloc, &document, set);
-        assert_eq!(rt; walked.expect(&rt, "memory").complete, ends);
-    }
+    assert!(rt; is_complete_inside(&rt, alloc, "{ <1-500:... { ><1-500:} >}"));
+    assert!(rt; !is_complete_inside(&rt, alloc, "{ <1-501:... { ><1-501:} >}"));
+    assert!(rt; is_complete_below(&rt, alloc, "{ <1-500:q { ><1-500:} >}"));
+    assert!(rt; !is_complete_below(&rt, alloc, "{ <1-501:q { ><1-501:} >}"));
 }

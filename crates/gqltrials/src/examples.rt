@@ -1,14 +1,18 @@
+//! Worked examples, validated into a list that holds a report already. `scripts/refuse-each-request` runs this with each
+//! request for memory refused once.
 use crate::faults::Fault;
 use graphql_diagnostics::{
     Details, DiagnosticData, DiagnosticEntry, DiagnosticList, ValidationError,
 };
 use graphql_documents::documents::{FileId, Schema, SourceSpan};
 use graphql_rows::{Case, Row, Subject, Validated, build_case};
+use graphql_rows_more::{TABLES, find};
 use graphql_schemas::schema_rules::validate_schema;
 use graphql_validation::entry::{
     validate_executable_document, validate_field_set, validate_standalone_executable,
 };
 use std::alloc::Global;
+use std::io::Write;
 
 /// Where the report stands that the list holds before a run.
 const EARLIER: SourceSpan = SourceSpan {
@@ -17,10 +21,27 @@ const EARLIER: SourceSpan = SourceSpan {
     end: 2,
 };
 
+/// Judges the example of that name.
+pub fn judge_named(alloc: Global, id: &str) -> Result<(), Fault> {
+    judge(alloc, find(id).ok_or(Fault::Usage)?)
+}
+
+/// Judges one example after another, and prints how many there were.
+pub fn judge_all<O: Write>(alloc: Global, output: &mut O) -> Result<(), Fault> {
+    let mut judged: u32 = 0;
+    for rows in TABLES {
+        for row in rows {
+            judge(alloc, row)?;
+            judged = judged.saturating_add(1);
+        }
+    }
+    writeln!(output, "{judged} examples").map_err(|_error| Fault::OutputFailed)
+}
+
 /// Validates the example twice, first alone, so that all that it reports is known, and then into a list that holds a
 /// report; and looks at what stands afterwards. Where memory was refused in the second run, it answers so, once that
 /// is as it must be: the earlier report, behind it only reports of the first run, and the types as they were.
-pub fn judge(alloc: Global, row: &Row) -> Result<(), Fault> {
+fn judge(alloc: Global, row: &Row) -> Result<(), Fault> {
     let mut first = build(alloc, row)?;
     let mut expected = DiagnosticList::new(alloc);
     let judged = validate(&mut expected, &mut first)

@@ -1,80 +1,64 @@
-//! Measures how merging grows with a document, and the search for cycles with a schema: `gqlgrowth SHAPE SIZE` prints
-//! how many shapes were compared, or how many reports there are, and on standard error how many milliseconds it took to
-//! merge the document's fields, or to validate the schema, once it was built.
-#![tactic(auto)]
-
-mod faults;
-mod nets;
-mod shapes;
-
-use faults::Fault;
+//! How merging grows with a document, and the search for cycles with a schema: how many shapes were compared, or how many
+//! reports there are, and how many milliseconds it took to merge the document's fields, or to validate the schema, once
+//! it was built.
+use crate::faults::Fault;
+use crate::nets::Net;
+use crate::shapes::Shape;
 use graphql_diagnostics::DiagnosticList;
 use graphql_documents::documents::{ExecutableDocument, Schema};
 use graphql_merging::merging::FieldsInSetCanMerge;
 use graphql_rows::build::{document, schema};
 use graphql_schemas::schema_rules::validate_schema;
-use nets::Net;
-use shapes::Shape;
 use std::alloc::Global;
-use std::env;
-use std::io::Write;
-use std::process::ExitCode;
-use std::rt::{Clock, Env};
+use std::rt::Clock;
 use std::time::Instant;
 
 /// The schema from which all shapes select.
 const SCHEMA: &str = "type Query { q: Query a: Int b: Int }";
 
-fn main(rt: HostRuntime) -> ExitCode {
-    let measured = measure(&rt, rt.alloc(), &mut rt.stdout(), &mut rt.stderr());
-    match measured {
-        Ok(()) => ExitCode::SUCCESS,
-        Err(fault) => {
-            let _ = writeln!(&mut rt.stderr(), "{fault}");
-            ExitCode::FAILURE
-        }
-    }
-}
-
 /// What is measured.
 #[derive(Clone, Copy)]
-enum Subject {
+pub enum Subject {
     Document(Shape),
     Schema(Net),
 }
 
 impl Subject {
     /// What the word names.
-    fn named(word: &str) -> Option<Subject> {
+    pub fn named(word: &str) -> Option<Subject> {
         match Shape::named(word) {
             Some(shape) => Some(Subject::Document(shape)),
             None => Net::named(word).map(Subject::Schema),
+        }
+    }
+
+    /// What is counted of it.
+    pub fn counted(self) -> &'static str {
+        match self {
+            Subject::Document(_) => "comparisons",
+            Subject::Schema(_) => "reports",
         }
     }
 }
 
 /// How many shapes were compared, or reports made, and how many milliseconds that took.
 #[derive(Clone, Copy)]
-struct Figures {
-    count: u64,
-    milliseconds: u128,
+pub struct Figures {
+    pub count: u64,
+    pub milliseconds: u128,
 }
 
-/// Measures what the program's words ask for, and prints it.
-fn measure<R: Env + Clock + AllocGlobal, O: Write, T: Write>(
+/// Measures the subject at that size.
+pub fn measure<R: Clock>(
     rt: &R,
     alloc: Global,
-    counts: &mut O,
-    times: &mut T,
-) -> Result<(), Fault> {
-    let (subject, size) = asked(rt)?;
-    let (figures, counted) = match subject {
-        Subject::Document(shape) => (measure_shape(rt, alloc, shape, size)?, "comparisons"),
-        Subject::Schema(net) => (measure_net(rt, alloc, net, size)?, "reports"),
-    };
-    writeln!(counts, "{} {counted}", figures.count)?;
-    writeln!(times, "{} ms", figures.milliseconds)?;
-    Ok(())
+    subject: Subject,
+    size: u32,
+) -> Result<Figures, Fault> {
+    match subject {
+        Subject::Document(shape) => measure_shape(rt, alloc, shape, size),
+        Subject::Schema(net) => measure_net(rt, alloc, net, size),
+    }
 }
 
 /// Builds the schema, and validates it.
@@ -153,16 +137,6 @@ fn measure_document<R: Clock>(
         count,
         milliseconds: elapsed.as_millis(),
     })
-}
-
-/// The subject and the size that the program's words name.
-fn asked<R: Env + AllocGlobal>(rt: &R) -> Result<(Subject, u32), Fault> {
-    let mut words = env::args(rt)?.skip(1);
-    let subject = words.next().ok_or(Fault::Usage)?;
-    let size = words.next().ok_or(Fault::Usage)?;
-    let subject = Subject::named(subject.as_str()).ok_or(Fault::Usage)?;
-    let size = size.as_str().parse().ok().ok_or(Fault::Usage)?;
-    Ok((subject, size))
 }
 
 /// Merges the fields of the document's query, and answers how many shapes were compared.

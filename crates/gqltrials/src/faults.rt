@@ -10,14 +10,16 @@ pub enum Fault {
     /// After a run, the list or the schema is not what it must be.
     #[error("example {0}: {1}")]
     Broken(&'static str, &'static str),
-    #[error("usage: gqlrefusals [ID]")]
-    Unknown,
+    #[error("usage: gqltrials examples [ID] | (equal | chain | tree | bottoms | ring | ladder | star) SIZE")]
+    Usage,
     #[error("out of memory")]
     OutOfMemory,
-    #[error("a write to standard output failed")]
+    #[error("a write failed")]
     OutputFailed,
-    #[error("an example is wrong: {0}")]
+    #[error("what is tried is wrong: {0}")]
     WrongRow(RowError),
+    #[error("the arguments or the clock could not be read")]
+    System,
 }
 
 impl Fault {
@@ -25,10 +27,11 @@ impl Fault {
     pub fn status(self) -> u8 {
         match self {
             Fault::Broken(_, _) => 1,
-            Fault::Unknown => 2,
+            Fault::Usage => 2,
             Fault::OutOfMemory => 3,
             Fault::OutputFailed => 4,
             Fault::WrongRow(_) => 5,
+            Fault::System => 6,
         }
     }
 }
@@ -43,7 +46,7 @@ impl From<io::Error> for Fault {
     fn from(error: io::Error) -> Fault {
         match error.kind() {
             io::ErrorKind::OutOfMemory => Fault::OutOfMemory,
-            _ => Fault::Unknown,
+            _ => Fault::System,
         }
     }
 }
