@@ -79,29 +79,41 @@ fn examples_print_their_lines(rt: HostRuntime) {
     answers(&rt, alloc, &["rows"], 0, printed.as_str(), "");
 }
 
+/// Words that ask for nothing that there is.
+const BAD_ARGUMENTS: &[&[&str]] = &[
+    &[],
+    &["row", "1z"],
+    &["row", ""],
+    &["row"],
+    &["row", "1a", "1b"],
+    &["rows", "x"],
+    &["1a"],
+    &["Rows"],
+    &["rows "],
+];
+
 #[test]
 fn refuses_bad_arguments(rt: HostRuntime) {
-    let runs: [&[&str]; 9] = [
-        &[],
-        &["row", "1z"],
-        &["row", ""],
-        &["row"],
-        &["row", "1a", "1b"],
-        &["rows", "x"],
-        &["1a"],
-        &["Rows"],
-        &["rows "],
-    ];
-    for texts in runs {
+    for texts in BAD_ARGUMENTS {
         answers(&rt, rt.alloc(), texts, 2, "", USAGE);
     }
-    for (kind, status, said) in [
-        (ErrorKind::InvalidData, 2, USAGE),
-        (ErrorKind::OutOfMemory, 3, "out of memory\n"),
-    ] {
-        let words = Err(io::Error::from(kind));
-        ends(&rt, rt.alloc(), words, status, "", said);
-    }
+}
+
+/// Where the words cannot be read, this is the status, and this is printed on standard error.
+fn answers_fault(rt: &impl Abort, alloc: Global, kind: ErrorKind, status: u8, said: &str) {
+    ends(rt, alloc, Err(io::Error::from(kind)), status, "", said);
+}
+
+#[test]
+fn says_why_arguments_cannot_be_read(rt: HostRuntime) {
+    answers_fault(&rt, rt.alloc(), ErrorKind::InvalidData, 2, USAGE);
+    answers_fault(
+        &rt,
+        rt.alloc(),
+        ErrorKind::OutOfMemory,
+        3,
+        "out of memory\n",
+    );
 }
 
 /// A writer that keeps what it takes, and refuses each write after so many.
@@ -189,30 +201,37 @@ fn keeps_the_status_where_faults_fail(rt: HostRuntime) {
     assert!(rt; taken.is_empty());
 }
 
+/// The fault has this status, and this text.
+fn has_words(rt: &impl Abort, alloc: Global, fault: Fault, status: u8, text: &str) {
+    let mut said = Vec::new(alloc);
+    fault.explain(&mut said);
+    assert_eq!(rt; fault.status().number(), status, "{text}");
+    assert_eq!(rt; said.as_slice(), text.as_bytes(), "{text}");
+}
+
 #[test]
-fn faults_and_places_have_their_words(rt: HostRuntime) {
+fn faults_have_their_words(rt: HostRuntime) {
     let alloc = rt.alloc();
-    for (fault, status, text) in [
-        (Fault::from(RowError::OutOfMemory), 3, "out of memory\n"),
-        (Fault::OutputFailed, 4, ""),
-        (
-            Fault::from(RowError::NotAName),
-            5,
-            "the case is wrong: a text of the notation is no name\n",
-        ),
-    ] {
-        let mut said = Vec::new(alloc);
-        fault.explain(&mut said);
-        assert_eq!(rt; fault.status().number(), status, "{text}");
-        assert_eq!(rt; said.as_slice(), text.as_bytes(), "{text}");
-    }
+    let refused = Fault::from(RowError::OutOfMemory);
+    has_words(&rt, alloc, refused, 3, "out of memory\n");
+    has_words(&rt, alloc, Fault::OutputFailed, 4, "");
+    let wrong = "the case is wrong: a text of the notation is no name\n";
+    has_words(&rt, alloc, Fault::from(RowError::NotAName), 5, wrong);
+}
+
+/// The place is shown so.
+fn is_shown(rt: &impl Abort, alloc: Global, place: Option<SourceSpan>, text: &str) {
+    let shown = Place(place).to_string(alloc).expect(rt, "memory");
+    assert_eq!(rt; shown.as_str(), text);
+}
+
+#[test]
+fn places_have_their_words(rt: HostRuntime) {
     let span = SourceSpan {
         file_id: FileId(1),
         start: 7,
         end: 11,
     };
-    for (place, text) in [(Some(span), "1:7-11"), (None, "-")] {
-        let shown = Place(place).to_string(alloc).expect(&rt, "memory");
-        assert_eq!(rt; shown.as_str(), text);
-    }
+    is_shown(&rt, rt.alloc(), Some(span), "1:7-11");
+    is_shown(&rt, rt.alloc(), None, "-");
 }
