@@ -29,8 +29,8 @@ use Rattle.graphql_guards.specs.declared.recursion.CycleError.TheVariants.{Recur
 use Rattle.graphql_cycles.proofs.CycleLemmas.{closes_below, closes_fewer, closes_nothing, closes_then, goes_far_before, goes_far_here, goes_far_wider, leads_back_before, leads_back_here, leads_back_wider, path_of_way, traces_more}
 use Rattle.graphql_cycles.proofs.SeenNameLemmas.{Marked, marked_grows, marked_is_seen, marked_only, names_at, nothing_seen, off_path, one_too_many, stands_deeper, stands_still, was_marked}
 use Rattle.graphql_cycles.specs.CycleSearches.{GoesOn, IsSeen, LeadsBack, StandsOn, Traces}
-use Rattle.graphql_values.proofs.SelectionWalkLemmas.{stands_either}
-use Rattle.graphql_values.proofs.ObjectLemmas.{split_at}
+use Rattle.graphql_variables.proofs.SelectionWalkLemmas.{stands_either}
+use Rattle.graphql_variables.proofs.SplitLemmas.{split_at}
 use Rattle.graphql_cycles.specs.References.{reference_of}
 use Rattle.graphql_cycles.specs.declared.schema_references.Reference.{Reference}
 use Rattle.graphql_cycles.proofs.InputObjectSearchLemmas.{one_type_found}

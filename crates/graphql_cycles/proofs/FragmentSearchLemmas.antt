@@ -19,7 +19,7 @@ use Rattle.graphql_documents.specs.declared.documents.executables.Selection.TheV
 use Rattle.graphql_documents.specs.declared.documents.executables.Selection.{Selection}
 use Rattle.graphql_documents.specs.declared.documents.executables.SelectionSet.{SelectionSet}
 use Rattle.graphql_nodes.specs.declared.nodes.Node.{Node}
-use Rattle.graphql_values.proofs.ObjectLemmas.{split_at}
+use Rattle.graphql_variables.proofs.SplitLemmas.{split_at}
 use Rattle.graphql_guards.specs.declared.recursion.CycleError.{CycleError}
 use Rattle.graphql_cycles.proofs.CycleLemmas.{ClosesNames, closes_fewer, closes_then, stops_wider}
 use Rattle.graphql_cycles.proofs.SeenNameLemmas.{Marked, names_at, was_marked}

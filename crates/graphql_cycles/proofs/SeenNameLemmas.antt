@@ -7,7 +7,7 @@ use Rattle.std.proofs.lemmas.List.Folds.{list_any_at}
 use Rattle.std.proofs.lemmas.List.Quantifiers.{all_pairs_push}
 use Rattle.graphql_nodes.specs.Names.{AreDistinct, DifferentNames, HasDifferentNames, NameText, SameName, same_name, stands_on, with_name}
 use Rattle.graphql_nodes.proofs.NameLemmas.{not_both, same_name_back}
-use Rattle.graphql_values.proofs.SelectionWalkLemmas.{stands_before, stands_either, stands_last}
+use Rattle.graphql_variables.proofs.SelectionWalkLemmas.{stands_before, stands_either, stands_last}
 use Rattle.graphql_cycles.specs.CycleSearches.{IsSeen, StandsOn}
 
 -- truth of a test

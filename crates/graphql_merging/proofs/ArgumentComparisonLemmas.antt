@@ -8,7 +8,7 @@ use Rattle.graphql_nodes.specs.Names.{NameText, SameName}
 use Rattle.graphql_documents.specs.Values.{SameValue}
 use Rattle.graphql_documents.specs.declared.documents.directives.Argument.{Argument}
 use Rattle.graphql_nodes.specs.declared.nodes.Node.{Node}
-use Rattle.graphql_values.proofs.ObjectLemmas.{split_at}
+use Rattle.graphql_variables.proofs.SplitLemmas.{split_at}
 use Rattle.graphql_merging.proofs.FirstNamedLemmas.{each_more, each_of_none, first_alike, first_behind, first_has, first_of_name, first_stands}
 use Rattle.graphql_merging.specs.Comparisons.{AreNamedAmong, HasArgument, IsReached, StandAmong}
 

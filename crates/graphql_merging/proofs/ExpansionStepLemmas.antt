@@ -21,8 +21,8 @@ use Rattle.graphql_documents.specs.declared.documents.executables.Selection.TheV
 use Rattle.graphql_documents.specs.declared.documents.executables.Selection.{Selection}
 use Rattle.graphql_documents.specs.declared.documents.executables.SelectionSet.{SelectionSet}
 use Rattle.graphql_nodes.specs.declared.nodes.Node.{Node}
-use Rattle.graphql_values.proofs.NameSetLemmas.{same_key}
-use Rattle.graphql_values.proofs.SelectionWalkLemmas.{refs_any}
+use Rattle.graphql_variables.proofs.NameSetLemmas.{same_key}
+use Rattle.graphql_variables.proofs.SelectionWalkLemmas.{refs_any}
 use Rattle.graphql_merging.specs.ExpansionSteps.{Expands, fragments_in, met_names, queued}
 use Rattle.graphql_merging.specs.FieldSelections.{listed}
 use Rattle.graphql_merging.specs.declared.expansion.FieldExpansion.{FieldExpansion}

@@ -8,7 +8,7 @@ use Rattle.std.specs.declared.alloc.Global.{Global}
 use Rattle.std.proofs.lemmas.List.{map-append}
 use Rattle.indexmap.specs.IndexSet.{insert_key}
 use Rattle.graphql_documents.proofs.ListLemmas.{made_of, stands_mapped}
-use Rattle.graphql_values.proofs.UseLemmas.{any_has, has_any}
+use Rattle.graphql_variables.proofs.UseLemmas.{any_has, has_any}
 use Rattle.graphql_documents.specs.Merging.{SameFields}
 use Rattle.graphql_nodes.specs.Names.{same_name}
 use Rattle.graphql_merging.specs.FieldSelections.{listed, lists_of, same_field, same_selection}

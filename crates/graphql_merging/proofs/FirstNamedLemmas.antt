@@ -7,8 +7,8 @@ use Rattle.std.proofs.lemmas.List.Folds.{find-append}
 use Rattle.graphql_nodes.proofs.NameLemmas.{same_name_itself, same_text}
 use Rattle.graphql_documents.proofs.ListLemmas.{more_is}
 use Rattle.graphql_nodes.specs.Names.{NameText, SameName, same_name}
-use Rattle.graphql_values.proofs.FirstPlaceLemmas.{find_none, found_at}
-use Rattle.graphql_values.proofs.WalkLemmas.{find_first}
+use Rattle.graphql_variables.proofs.FirstPlaceLemmas.{find_none, found_at}
+use Rattle.graphql_variables.proofs.SplitLemmas.{find_first}
 
 module _ {X : Type 0} (name_of : X → NameText) where
   -- the first element of this name

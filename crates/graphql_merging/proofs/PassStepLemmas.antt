@@ -22,7 +22,7 @@ use Rattle.graphql_documents.specs.declared.documents.schemas.Schema.{Schema}
 use Rattle.graphql_documents.proofs.ListLemmas.{each_standing, more_is, stands_mapped}
 use Rattle.graphql_diagnostics.proofs.ReportLemmas.{kept_wider}
 use Rattle.graphql_laws.proofs.OrderedGroupLaws.{comparisons_of_groups, groups_listed}
-use Rattle.graphql_values.proofs.UseLemmas.{any_has, has_any}
+use Rattle.graphql_variables.proofs.UseLemmas.{any_has, has_any}
 use Rattle.graphql_merging.specs.FieldSelections.{listed, lists_of, same_field, same_selection, selection_of}
 use Rattle.graphql_merging.proofs.FieldSelectionLemmas.{compared_with_any}
 use Rattle.graphql_merging.specs.Passes.{IsConflict, IsConflictAmong, IsNew, counted}

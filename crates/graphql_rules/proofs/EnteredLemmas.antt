@@ -1,7 +1,5 @@
 -- Names of fragments that were gone into, walk after walk.
-use Rattle.std.proofs.Common.{◌≡◌, ◌⊎◌, inl, inr, ℕ, List, [], ◌∷◌, ◌++◌, Bool, true, false, ◌||◌, not, if◌then◌else◌, Option, IsTrue, IsFalse, refl, sym, ap, ◌∙◌, subst, Contains}
-use Rattle.std.specs.List.{list_any}
-use Rattle.std.specs.Str.{bytes_eq}
+use Rattle.std.proofs.Common.{◌≡◌, ◌⊎◌, inl, inr, List, [], ◌∷◌, ◌++◌, Bool, true, false, ◌||◌, not, if◌then◌else◌, Option, IsTrue, IsFalse, refl, sym, ap, ◌∙◌, subst, Contains}
 use Rattle.std.proofs.lemmas.List.{append-nil, append_assoc}
 use Rattle.std.proofs.lemmas.List.Elements.{All-nil, All-weaker, All-append, All-contains, Contains-append_left, Contains-append_right}
 use Rattle.std.proofs.lemmas.List.Folds.{Any-from_list_any, list_any-append}
@@ -9,13 +7,9 @@ use Rattle.graphql_nodes.specs.Names.{NameText, SameName, same_name, stands_on, 
 use Rattle.graphql_documents.specs.Selections.{Fragments, GoesInto, IsSpreadFrom, Placed, without}
 use Rattle.graphql_documents.specs.declared.documents.schemas.Schema.{Schema}
 use Rattle.graphql_documents.specs.declared.documents.executables.Selection.{Selection}
-use Rattle.graphql_nodes.proofs.NameLemmas.{same_name_back, same_name_then, same_text}
-use Rattle.graphql_values.proofs.UseLemmas.{any_has}
+use Rattle.graphql_nodes.proofs.NameLemmas.{same_name_back, same_name_then}
+use Rattle.graphql_variables.proofs.UseLemmas.{any_has}
 use Rattle.graphql_rules.proofs.PlacedLemmas.{by_truth, found_without, placed_among_more, placed_wider, stays_without}
-
--- names of one text stand on the same lists
-pub stands_by_text : (names : List NameText) (a b : NameText) → SameName a b → stands_on names a ≡ stands_on names b
-stands_by_text names a b same = ap (λ (text : List ℕ). list_any (λ (key : NameText). bytes_eq text key.text) names) (same_text a b same)
 
 stands_by_parts : (a b : Bool) → IsTrue (a || b) → IsTrue a ⊎ IsTrue b
 stands_by_parts true b h = inl refl

@@ -32,7 +32,7 @@ use Rattle.graphql_documents.specs.declared.documents.schemas.Schema.{Schema}
 use Rattle.graphql_nodes.specs.declared.spans.SourceSpan.{SourceSpan}
 use Rattle.graphql_values.specs.GivenArguments.{AreOfField, GivenArgumentHolds, GivenArgumentReport, MissingArgumentReport, of_argument_values, of_missing_argument, of_unknown_argument}
 use Rattle.graphql_values.specs.declared.argument.owners.GivenArguments.{GivenArguments}
-use Rattle.graphql_rules.specs.Contexts.{IsAgainst, parent_of}
+use Rattle.graphql_operations.specs.Contexts.{IsAgainst, parent_of}
 use Rattle.graphql_rules.specs.SelectionSteps.{DefinedFieldHolds, FieldArgumentsHold, FieldSays, IsBelow, by_form, by_values}
 use Rattle.graphql_rules.specs.declared.operations.fields.Below.{Below}
 

@@ -1,7 +1,7 @@
 -- What is said of an operation, part by part, and of several.
-use Rattle.std.proofs.Common.{ℕ, ◌<◌, Bor, get_or, length, map, ◌≡◌, ◌⊎◌, ◌↔◌, inl, inr, List, [], ◌∷◌, Option, refl, sym, ◌∙◌, subst, All, Contains}
+use Rattle.std.proofs.Common.{◌≡◌, ◌⊎◌, ◌↔◌, inl, inr, List, [], Option, refl, sym, ◌∙◌, subst, All, Contains}
 use Rattle.std.proofs.lemmas.List.{append_cancel_left}
-use Rattle.std.proofs.lemmas.List.Elements.{All-cons, All-contains, All-contains_itself, All-head, All-map, All-nil, All-tail, All-weaker, Contains-get_or}
+use Rattle.std.proofs.lemmas.List.Elements.{All-head, All-tail, All-weaker}
 use Rattle.graphql_documents.specs.Defer.{operations_of}
 use Rattle.graphql_diagnostics.specs.Diagnostics.{IsDiagnostic, IsLimit, IsLimitEntry, limit_of_walk, Says}
 use Rattle.graphql_diagnostics.specs.DirectiveReports.{DirectivesBreak}
@@ -166,19 +166,6 @@ pub of_an_operation : (schema : Option Schema) (document : ExecutableDocument) (
 of_an_operation schema document o in' e (inl says) =
     inl (diagnostic_wider (OperationReport schema document o.value.value) (OperationsReport schema document) (λ r at b. of_one in' b) e says)
 of_an_operation schema document o in' e (inr limit) = inr (one_passes in' limit)
-
--- what holds of each reference holds of what they refer to
-pub all_referred : {X : Type 0} (P : X → Type 0) (xs : List (Bor X)) → All (λ b. P b.now) xs ↔ All P (map (λ b. b.now) xs)
-all_referred {X = X} P xs = (All-map P (λ b. b.now) xs, back xs) where
-  back : (ys : List (Bor X)) → All P (map (λ b. b.now) ys) → All (λ b. P b.now) ys
-  back [] all = All-nil _
-  back (y ∷ ys) all = All-cons (λ b. P b.now) y ys (All-head P y.now (map (λ b. b.now) ys) all) (back ys (All-tail P y.now (map (λ b. b.now) ys) all))
-
--- an operation of the document, by its reference
-pub stands_referred : {X : Type 0} (xs : List (Bor X)) (i : ℕ) (x : Bor X) → i < length xs → x ≡ get_or xs i x → Contains (map (λ b. b.now) xs) x.now
-stands_referred xs i x within is =
-    let l = map (λ b. b.now) xs in
-    All-contains (λ b. Contains l b.now) xs x ((all_referred (Contains l) xs).1 (All-contains_itself l)) (subst (Contains xs) (sym is) (Contains-get_or xs i x within))
 
 -- one of them was checked, at hand in another form
 module _ (document : ExecutableDocument) (o : Node Operation) (in' : Contains (operations_of document) o) where

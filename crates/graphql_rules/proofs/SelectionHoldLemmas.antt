@@ -17,10 +17,11 @@ use Rattle.graphql_documents.specs.declared.documents.executables.InlineFragment
 use Rattle.graphql_documents.specs.declared.documents.executables.Selection.{Selection}
 use Rattle.graphql_documents.specs.declared.documents.executables.Selection.TheVariants as kind
 use Rattle.graphql_nodes.proofs.NameLemmas.{same_name_back}
-use Rattle.graphql_values.proofs.SelectionWalkLemmas.{stands_either}
+use Rattle.graphql_variables.proofs.SelectionWalkLemmas.{stands_either}
 use Rattle.graphql_documents.proofs.SelectionLemmas.{not_inline, not_spread, same_field, same_inline, same_spread, spread_not_inline}
 use Rattle.graphql_rules.specs.SelectionSteps.{SpreadStands}
-use Rattle.graphql_rules.proofs.EnteredLemmas.{newly_entered, stands_by_text, stands_still, stood_not, without_fewer}
+use Rattle.graphql_rules.proofs.EnteredLemmas.{newly_entered, stands_still, stood_not, without_fewer}
+use Rattle.graphql_operations.proofs.MeasureLemmas.{stands_by_text}
 use Rattle.graphql_rules.proofs.PlacedLemmas.{ThroughEntered, avoids_or_goes_through, by_truth, found_without, placed_through, placed_wider, stays_without, type_of_condition}
 
 -- the one element of a list

@@ -26,12 +26,13 @@ use Rattle.graphql_documents.specs.declared.documents.executables.Selection.{Sel
 use Rattle.graphql_documents.specs.declared.documents.executables.Selection.TheVariants as kind
 use Rattle.graphql_documents.proofs.SelectionLemmas.{not_spread, same_spread, spread_not_inline}
 use Rattle.graphql_nodes.proofs.NameLemmas.{same_name_back, same_name_itself}
-use Rattle.graphql_values.proofs.SelectionWalkLemmas.{stands_last}
+use Rattle.graphql_variables.proofs.SelectionWalkLemmas.{stands_last}
 use Rattle.graphql_diagnostics.proofs.DiagnosticLemmas.{diagnostic_wider}
 use Rattle.graphql_diagnostics.proofs.ReportLemmas.{appended_then, both_nil, holds, in_words, kept_by, kept_then, kept_wider, wider}
 use Rattle.graphql_diagnostics.proofs.ReportWithinLemmas.{both_within, in_words_within, kept_within, wider_within, within}
 use Rattle.graphql_rules.specs.SelectionSteps.{FieldSays, FragmentSays, FragmentTruth, FragmentWalkAnswers, FragmentWalks, InlineFragmentSays, SelectionTruth, SpreadSays, SpreadStands, WalkAnswers, WalkStops, Walks, by_condition, by_directives, by_form, by_fragment, by_fragment_directives, by_inline_directives, by_spread, by_spread_directives, by_values}
-use Rattle.graphql_rules.proofs.EnteredLemmas.{goes_as, goes_nowhere, goes_then, stands_by_text, stands_still, without_fewer}
+use Rattle.graphql_rules.proofs.EnteredLemmas.{goes_as, goes_nowhere, goes_then, stands_still, without_fewer}
+use Rattle.graphql_operations.proofs.MeasureLemmas.{stands_by_text}
 use Rattle.graphql_rules.proofs.PlacedLemmas.{avoids_or_goes_through, found_without, placed_wider, stays_without, type_of_condition}
 use Rattle.graphql_rules.proofs.SelectionHoldLemmas.{AllHold, all_then, field_decides, field_reaches, gone_then, inline_decides, inline_reaches, it_is_found, nothing_placed, nothing_reached, one_stands, spread_before, spread_fresh, spread_reaches, spread_stands}
 

@@ -1,8 +1,1 @@
-pub mod Contexts
-pub mod DeferLabels
-pub mod FragmentUses
-pub mod OperationDefers
-pub mod PossibleTypes
 pub mod SelectionSteps
-pub mod Subscriptions
-pub mod UsedFragments

@@ -31,7 +31,7 @@ use Rattle.graphql_documents.specs.declared.documents.schemas.Schema.{Schema}
 use Rattle.graphql_nodes.specs.declared.spans.SourceSpan.{SourceSpan}
 use Rattle.graphql_documents.specs.declared.documents.type_references.Type.{«Type»}
 use Rattle.graphql_values.specs.GivenArguments.{GivenArgumentHolds}
-use Rattle.graphql_rules.specs.Contexts.{IsAgainst, parent_of}
+use Rattle.graphql_operations.specs.Contexts.{IsAgainst, parent_of}
 use Rattle.graphql_rules.specs.declared.operations.fields.Below.{Below}
 use Rattle.graphql_rules.specs.declared.operations.fields.Below.TheVariants.{Nowhere, On}
 

@@ -21,7 +21,7 @@ use Rattle.graphql_documents.specs.declared.documents.definitions.DirectiveLocat
 use Rattle.graphql_nodes.specs.declared.nodes.Node.{Node}
 use Rattle.graphql_documents.specs.declared.documents.schemas.Schema.{Schema}
 use Rattle.graphql_nodes.specs.declared.spans.SourceSpan.{SourceSpan}
-use Rattle.graphql_values.proofs.FirstPlaceLemmas.{holds_on_ok}
+use Rattle.graphql_variables.proofs.FirstPlaceLemmas.{holds_on_ok}
 
 -- a true report on a directive definition, of a rule or of a limit
 abbrev pub NamesDefinition : Schema → Node DirectiveDefinition → DiagnosticEntry → Type 0

@@ -23,7 +23,7 @@ use Rattle.graphql_nodes.specs.declared.nodes.Node.{Node}
 use Rattle.graphql_documents.specs.declared.documents.schemas.Schema.{Schema}
 use Rattle.graphql_documents.specs.declared.documents.schemas.SchemaDefinition.{SchemaDefinition}
 use Rattle.graphql_nodes.specs.declared.spans.SourceSpan.{SourceSpan}
-use Rattle.graphql_values.proofs.FirstPlaceLemmas.{distinct_names_more}
+use Rattle.graphql_variables.proofs.FirstPlaceLemmas.{distinct_names_more}
 use Rattle.graphql_schemas.specs.RootSteps.{AreRoots, FollowsWell, RootBreaks, lent_root, of_no_object, of_undefined_root, root_named}
 
 found_lent : (name : NameText) (seen : List (OperationType × Bor ComponentName)) →

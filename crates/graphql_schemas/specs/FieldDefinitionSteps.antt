@@ -17,7 +17,7 @@ use Rattle.graphql_documents.specs.declared.documents.definitions.InputValueDefi
 use Rattle.graphql_nodes.specs.declared.nodes.Node.{Node}
 use Rattle.graphql_documents.specs.declared.documents.schemas.Schema.{Schema}
 use Rattle.graphql_nodes.specs.declared.spans.SourceSpan.{SourceSpan}
-use Rattle.graphql_values.specs.FirstPlaces.{IsNext}
+use Rattle.graphql_variables.specs.FirstPlaces.{IsNext}
 
 -- the report names what is wrong with the type of an argument or an input field
 pub data InputTypeBreaks (schema : Schema) (d : Node InputValueDefinition) : DiagnosticData → Option SourceSpan → Type 0 where

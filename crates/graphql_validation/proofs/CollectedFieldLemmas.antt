@@ -27,7 +27,7 @@ use Rattle.graphql_nodes.proofs.NameLemmas.{same_name_back, same_name_itself, sa
 use Rattle.graphql_documents.proofs.ListLemmas.{All-append_right}
 use Rattle.graphql_documents.proofs.SelectionLemmas.{one_fragment_found}
 use Rattle.graphql_laws.proofs.SchemaLaws.{one_type_found}
-use Rattle.graphql_values.proofs.UseLemmas.{any_has}
+use Rattle.graphql_variables.proofs.UseLemmas.{any_has}
 use Rattle.graphql_validation.proofs.CollectingLemmas.{lists_what_is_collected}
 
 -- a collected field stands inside the set, on a type that applies

@@ -21,7 +21,7 @@ use Rattle.graphql_documents.proofs.ListLemmas.{none_stands, stands_behind, stan
 use Rattle.graphql_nodes.proofs.NameLemmas.{same_name_itself}
 use Rattle.graphql_documents.proofs.SelectionLemmas.{not_inline, not_spread, same_field, same_inline, same_spread, spread_not_inline}
 use Rattle.graphql_laws.proofs.MetNameLemmas.{behind_true, either_true}
-use Rattle.graphql_values.proofs.UseLemmas.{any_has, has_any}
+use Rattle.graphql_variables.proofs.UseLemmas.{any_has, has_any}
 use Rattle.std.proofs.lemmas.Option.{same_Some}
 
 -- an element of a list with one in front

@@ -21,7 +21,7 @@ use Rattle.graphql_documents.specs.declared.documents.executables.Operation.{Ope
 use Rattle.graphql_documents.specs.declared.documents.schemas.Schema.{Schema}
 use Rattle.graphql_nodes.specs.declared.spans.SourceSpan.{SourceSpan}
 use Rattle.graphql_rules.proofs.OperationLemmas.{OperationsTruth}
-use Rattle.graphql_rules.proofs.UsedFragmentLemmas.{is_document_limit, is_document_report}
+use Rattle.graphql_operations.proofs.UsedFragmentLemmas.{is_document_limit, is_document_report}
 
 -- what a look-up finds is among the values
 found_value : (test : NameText → Bool) (es : List (NameText × Node Fragment)) (d : Node Fragment) → lookup test es ≡ Some d → Contains (values_of es) d

@@ -26,7 +26,7 @@ use Rattle.graphql_values.specs.DirectiveSteps.{FollowsWell, IsAppliedWell, Repe
 use Rattle.graphql_values.specs.GivenArguments.{AreOfDirective, GivenArgumentHolds, GivenArgumentReport, MissingArgumentReport}
 use Rattle.graphql_values.specs.GivenArguments as given
 use Rattle.graphql_values.specs.declared.argument.owners.GivenArguments.{GivenArguments}
-use Rattle.graphql_values.proofs.FirstPlaceLemmas.{find_none, found_at, pairs_more}
+use Rattle.graphql_variables.proofs.FirstPlaceLemmas.{find_none, found_at, pairs_more}
 
 module _ (schema : Option Schema) where
   -- repetitions hold exactly where they held before the last directive, and it may stand behind the first of its name

@@ -1,6 +1,6 @@
 -- The entries of an object value and the fields of its input object.
-use Rattle.std.proofs.Common.{◌≡◌, ℕ, ◌+◌, ◌<◌, ◌≤◌, List, ◌∷◌, ◌++◌, length, get_or, take, drop, refl, sym, ap, ◌∙◌, subst, All}
-use Rattle.std.proofs.lemmas.List.{take-append-drop, drop_more, take_all}
+use Rattle.std.proofs.Common.{◌≡◌, ℕ, ◌+◌, ◌<◌, ◌≤◌, List, ◌∷◌, length, get_or, take, drop, refl, sym, ◌∙◌, subst, All}
+use Rattle.std.proofs.lemmas.List.{take_all}
 use Rattle.std.proofs.lemmas.List.Elements.{All-head}
 use Rattle.graphql_diagnostics.specs.Reports.{Reports}
 use Rattle.graphql_diagnostics.proofs.ReportLemmas.{holds}
@@ -16,11 +16,7 @@ use Rattle.graphql_documents.specs.declared.documents.schemas.Schema.{Schema}
 use Rattle.graphql_documents.specs.declared.documents.type_references.Type.{«Type»}
 use Rattle.graphql_documents.specs.declared.documents.values.Value.{Value}
 use Rattle.graphql_values.specs.ValueSteps.{HasEntries}
-
--- a list about one of its elements
-pub split_at : {X : Type 0} (xs : List X) (i : ℕ) (x : X) → i < length xs → x ≡ get_or xs i x → xs ≡ take i xs ++ x ∷ drop (i + 1) xs
-split_at xs i x within item =
-    sym (take-append-drop i xs) ∙ ap (λ l. take i xs ++ l) (drop_more xs i x within ∙ ap (λ y. y ∷ drop (i + 1) xs) (sym item))
+use Rattle.graphql_variables.proofs.SplitLemmas.{split_at}
 
 -- the first unknown entry
 module _ (o : Node InputObjectType) (given : List (NameText × Node Value)) (i : ℕ) (entry : NameText × Node Value)

@@ -18,7 +18,7 @@ use Rattle.graphql_documents.specs.declared.documents.directives.Argument.{Argum
 use Rattle.graphql_nodes.specs.declared.nodes.Node.{Node}
 use Rattle.graphql_nodes.specs.declared.spans.SourceSpan.{SourceSpan}
 use Rattle.graphql_values.specs.Repetitions.{argument_name}
-use Rattle.graphql_values.proofs.FirstPlaceLemmas.{distinct_more}
+use Rattle.graphql_variables.proofs.FirstPlaceLemmas.{distinct_more}
 
 -- nothing was appended
 pub appends_none : {Entry : Type 0} (Are : List Entry → Type 0) (old : List Entry) → Are [] → Appends Are old old

@@ -21,7 +21,7 @@ use Rattle.graphql_documents.specs.declared.documents.schemas.ExtendedType.{Exte
 use Rattle.graphql_documents.specs.declared.documents.schemas.Schema.{Schema}
 use Rattle.graphql_documents.specs.declared.documents.values.Value.{Value}
 use Rattle.graphql_values.specs.VariableSteps.{FollowsWell, TypeHolds, variable_name}
-use Rattle.graphql_values.proofs.FirstPlaceLemmas.{distinct_names_more}
+use Rattle.graphql_variables.proofs.FirstPlaceLemmas.{distinct_names_more}
 
 -- the type and the default were checked against the schema
 pub type_parts : (schema : Schema) (v : Node VariableDefinition) →

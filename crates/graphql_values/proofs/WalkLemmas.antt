@@ -1,7 +1,5 @@
 -- The steps of the walk over a value: its items, the fields of its input object, and their entries.
-use Rattle.std.proofs.Common.{◌≡◌, ℕ, ◌+◌, ◌<◌, List, [], ◌∷◌, Bool, true, false, ◌||◌, Some, None, Result, IsTrue, IsFalse, find, length, get_or, take, drop, refl, sym, ap, ◌∙◌, subst, All, Contains}
-use Rattle.std.specs.Option.{option_or}
-use Rattle.std.proofs.lemmas.List.Folds.{find-append}
+use Rattle.std.proofs.Common.{◌≡◌, List, Bool, true, false, ◌||◌, Some, None, Result, IsTrue, IsFalse, refl, sym, ap, ◌∙◌, subst, All, Contains}
 use Rattle.std.proofs.lemmas.Option.{same_Some}
 use Rattle.graphql_diagnostics.specs.Diagnostics.{IsDiagnostic}
 use Rattle.graphql_documents.specs.InputCoercion.{Accepts, accepts_custom_object, IsInputField, is_custom_scalar}
@@ -14,7 +12,6 @@ use Rattle.graphql_diagnostics.specs.ValueReports.{CannotStandFor, list_for_no_l
 use Rattle.graphql_documents.specs.Values.{entry_named}
 use Rattle.graphql_diagnostics.proofs.DiagnosticLemmas.{diagnostic_wider}
 use Rattle.graphql_diagnostics.proofs.ReportLemmas.{ChecksList, checks_after, checks_words}
-use Rattle.graphql_documents.proofs.ListLemmas.{more_is}
 use Rattle.graphql_diagnostics.specs.declared.lists.DiagnosticEntry.{DiagnosticEntry}
 use Rattle.graphql_documents.specs.declared.documents.components.Component.{Component}
 use Rattle.graphql_documents.specs.declared.documents.definitions.InputValueDefinition.{InputValueDefinition}
@@ -28,7 +25,6 @@ use Rattle.graphql_documents.specs.declared.documents.type_references.Type.{«Ty
 use Rattle.graphql_documents.specs.declared.documents.values.Value.{Value}
 use Rattle.graphql_values.specs.ValueSteps.{AcceptsEntry, AcceptsField, AcceptsItem, EntryReport, HasEntries, HasItems, ItemReport, written_at}
 use Rattle.graphql_values.proofs.AcceptsLemmas.{list_accepted, object_accepted}
-use Rattle.graphql_values.proofs.ObjectLemmas.{split_at}
 
 -- a custom scalar is an input type
 custom_is_input : (d : ExtendedType) → IsTrue (is_custom_scalar d) → IsTrue (is_input_type d)
@@ -52,20 +48,6 @@ no_input_object (types.Interface d) other = refl
 no_input_object (types.Union d) other = refl
 no_input_object (types.Enum d) other = refl
 no_input_object (types.InputObject d) other = absurd (other d refl)
-
--- the first element that passes a test that none before it passes
-pub find_first : {X : Type 0} (p : X → Bool) (xs : List X) (i : ℕ) (x : X) → i < length xs → x ≡ get_or xs i x →
-    find p (take i xs) ≡ None → p x ≡ true → find p xs ≡ Some x
-find_first p xs i x within item missed passes =
-    ap (find p) (split_at xs i x within item) ∙ find-append p (take i xs) (x ∷ drop (i + 1) xs) ∙
-    ap (λ o. option_or o (find p (x ∷ drop (i + 1) xs))) missed ∙ rw passes refl
-
--- one element more that does not pass
-pub find_later : {X : Type 0} (p : X → Bool) (xs : List X) (i : ℕ) (x : X) → i < length xs → x ≡ get_or xs i x →
-    find p (take i xs) ≡ None → p x ≡ false → find p (take (i + 1) xs) ≡ None
-find_later p xs i x within item missed fails =
-    ap (find p) (more_is xs i x within item) ∙ find-append p (take i xs) (x ∷ []) ∙
-    ap (λ o. option_or o (find p (x ∷ []))) missed ∙ rw fails refl
 
 module _ {variables : List (Node VariableDefinition)} {ty : «Type»} {d : ExtendedType} {v : Value} where
   -- a list, and why it cannot stand for a type

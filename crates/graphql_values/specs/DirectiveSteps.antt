@@ -16,7 +16,7 @@ use Rattle.graphql_documents.specs.declared.documents.directives.Directive.{Dire
 use Rattle.graphql_nodes.specs.declared.nodes.Node.{Node}
 use Rattle.graphql_documents.specs.declared.documents.schemas.Schema.{Schema}
 use Rattle.graphql_nodes.specs.declared.spans.SourceSpan.{SourceSpan}
-use Rattle.graphql_values.specs.FirstPlaces.{IsNext}
+use Rattle.graphql_variables.specs.FirstPlaces.{IsNext}
 
 -- the head of an application: up to the end of its name
 abbrev pub head_place : Node Directive → Option SourceSpan

@@ -1,10 +1,5 @@
 pub mod DirectiveSteps
-pub mod FirstPlaces
 pub mod GivenArguments
 pub mod Repetitions
-pub mod Searches
-pub mod Uses
 pub mod ValueSteps
 pub mod VariableSteps
-pub mod VariablesByName
-pub mod WalkSteps

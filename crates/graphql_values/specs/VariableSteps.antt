@@ -14,7 +14,7 @@ use Rattle.graphql_documents.specs.declared.documents.definitions.VariableDefini
 use Rattle.graphql_nodes.specs.declared.nodes.Node.{Node}
 use Rattle.graphql_documents.specs.declared.documents.schemas.Schema.{Schema}
 use Rattle.graphql_nodes.specs.declared.spans.SourceSpan.{SourceSpan}
-use Rattle.graphql_values.specs.FirstPlaces.{IsNext}
+use Rattle.graphql_variables.specs.FirstPlaces.{IsNext}
 
 -- the name of a variable
 abbrev pub variable_name : Node VariableDefinition → NameText

@@ -13,10 +13,10 @@ ghost use Rattle.graphql_documents.specs.declared.documents.directives.Argument.
 ghost use Rattle.graphql_nodes.specs.declared.nodes.Node.{Node};
 ghost use Rattle.graphql_values.specs.Repetitions.{argument_place_in};
 
-use crate::first_places::first_place;
 pub use given::validate_given_arguments;
 use graphql_diagnostics::{Details, DiagnosticData, DiagnosticList, ValidationError};
 use graphql_documents::documents::{Argument, Name, Node, SourceSpan};
+use graphql_variables::first_places::first_place;
 pub use owners::{ArgumentOwner, GivenArguments};
 pub use required::validate_required_arguments;
 use std::collections::HashMap;

@@ -13,16 +13,16 @@ ghost use Rattle.graphql_diagnostics.specs.Reports.{Checks};
 ghost use Rattle.graphql_documents.specs.declared.documents.directives.Directive.{Directive};
 ghost use Rattle.graphql_nodes.specs.declared.nodes.Node.{Node};
 ghost use Rattle.graphql_values.specs.DirectiveSteps.{ChecksNext, FollowsWell, met_directive};
-ghost use Rattle.graphql_values.specs.FirstPlaces.{Remembers};
+ghost use Rattle.graphql_variables.specs.FirstPlaces.{Remembers};
 
 use crate::argument::validate_arguments;
-use crate::first_places::first_place;
-use crate::variable::VariablesByName;
 use applications::{check_repetition, validate_application};
 use graphql_diagnostics::{DiagnosticList, ValidationError};
 use graphql_documents::documents::{
     Directive, DirectiveLocation, Name, Node, Schema, SourceSpan, VariableDefinition,
 };
+use graphql_variables::VariablesByName;
+use graphql_variables::first_places::first_place;
 use std::alloc::Global;
 use std::collections::HashMap;
 pub use variable_definitions::validate_variable_definitions;

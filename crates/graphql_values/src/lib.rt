@@ -3,8 +3,6 @@
 #![tactic(auto)]
 
 pub mod argument;
-pub mod conditions;
 pub mod directive;
-pub mod first_places;
 pub mod value;
 pub mod variable;

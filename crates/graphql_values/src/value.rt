@@ -13,12 +13,12 @@ ghost use Rattle.graphql_documents.specs.TypeReferences.{TypeReference, inner_na
 ghost use Rattle.graphql_diagnostics.specs.ValueReports.{ValueReport};
 ghost use Rattle.graphql_values.specs.ValueSteps.{AcceptsEntry, AcceptsField, AcceptsItem, ChecksValue, EntryReport, HasEntries, HasItems, ItemReport, written_at};
 
-use crate::variable::VariablesByName;
 use graphql_diagnostics::{DiagnosticList, ValidationError};
 use graphql_documents::documents::{
     Argument, Component, ExtendedType, InputObjectType, InputValueDefinition, Name, Node, Schema,
     SourceSpan, Type, Value, VariableDefinition,
 };
+use graphql_variables::VariablesByName;
 use leaves::{
     check_enum_value, check_int, check_null, check_other_scalar, check_variable, is_custom_scalar,
     takes_lists,

@@ -1,15 +1,7 @@
 //! Variables: where they may stand, and which of them are used.
 
-mod by_name;
-mod unused;
-mod usage;
-mod uses;
-mod walks;
-
-pub use by_name::VariablesByName;
-pub use unused::validate_unused_variables;
-pub use usage::{check_variable_usage, is_variable_usage_allowed, validate_variable_usage};
-pub use uses::variables_in_value;
-pub use walks::{
-    Walked, walk_open_selections, walk_selections, walk_selections_with_deduped_fragments,
+pub use graphql_variables::{
+    VariablesByName, Walked, check_variable_usage, is_variable_usage_allowed,
+    validate_unused_variables, validate_variable_usage, variables_in_value, walk_open_selections,
+    walk_selections, walk_selections_with_deduped_fragments,
 };

@@ -6,15 +6,15 @@ ghost use Rattle.graphql_diagnostics.specs.FieldReports.{SelectionIsMissing};
 ghost use Rattle.graphql_documents.specs.Fields.{FieldHolds, HasNeededSelection};
 ghost use Rattle.graphql_diagnostics.specs.Reports.{Checks};
 ghost use Rattle.graphql_documents.specs.Selections.{definition_at, selections_of};
-ghost use Rattle.graphql_rules.specs.Contexts.{IsAgainst, parent_of, schema_of, variables_of};
+ghost use Rattle.graphql_operations.specs.Contexts.{IsAgainst, parent_of, schema_of, variables_of};
 ghost use Rattle.graphql_rules.specs.SelectionSteps.{DefinedFieldHolds, FieldArgumentsHold, FieldSays, IsBelow, IsUnselected};
 
-use super::context::OperationValidationContext;
 use graphql_diagnostics::{Details, DiagnosticData, DiagnosticList, ValidationError};
 use graphql_documents::documents::{
     Component, DirectiveLocation, ExtendedType, Field, FieldDefinition, NamedType, Node, Schema,
     Type, TypeAttributeCoordinate,
 };
+use graphql_operations::OperationValidationContext;
 use graphql_values::argument::{
     GivenArguments, validate_arguments, validate_given_arguments, validate_required_arguments,
 };

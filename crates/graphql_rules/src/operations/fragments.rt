@@ -6,17 +6,18 @@ ghost use Rattle.graphql_diagnostics.specs.Limits.{FragmentLimit};
 ghost use Rattle.graphql_diagnostics.specs.Reports.{Checks, ChecksWithin};
 ghost use Rattle.graphql_diagnostics.specs.SelectionReports.{FragmentBreaks, InlineFragmentBreaks, SpreadBreaks};
 ghost use Rattle.graphql_documents.specs.Selections.{Fragments, fragments_of};
-ghost use Rattle.graphql_rules.specs.Contexts.{IsAgainst, StaysAsItWas, parent_of, schema_of, variables_of};
+ghost use Rattle.graphql_operations.specs.Contexts.{IsAgainst, StaysAsItWas, parent_of, schema_of, variables_of};
 ghost use Rattle.graphql_rules.specs.SelectionSteps.{ConditionHolds, FragmentSays, InlineFragmentSays, SpreadSays, SpreadStands, IsUndefined};
 
-use super::context::OperationValidationContext;
-use super::spread_types::{FragmentUse, validate_fragment_spread_type};
-use super::type_conditions::validate_fragment_type_condition;
 use graphql_cycles::fragments::validate_fragment_cycles;
 use graphql_diagnostics::{Details, DiagnosticData, DiagnosticList, ValidationError};
 use graphql_documents::documents::{
     DirectiveLocation, ExecutableDocument, Fragment, FragmentSpread, InlineFragment, NamedType,
     Node, Schema,
+};
+use graphql_operations::{
+    FragmentUse, OperationValidationContext, validate_fragment_spread_type,
+    validate_fragment_type_condition,
 };
 use graphql_values::directive::check_each_directive;
 

@@ -6,17 +6,16 @@ ghost use Rattle.graphql_diagnostics.specs.DocumentReports.{OperationReport, Ope
 ghost use Rattle.graphql_documents.specs.Documents.{OperationHolds, operation_location, root_type};
 ghost use Rattle.graphql_diagnostics.specs.Limits.{OperationLimit, OperationsLimit};
 ghost use Rattle.graphql_diagnostics.specs.Reports.{ChecksWithin};
-ghost use Rattle.graphql_rules.specs.Contexts.{IsAgainst, entered_names, parent_of, schema_of, variables_of};
+ghost use Rattle.graphql_operations.specs.Contexts.{IsAgainst, entered_names, parent_of, schema_of, variables_of};
 
-use super::context::OperationValidationContext;
-use super::fragments_used::operations_of;
 use super::selections::validate_selection_set;
 use graphql_diagnostics::{DiagnosticList, ValidationError};
 use graphql_documents::documents::{
     DirectiveLocation, ExecutableDocument, NamedType, Operation, OperationType, Schema,
 };
+use graphql_operations::{OperationValidationContext, operations_of};
 use graphql_values::directive::{check_each_directive, validate_variable_definitions};
-use graphql_values::variable::validate_unused_variables;
+use graphql_variables::validate_unused_variables;
 
 /// Validates the operations of a document, each with the fragments that it reaches: the one without a
 /// name, then the others in order. The only error is want of memory.

@@ -5,10 +5,9 @@ ghost use Rattle.std.specs.Prelude.{◌≡◌, ◌∷◌, []};
 ghost use Rattle.graphql_diagnostics.specs.Diagnostics.{entries};
 ghost use Rattle.graphql_documents.specs.Selections.{fragments_of, selections_of, type_under};
 ghost use Rattle.graphql_documents.specs.declared.documents.executables.Selection.TheVariants as kind;
-ghost use Rattle.graphql_rules.specs.Contexts.{IsAgainst, SharesWith, entered_names, parent_of, schema_of, variables_of};
+ghost use Rattle.graphql_operations.specs.Contexts.{IsAgainst, SharesWith, entered_names, parent_of, schema_of, variables_of};
 ghost use Rattle.graphql_rules.specs.SelectionSteps.{FragmentWalks, Walks};
 
-use super::context::OperationValidationContext;
 use super::fields::{Below, check_field};
 use super::fragments::{check_fragment, check_inline_fragment, check_spread};
 use graphql_diagnostics::{DiagnosticList, ValidationError};
@@ -16,6 +15,7 @@ use graphql_documents::documents::{
     ExecutableDocument, Field, Fragment, FragmentSpread, InlineFragment, NamedType, Node, Schema,
     Selection, SelectionSet,
 };
+use graphql_operations::OperationValidationContext;
 
 /// Validates each selection of a set, with what is below it, in the order in which they are written.
 ///

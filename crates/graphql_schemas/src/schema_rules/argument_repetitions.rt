@@ -6,11 +6,11 @@ ghost use Rattle.graphql_diagnostics.specs.Reports.{Checks};
 ghost use Rattle.graphql_documents.specs.declared.documents.definitions.InputValueDefinition.{InputValueDefinition};
 ghost use Rattle.graphql_nodes.specs.declared.nodes.Node.{Node};
 ghost use Rattle.graphql_schemas.specs.FieldDefinitionSteps.{ChecksNextArgument, IsNewArgument, RepetitionsBreak, met_argument};
-ghost use Rattle.graphql_values.specs.FirstPlaces.{Remembers};
+ghost use Rattle.graphql_variables.specs.FirstPlaces.{Remembers};
 
 use graphql_diagnostics::{Details, DiagnosticData, DiagnosticList, ValidationError};
 use graphql_documents::documents::{InputValueDefinition, Name, Node, SourceSpan};
-use graphql_values::first_places::first_place;
+use graphql_variables::first_places::first_place;
 use std::collections::HashMap;
 
 /// Validates that the names of arguments are distinct. For each that has the name of an earlier one, the

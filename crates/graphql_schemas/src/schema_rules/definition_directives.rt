@@ -7,7 +7,7 @@ ghost use Rattle.graphql_documents.specs.SchemaRules.{DirectivesHoldAt};
 use graphql_diagnostics::{DiagnosticList, ValidationError};
 use graphql_documents::documents::{Component, Directive, DirectiveLocation, Node, Schema};
 use graphql_values::directive::{check_each_directive, validate_directives};
-use graphql_values::variable::VariablesByName;
+use graphql_variables::VariablesByName;
 use std::alloc::Global;
 
 /// Validates the directives on a definition, where there are no variables.

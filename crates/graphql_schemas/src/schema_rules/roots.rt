@@ -10,7 +10,7 @@ ghost use Rattle.graphql_documents.specs.declared.documents.definitions.Operatio
 ghost use Rattle.graphql_documents.specs.declared.documents.schemas.Schema.{Schema};
 ghost use Rattle.graphql_documents.specs.declared.documents.schemas.SchemaDefinition.{SchemaDefinition};
 ghost use Rattle.graphql_schemas.specs.RootSteps.{FollowsWell, RootBreaks, lent_root, root_named};
-ghost use Rattle.graphql_values.specs.FirstPlaces.{IsNext};
+ghost use Rattle.graphql_variables.specs.FirstPlaces.{IsNext};
 
 use super::referred_types::report_undefined_type;
 use graphql_diagnostics::{Details, DiagnosticData, DiagnosticList, ValidationError};

@@ -9,9 +9,9 @@ ghost use Rattle.graphql_values.specs.GivenArguments.{GivenArgumentHolds, GivenA
 
 use super::owners::GivenArguments;
 use crate::value::check_value_of_type;
-use crate::variable::{VariablesByName, check_variable_usage};
 use graphql_diagnostics::{Details, DiagnosticData, DiagnosticList, ValidationError};
 use graphql_documents::documents::{Argument, Node, Schema, definition_named};
+use graphql_variables::{VariablesByName, check_variable_usage};
 
 /// Reports for each argument, in order, that no definition has its name, or that it is a variable
 /// that may not stand there, or else what its value breaks. The only error is want of memory.

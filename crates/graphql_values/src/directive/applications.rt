@@ -9,11 +9,11 @@ ghost use Rattle.graphql_values.specs.DirectiveSteps.{ChecksApplication, ChecksR
 ghost use Rattle.graphql_values.specs.GivenArguments.{GivenArgumentHolds};
 
 use crate::argument::{GivenArguments, validate_given_arguments, validate_required_arguments};
-use crate::variable::VariablesByName;
 use graphql_diagnostics::{Details, DiagnosticData, DiagnosticList, ValidationError};
 use graphql_documents::documents::{
     Directive, DirectiveDefinition, DirectiveLocation, Name, Node, Schema, SourceSpan,
 };
+use graphql_variables::VariablesByName;
 
 /// Reports a directive that repeats one applied before it, if it is not repeatable; a directive that is
 /// not defined counts as repeatable. The first application, if there is one, has its head at `first`.

@@ -12,17 +12,17 @@ ghost use Rattle.graphql_documents.specs.declared.documents.definitions.Directiv
 ghost use Rattle.graphql_documents.specs.declared.documents.definitions.VariableDefinition.{VariableDefinition};
 ghost use Rattle.graphql_nodes.specs.declared.nodes.Node.{Node};
 ghost use Rattle.graphql_documents.specs.declared.documents.schemas.Schema.{Schema};
-ghost use Rattle.graphql_values.specs.FirstPlaces.{Remembers};
+ghost use Rattle.graphql_variables.specs.FirstPlaces.{Remembers};
 ghost use Rattle.graphql_values.specs.VariableSteps.{ChecksNext, ChecksVariable, FollowsWell, IsNewName, TypeHolds, met_variable, variable_place_in};
 
 use super::check_each_directive;
-use crate::first_places::first_place;
 use crate::value::value_of_correct_type;
-use crate::variable::VariablesByName;
 use graphql_diagnostics::{Details, DiagnosticData, DiagnosticList, ValidationError};
 use graphql_documents::documents::{
     DirectiveLocation, ExtendedType, Name, Node, Schema, SourceSpan, VariableDefinition,
 };
+use graphql_variables::VariablesByName;
+use graphql_variables::first_places::first_place;
 use std::collections::HashMap;
 
 /// Validates the definitions of the variables of an operation: their directives, their types and

@@ -8,11 +8,11 @@ ghost use Rattle.graphql_documents.specs.declared.documents.values.Value.TheVari
 ghost use Rattle.graphql_values.specs.ValueSteps.{ChecksDefined, ChecksValue, is_other_scalar, takes_every_int, takes_other_scalar, written_at};
 
 use super::reports::unsupported_type;
-use crate::variable::VariablesByName;
 use graphql_diagnostics::{Details, DiagnosticData, DiagnosticList, ValidationError};
 use graphql_documents::documents::{
     ExtendedType, IntValue, Name, Node, SourceSpan, Type, Value, VariableDefinition,
 };
+use graphql_variables::VariablesByName;
 
 /// Whether the type is a scalar that is not one of those that every schema has.
 ///

@@ -1,5 +1,5 @@
 use Rattle.std.proofs.Common.{◌∙◌, ap, not}
-use Rattle.graphql_values.proofs.SelectionWalkLemmas.{refs_any, refs_with}
+use Rattle.graphql_variables.proofs.SelectionWalkLemmas.{refs_any, refs_with}
 use Rattle.graphql_cycles.proofs.steps.mark.Goals as goal
 
 pub returns-in-Ok-clause-is_new : goal.returns-in-Ok-clause-is_new

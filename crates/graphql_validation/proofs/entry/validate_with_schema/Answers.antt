@@ -10,7 +10,7 @@ use Rattle.graphql_diagnostics.proofs.ReportWithinLemmas.{kept_within, wider_wit
 use Rattle.graphql_merging.specs.FieldSelections.{same_field}
 use Rattle.graphql_merging.specs.MergedOperations.{MergesOneMore}
 use Rattle.graphql_merging.specs.Mergers.{merging_of}
-use Rattle.graphql_rules.proofs.OperationLemmas.{stands_referred}
+use Rattle.graphql_variables.proofs.ReferenceLemmas.{stands_referred}
 use Rattle.graphql_validation.proofs.DocumentLemmas.{of_a_subscription}
 use Rattle.graphql_validation.proofs.MergingStepLemmas.{ValidatedSoFar, kept_so_far, merged_kept, merged_of, split_at, subscriptions_so_far, validated_all, validated_more, validated_none}
 use Rattle.graphql_validation.proofs.entry.validate_with_schema.Goals as goal

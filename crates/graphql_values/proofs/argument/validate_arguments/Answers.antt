@@ -8,7 +8,7 @@ use Rattle.graphql_diagnostics.specs.Reports.{Appends, KeepsReports, Reports}
 use Rattle.graphql_diagnostics.proofs.ReportLemmas.{both, checks-err, holds, in_words, kept_by}
 use Rattle.graphql_documents.proofs.ListLemmas.{more_is}
 use Rattle.graphql_values.specs.Repetitions.{argument_name, argument_place_in, met_argument}
-use Rattle.graphql_values.proofs.FirstPlaceLemmas.{place_of_first, remembers_next}
+use Rattle.graphql_variables.proofs.FirstPlaceLemmas.{place_of_first, remembers_next}
 use Rattle.graphql_values.proofs.RepetitionLemmas.{appends_more, appends_none, distinct_at, reports_more}
 use Rattle.graphql_values.proofs.argument.validate_arguments.Goals as goal
 

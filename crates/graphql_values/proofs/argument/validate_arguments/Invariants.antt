@@ -3,7 +3,7 @@ use Rattle.graphql_diagnostics.specs.ArgumentReports.{AreRepetitionReports, Repe
 use Rattle.graphql_documents.specs.Arguments.{HasDistinctNames}
 use Rattle.graphql_diagnostics.specs.Diagnostics.{IsDiagnostic, entries}
 use Rattle.graphql_diagnostics.specs.Reports.{Appends, Reports}
-use Rattle.graphql_values.specs.FirstPlaces.{Remembers}
+use Rattle.graphql_variables.specs.FirstPlaces.{Remembers}
 use Rattle.graphql_values.specs.Repetitions.{met_argument}
 use Rattle.graphql_values.proofs.argument.validate_arguments.Given as goal
 

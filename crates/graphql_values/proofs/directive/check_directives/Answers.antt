@@ -8,7 +8,7 @@ use Rattle.graphql_documents.specs.Directives.{ApplicationsHold}
 use Rattle.graphql_diagnostics.specs.Reports.{Reports}
 use Rattle.graphql_diagnostics.proofs.ReportLemmas.{checks-err, holds, kept_by, kept_then}
 use Rattle.graphql_values.proofs.DirectiveLemmas.{application_checked}
-use Rattle.graphql_values.proofs.ReferenceLemmas.{referred, referred_more, referred_next}
+use Rattle.graphql_variables.proofs.ReferenceLemmas.{referred, referred_more, referred_next}
 use Rattle.graphql_values.proofs.directive.check_directives.Goals as goal
 
 pub loop-directive-init : goal.loop-directive-init

@@ -5,7 +5,7 @@ use Rattle.graphql_diagnostics.specs.DirectiveReports.{DirectivesBreak}
 use Rattle.graphql_documents.specs.Directives.{ApplicationsHold}
 use Rattle.graphql_diagnostics.specs.Reports.{Reports}
 use Rattle.graphql_values.specs.DirectiveSteps.{met_directive}
-use Rattle.graphql_values.specs.FirstPlaces.{Remembers}
+use Rattle.graphql_variables.specs.FirstPlaces.{Remembers}
 use Rattle.graphql_values.proofs.directive.check_directives.Given as goal
 
 -- what is wrong with the directives so far is reported, and `seen` has the head of the first of each name so far

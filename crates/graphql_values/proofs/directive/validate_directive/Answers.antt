@@ -1,14 +1,13 @@
 -- One check after another, each in words of the directives applied at the place.
 use Rattle.std.proofs.Common.{◌≡◌, ap, ◌∙◌}
 use Rattle.std.specs.Option.{option_copied}
-use Rattle.graphql_diagnostics.specs.ArgumentReports.{RepetitionReport}
 use Rattle.graphql_diagnostics.specs.Diagnostics.{IsDiagnostic}
 use Rattle.graphql_diagnostics.specs.DirectiveReports.{DirectivesBreak}
 use Rattle.graphql_nodes.specs.Spans.{recompose}
 use Rattle.graphql_diagnostics.proofs.ReportLemmas.{checks-err, checks_after, kept_by, kept_then, kept_wider, wider}
 use Rattle.graphql_values.specs.DirectiveSteps.{head_in, head_place, met_directive}
 use Rattle.graphql_values.proofs.DirectiveLemmas.{names_repetition}
-use Rattle.graphql_values.proofs.FirstPlaceLemmas.{holds_on_ok, next_stands, place_of_first, remembers_next}
+use Rattle.graphql_variables.proofs.FirstPlaceLemmas.{holds_on_ok, next_stands, place_of_first, remembers_next}
 use Rattle.graphql_values.proofs.directive.validate_directive.Goals as goal
 
 -- the arguments of the directive were checked for repetitions

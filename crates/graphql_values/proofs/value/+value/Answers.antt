@@ -18,7 +18,8 @@ use Rattle.graphql_documents.specs.TypeReferences.{inner_named_type, is_list, re
 use Rattle.graphql_diagnostics.specs.ValueReports.{CannotStandFor, ValueReport}
 use Rattle.graphql_diagnostics.proofs.ReportLemmas.{both, checks-err, done_more, holds, kept_by, kept_then, kept_wider, walked_all, walked_more, wider}
 use Rattle.graphql_documents.proofs.ListLemmas.{done_next, stands_next}
-use Rattle.graphql_values.proofs.WalkLemmas.{names_item, names_entry, entry_checked, find_first, find_later, no_list_cannot, no_input_cannot, custom_object_accepted, no_object_cannot, list_checked, object_checked}
+use Rattle.graphql_values.proofs.WalkLemmas.{names_item, names_entry, entry_checked, no_list_cannot, no_input_cannot, custom_object_accepted, no_object_cannot, list_checked, object_checked}
+use Rattle.graphql_variables.proofs.SplitLemmas.{find_first, find_later}
 use Rattle.graphql_values.specs.ValueSteps.{AcceptsEntry, AcceptsField, AcceptsItem, EntryReport, ItemReport, written_at}
 use Rattle.graphql_values.proofs.value.+value.Goals as goal
 

@@ -2,7 +2,7 @@ use Rattle.std.proofs.Common.{Some, ap, refl, ◌≡◌, ◌∙◌}
 use Rattle.graphql_documents.specs.TypeReferences.{inner_named_type}
 use Rattle.graphql_diagnostics.proofs.ReportLemmas.{checks-err, kept_by, kept_then, kept_wider}
 use Rattle.graphql_documents.specs.declared.documents.definitions.FieldDefinition.{FieldDefinition}
-use Rattle.graphql_rules.specs.Contexts.{variables_of}
+use Rattle.graphql_operations.specs.Contexts.{variables_of}
 use Rattle.graphql_rules.proofs.FieldLemmas.{defined_reported, names_selection, stands_below}
 use Rattle.graphql_rules.proofs.operations.fields.check_defined_field.Goals as goal
 

@@ -4,7 +4,7 @@ use Rattle.graphql_diagnostics.specs.Diagnostics.{IsDiagnostic}
 use Rattle.graphql_documents.specs.Schemas.{type_field}
 use Rattle.graphql_diagnostics.proofs.ReportLemmas.{both, checks-err, checks_after, checks_words, in_words, kept_by, kept_then, kept_wider}
 use Rattle.graphql_documents.specs.declared.documents.executables.Field.{Field}
-use Rattle.graphql_rules.specs.Contexts.{parent_of, schema_of, variables_of}
+use Rattle.graphql_operations.specs.Contexts.{parent_of, schema_of, variables_of}
 use Rattle.graphql_rules.specs.SelectionSteps.{DefinedFieldHolds, FieldSays, by_directives}
 use Rattle.graphql_rules.proofs.AppliedLemmas.{directives_kept, directives_reported}
 use Rattle.graphql_rules.proofs.FieldLemmas.{below_against, definition_against, distinct_reported, holds_defined, holds_undefined, lacks_place, names_against, names_repetition, parent_against, schema_against, undefined_at, unknown_below}

@@ -1,5 +1,5 @@
 use Rattle.graphql_diagnostics.proofs.ReportLemmas.{checks-err, kept_wider}
-use Rattle.graphql_rules.specs.Contexts.{variables_of}
+use Rattle.graphql_operations.specs.Contexts.{variables_of}
 use Rattle.graphql_rules.proofs.FieldLemmas.{arguments_checked, names_given}
 use Rattle.graphql_rules.proofs.operations.fields.check_field_arguments.Goals as goal
 

@@ -2,7 +2,7 @@ use Rattle.std.proofs.Common.{◌≡◌, ◌<◌, length, Some, ap}
 use Rattle.std.specs.Option.{option_copied}
 use Rattle.graphql_diagnostics.specs.Diagnostics.{entries}
 use Rattle.graphql_diagnostics.proofs.ReportLemmas.{both, checks-err, holds, in_words, kept_by, kept_then, kept_wider, wider}
-use Rattle.graphql_rules.specs.Contexts.{parent_of, schema_of}
+use Rattle.graphql_operations.specs.Contexts.{parent_of, schema_of}
 use Rattle.graphql_rules.proofs.FieldLemmas.{parent_against, schema_against}
 use Rattle.graphql_rules.proofs.FragmentLemmas.{condition_broken, condition_decides, condition_decides_alone, condition_unasked, names_impossible, names_target, not_silent}
 use Rattle.graphql_rules.proofs.operations.fragments.check_condition.Goals as goal

@@ -5,7 +5,7 @@ use Rattle.graphql_diagnostics.proofs.ReportLemmas.{kept_by, kept_then, kept_wid
 use Rattle.graphql_diagnostics.proofs.ReportWithinLemmas.{checks_refused_within, kept_within}
 use Rattle.graphql_documents.specs.Selections.{fragments_of}
 use Rattle.graphql_documents.specs.declared.documents.executables.Fragment.{Fragment}
-use Rattle.graphql_rules.specs.Contexts.{schema_of, variables_of}
+use Rattle.graphql_operations.specs.Contexts.{schema_of, variables_of}
 use Rattle.graphql_rules.specs.SelectionSteps.{FragmentSays, by_fragment_directives}
 use Rattle.graphql_rules.proofs.AppliedLemmas.{directives_kept, directives_reported}
 use Rattle.graphql_rules.proofs.FragmentLemmas.{fragment_reported, kept_second, names_broken, names_cycle, names_said}

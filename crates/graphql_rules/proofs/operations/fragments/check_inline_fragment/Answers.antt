@@ -4,7 +4,7 @@ use Rattle.graphql_documents.specs.FragmentSpreads.{InlineFragmentHolds, TargetH
 use Rattle.graphql_diagnostics.specs.SelectionReports.{InlineFragmentBreaks}
 use Rattle.graphql_diagnostics.proofs.ReportLemmas.{checks-err, checks_after, checks_words, in_words}
 use Rattle.graphql_documents.specs.declared.documents.executables.InlineFragment.{InlineFragment}
-use Rattle.graphql_rules.specs.Contexts.{parent_of, schema_of, variables_of}
+use Rattle.graphql_operations.specs.Contexts.{parent_of, schema_of, variables_of}
 use Rattle.graphql_rules.specs.SelectionSteps.{ConditionHolds, InlineFragmentSays, by_inline_directives}
 use Rattle.graphql_rules.proofs.AppliedLemmas.{directives_kept, directives_reported}
 use Rattle.graphql_rules.proofs.FragmentLemmas.{inline_decides, inline_decides_alone, inline_needs, names_condition, says_no}

@@ -1,7 +1,7 @@
 use Rattle.std.proofs.Common.{ap}
 use Rattle.graphql_diagnostics.proofs.ReportLemmas.{holds}
 use Rattle.graphql_documents.specs.declared.documents.executables.Fragment.{Fragment}
-use Rattle.graphql_rules.specs.Contexts.{parent_of, schema_of}
+use Rattle.graphql_operations.specs.Contexts.{parent_of, schema_of}
 use Rattle.graphql_rules.proofs.FieldLemmas.{parent_against, schema_against}
 use Rattle.graphql_rules.proofs.FragmentLemmas.{possible_anywhere, use_checked}
 use Rattle.graphql_rules.proofs.operations.fragments.check_possible.Goals as goal

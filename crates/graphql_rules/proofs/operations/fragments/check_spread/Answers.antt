@@ -2,7 +2,7 @@ use Rattle.std.proofs.Common.{ap, sym, ◌∙◌}
 use Rattle.graphql_documents.specs.Selections.{fragments_of}
 use Rattle.graphql_diagnostics.proofs.ReportLemmas.{both, checks-err, in_words, kept_by, kept_then, kept_wider, wider}
 use Rattle.graphql_documents.specs.declared.documents.executables.FragmentSpread.{FragmentSpread}
-use Rattle.graphql_rules.specs.Contexts.{parent_of, schema_of, variables_of}
+use Rattle.graphql_operations.specs.Contexts.{parent_of, schema_of, variables_of}
 use Rattle.graphql_rules.specs.SelectionSteps.{SpreadSays, by_spread_directives}
 use Rattle.graphql_rules.proofs.AppliedLemmas.{directives_kept, directives_reported}
 use Rattle.graphql_rules.proofs.FragmentLemmas.{names_spread, names_undefined, spread_decides, undefined_decides}

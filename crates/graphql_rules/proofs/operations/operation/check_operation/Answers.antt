@@ -7,7 +7,7 @@ use Rattle.graphql_diagnostics.proofs.ReportLemmas.{both, kept_by, kept_then, ke
 use Rattle.graphql_diagnostics.proofs.ReportWithinLemmas.{both_within, in_words_within, kept_within, wider_within, within}
 use Rattle.graphql_documents.proofs.SelectionLemmas.{one_fragment_found}
 use Rattle.graphql_rules.proofs.WalkLemmas.{walks_as}
-use Rattle.graphql_rules.specs.Contexts.{entered_names, schema_of}
+use Rattle.graphql_operations.specs.Contexts.{entered_names, schema_of}
 use Rattle.graphql_rules.proofs.OperationLemmas.{directives_checked, directives_kept, of_its_selections, of_its_uses, operation_decides, uses_checked, variables_checked, variables_kept}
 use Rattle.graphql_rules.proofs.operations.operation.check_operation.Goals as goal
 

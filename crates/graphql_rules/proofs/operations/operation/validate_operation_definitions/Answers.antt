@@ -8,7 +8,8 @@ use Rattle.graphql_documents.specs.declared.documents.executables.Operation.{Ope
 use Rattle.graphql_nodes.specs.declared.nodes.Node.{Node}
 use Rattle.graphql_diagnostics.proofs.ReportLemmas.{kept_then}
 use Rattle.graphql_diagnostics.proofs.ReportWithinLemmas.{in_words_within, kept_within, walked_all_within, walked_more_within, walked_none_within}
-use Rattle.graphql_rules.proofs.OperationLemmas.{OperationsTruth, all_referred, operation_checked, operation_kept, stands_referred}
+use Rattle.graphql_rules.proofs.OperationLemmas.{OperationsTruth, operation_checked, operation_kept}
+use Rattle.graphql_variables.proofs.ReferenceLemmas.{all_referred, stands_referred}
 use Rattle.graphql_rules.proofs.operations.operation.validate_operation_definitions.Goals as goal
 
 pub loop-operation-init : goal.loop-operation-init

@@ -4,7 +4,7 @@ use Rattle.std.specs.Option.{option_copied}
 use Rattle.graphql_diagnostics.specs.Diagnostics.{IsLimitEntry, entries}
 use Rattle.graphql_documents.specs.Documents.{OperationHolds}
 use Rattle.graphql_diagnostics.specs.Reports.{ReportsWithin}
-use Rattle.graphql_rules.specs.Contexts.{schema_of}
+use Rattle.graphql_operations.specs.Contexts.{schema_of}
 use Rattle.graphql_rules.proofs.OperationLemmas.{OperationsTruth}
 use Rattle.graphql_rules.proofs.operations.operation.validate_operation_definitions.Given as goal
 

@@ -7,21 +7,21 @@ use Rattle.std.proofs.lemmas.Result.{MatchResult-from_err}
 use Rattle.graphql_diagnostics.specs.Diagnostics.{entries}
 use Rattle.graphql_nodes.specs.Names.{stands_on, with_name}
 use Rattle.graphql_nodes.proofs.NameLemmas.{same_name_itself}
-use Rattle.graphql_values.proofs.SelectionWalkLemmas.{stands_last}
+use Rattle.graphql_variables.proofs.SelectionWalkLemmas.{stands_last}
 use Rattle.graphql_nodes.specs.declared.nodes.Node.{Node}
 use Rattle.graphql_documents.specs.declared.documents.executables.FragmentSpread.{FragmentSpread}
 use Rattle.graphql_documents.specs.declared.documents.executables.Selection.{size-Selection}
 use Rattle.graphql_documents.specs.declared.documents.executables.SelectionSet.{size-SelectionSet}
-use Rattle.graphql_rules.specs.declared.operations.context.OperationValidationContext.{OperationValidationContext}
+use Rattle.graphql_operations.specs.declared.context.OperationValidationContext.{OperationValidationContext}
 use Rattle.graphql_documents.specs.Selections.{fragments_of, selections_of, type_under}
 use Rattle.graphql_documents.specs.declared.documents.executables.Selection.TheVariants as kind
 use Rattle.graphql_diagnostics.proofs.ReportLemmas.{kept_by, kept_wider}
 use Rattle.graphql_documents.proofs.ListLemmas.{more_is}
 use Rattle.graphql_documents.proofs.SelectionLemmas.{one_fragment_found}
-use Rattle.graphql_rules.specs.Contexts.{IsAgainst, StaysAsItWas, entered_names, parent_of, schema_of, variables_of}
+use Rattle.graphql_operations.specs.Contexts.{IsAgainst, StaysAsItWas, entered_names, parent_of, schema_of, variables_of}
 use Rattle.graphql_rules.specs.SelectionSteps.{IsBelow, WalkAnswers, WalkStops, Walks}
 use Rattle.graphql_rules.proofs.EnteredLemmas.{stands_still, was_new, was_there}
-use Rattle.graphql_rules.proofs.MeasureLemmas.{room_falls, room_stays, selection_is_smaller}
+use Rattle.graphql_operations.proofs.MeasureLemmas.{room_falls, room_stays, selection_is_smaller}
 use Rattle.graphql_rules.proofs.WalkLemmas.{field_says, inline_says, spread_says, stopped, stopped_then, stopped_wider, walked_before, walked_field_alone, walked_inline_alone, walked_none, walked_then, walked_undefined, walks_as, walks_definition, walks_field, walks_fragment, walks_inline}
 use Rattle.graphql_rules.proofs.operations.selections.+selection.Goals as goal
 

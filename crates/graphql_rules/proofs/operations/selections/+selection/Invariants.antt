@@ -4,9 +4,9 @@ use Rattle.std.proofs.Common.{◌+◌, ◌*◌, take}
 use Rattle.graphql_diagnostics.specs.Diagnostics.{entries}
 use Rattle.graphql_documents.specs.Selections.{fragments_of}
 use Rattle.graphql_documents.specs.declared.documents.executables.SelectionSet.{size-SelectionSet}
-use Rattle.graphql_rules.specs.Contexts.{SharesWith, entered_names, parent_of, schema_of, variables_of}
+use Rattle.graphql_operations.specs.Contexts.{SharesWith, entered_names, parent_of, schema_of, variables_of}
 use Rattle.graphql_rules.specs.SelectionSteps.{WalkAnswers}
-use Rattle.graphql_rules.proofs.MeasureLemmas.{room}
+use Rattle.graphql_operations.proofs.MeasureLemmas.{room}
 use Rattle.graphql_rules.proofs.operations.selections.+selection.Given as goal
 
 abbrev pub decreases-validate_selection_set : goal.decreases-validate_selection_set

@@ -6,7 +6,7 @@ use Rattle.graphql_diagnostics.proofs.ReportLemmas.{checks_words, holds}
 use Rattle.graphql_documents.specs.declared.documents.definitions.InputValueDefinition.{InputValueDefinition}
 use Rattle.graphql_nodes.specs.declared.nodes.Node.{Node}
 use Rattle.graphql_schemas.specs.FieldDefinitionSteps.{met_argument}
-use Rattle.graphql_values.proofs.FirstPlaceLemmas.{first_found, none_mapped, place_of_first}
+use Rattle.graphql_variables.proofs.FirstPlaceLemmas.{first_found, none_mapped, place_of_first}
 use Rattle.graphql_schemas.proofs.schema_rules.argument_repetitions.check_next_argument.Goals as goal
 
 pub returns-in-Some-clause-checks : goal.returns-in-Some-clause-checks

@@ -7,8 +7,8 @@ use Rattle.graphql_diagnostics.proofs.ReportLemmas.{both, checks-err, holds, in_
 use Rattle.graphql_documents.specs.declared.documents.definitions.InputValueDefinition.{InputValueDefinition}
 use Rattle.graphql_nodes.specs.declared.nodes.Node.{Node}
 use Rattle.graphql_schemas.specs.FieldDefinitionSteps.{RepetitionsBreak}
-use Rattle.graphql_values.proofs.FirstPlaceLemmas.{distinct_names_more}
-use Rattle.graphql_values.proofs.ReferenceLemmas.{referred, referred_more, referred_next}
+use Rattle.graphql_variables.proofs.FirstPlaceLemmas.{distinct_names_more}
+use Rattle.graphql_variables.proofs.ReferenceLemmas.{referred, referred_more, referred_next}
 use Rattle.graphql_schemas.proofs.schema_rules.argument_repetitions.validate_distinct_arguments.Goals as goal
 
 pub loop-argument-init : goal.loop-argument-init

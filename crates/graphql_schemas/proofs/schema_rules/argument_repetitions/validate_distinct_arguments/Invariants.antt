@@ -2,7 +2,7 @@ use Rattle.std.proofs.Common.{map, take}
 use Rattle.graphql_diagnostics.specs.Diagnostics.{IsDiagnostic, entries}
 use Rattle.graphql_nodes.specs.Names.{AreDistinct}
 use Rattle.graphql_diagnostics.specs.Reports.{Reports}
-use Rattle.graphql_values.specs.FirstPlaces.{Remembers}
+use Rattle.graphql_variables.specs.FirstPlaces.{Remembers}
 use Rattle.graphql_schemas.specs.FieldDefinitionSteps.{RepetitionsBreak, met_argument}
 use Rattle.graphql_schemas.proofs.schema_rules.argument_repetitions.validate_distinct_arguments.Given as goal
 

@@ -3,8 +3,8 @@ use Rattle.std.proofs.Common.{◌≡◌, ap, ◌∙◌}
 use Rattle.graphql_diagnostics.proofs.ReportLemmas.{kept_by, kept_then, kept_wider, wider}
 use Rattle.graphql_diagnostics.proofs.ReportWithinLemmas.{checks_refused_within}
 use Rattle.graphql_diagnostics.specs.Diagnostics.{IsLimitEntry}
-use Rattle.graphql_values.proofs.FirstPlaceLemmas.{holds_on_ok}
-use Rattle.graphql_values.proofs.ReferenceLemmas.{referred}
+use Rattle.graphql_variables.proofs.FirstPlaceLemmas.{holds_on_ok}
+use Rattle.graphql_variables.proofs.ReferenceLemmas.{referred}
 use Rattle.graphql_schemas.proofs.DirectiveDefinitionLemmas.{definition_checked, names_definition_arguments, names_definition_name}
 use Rattle.graphql_schemas.proofs.schema_rules.directive_definitions.validate_directive_definition.Goals as goal
 

@@ -1,7 +1,7 @@
 -- One check after another, each in words of the field.
 use Rattle.std.proofs.Common.{◌≡◌, ap, ◌∙◌}
 use Rattle.graphql_diagnostics.proofs.ReportLemmas.{checks-err, kept_by, kept_then, kept_wider, wider}
-use Rattle.graphql_values.proofs.ReferenceLemmas.{referred}
+use Rattle.graphql_variables.proofs.ReferenceLemmas.{referred}
 use Rattle.graphql_schemas.proofs.FieldDefinitionLemmas.{field_checked, names_field_directives, names_field_name}
 use Rattle.graphql_schemas.proofs.schema_rules.fields.validate_field_definition.Goals as goal
 

@@ -2,7 +2,7 @@ use Rattle.std.proofs.Common.{[], ◌∷◌}
 use Rattle.graphql_documents.specs.TypeMaps.{argument_types}
 use Rattle.graphql_documents.specs.TypeReferences.{inner_named_type}
 use Rattle.graphql_diagnostics.proofs.ReportLemmas.{checks-err, kept_wider}
-use Rattle.graphql_values.proofs.FirstPlaceLemmas.{holds_on_ok}
+use Rattle.graphql_variables.proofs.FirstPlaceLemmas.{holds_on_ok}
 use Rattle.graphql_schemas.proofs.BuiltInScalarLemmas.{keeps_by, keeps_then, records_then, records_turned}
 use Rattle.graphql_schemas.proofs.FieldDefinitionLemmas.{names_untyped, typed_field_checked}
 use Rattle.graphql_schemas.proofs.schema_rules.fields.validate_typed_field.Goals as goal

@@ -1,5 +1,5 @@
 use Rattle.graphql_diagnostics.proofs.ReportLemmas.{checks-err, kept_wider}
-use Rattle.graphql_values.proofs.ReferenceLemmas.{referred}
+use Rattle.graphql_variables.proofs.ReferenceLemmas.{referred}
 use Rattle.graphql_schemas.proofs.InputValueLemmas.{argument_definitions_checked, names_argument}
 use Rattle.graphql_schemas.proofs.schema_rules.input_values.validate_argument_definitions.Goals as goal
 

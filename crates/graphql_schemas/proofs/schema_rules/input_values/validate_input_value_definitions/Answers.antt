@@ -9,8 +9,8 @@ use Rattle.graphql_documents.specs.TypeMaps.{argument_types}
 use Rattle.graphql_diagnostics.proofs.ReportLemmas.{checks-err, done_more, holds, kept_by, kept_then, kept_wider, wider}
 use Rattle.graphql_documents.specs.declared.documents.definitions.InputValueDefinition.{InputValueDefinition}
 use Rattle.graphql_nodes.specs.declared.nodes.Node.{Node}
-use Rattle.graphql_values.proofs.FirstPlaceLemmas.{next_stands}
-use Rattle.graphql_values.proofs.ReferenceLemmas.{referred, referred_more, referred_next}
+use Rattle.graphql_variables.proofs.FirstPlaceLemmas.{next_stands}
+use Rattle.graphql_variables.proofs.ReferenceLemmas.{referred, referred_more, referred_next}
 use Rattle.graphql_schemas.specs.BuiltInScalarUses.{Records}
 use Rattle.graphql_schemas.proofs.BuiltInScalarLemmas.{keeps_by, keeps_then, records_none, records_push}
 use Rattle.graphql_schemas.proofs.InputValueLemmas.{names_one, reference_type}

@@ -7,7 +7,7 @@ use Rattle.graphql_documents.specs.declared.documents.components.ComponentName.{
 use Rattle.graphql_nodes.proofs.NameLemmas.{same_name_back}
 use Rattle.graphql_diagnostics.proofs.ReportLemmas.{checks-push, holds}
 use Rattle.graphql_documents.proofs.SubtypeLemmas.{listed_asked}
-use Rattle.graphql_values.proofs.FirstPlaceLemmas.{found_at}
+use Rattle.graphql_variables.proofs.FirstPlaceLemmas.{found_at}
 use Rattle.graphql_schemas.proofs.TypeLemmas.{not_listed}
 use Rattle.graphql_schemas.proofs.schema_rules.interfaces.validate_does_not_list_itself.Goals as goal
 

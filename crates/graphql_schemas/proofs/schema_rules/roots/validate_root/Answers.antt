@@ -3,7 +3,7 @@ use Rattle.std.proofs.lemmas.Option.{none-some}
 use Rattle.graphql_diagnostics.specs.Diagnostics.{IsDiagnostic}
 use Rattle.graphql_diagnostics.specs.SchemaReports.{RootsBreak}
 use Rattle.graphql_diagnostics.proofs.ReportLemmas.{both, checks-err, checks_after, checks_words, holds, kept_wider, wider}
-use Rattle.graphql_values.proofs.FirstPlaceLemmas.{next_stands}
+use Rattle.graphql_variables.proofs.FirstPlaceLemmas.{next_stands}
 use Rattle.graphql_schemas.specs.RootSteps.{lent_root, root_named}
 use Rattle.graphql_schemas.proofs.RootLemmas.{first_lent, names_root}
 use Rattle.graphql_schemas.proofs.schema_rules.roots.validate_root.Goals as goal

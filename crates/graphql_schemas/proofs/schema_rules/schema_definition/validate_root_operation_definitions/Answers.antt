@@ -8,7 +8,7 @@ use Rattle.graphql_diagnostics.specs.SchemaReports.{RootsBreak}
 use Rattle.graphql_documents.specs.Schemas.{roots_of}
 use Rattle.graphql_diagnostics.proofs.ReportLemmas.{both, checks-err, holds, in_words, kept_by, kept_then}
 use Rattle.graphql_documents.proofs.ListLemmas.{done_next}
-use Rattle.graphql_values.specs.FirstPlaces.{IsNext}
+use Rattle.graphql_variables.specs.FirstPlaces.{IsNext}
 use Rattle.graphql_schemas.specs.RootSteps.{AreRoots, lent_root}
 use Rattle.graphql_schemas.proofs.RootLemmas.{roots_hold, roots_more}
 use Rattle.graphql_schemas.proofs.schema_rules.schema_definition.validate_root_operation_definitions.Goals as goal

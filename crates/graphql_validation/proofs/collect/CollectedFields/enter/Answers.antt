@@ -1,5 +1,5 @@
 use Rattle.std.proofs.Common.{◌∙◌, ap, not}
-use Rattle.graphql_values.proofs.SelectionWalkLemmas.{refs_any, refs_with}
+use Rattle.graphql_variables.proofs.SelectionWalkLemmas.{refs_any, refs_with}
 use Rattle.graphql_validation.proofs.collect.CollectedFields.enter.Goals as goal
 
 pub returns-clause-is_new : goal.returns-clause-is_new

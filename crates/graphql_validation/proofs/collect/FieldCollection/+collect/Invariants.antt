@@ -1,7 +1,7 @@
 -- The walk goes down, or into a fragment that it has not gone into; what it has collected is what stands in the
 -- beginning of a set.
 use Rattle.std.proofs.Common.{◌+◌, ◌*◌, take}
-use Rattle.graphql_rules.proofs.MeasureLemmas.{room}
+use Rattle.graphql_operations.proofs.MeasureLemmas.{room}
 use Rattle.graphql_validation.specs.CollectionSteps.{CollectsMore, WalksAmong, met_of}
 use Rattle.graphql_validation.proofs.collect.FieldCollection.+collect.Given as goal
 

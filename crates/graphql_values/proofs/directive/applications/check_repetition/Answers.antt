@@ -4,7 +4,7 @@ use Rattle.std.specs.Option.{option_copied}
 use Rattle.graphql_documents.specs.Directives.{IsRepeatable}
 use Rattle.graphql_diagnostics.proofs.ReportLemmas.{holds}
 use Rattle.graphql_values.specs.DirectiveSteps.{directive_named, head_place}
-use Rattle.graphql_values.proofs.FirstPlaceLemmas.{first_found, none_mapped}
+use Rattle.graphql_variables.proofs.FirstPlaceLemmas.{first_found, none_mapped}
 use Rattle.graphql_values.proofs.directive.applications.check_repetition.Goals as goal
 
 pub returns-in_default : goal.returns-in_default

@@ -3,7 +3,7 @@ use Rattle.graphql_documents.specs.Arguments.{IsGivenIfRequired}
 use Rattle.graphql_diagnostics.specs.Diagnostics.{IsDiagnostic}
 use Rattle.graphql_diagnostics.specs.DirectiveReports.{DirectivesBreak}
 use Rattle.graphql_diagnostics.proofs.ReportLemmas.{checks-err, checks_after, checks_words, kept_by, kept_then, kept_wider}
-use Rattle.graphql_values.specs.GivenArguments.{GivenArgumentHolds, GivenArgumentReport}
+use Rattle.graphql_values.specs.GivenArguments.{GivenArgumentHolds}
 use Rattle.graphql_values.proofs.DirectiveLemmas.{arguments_checked, names_given}
 use Rattle.graphql_values.proofs.directive.applications.validate_known.Goals as goal
 

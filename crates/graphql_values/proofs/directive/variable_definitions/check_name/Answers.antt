@@ -2,7 +2,7 @@ use Rattle.std.proofs.Common.{sym, ◌∙◌}
 use Rattle.std.proofs.lemmas.Option.{none-some}
 use Rattle.graphql_diagnostics.proofs.ReportLemmas.{checks_words, holds}
 use Rattle.graphql_documents.specs.VariableUsage.{variable_named}
-use Rattle.graphql_values.proofs.FirstPlaceLemmas.{first_found, none_mapped}
+use Rattle.graphql_variables.proofs.FirstPlaceLemmas.{first_found, none_mapped}
 use Rattle.graphql_values.proofs.directive.variable_definitions.check_name.Goals as goal
 
 pub returns-in-Some : goal.returns-in-Some

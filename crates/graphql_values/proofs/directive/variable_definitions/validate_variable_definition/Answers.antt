@@ -3,7 +3,7 @@ use Rattle.std.proofs.Common.{◌≡◌, ap, ◌∙◌}
 use Rattle.std.specs.Option.{option_copied}
 use Rattle.graphql_diagnostics.proofs.ReportLemmas.{checks-err, checks_after, kept_by, kept_then}
 use Rattle.graphql_values.specs.VariableSteps.{met_variable, variable_place_in}
-use Rattle.graphql_values.proofs.FirstPlaceLemmas.{holds_on_ok, next_stands, place_of_first, remembers_next}
+use Rattle.graphql_variables.proofs.FirstPlaceLemmas.{holds_on_ok, next_stands, place_of_first, remembers_next}
 use Rattle.graphql_values.proofs.directive.variable_definitions.validate_variable_definition.Goals as goal
 
 pub returns-in_err-validate_variable_directives-clause-checks : goal.returns-in_err-validate_variable_directives-clause-checks

@@ -8,7 +8,7 @@ use Rattle.graphql_diagnostics.specs.VariableReports.{VariablesReport}
 use Rattle.graphql_documents.specs.Variables.{VariableDefinitionsHold}
 use Rattle.graphql_diagnostics.proofs.ReportLemmas.{checks-err, holds, kept_by, kept_then}
 use Rattle.graphql_documents.proofs.ListLemmas.{more_is}
-use Rattle.graphql_values.proofs.FirstPlaceLemmas.{next_at}
+use Rattle.graphql_variables.proofs.FirstPlaceLemmas.{next_at}
 use Rattle.graphql_values.proofs.VariableLemmas.{variable_checked}
 use Rattle.graphql_values.proofs.directive.variable_definitions.validate_variable_definitions.Goals as goal
 

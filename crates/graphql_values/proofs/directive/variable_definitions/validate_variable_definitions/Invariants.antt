@@ -4,7 +4,7 @@ use Rattle.graphql_diagnostics.specs.Diagnostics.{IsDiagnostic, entries}
 use Rattle.graphql_diagnostics.specs.Reports.{Reports}
 use Rattle.graphql_diagnostics.specs.VariableReports.{VariablesReport}
 use Rattle.graphql_documents.specs.Variables.{VariableDefinitionsHold}
-use Rattle.graphql_values.specs.FirstPlaces.{Remembers}
+use Rattle.graphql_variables.specs.FirstPlaces.{Remembers}
 use Rattle.graphql_values.specs.VariableSteps.{met_variable}
 use Rattle.graphql_values.proofs.directive.variable_definitions.validate_variable_definitions.Given as goal
 

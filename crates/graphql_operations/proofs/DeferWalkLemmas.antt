@@ -1,0 +1,162 @@
+-- The check of labels over a list of applications, over what a walk has met of a set, and over the sets of
+-- a document.
+use Rattle.std.proofs.Common.{◌≡◌, ℕ, ◌+◌, ◌<◌, ◌≤◌, Bool, Bor, List, [], ◌∷◌, ◌++◌, Option, Contains, IsTrue, IsFalse, length, get_or, map, take, refl, sym, ◌∙◌, ap, subst, append_assoc, None, arith}
+use Rattle.std.proofs.lemmas.List.{append-nil, map-append, take_all}
+use Rattle.std.proofs.lemmas.List.Concat.{flat_map-append}
+use Rattle.std.specs.List.{AllZip}
+use Rattle.std.proofs.lemmas.List.Elements.{All-nil}
+use Rattle.std.specs.Prelude.{Result, Ok, Err, MatchResult, OnErr, OnOk, flat_map}
+use Rattle.indexmap.specs.IndexMap.{IndexMap}
+use Rattle.graphql_documents.specs.Defer.{DefersIn, DefersOn, HasFixedLabel, LabelsHold, sets_of}
+use Rattle.graphql_diagnostics.specs.Diagnostics.{IsLimitEntry}
+use Rattle.graphql_diagnostics.specs.Reports.{KeepsReports, ReportsWithin}
+use Rattle.graphql_documents.specs.Selections.{fragments_of, selections_of}
+use Rattle.graphql_diagnostics.specs.declared.data.DiagnosticData.TheVariants as report
+use Rattle.graphql_diagnostics.specs.declared.details.Details.TheVariants as details
+use Rattle.graphql_diagnostics.specs.declared.lists.DiagnosticEntry.{DiagnosticEntry}
+use Rattle.graphql_documents.specs.declared.documents.directives.Directive.{Directive}
+use Rattle.graphql_documents.specs.declared.documents.executables.ExecutableDocument.{ExecutableDocument}
+use Rattle.graphql_documents.specs.declared.documents.executables.SelectionSet.{SelectionSet}
+use Rattle.graphql_nodes.specs.declared.nodes.Node.{Node}
+use Rattle.graphql_nodes.specs.declared.spans.SourceSpan.{SourceSpan}
+use Rattle.graphql_documents.proofs.ListLemmas.{more_is}
+use Rattle.graphql_variables.proofs.FirstPlaceLemmas.{next_at}
+use Rattle.graphql_operations.specs.DeferLabels.{DeferTruth, HasMetDefers, LabelsHoldAmong, LabelsSoFar, RemembersLabels, none_met}
+use Rattle.graphql_operations.proofs.DeferLabelLemmas.{kept_so_far, passed_to_limit}
+use Rattle.graphql_operations.proofs.WrittenDeferLemmas.{has_defers, one_list_of_defers}
+
+-- a list of references, at its next
+module _ {X : Type 0} (xs : List (Bor X)) (i : ℕ) (x : Bor X) (in' : i < length xs) (item : x ≡ get_or xs i x) where
+  pub behind : List X
+  behind = map (λ b. b.now) (next_at xs i x in' item).after
+
+  pub refs_at : (before after : List X) →
+      before ++ (map (λ b. b.now) xs ++ after) ≡ (before ++ map (λ b. b.now) (take i xs)) ++ ((x.now ∷ []) ++ (behind ++ after))
+  unfolding behind
+  refs_at before after =
+      let next = next_at xs i x in' item in
+      let refs = λ (l : List (Bor X)). map (λ b. b.now) l in
+      ap (λ l. before ++ (l ++ after)) (ap refs next.split ∙ map-append (λ (b : Bor X). b.now) (take i xs) (x ∷ next.after)) ∙
+      ap (λ l. before ++ l) (append_assoc (refs (take i xs)) (refs (x ∷ next.after)) after) ∙
+      sym (append_assoc before (refs (take i xs)) (refs (x ∷ next.after) ++ after))
+
+  pub refs_more : (before : List X) → (before ++ map (λ b. b.now) (take i xs)) ++ x.now ∷ [] ≡ before ++ map (λ b. b.now) (take (i + 1) xs)
+  refs_more before =
+      append_assoc before (map (λ (b : Bor X). b.now) (take i xs)) (x.now ∷ []) ∙
+      ap (λ l. before ++ l) (sym (ap (λ (l : List (Bor X)). map (λ b. b.now) l) (more_is xs i x in' item) ∙ map-append (λ (b : Bor X). b.now) (take i xs) (x ∷ [])))
+
+-- what a walk has met of a set, of whose applications this is the list
+module _ (document : ExecutableDocument) (set : SelectionSet) (stands : Contains (sets_of document) set) (here : List (Node Directive)) (on : DefersOn (selections_of set) here)
+    (met : List (Node Directive)) (complete : Bool) (h : HasMetDefers set met complete) where
+  here_is : met ++ h.missed ≡ here
+  here_is = one_list_of_defers h.order here on
+
+  pub at_set : (before after : List (Node Directive)) → DefersIn document (before ++ (here ++ after)) → DefersIn document (before ++ (met ++ (h.missed ++ after)))
+  at_set before after all = subst (DefersIn document) (ap (λ l. before ++ l) (ap (λ l. l ++ after) (sym here_is) ∙ append_assoc met h.missed after)) all
+
+  module _ {S : Type 0} (before : List (Node Directive)) {labels : IndexMap (Bor (List ℕ)) (Option SourceSpan) S} {old mid : List DiagnosticEntry} (so_far : LabelsSoFar document (before ++ met) labels old mid) where
+    -- it came to its end
+    pub set_whole : IsTrue complete → LabelsSoFar document (before ++ here) labels old mid
+    set_whole done =
+        let same : met ≡ here = sym (append-nil met) ∙ ap (λ l. met ++ l) (sym (h.all done)) ∙ here_is in
+        subst (λ l. LabelsSoFar document (before ++ l) labels old mid) same so_far
+
+    -- it passed its bound
+    pub set_cut : IsFalse complete → {T E : Type 0} (r : Result T E) (new : List DiagnosticEntry) →
+        OnOk r (new ≡ mid ++ record { location = None; details = details.Diagnostic report.RecursionError } ∷ []) → OnErr r (new ≡ mid) →
+        MatchResult r (λ _. LabelsSoFar document (before ++ here) labels old new) (λ _. KeepsReports (DeferTruth document) old new)
+    set_cut cut (Ok x) new ok err =
+        subst (λ l. LabelsSoFar document l labels old new) (append_assoc before met h.missed ∙ ap (λ l. before ++ l) here_is)
+        (passed_to_limit so_far h.missed new ok (set, stands, h.bound cut (fragments_of document)))
+    set_cut cut (Err x) new ok err = subst (KeepsReports (DeferTruth document) old) (sym err) (kept_so_far so_far)
+
+-- the applications of a set, and of the sets of a document
+pub defers_of_set : SelectionSet → List (Node Directive)
+defers_of_set set = (has_defers (selections_of set)).0
+
+pub on_set : (set : SelectionSet) → DefersOn (selections_of set) (defers_of_set set)
+unfolding defers_of_set
+on_set set = (has_defers (selections_of set)).1
+
+each_on : (xs : List SelectionSet) → AllZip (λ set part. DefersOn (selections_of set) part) xs (map defers_of_set xs)
+each_on [] = tt
+each_on (x ∷ xs) = (on_set x, each_on xs)
+
+parts_are : (xs : List SelectionSet) (parts : List (List (Node Directive))) → AllZip (λ set part. DefersOn (selections_of set) part) xs parts → parts ≡ map defers_of_set xs
+parts_are [] [] zip = refl
+parts_are [] (part ∷ parts) zip = absurd zip
+parts_are (x ∷ xs) [] zip = absurd zip
+parts_are (x ∷ xs) (part ∷ parts) zip =
+    ap (λ p. p ∷ parts) (one_list_of_defers zip.0 (defers_of_set x) (on_set x)) ∙ ap (λ l. defers_of_set x ∷ l) (parts_are xs parts zip.1)
+
+flat_parts : (xs : List SelectionSet) → flat_map (λ part. part) (map defers_of_set xs) ≡ flat_map defers_of_set xs
+flat_parts [] = refl
+flat_parts (x ∷ xs) = ap (λ l. defers_of_set x ++ l) (flat_parts xs)
+
+all_in : (document : ExecutableDocument) → DefersIn document (flat_map defers_of_set (sets_of document))
+all_in document = (map defers_of_set (sets_of document), each_on (sets_of document), sym (flat_parts (sets_of document)))
+
+one_list_in : (document : ExecutableDocument) (applications : List (Node Directive)) → DefersIn document applications → applications ≡ flat_map defers_of_set (sets_of document)
+one_list_in document applications (parts, zip, is) = is ∙ ap (flat_map (λ part. part)) (parts_are (sets_of document) parts zip) ∙ flat_parts (sets_of document)
+
+-- the applications of sets that stand behind references
+abbrev pub defers_at : Bor SelectionSet → List (Node Directive)
+defers_at set = defers_of_set set.now
+
+flat_refs : (xs : List (Bor SelectionSet)) → flat_map defers_at xs ≡ flat_map defers_of_set (map (λ b. b.now) xs)
+flat_refs [] = refl
+flat_refs (x ∷ xs) = ap (λ l. defers_of_set x.now ++ l) (flat_refs xs)
+
+module _ (document : ExecutableDocument) (xs : List (Bor SelectionSet)) (are : map (λ b. b.now) xs ≡ sets_of document) where
+  all_at : flat_map defers_at xs ≡ flat_map defers_of_set (sets_of document)
+  all_at = flat_refs xs ∙ ap (flat_map defers_of_set) are
+
+  module _ (i : ℕ) (x : Bor SelectionSet) (in' : i < length xs) (item : x ≡ get_or xs i x) where
+    pub sets_behind : List (Node Directive)
+    sets_behind = flat_map defers_at (next_at xs i x in' item).after
+
+    pub in_document : DefersIn document (flat_map defers_at (take i xs) ++ (defers_of_set x.now ++ sets_behind))
+    unfolding sets_behind
+    in_document =
+        subst (DefersIn document)
+        (sym all_at ∙ ap (flat_map defers_at) (next_at xs i x in' item).split ∙ flat_map-append defers_at (take i xs) (x ∷ (next_at xs i x in' item).after))
+        (all_in document)
+
+    pub sets_more : flat_map defers_at (take i xs) ++ defers_of_set x.now ≡ flat_map defers_at (take (i + 1) xs)
+    sets_more =
+        sym (ap (flat_map defers_at) (more_is xs i x in' item) ∙ flat_map-append defers_at (take i xs) (x ∷ []) ∙
+        ap (λ l. flat_map defers_at (take i xs) ++ l) (append-nil (defers_of_set x.now)))
+
+  -- all sets were passed
+  pub all_passed : {S : Type 0} {labels : IndexMap (Bor (List ℕ)) (Option SourceSpan) S} {old new : List DiagnosticEntry} (i : ℕ) → length xs ≤ i →
+      LabelsSoFar document (flat_map defers_at (take i xs)) labels old new → ReportsWithin IsLimitEntry (LabelsHold document) (DeferTruth document) old new
+  all_passed i past so_far =
+      let r = so_far.reported in
+      let all_is : flat_map defers_at (take i xs) ≡ flat_map defers_of_set (sets_of document) = ap (flat_map defers_at) (take_all i xs past) ∙ all_at in
+      record {
+        added = r.added;
+        appended = r.appended;
+        silent = λ none.
+            let whole = so_far.whole r.added r.appended none ∙ all_is in
+            let s = r.silent none in (
+              λ e applications are_all. subst LabelsHoldAmong (whole ∙ sym (one_list_in document applications are_all)) (s.0 e),
+              λ holds. s.1 (subst LabelsHoldAmong (sym whole) (holds (flat_map defers_of_set (sets_of document)) (all_in document))),
+            );
+        each = r.each;
+      }
+
+-- nothing was passed yet
+pub nothing_passed : {S : Type 0} {document : ExecutableDocument} {labels : IndexMap (Bor (List ℕ)) (Option SourceSpan) S} (old : List DiagnosticEntry) →
+    RemembersLabels labels [] → LabelsSoFar document [] labels old old
+nothing_passed {document = document} old remembered = record {
+  met = [];
+  are_met = none_met;
+  remembered = remembered;
+  reported = record {
+    added = [];
+    appended = sym (append-nil old);
+    silent = λ none. (λ e. ((λ i j d lt in'. absurd (let no : ⊥ = omega (arith, in') in no)), All-nil HasFixedLabel), λ holds. refl);
+    each = All-nil (DeferTruth document);
+  };
+  whole = λ added is none. refl;
+}

@@ -1,0 +1,300 @@
+-- The `@defer` applications that are written in a set: each list of selections has them, and one list of
+-- them alone; and what a walk over it has met.
+use Rattle.std.proofs.Common.{◌≡◌, ℕ, zero, suc, ◌+◌, ◌<◌, ◌≤◌, Bool, true, false, cond, List, [], ◌∷◌, ◌++◌, IsTrue, IsFalse, length, get_or, take, refl, sym, ◌∙◌, ap, subst, append_assoc, arith, Contains}
+use Rattle.std.proofs.lemmas.List.{append-nil, take_all}
+use Rattle.std.proofs.lemmas.List.Elements.{filter-append}
+use Rattle.std.specs.Prelude.{codes}
+use Rattle.std.specs.Str.{bytes_eq}
+use Rattle.graphql_documents.specs.Defer.{DefersOn, defers, defers_on_field, defers_on_inline_fragment, defers_on_none, defers_on_spread}
+use Rattle.graphql_documents.specs.Selections.{directives_of, selections_of}
+use Rattle.graphql_documents.specs.Walks.{descent_ends, descent_into_field, descent_into_inline_fragment}
+use Rattle.graphql_documents.specs.declared.documents.directives.Directive.{Directive}
+use Rattle.graphql_documents.specs.declared.documents.executables.Field.{Field, size_is-Field}
+use Rattle.graphql_documents.specs.declared.documents.executables.FragmentSpread.{FragmentSpread}
+use Rattle.graphql_documents.specs.declared.documents.executables.InlineFragment.{InlineFragment, size_is-InlineFragment}
+use Rattle.graphql_documents.specs.declared.documents.executables.Selection.TheOpen as Open
+use Rattle.graphql_documents.specs.declared.documents.executables.Selection.TheVariants as kind
+use Rattle.graphql_documents.specs.declared.documents.executables.Selection.{Selection, out-Selection, size-Selection, size_is-Selection}
+use Rattle.graphql_documents.specs.declared.documents.executables.SelectionSet.{SelectionSet, size-SelectionSet}
+use Rattle.graphql_nodes.specs.declared.nodes.Node.{Node}
+use Rattle.graphql_documents.proofs.ListLemmas.{more_is, only_one, stands_first}
+use Rattle.graphql_laws.proofs.SizeLemmas.{Kind, is_field, is_inline, is_spread, kind_of}
+use Rattle.graphql_variables.proofs.FirstPlaceLemmas.{next_at, next_stands}
+use Rattle.graphql_operations.specs.DeferLabels.{HasMetDefers, MeetsDefers}
+use Rattle.graphql_operations.proofs.MeasureLemmas.{selection_is_smaller}
+
+-- the set of a field or an inline fragment is less deep
+field_is_deeper : (f : Node Field) → size-SelectionSet f.value.value.selection_set < size-Selection (kind.Field f)
+field_is_deeper f =
+    let size = size_is-Selection (kind.Field f) in
+    let opened = rw (kind.outs-Field f) at size in
+    omega (arith, opened, size_is-Field f.value.value)
+
+inline_fragment_is_deeper : (i : Node InlineFragment) → size-SelectionSet i.value.value.selection_set < size-Selection (kind.InlineFragment i)
+inline_fragment_is_deeper i =
+    let size = size_is-Selection (kind.InlineFragment i) in
+    let opened = rw (kind.outs-InlineFragment i) at size in
+    omega (arith, opened, size_is-InlineFragment i.value.value)
+
+-- some applications stand on the selections
+abbrev HasDefers : List Selection → Type 0
+HasDefers selections = (applications : List (Node Directive)) × DefersOn selections applications
+
+module _ (n : ℕ) (below : (set : SelectionSet) → size-SelectionSet set < n → HasDefers (selections_of set)) where
+  has_first : {s : Selection} → Kind s → size-Selection s ≤ n → {rest : List Selection} → HasDefers rest → HasDefers (s ∷ rest)
+  has_first (is_field f) small more =
+      let within = below f.value.value.selection_set (omega (arith, field_is_deeper f, small)) in
+      (defers f.value.value.directives.items ++ (within.0 ++ more.0), defers_on_field f within.1 more.1)
+  has_first (is_inline i) small more =
+      let within = below i.value.value.selection_set (omega (arith, inline_fragment_is_deeper i, small)) in
+      (defers i.value.value.directives.items ++ (within.0 ++ more.0), defers_on_inline_fragment i within.1 more.1)
+  has_first (is_spread p) small more = (defers p.value.value.directives.items ++ more.0, defers_on_spread p more.1)
+
+  has_each : (xs : List Selection) → ((i : ℕ) (d : Selection) → i < length xs → size-Selection (get_or xs i d) ≤ n) → HasDefers xs
+  has_each [] small = ([], defers_on_none)
+  has_each (s ∷ rest) small =
+      has_first (kind_of s) (small 0 s (omega arith)) (has_each rest (λ i d within. small (suc i) d (omega (arith, within))))
+
+has_by_depth : (n : ℕ) (set : SelectionSet) → size-SelectionSet set < n → HasDefers (selections_of set)
+has_by_depth zero set small = absurd (let no : ⊥ = omega (arith, small) in no)
+has_by_depth (suc n) set small =
+    has_each n (has_by_depth n) (selections_of set) (λ i d within. omega (arith, small, selection_is_smaller set i d within))
+
+-- each list of selections has its applications
+pub has_defers : (selections : List Selection) → (applications : List (Node Directive)) × DefersOn selections applications
+has_defers [] = ([], defers_on_none)
+has_defers (s ∷ rest) =
+    has_first (size-Selection s) (has_by_depth (size-Selection s)) (kind_of s) (omega arith) (has_defers rest)
+
+-- what the applications on the selections are, by the first of these
+abbrev FromFirst : Open.Selection-F Selection Field InlineFragment SelectionSet → List Selection → List (Node Directive) → Type 0
+FromFirst (Open.Field f) rest ds =
+    (below : List (Node Directive)) × (after : List (Node Directive)) × DefersOn (selections_of f.value.value.selection_set) below × DefersOn rest after ×
+    (ds ≡ defers f.value.value.directives.items ++ (below ++ after))
+FromFirst (Open.InlineFragment i) rest ds =
+    (below : List (Node Directive)) × (after : List (Node Directive)) × DefersOn (selections_of i.value.value.selection_set) below × DefersOn rest after ×
+    (ds ≡ defers i.value.value.directives.items ++ (below ++ after))
+FromFirst (Open.FragmentSpread p) rest ds =
+    (after : List (Node Directive)) × DefersOn rest after × (ds ≡ defers p.value.value.directives.items ++ after)
+
+abbrev ByFirst : List Selection → List (Node Directive) → Type 0
+ByFirst [] ds = ds ≡ []
+ByFirst (s ∷ rest) ds = FromFirst (out-Selection s) rest ds
+
+by_first : {selections : List Selection} {ds : List (Node Directive)} → DefersOn selections ds → ByFirst selections ds
+by_first defers_on_none = refl
+by_first (defers_on_field f {rest = rest} {below = below} {after = after} within more) =
+    subst (λ o. FromFirst o rest (defers f.value.value.directives.items ++ (below ++ after))) (sym (kind.outs-Field f)) (below, after, within, more, refl)
+by_first (defers_on_inline_fragment i {rest = rest} {below = below} {after = after} within more) =
+    subst (λ o. FromFirst o rest (defers i.value.value.directives.items ++ (below ++ after))) (sym (kind.outs-InlineFragment i)) (below, after, within, more, refl)
+by_first (defers_on_spread p {rest = rest} {after = after} more) =
+    subst (λ o. FromFirst o rest (defers p.value.value.directives.items ++ after)) (sym (kind.outs-FragmentSpread p)) (after, more, refl)
+
+-- and no others
+pub one_list_of_defers : {selections : List Selection} {ds : List (Node Directive)} → DefersOn selections ds →
+    (others : List (Node Directive)) → DefersOn selections others → ds ≡ others
+one_list_of_defers defers_on_none others on = sym (by_first on)
+one_list_of_defers (defers_on_field f {rest = rest} {below = below} {after = after} within more) others on =
+    let first = subst (λ o. FromFirst o rest others) (kind.outs-Field f) (by_first on) in
+    let own = defers f.value.value.directives.items in
+    ap (λ l. own ++ (l ++ after)) (one_list_of_defers within first.0 first.2) ∙ ap (λ l. own ++ (first.0 ++ l)) (one_list_of_defers more first.1 first.3) ∙ sym first.4
+one_list_of_defers (defers_on_inline_fragment i {rest = rest} {below = below} {after = after} within more) others on =
+    let first = subst (λ o. FromFirst o rest others) (kind.outs-InlineFragment i) (by_first on) in
+    let own = defers i.value.value.directives.items in
+    ap (λ l. own ++ (l ++ after)) (one_list_of_defers within first.0 first.2) ∙ ap (λ l. own ++ (first.0 ++ l)) (one_list_of_defers more first.1 first.3) ∙ sym first.4
+one_list_of_defers (defers_on_spread p {rest = rest} {after = after} more) others on =
+    let first = subst (λ o. FromFirst o rest others) (kind.outs-FragmentSpread p) (by_first on) in
+    ap (λ l. defers p.value.value.directives.items ++ l) (one_list_of_defers more first.0 first.1) ∙ sym first.2
+
+-- four lists, by where they are put together
+three_then : (own below after b : List (Node Directive)) → own ++ (below ++ (after ++ b)) ≡ (own ++ (below ++ after)) ++ b
+three_then own below after b = ap (λ l. own ++ l) (sym (append_assoc below after b)) ∙ sym (append_assoc own (below ++ after) b)
+
+-- the applications of one list of selections after another
+defers_then : {xs : List Selection} {a : List (Node Directive)} → DefersOn xs a → {ys : List Selection} {b : List (Node Directive)} → DefersOn ys b → DefersOn (xs ++ ys) (a ++ b)
+defers_then defers_on_none on = on
+defers_then (defers_on_field f {rest = rest} {below = below} {after = after} within more) {ys = ys} {b = b} on =
+    subst (DefersOn (kind.Field f ∷ (rest ++ ys))) (three_then (defers f.value.value.directives.items) below after b) (defers_on_field f within (defers_then more on))
+defers_then (defers_on_inline_fragment i {rest = rest} {below = below} {after = after} within more) {ys = ys} {b = b} on =
+    subst (DefersOn (kind.InlineFragment i ∷ (rest ++ ys))) (three_then (defers i.value.value.directives.items) below after b) (defers_on_inline_fragment i within (defers_then more on))
+defers_then (defers_on_spread p {rest = rest} {after = after} more) {ys = ys} {b = b} on =
+    subst (DefersOn (kind.FragmentSpread p ∷ (rest ++ ys))) (sym (append_assoc (defers p.value.value.directives.items) after b)) (defers_on_spread p (defers_then more on))
+
+not_cut : {A : Type 0} → IsFalse true → A
+not_cut e = absurd (let no : ⊥ = cc in no)
+
+not_whole : {A : Type 0} → IsTrue false → A
+not_whole e = absurd (let no : ⊥ = cc in no)
+
+-- the directives of a selection, by its kind
+abbrev opened_directives : Open.Selection-F Selection Field InlineFragment SelectionSet → List (Node Directive)
+opened_directives o = elim o [
+  | Open.Field f ↦ f.value.value.directives.items
+  | Open.FragmentSpread p ↦ p.value.value.directives.items
+  | Open.InlineFragment i ↦ i.value.value.directives.items
+]
+
+defers_of_field : {s : Selection} (f : Node Field) → s ≡ kind.Field f → defers (directives_of s) ≡ defers f.value.value.directives.items
+defers_of_field f is = ap (λ o. defers (opened_directives o)) (ap out-Selection is ∙ kind.outs-Field f)
+
+defers_of_inline_fragment : {s : Selection} (i : Node InlineFragment) → s ≡ kind.InlineFragment i → defers (directives_of s) ≡ defers i.value.value.directives.items
+defers_of_inline_fragment i is = ap (λ o. defers (opened_directives o)) (ap out-Selection is ∙ kind.outs-InlineFragment i)
+
+defers_of_spread : {s : Selection} (p : Node FragmentSpread) → s ≡ kind.FragmentSpread p → defers (directives_of s) ≡ defers p.value.value.directives.items
+defers_of_spread p is = ap (λ o. defers (opened_directives o)) (ap out-Selection is ∙ kind.outs-FragmentSpread p)
+
+module _ (limit depth : ℕ) where
+  -- no selection yet
+  pub meets_none : {old : List (Node Directive)} → MeetsDefers limit depth [] old old true
+  meets_none {old = old} = record {
+    met = [];
+    missed = [];
+    appended = sym (append-nil old);
+    order = defers_on_none;
+    all = λ whole. refl;
+    bound = not_cut;
+  }
+
+  -- the next selection, behind those over which the walk came to its end
+  module _ (xs : List Selection) (i : ℕ) (s : Selection) (in' : i < length xs) (item : s ≡ get_or xs i s) {old mid : List (Node Directive)} (a : MeetsDefers limit depth (take i xs) old mid true) where
+    before : DefersOn (take i xs) a.met
+    before = subst (DefersOn (take i xs)) (ap (λ l. a.met ++ l) (a.all refl) ∙ append-nil a.met) a.order
+
+    pub meets_next : {new : List (Node Directive)} → MeetsDefers limit depth (s ∷ []) mid new true → MeetsDefers limit depth (take (i + 1) xs) old new true
+    meets_next {new = new} b =
+        record {
+          met = a.met ++ b.met;
+          missed = b.missed;
+          appended = b.appended ∙ ap (λ l. l ++ b.met) a.appended ∙ append_assoc old a.met b.met;
+          order = subst (λ l. DefersOn l ((a.met ++ b.met) ++ b.missed)) (sym (more_is xs i s in' item))
+              (subst (DefersOn (take i xs ++ s ∷ [])) (sym (append_assoc a.met b.met b.missed)) (defers_then before b.order));
+          all = b.all;
+          bound = not_cut;
+        }
+
+    -- where the walk stops at it, it misses what is behind it too
+    pub meets_cut : {ys : List Selection} {new : List (Node Directive)} → xs ≡ ys → MeetsDefers limit depth (s ∷ []) mid new false → MeetsDefers limit depth ys old new false
+    meets_cut {new = new} same b =
+        let next = next_at xs i s in' item in
+        let rest = has_defers next.after in
+        let here : DefersOn (take i xs ++ s ∷ next.after) (a.met ++ ((b.met ++ b.missed) ++ rest.0)) = defers_then before (defers_then b.order rest.1) in
+        let regroup : a.met ++ ((b.met ++ b.missed) ++ rest.0) ≡ (a.met ++ b.met) ++ (b.missed ++ rest.0) =
+        ap (λ l. a.met ++ l) (append_assoc b.met b.missed rest.0) ∙ sym (append_assoc a.met b.met (b.missed ++ rest.0)) in
+        subst (λ l. MeetsDefers limit depth l old new false) same
+        (record {
+          met = a.met ++ b.met;
+          missed = b.missed ++ rest.0;
+          appended = b.appended ∙ ap (λ l. l ++ b.met) a.appended ∙ append_assoc old a.met b.met;
+          order = subst (λ l. DefersOn l ((a.met ++ b.met) ++ (b.missed ++ rest.0))) (sym next.split) (subst (DefersOn (take i xs ++ s ∷ next.after)) regroup here);
+          all = not_whole;
+          bound = λ cut fragments set holds. b.bound refl fragments set
+              (λ t there. subst (Contains (selections_of set)) (sym (only_one s t there)) (holds s (next_stands next)));
+        })
+
+  -- with the same limit and depth in other words
+  pub meets_at : (l d : ℕ) → l ≡ limit → d ≡ depth → {xs : List Selection} {old new : List (Node Directive)} {complete : Bool} →
+      MeetsDefers l d xs old new complete → MeetsDefers limit depth xs old new complete
+  meets_at l d same_limit same_depth {xs = xs} {old = old} {new = new} {complete = complete} m =
+      subst (λ n. MeetsDefers n depth xs old new complete) same_limit (subst (λ n. MeetsDefers l n xs old new complete) same_depth m)
+
+  pub meets_all : {xs ys : List Selection} (i : ℕ) {old new : List (Node Directive)} → length xs ≤ i → xs ≡ ys →
+      MeetsDefers limit depth (take i xs) old new true → MeetsDefers limit depth ys old new true
+  meets_all {xs = xs} i {old = old} {new = new} past same m = subst (λ l. MeetsDefers limit depth l old new true) (take_all i xs past ∙ same) m
+
+  -- a selection: its own applications, and those below it
+  module _ (own below missed : List (Node Directive)) where
+    grouped : own ++ ((below ++ missed) ++ []) ≡ (own ++ below) ++ missed
+    grouped = ap (λ l. own ++ l) (append-nil (below ++ missed)) ∙ sym (append_assoc own below missed)
+
+  pub meets_field : {s : Selection} (f : Node Field) {old mid new : List (Node Directive)} {complete : Bool} → s ≡ kind.Field f →
+      (directives : List (Node Directive)) → directives ≡ directives_of s → mid ≡ old ++ defers directives →
+      MeetsDefers limit (depth + 1) (selections_of f.value.value.selection_set) mid new complete → MeetsDefers limit depth (s ∷ []) old new complete
+  meets_field f {old = old} {mid = mid} {new = new} {complete = complete} is directives given added b =
+      let own = defers f.value.value.directives.items in
+      let pushed = added ∙ ap (λ l. old ++ defers l) given ∙ ap (λ l. old ++ l) (defers_of_field f is) in
+      subst (λ t. MeetsDefers limit depth (t ∷ []) old new complete) (sym is)
+      (record {
+        met = own ++ b.met;
+        missed = b.missed;
+        appended = b.appended ∙ ap (λ l. l ++ b.met) pushed ∙ append_assoc old own b.met;
+        order = subst (DefersOn (kind.Field f ∷ [])) (grouped own b.met b.missed) (defers_on_field f b.order defers_on_none);
+        all = b.all;
+        bound = λ cut fragments set holds.
+            let down = b.bound cut fragments f.value.value.selection_set (λ t there. there) in
+            (suc down.0, descent_into_field refl (holds (kind.Field f) (stands_first (kind.Field f) [])) refl down.1, omega (arith, down.2));
+      })
+
+  pub meets_inline_fragment : {s : Selection} (i : Node InlineFragment) {old mid new : List (Node Directive)} {complete : Bool} → s ≡ kind.InlineFragment i →
+      (directives : List (Node Directive)) → directives ≡ directives_of s → mid ≡ old ++ defers directives →
+      MeetsDefers limit (depth + 1) (selections_of i.value.value.selection_set) mid new complete → MeetsDefers limit depth (s ∷ []) old new complete
+  meets_inline_fragment i {old = old} {mid = mid} {new = new} {complete = complete} is directives given added b =
+      let own = defers i.value.value.directives.items in
+      let pushed = added ∙ ap (λ l. old ++ defers l) given ∙ ap (λ l. old ++ l) (defers_of_inline_fragment i is) in
+      subst (λ t. MeetsDefers limit depth (t ∷ []) old new complete) (sym is)
+      (record {
+        met = own ++ b.met;
+        missed = b.missed;
+        appended = b.appended ∙ ap (λ l. l ++ b.met) pushed ∙ append_assoc old own b.met;
+        order = subst (DefersOn (kind.InlineFragment i ∷ [])) (grouped own b.met b.missed) (defers_on_inline_fragment i b.order defers_on_none);
+        all = b.all;
+        bound = λ cut fragments set holds.
+            let down = b.bound cut fragments i.value.value.selection_set (λ t there. there) in
+            (suc down.0, descent_into_inline_fragment (holds (kind.InlineFragment i) (stands_first (kind.InlineFragment i) [])) refl down.1, omega (arith, down.2));
+      })
+
+  pub meets_spread : {s : Selection} (p : Node FragmentSpread) {old new : List (Node Directive)} → s ≡ kind.FragmentSpread p →
+      (directives : List (Node Directive)) → directives ≡ directives_of s → new ≡ old ++ defers directives →
+      MeetsDefers limit depth (s ∷ []) old new true
+  meets_spread p {old = old} {new = new} is directives given added =
+      let own = defers p.value.value.directives.items in
+      let pushed = added ∙ ap (λ l. old ++ defers l) given ∙ ap (λ l. old ++ l) (defers_of_spread p is) in
+      subst (λ t. MeetsDefers limit depth (t ∷ []) old new true) (sym is)
+      (record {
+        met = own;
+        missed = [];
+        appended = pushed;
+        order = defers_on_spread p defers_on_none;
+        all = λ whole. refl;
+        bound = not_cut;
+      })
+
+  -- a set that is not gone into
+  pub meets_limit : (set : SelectionSet) (old : List (Node Directive)) → limit ≤ depth → MeetsDefers limit (depth + 1) (selections_of set) old old false
+  meets_limit set old full =
+      let missed = has_defers (selections_of set) in
+      record {
+        met = [];
+        missed = missed.0;
+        appended = sym (append-nil old);
+        order = missed.1;
+        all = not_whole;
+        bound = λ cut fragments held holds. (0, descent_ends, omega (arith, full));
+      }
+
+-- a walk from nothing
+pub meets_whole : (set : SelectionSet) (new : List (Node Directive)) (complete : Bool) → MeetsDefers 500 0 (selections_of set) [] new complete → HasMetDefers set new complete
+meets_whole set new complete m = record {
+  missed = m.missed;
+  order = subst (λ l. DefersOn (selections_of set) (l ++ m.missed)) (sym m.appended) m.order;
+  all = m.all;
+  bound = λ cut fragments.
+      let down = m.bound cut fragments set (λ t there. there) in
+      record { depth = down.0; entered = []; descent = down.1; once = λ i j d lt within. absurd (let no : ⊥ = omega (arith, within) in no); passes = omega (arith, down.2) };
+}
+
+-- a directive more among which those are sought that are `@defer`
+module _ (xs : List (Node Directive)) (i : ℕ) (x : Node Directive) (in' : i < length xs) (item : x ≡ get_or xs i x) where
+  defers_more : defers (take (i + 1) xs) ≡ defers (take i xs) ++ defers (x ∷ [])
+  defers_more = ap defers (more_is xs i x in' item) ∙ filter-append (λ (d : Node Directive). bytes_eq d.value.value.name.text (codes "defer")) (take i xs) (x ∷ [])
+
+  pub defers_added : (base old new : List (Node Directive)) → bytes_eq x.value.value.name.text (codes "defer") ≡ true →
+      old ≡ base ++ defers (take i xs) → new ≡ old ++ x ∷ [] → new ≡ base ++ defers (take (i + 1) xs)
+  defers_added base old new is before pushed =
+      let here : defers (x ∷ []) ≡ x ∷ [] = ap (λ b. cond b (x ∷ []) []) is in
+      pushed ∙ ap (λ l. l ++ x ∷ []) before ∙ append_assoc base (defers (take i xs)) (x ∷ []) ∙ ap (λ l. base ++ l) (sym (defers_more ∙ ap (λ l. defers (take i xs) ++ l) here))
+
+  pub defers_kept : (base old new : List (Node Directive)) → bytes_eq x.value.value.name.text (codes "defer") ≡ false →
+      old ≡ base ++ defers (take i xs) → new ≡ old → new ≡ base ++ defers (take (i + 1) xs)
+  defers_kept base old new is before same =
+      let here : defers (x ∷ []) ≡ [] = ap (λ b. cond b (x ∷ []) []) is in
+      same ∙ before ∙ ap (λ l. base ++ l) (sym (defers_more ∙ ap (λ l. defers (take i xs) ++ l) here ∙ append-nil (defers (take i xs))))

@@ -1,0 +1,116 @@
+ghost use Rattle.std.specs.Prelude.{◌≡◌, ◌+◌, ◌∷◌, ◌++◌, [], IfOk, OnOk, map};
+ghost use Rattle.graphql_documents.specs.Defer.{defers};
+ghost use Rattle.graphql_documents.specs.Selections.{selections_of};
+ghost use Rattle.graphql_guards.specs.Guards.{depth_limit, depth_of};
+ghost use Rattle.graphql_operations.specs.DeferLabels.{HasMetDefers, MeetsDefers};
+
+use super::DEFER_DIRECTIVE_NAME;
+use graphql_diagnostics::ValidationError;
+use graphql_documents::documents::{Directive, Node, Selection, SelectionSet};
+use graphql_guards::DepthCounter;
+use graphql_variables::conditions::directives_of;
+use std::alloc::Global;
+
+/// How deep a walk may go.
+const WALK_LIMIT: usize = 500;
+
+/// The `@defer` applications that a walk met, in the order in which they are written, and whether it
+/// came to its end or passed its bound.
+#[derive(Drop)]
+pub(super) struct WrittenDefers<'doc> {
+    pub applications: Vec<&'doc Node<Directive>>,
+    pub complete: bool,
+}
+
+/// Walks over what is written in a set, at any depth, spreads not followed, and lists the `@defer`
+/// applications: those of a selection, then those below it, then those of the next. The walk stops
+/// where it would go into more than 500 sets, one in another.
+pub(super) fn written_defers<'doc>(
+    alloc: Global,
+    set: &'doc SelectionSet,
+) -> Result<WrittenDefers<'doc>, ValidationError>
+    ensures { IfOk result (λ written. HasMetDefers set.now (map (λ d. d.now) written.applications.items) written.complete) }
+{
+    let mut applications = Vec::new(alloc);
+    let mut depth = DepthCounter::new().with_limit(WALK_LIMIT);
+    let complete = walk_set(set, &mut applications, &mut depth)?;
+    Ok(WrittenDefers {
+        applications,
+        complete,
+    })
+}
+
+/// Adds the applications in a set, and answers whether the walk came to its end.
+#[cycle(written)]
+fn walk_set<'doc>(
+    set: &'doc SelectionSet,
+    met: &mut Vec<&'doc Node<Directive>>,
+    depth: &mut DepthCounter,
+) -> Result<bool, ValidationError>
+    ensures walks { IfOk result (λ complete. MeetsDefers (depth_limit depth.old) (depth_of depth.old) (selections_of set.now)
+        (map (λ d. d.now) met.old.items) (map (λ d. d.now) met.new.items) complete) }
+    ensures depth { OnOk result (depth_of depth.new ≡ depth_of depth.old) }
+    ensures limit { OnOk result (depth_limit depth.new ≡ depth_limit depth.old) }
+{
+    for selection in &set.selections {
+        if !walk_selection(selection, met, depth)? {
+            return Ok(false);
+        }
+    }
+    Ok(true)
+}
+
+/// The same of a selection: its own applications, then those below it.
+#[cycle(written)]
+fn walk_selection<'doc>(
+    selection: &'doc Selection,
+    met: &mut Vec<&'doc Node<Directive>>,
+    depth: &mut DepthCounter,
+) -> Result<bool, ValidationError>
+    ensures walks { IfOk result (λ complete. MeetsDefers (depth_limit depth.old) (depth_of depth.old) (selection.now ∷ [])
+        (map (λ d. d.now) met.old.items) (map (λ d. d.now) met.new.items) complete) }
+    ensures depth { OnOk result (depth_of depth.new ≡ depth_of depth.old) }
+    ensures limit { OnOk result (depth_limit depth.new ≡ depth_limit depth.old) }
+{
+    add_defers(directives_of(selection), met)?;
+    match selection {
+        Selection::Field(field) => walk_deeper(&field.value.selection_set, met, depth),
+        Selection::InlineFragment(fragment) => {
+            walk_deeper(&fragment.value.selection_set, met, depth)
+        }
+        Selection::FragmentSpread(_) => Ok(true),
+    }
+}
+
+/// The same of a set that is one step deeper, unless the walk is at its limit.
+#[cycle(written)]
+fn walk_deeper<'doc>(
+    set: &'doc SelectionSet,
+    met: &mut Vec<&'doc Node<Directive>>,
+    depth: &mut DepthCounter,
+) -> Result<bool, ValidationError>
+    ensures walks { IfOk result (λ complete. MeetsDefers (depth_limit depth.old) (depth_of depth.old + 1) (selections_of set.now)
+        (map (λ d. d.now) met.old.items) (map (λ d. d.now) met.new.items) complete) }
+    ensures depth { OnOk result (depth_of depth.new ≡ depth_of depth.old) }
+    ensures limit { OnOk result (depth_limit depth.new ≡ depth_limit depth.old) }
+{
+    match depth.increment() {
+        Ok(mut guard) => walk_set(set, met, guard.counter),
+        Err(_) => Ok(false),
+    }
+}
+
+/// Adds those of these directives that are `@defer`.
+fn add_defers<'doc>(
+    directives: &'doc [Node<Directive>],
+    met: &mut Vec<&'doc Node<Directive>>,
+) -> Result<(), ValidationError>
+    ensures { OnOk result (map (λ d. d.now) met.new.items ≡ map (λ d. d.now) met.old.items ++ defers directives.now) }
+{
+    for directive in directives {
+        if directive.value.name.as_str() == DEFER_DIRECTIVE_NAME {
+            met.push(directive)?;
+        }
+    }
+    Ok(())
+}

@@ -1,4 +1,0 @@
-use Rattle.graphql_rules.proofs.operations.defer.rules.DeferRule.walk.Goals as goal
-
-pub returns-in-CanBeDisabled : goal.returns-in-CanBeDisabled
-returns-in-CanBeDisabled c = rw c.in-CanBeDisabled.is c.walk_open_selections.ensures

@@ -1,8 +1,0 @@
-use Rattle.std.proofs.Common.{take}
-use Rattle.graphql_documents.specs.Variables.{StandsInDirectives}
-use Rattle.graphql_values.specs.Uses.{NamesAlso}
-use Rattle.graphql_values.proofs.variable.uses.add_in_directives.Given as goal
-
-abbrev pub invariant-loop-directive : goal.invariant-loop-directive
-invariant-loop-directive l =
-    NamesAlso (λ name. StandsInDirectives name (take l.directive-index l.directives)) l.initial.names.items l.names.items

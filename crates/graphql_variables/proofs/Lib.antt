@@ -1,0 +1,13 @@
+pub mod FirstPlaceLemmas
+pub mod NameSetLemmas
+pub mod OperationUseLemmas
+pub mod ReferenceLemmas
+pub mod SearchLemmas
+pub mod SelectionWalkLemmas
+pub mod SplitLemmas
+pub mod UnusedLemmas
+pub mod UsageLemmas
+pub mod UseLemmas
+pub mod VariablesByNameLemmas
+pub mod WalkOrderLemmas
+pub mod WalkedLemmas

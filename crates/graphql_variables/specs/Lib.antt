@@ -1,0 +1,5 @@
+pub mod FirstPlaces
+pub mod Searches
+pub mod Uses
+pub mod VariablesByName
+pub mod WalkSteps

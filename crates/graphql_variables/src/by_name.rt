@@ -1,0 +1,92 @@
+ghost use Rattle.std.specs.Option.{option_copied};
+ghost use Rattle.std.specs.Prelude.{◌≡◌, ◌∷◌, ◌++◌, [], IfOk, List, OnOk};
+ghost use Rattle.graphql_documents.specs.VariableUsage.{variable_named};
+ghost use Rattle.graphql_documents.specs.declared.documents.definitions.VariableDefinition.{VariableDefinition};
+ghost use Rattle.graphql_nodes.specs.declared.nodes.Node.{Node};
+ghost use Rattle.graphql_variables.specs.VariablesByName.{FindsFirst};
+
+use graphql_diagnostics::ValidationError;
+use graphql_documents::documents::{Name, Node, VariableDefinition};
+use std::alloc::Global;
+use std::collections::HashMap;
+use std::marker::Model;
+
+/// The variables of an operation, each found by its name without a walk over their definitions. Of
+/// those with one name the first is found.
+///
+/// Specification: 5.8.1 Variable Uniqueness.
+#[derive(Drop)]
+pub struct VariablesByName<'a> {
+    definitions: &'a [Node<VariableDefinition>],
+    first: HashMap<&'a Name, &'a Node<VariableDefinition>>,
+}
+
+impl<'a> Model for VariablesByName<'a> {
+    ghost use Rattle.std.specs.Prelude.{List};
+    ghost use Rattle.graphql_documents.specs.declared.documents.definitions.VariableDefinition.{VariableDefinition};
+    ghost use Rattle.graphql_nodes.specs.declared.nodes.Node.{Node};
+    ghost use Rattle.graphql_variables.specs.VariablesByName.{FindsFirst};
+    ghost use Rattle.graphql_documents.specs.contracts.documents.type_references.Type as types;
+    ghost use Rattle.graphql_documents.specs.contracts.documents.values.Value as values;
+    ghost use Rattle.std.specs.Coded.{codes};
+
+    ghost Value = { List (Node VariableDefinition) };
+
+    ghost coded = { Prim.hlevel (codes, types.the_row.coded, values.the_row.coded) };
+
+    ghost view = { λ variables. variables.definitions.now };
+
+    ghost invariant = { λ variables. FindsFirst variables.first variables.definitions.now };
+}
+
+impl<'a> VariablesByName<'a> {
+    /// The variables with these definitions. The only error is want of memory.
+    pub fn new(
+        alloc: Global,
+        definitions: &'a [Node<VariableDefinition>],
+    ) -> Result<VariablesByName<'a>, ValidationError>
+        ensures { IfOk result (λ variables. variables ≡ definitions.now) }
+    {
+        let first = first_of_each_name(alloc, definitions)?;
+        Ok(VariablesByName { definitions, first })
+    }
+
+    /// The first variable with this name.
+    pub fn find(&self, name: &Name) -> Option<&'a Node<VariableDefinition>>
+        ensures { option_copied result ≡ variable_named name.now self.now }
+    {
+        match self.first.get(&name) {
+            Some(variable) => Some(*variable),
+            None => None,
+        }
+    }
+}
+
+/// The first variable of each name.
+fn first_of_each_name<'a>(
+    alloc: Global,
+    definitions: &'a [Node<VariableDefinition>],
+) -> Result<HashMap<&'a Name, &'a Node<VariableDefinition>>, ValidationError>
+    ensures { IfOk result (λ first. FindsFirst first definitions.now) }
+{
+    let mut first: HashMap<&Name, &Node<VariableDefinition>> = HashMap::new(alloc);
+    for definition in definitions {
+        add_if_new(&mut first, definition)?;
+    }
+    Ok(first)
+}
+
+/// Adds a variable, unless one of its name is there.
+fn add_if_new<'a>(
+    first: &mut HashMap<&'a Name, &'a Node<VariableDefinition>>,
+    definition: &'a Node<VariableDefinition>,
+) -> Result<(), ValidationError>
+    ensures { OnOk result ((before : List (Node VariableDefinition)) → FindsFirst first.old before →
+        FindsFirst first.new (before ++ definition.now ∷ [])) }
+{
+    let name = &definition.value.name;
+    if !first.contains_key(&name) {
+        first.insert(name, definition)?;
+    }
+    Ok(())
+}

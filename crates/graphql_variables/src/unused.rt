@@ -1,0 +1,159 @@
+ghost use Rattle.std.specs.Prelude.{◌≡◌, ◌↔◌, [], ◌∷◌, All, Contains, IsTrue, IfOk, OnOk, MatchResult, map};
+ghost use Rattle.graphql_diagnostics.specs.Diagnostics.{IsDiagnostic, entries};
+ghost use Rattle.graphql_nodes.specs.Names.{NameText, different_names};
+ghost use Rattle.graphql_diagnostics.specs.Reports.{Appends, Checks, KeepsReports};
+ghost use Rattle.graphql_documents.specs.Selections.{Fragments, Reached, fragments_of};
+ghost use Rattle.graphql_diagnostics.specs.VariableReports.{AreUnusedReports, AreUsesReports, UsesReport};
+ghost use Rattle.graphql_documents.specs.Variables.{UsesVariable};
+ghost use Rattle.graphql_documents.specs.declared.documents.executables.Operation.{Operation};
+ghost use Rattle.graphql_documents.specs.declared.documents.executables.Selection.{Selection};
+ghost use Rattle.graphql_variables.specs.Uses.{HasUsed, IsLastDefinition, IsNamedIn, NamesAlso, UsedAt, names_of};
+
+use super::uses::{add_in_arguments, add_in_directives};
+use super::walks::walk_selections_with_deduped_fragments;
+use graphql_diagnostics::{Details, DiagnosticData, DiagnosticList, ValidationError};
+use graphql_documents::documents::{
+    ExecutableDocument, Name, Node, Operation, Selection, SourceSpan, VariableDefinition,
+};
+use indexmap::{IndexMap, IndexSet};
+use std::alloc::Global;
+
+/// Reports each variable of the operation that is not used: neither in its directives, nor in the
+/// directives or arguments of a selection that it reaches, nor in the directives of a fragment that it
+/// reaches. Each name is reported once, in order of its first definition, as its last one writes it and
+/// at that place.
+///
+/// Where the walk over the operation passes its bound, this alone is reported. The only error is want of
+/// memory.
+///
+/// Specification: 5.8.4 All Variables Used.
+pub fn validate_unused_variables(
+    diagnostics: &mut DiagnosticList,
+    document: &ExecutableDocument,
+    operation: &Operation,
+) -> Result<(), ValidationError>
+    ensures exact { OnOk result (Appends (AreUsesReports (fragments_of document.now) operation.now) (entries diagnostics.old) (entries diagnostics.new)) }
+    ensures kept { KeepsReports (IsDiagnostic (UsesReport (fragments_of document.now) operation.now)) (entries diagnostics.old) (entries diagnostics.new) }
+{
+    let alloc = diagnostics.allocator();
+    let walked = walk_selections_with_deduped_fragments(alloc, document, &operation.selection_set)?;
+    if !walked.complete {
+        return diagnostics.push(None, Details::Diagnostic(DiagnosticData::RecursionError));
+    }
+    let used = used_variables(alloc, document, operation, &walked.selections)?;
+    let last = last_definitions(alloc, &operation.variables)?;
+    report_unused(diagnostics, &last, &used)
+}
+
+/// The variables that the operation and these selections use.
+fn used_variables<'doc>(
+    alloc: Global,
+    document: &'doc ExecutableDocument,
+    operation: &'doc Operation,
+    selections: &[&'doc Selection],
+) -> Result<IndexSet<&'doc Name>, ValidationError>
+    ensures { ((s : Selection) → Contains (map (λ s. s.now) selections.now) s ↔ Reached (fragments_of document.now) operation.now.selection_set s) →
+        IfOk result (HasUsed (UsesVariable (fragments_of document.now) operation.now)) }
+{
+    let mut names = Vec::new(alloc);
+    add_in_directives(&mut names, &operation.directives)?;
+    for selection in selections {
+        add_in_selection(&mut names, document, selection)?;
+    }
+    set_of(alloc, &names)
+}
+
+/// Adds the variables that a selection uses, below it apart.
+fn add_in_selection<'doc>(
+    names: &mut Vec<&'doc Name>,
+    document: &'doc ExecutableDocument,
+    selection: &'doc Selection,
+) -> Result<(), ValidationError>
+    ensures { OnOk result (NamesAlso (UsedAt (fragments_of document.now) selection.now) names.old.items names.new.items) }
+{
+    match selection {
+        Selection::Field(field) => {
+            add_in_directives(names, &field.value.directives)?;
+            add_in_arguments(names, &field.value.arguments)
+        }
+        Selection::FragmentSpread(spread) => {
+            add_in_directives(names, &spread.value.directives)?;
+            match document.fragments.get(&spread.value.fragment_name) {
+                Some(fragment) => add_in_directives(names, &fragment.value.directives),
+                None => Ok(()),
+            }
+        }
+        Selection::InlineFragment(fragment) => add_in_directives(names, &fragment.value.directives),
+    }
+}
+
+/// The set of these names.
+fn set_of<'doc>(
+    alloc: Global,
+    names: &[&'doc Name],
+) -> Result<IndexSet<&'doc Name>, ValidationError>
+    ensures { IfOk result (HasUsed (IsNamedIn (names_of names.now))) }
+{
+    let mut set = IndexSet::new(alloc);
+    for name in names {
+        set.insert(*name)?;
+    }
+    Ok(set)
+}
+
+/// Reports each of these variables that is not used.
+fn report_unused(
+    diagnostics: &mut DiagnosticList,
+    variables: &IndexMap<&Name, &Node<VariableDefinition>>,
+    used: &IndexSet<&Name>,
+) -> Result<(), ValidationError>
+    ensures { (fragments : Fragments) (o : Operation) → HasUsed (UsesVariable fragments o) used.now →
+        All (λ e. IsLastDefinition o.variables.items e.0.now e.1.now) variables.now.entries →
+        MatchResult result
+        (λ _. Appends (AreUnusedReports fragments o (map (λ e. e.0.now) variables.now.entries)) (entries diagnostics.old) (entries diagnostics.new))
+        (λ _. KeepsReports (IsDiagnostic (UsesReport fragments o)) (entries diagnostics.old) (entries diagnostics.new)) }
+{
+    for (_, variable) in variables {
+        check_use(diagnostics, variable, used)?;
+    }
+    Ok(())
+}
+
+/// The last definition of each name, in order of the first.
+fn last_definitions<'doc>(
+    alloc: Global,
+    variables: &'doc [Node<VariableDefinition>],
+) -> Result<IndexMap<&'doc Name, &'doc Node<VariableDefinition>>, ValidationError>
+    ensures names { IfOk result (λ last. map (λ e. e.0.now) last.entries ≡ different_names (map (λ v. v.value.value.name) variables.now)) }
+    ensures definitions { IfOk result (λ last. All (λ e. IsLastDefinition variables.now e.0.now e.1.now) last.entries) }
+{
+    let mut last = IndexMap::new(alloc);
+    for variable in variables {
+        last.insert(&variable.value.name, variable)?;
+    }
+    Ok(last)
+}
+
+/// Reports a variable if its name is not used.
+fn check_use(
+    diagnostics: &mut DiagnosticList,
+    variable: &Node<VariableDefinition>,
+    used: &IndexSet<&Name>,
+) -> Result<(), ValidationError>
+    ensures { (fragments : Fragments) (o : Operation) (name : NameText) → HasUsed (UsesVariable fragments o) used.now →
+        IsLastDefinition o.variables.items name variable.now →
+        MatchResult result
+        (λ _. Appends (AreUnusedReports fragments o (name ∷ [])) (entries diagnostics.old) (entries diagnostics.new))
+        (λ _. entries diagnostics.new ≡ entries diagnostics.old) }
+{
+    let name = &variable.value.name;
+    if used.contains(&name) {
+        return Ok(());
+    }
+    let place = SourceSpan::recompose(variable.location, name.location());
+    let name = name.clone()?;
+    diagnostics.push(
+        place,
+        Details::Diagnostic(DiagnosticData::UnusedVariable { name }),
+    )
+}
