@@ -70,7 +70,8 @@ impl<'a> OperationValidationContext<'a> {
         })
     }
 
-    /// Goes into the fragment of this name, and answers whether it is the first time.
+    /// Goes into the fragment of this name, and answers whether it is the first time. The only error is
+    /// want of memory.
     pub fn enter(&mut self, name: &'a Name) -> Result<bool, ValidationError>
         ensures is_new { IfOk result (λ new. new ≡ not (stands_on (entered_names self.old) name.now)) }
         ensures names { OnOk result (entered_names self.new ≡ with_name (entered_names self.old) name.now) }

@@ -9,4 +9,4 @@ pub mod rows;
 
 pub use cases::{Case, Validated, build_case};
 pub use errors::RowError;
-pub use rows::{Row, Subject, TABLES, find_row};
+pub use rows::{Row, Subject, find_row};

@@ -7,9 +7,6 @@ pub mod up_to_12;
 pub mod up_to_19;
 pub mod up_to_26;
 
-/// All examples, in order of their names.
-pub const TABLES: [&[Row]; 3] = [up_to_12::ROWS, up_to_19::ROWS, up_to_26::ROWS];
-
 /// A worked example: what is validated, and the lines that it brings.
 #[derive(Clone, Copy)]
 pub struct Row {
