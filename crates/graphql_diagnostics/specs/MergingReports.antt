@@ -11,8 +11,8 @@ use Rattle.graphql_diagnostics.specs.declared.build_errors.BuildError.TheVariant
 use Rattle.graphql_diagnostics.specs.declared.build_errors.BuildError.{BuildError}
 use Rattle.graphql_diagnostics.specs.declared.details.Details.TheVariants as details
 use Rattle.graphql_diagnostics.specs.declared.details.Details.{Details}
-use Rattle.graphql_documents.specs.declared.documents.coordinates.FieldArgumentCoordinate.{FieldArgumentCoordinate}
-use Rattle.graphql_documents.specs.declared.documents.coordinates.TypeAttributeCoordinate.{TypeAttributeCoordinate}
+use Rattle.graphql_coordinates.specs.declared.coordinates.FieldArgumentCoordinate.{FieldArgumentCoordinate}
+use Rattle.graphql_coordinates.specs.declared.coordinates.TypeAttributeCoordinate.{TypeAttributeCoordinate}
 use Rattle.graphql_documents.specs.declared.documents.directives.Argument.{Argument}
 use Rattle.graphql_documents.specs.declared.documents.executables.Field.{Field}
 use Rattle.graphql_documents.specs.declared.documents.executables.SelectionSet.{SelectionSet}

@@ -3,7 +3,7 @@ use Rattle.std.specs.Prelude.{ℕ, List, ◌++◌, Option, None, Some, codes}
 use Rattle.std.specs.Option.{option_map}
 use Rattle.graphql_nodes.specs.Names.{NameText}
 use Rattle.graphql_documents.specs.TypeReferences.{type_text}
-use Rattle.graphql_documents.specs.Coordinates.{field_text, type_attribute_text, coordinate_text}
+use Rattle.graphql_coordinates.specs.Coordinates.{field_text, type_attribute_text, coordinate_text}
 use Rattle.graphql_documents.specs.Values.{value_kind_text}
 use Rattle.graphql_documents.specs.DirectiveLocations.{location_text}
 use Rattle.graphql_diagnostics.specs.declared.names.NameOrAnon.{NameOrAnon}

@@ -5,7 +5,7 @@ use Rattle.std.specs.declared.alloc.Global.{Global}
 use Rattle.graphql_documents.specs.InputCoercion.{AcceptsLeaf, IsFieldGiven, IsInputField, is_built_in_scalar, is_custom_scalar}
 use Rattle.graphql_nodes.specs.Names.{NameText, SameName, same_name}
 use Rattle.graphql_nodes.specs.Nodes.{SameNode}
-use Rattle.graphql_documents.specs.Numbers.{FitsInt, integer_value}
+use Rattle.graphql_numbers.specs.Numbers.{FitsInt, integer_value}
 use Rattle.graphql_documents.specs.SchemaReferences.{as_input_object, named}
 use Rattle.graphql_documents.specs.Schemas.{IsInputObject, is_input_type, type_definition}
 use Rattle.graphql_documents.specs.TypeReferences.{IsReferenceCopy, TypeReference, inner_named_type, is_list, is_non_null, item_reference, item_type, reference_of}
@@ -14,7 +14,7 @@ use Rattle.graphql_documents.specs.VariableUsage.{variable_named}
 use Rattle.graphql_diagnostics.specs.declared.data.DiagnosticData.TheVariants as report
 use Rattle.graphql_diagnostics.specs.declared.data.DiagnosticData.{DiagnosticData}
 use Rattle.graphql_documents.specs.declared.documents.components.Component.{Component}
-use Rattle.graphql_documents.specs.declared.documents.coordinates.TypeAttributeCoordinate.{TypeAttributeCoordinate}
+use Rattle.graphql_coordinates.specs.declared.coordinates.TypeAttributeCoordinate.{TypeAttributeCoordinate}
 use Rattle.graphql_documents.specs.declared.documents.definitions.InputValueDefinition.{InputValueDefinition}
 use Rattle.graphql_documents.specs.declared.documents.definitions.VariableDefinition.{VariableDefinition}
 use Rattle.graphql_nodes.specs.declared.nodes.Node.{Node}

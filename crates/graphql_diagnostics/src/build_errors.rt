@@ -1,7 +1,7 @@
 ghost use Rattle.std.specs.Prelude.{◌≡◌, Some};
 ghost use Rattle.graphql_diagnostics.specs.Messages.{build_error_name};
 
-use graphql_documents::documents::coordinates::{FieldArgumentCoordinate, TypeAttributeCoordinate};
+use graphql_coordinates::{FieldArgumentCoordinate, TypeAttributeCoordinate};
 use graphql_documents::documents::definitions::OperationType;
 use graphql_documents::documents::type_references::Type;
 use graphql_documents::documents::values::Value;

@@ -2,7 +2,7 @@ ghost use Rattle.std.specs.Prelude.{◌≡◌, Some};
 ghost use Rattle.graphql_diagnostics.specs.Messages.{message, name_or_anon_text, fragment_text};
 
 use super::names::{FieldOf, NameOrAnon};
-use graphql_documents::documents::coordinates::{SchemaCoordinate, TypeAttributeCoordinate};
+use graphql_coordinates::{SchemaCoordinate, TypeAttributeCoordinate};
 use graphql_documents::documents::definitions::{
     DirectiveLocation, InputValueDefinition, OperationType,
 };

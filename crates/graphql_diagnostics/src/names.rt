@@ -40,7 +40,7 @@ pub(crate) struct FieldOf<'a> {
 
 impl fmt::Display for FieldOf<'_> {
     ghost use Rattle.std.specs.Prelude.{Some};
-    ghost use Rattle.graphql_documents.specs.Coordinates.{field_text};
+    ghost use Rattle.graphql_coordinates.specs.Coordinates.{field_text};
 
     ghost output = { λ c. Some (field_text c.ty.now c.field.now) };
 

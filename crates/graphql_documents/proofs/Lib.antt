@@ -1,6 +1,5 @@
 pub mod ImplementerLemmas
 pub mod ListLemmas
-pub mod NumberLemmas
 pub mod SelectionLemmas
 pub mod SubtypeLemmas
 pub mod VariableUseLemmas

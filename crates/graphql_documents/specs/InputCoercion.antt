@@ -5,7 +5,7 @@ use Rattle.std.specs.declared.alloc.Global.{Global}
 use Rattle.std.specs.Str.{bytes_eq}
 use Rattle.indexmap.specs.IndexMap.{get}
 use Rattle.graphql_nodes.specs.Names.{NameText, SameName, same_name}
-use Rattle.graphql_documents.specs.Numbers.{FitsInt, integer_value}
+use Rattle.graphql_numbers.specs.Numbers.{FitsInt, integer_value}
 use Rattle.graphql_documents.specs.TypeReferences.{inner_named_type, item_type, is_list, is_non_null}
 use Rattle.graphql_documents.specs.Values.{VariablesIn, entry_named}
 use Rattle.graphql_documents.specs.Schemas.{type_definition, is_built_in, is_input_type, is_required, IsInputObject}

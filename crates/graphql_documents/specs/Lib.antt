@@ -1,7 +1,6 @@
 pub mod Arguments
 pub mod Built
 pub mod CollectFields
-pub mod Coordinates
 pub mod Defer
 pub mod DirectiveLocations
 pub mod Directives
@@ -16,7 +15,6 @@ pub mod InputCoercion
 pub mod MergedFields
 pub mod Merging
 pub mod MetaFields
-pub mod Numbers
 pub mod OperationTypes
 pub mod Paths
 pub mod Roots

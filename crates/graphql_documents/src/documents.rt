@@ -1,13 +1,10 @@
 //! Schemas, executable documents and field sets, as the layers below validation build them.
 
 pub mod components;
-pub mod coordinates;
 pub mod definitions;
 pub mod directives;
 pub mod executables;
-pub mod floats;
 pub mod implementers;
-pub mod integers;
 pub mod meta_fields;
 pub mod root_operations;
 pub mod schemas;
@@ -15,10 +12,6 @@ pub mod type_references;
 pub mod values;
 
 pub use components::{Component, ComponentName, ComponentOrigin, ExtensionId};
-pub use coordinates::{
-    DirectiveArgumentCoordinate, DirectiveCoordinate, FieldArgumentCoordinate, SchemaCoordinate,
-    TypeAttributeCoordinate, TypeCoordinate,
-};
 pub use definitions::{
     DirectiveDefinition, DirectiveLocation, EnumValueDefinition, FieldDefinition,
     InputValueDefinition, OperationType, VariableDefinition, definition_named, variable_named,
@@ -28,10 +21,9 @@ pub use executables::{
     ExecutableDocument, Field, FieldSet, Fragment, FragmentSpread, InlineFragment, Operation,
     OperationMap, Selection, SelectionSet, Valid,
 };
-pub use floats::FloatValue;
 pub use graphql_nodes::{FileId, Name, NamedType, Node, SourceSpan};
+pub use graphql_numbers::{FloatValue, IntValue};
 pub use implementers::Implementers;
-pub use integers::IntValue;
 pub use meta_fields::MetaFields;
 pub use root_operations::RootOperations;
 pub use schemas::{

@@ -13,8 +13,9 @@ ghost use Rattle.graphql_merging.specs.FieldSelections.{selection_of};
 use super::comparisons::FieldConflict;
 use super::copies::copy_of_argument;
 use super::field_selections::FieldSelection;
+use graphql_coordinates::FieldArgumentCoordinate;
 use graphql_diagnostics::{BuildError, Details, DiagnosticList, ValidationError};
-use graphql_documents::documents::{FieldArgumentCoordinate, Name};
+use graphql_documents::documents::Name;
 
 /// Reports that the types of two fields have different shapes.
 pub(super) fn report_types(

@@ -2,8 +2,9 @@
 
 ghost use Rattle.std.specs.Prelude.{◌≡◌, IfOk};
 
+use graphql_coordinates::TypeAttributeCoordinate;
 use graphql_diagnostics::ValidationError;
-use graphql_documents::documents::{Field, NamedType, Node, TypeAttributeCoordinate};
+use graphql_documents::documents::{Field, NamedType, Node};
 
 /// A field, with the type of the set in which it stands. Two are compared and hashed by the text of the
 /// type and by what the fields hold, wherever these stand.

@@ -7,7 +7,7 @@ use Rattle.std.proofs.lemmas.List.Folds.{Any-from_list_any}
 use denote.RawPtr.{null_ptr}
 use Rattle.indexmap.specs.IndexMap.{get}
 use Rattle.graphql_nodes.specs.Names.{NameText, same_name}
-use Rattle.graphql_documents.specs.Numbers.{FitsInt, integer_value}
+use Rattle.graphql_numbers.specs.Numbers.{FitsInt, integer_value}
 use Rattle.graphql_documents.specs.TypeReferences.{inner_named_type, is_list, is_non_null}
 use Rattle.graphql_documents.specs.Values.{VariablesIn, in_null, in_enum, in_string, in_int, in_boolean, in_list, no_items}
 use Rattle.graphql_documents.specs.InputCoercion.{Accepts, AcceptsLeaf, accepts_undefined, accepts_null, accepts_leaf, accepts_list, is_custom_scalar, is_built_in_scalar}

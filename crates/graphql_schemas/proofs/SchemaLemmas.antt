@@ -23,11 +23,11 @@ use Rattle.graphql_documents.specs.declared.documents.schemas.Schema.{Schema}
 use Rattle.graphql_nodes.specs.declared.spans.SourceSpan.{SourceSpan}
 use Rattle.graphql_diagnostics.proofs.DiagnosticLemmas.{diagnostic_wider}
 use Rattle.graphql_diagnostics.proofs.ReportWithinLemmas.{ChecksListWithin, both_within, checks_after_within, checks_words_within, wider_within, within}
-use Rattle.graphql_schemas.specs.BuiltInScalarUses.{Records, holds_text}
+use Rattle.graphql_leaf_types.specs.BuiltInScalarUses.{Records, holds_text}
 use Rattle.graphql_schemas.specs.SchemaChecks.{SchemaTruth}
-use Rattle.graphql_schemas.specs.TypeMapChanges.{Settles, is_unused}
-use Rattle.graphql_schemas.specs.declared.schema_rules.built_in_scalars.BuiltInScalars.{BuiltInScalars}
-use Rattle.graphql_schemas.specs.declared.schema_rules.type_map.TypeMapChanges.{TypeMapChanges}
+use Rattle.graphql_leaf_types.specs.TypeMapChanges.{Settles, is_unused}
+use Rattle.graphql_leaf_types.specs.declared.built_in_scalars.BuiltInScalars.{BuiltInScalars}
+use Rattle.graphql_leaf_types.specs.declared.type_map.TypeMapChanges.{TypeMapChanges}
 
 -- ---- what is reported of parts of a schema is reported of it
 

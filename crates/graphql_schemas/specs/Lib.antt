@@ -1,7 +1,1 @@
-pub mod BuiltInScalarUses
-pub mod DefaultValueReports
-pub mod FieldDefinitionSteps
-pub mod RootSteps
 pub mod SchemaChecks
-pub mod TypeMapChanges
-pub mod TypeSteps

@@ -2,5 +2,6 @@
 //! rule, and its contract says what it means that nothing is reported.
 #![tactic(auto)]
 
-pub mod extensions;
+pub use graphql_leaf_types::extensions;
+
 pub mod schema_rules;

@@ -1,12 +1,14 @@
 //! The texts of reports, each written out in full.
 use super::fixtures::{is_text, name, node, text};
+use graphql_coordinates::{
+    DirectiveArgumentCoordinate, DirectiveCoordinate, FieldArgumentCoordinate, SchemaCoordinate,
+    TypeAttributeCoordinate,
+};
 use graphql_diagnostics::{
     BuildError, Details, DiagnosticData, NameOrAnon, RecursionLimitError, ValidationError,
 };
 use graphql_documents::documents::{
-    DirectiveArgumentCoordinate, DirectiveCoordinate, DirectiveLocation, FieldArgumentCoordinate,
-    FileId, Name, Node, OperationType, SchemaCoordinate, SourceSpan, Type, TypeAttributeCoordinate,
-    Value,
+    DirectiveLocation, FileId, Name, Node, OperationType, SourceSpan, Type, Value,
 };
 use std::alloc::Global;
 use std::fmt::Display;

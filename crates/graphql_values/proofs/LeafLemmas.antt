@@ -3,7 +3,7 @@ use Rattle.std.proofs.Common.{ℕ, codes, ◌≡◌, inl, inr, List, Bool, Some,
 use Rattle.indexmap.specs.IndexMap.{get}
 use Rattle.graphql_documents.specs.InputCoercion.{Accepts, accepts_null, accepts_variable, accepts_leaf, AcceptsLeaf, is_built_in_scalar, is_custom_scalar}
 use Rattle.graphql_nodes.specs.Names.{NameText, SameName, same_name}
-use Rattle.graphql_documents.specs.Numbers.{FitsInt, integer_value}
+use Rattle.graphql_numbers.specs.Numbers.{FitsInt, integer_value}
 use Rattle.graphql_documents.specs.Schemas.{is_input_type, type_definition}
 use Rattle.graphql_documents.specs.TypeReferences.{inner_named_type, is_non_null}
 use Rattle.graphql_diagnostics.specs.ValueReports.{CannotStandFor, null_for_non_null, variable_of_other_type, leaf_of_other_type, IsUnknownEnumValue}

@@ -1,6 +1,5 @@
-use super::floats::FloatValue;
-use super::integers::IntValue;
 use graphql_nodes::{Name, Node};
+use graphql_numbers::{FloatValue, IntValue};
 
 /// An input value as written.
 ///

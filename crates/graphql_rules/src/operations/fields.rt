@@ -9,10 +9,11 @@ ghost use Rattle.graphql_documents.specs.Selections.{definition_at, selections_o
 ghost use Rattle.graphql_operations.specs.Contexts.{IsAgainst, parent_of, schema_of, variables_of};
 ghost use Rattle.graphql_rules.specs.SelectionSteps.{DefinedFieldHolds, FieldArgumentsHold, FieldSays, IsBelow, IsUnselected};
 
+use graphql_coordinates::TypeAttributeCoordinate;
 use graphql_diagnostics::{Details, DiagnosticData, DiagnosticList, ValidationError};
 use graphql_documents::documents::{
     Component, DirectiveLocation, ExtendedType, Field, FieldDefinition, NamedType, Node, Schema,
-    Type, TypeAttributeCoordinate,
+    Type,
 };
 use graphql_operations::OperationValidationContext;
 use graphql_values::argument::{

@@ -6,17 +6,17 @@ ghost use Rattle.graphql_diagnostics.specs.Reports.{ChecksWithin, KeepsReports, 
 ghost use Rattle.graphql_diagnostics.specs.SchemaReports.{SchemaReport};
 ghost use Rattle.graphql_documents.specs.SchemaRules.{SchemaHolds};
 ghost use Rattle.graphql_documents.specs.TypeMaps.{IsSettledSchema, types_referred};
-ghost use Rattle.graphql_schemas.specs.BuiltInScalarUses.{Records};
+ghost use Rattle.graphql_leaf_types.specs.BuiltInScalarUses.{Records};
 ghost use Rattle.graphql_schemas.specs.SchemaChecks.{IsSameSchema, SchemaTruth};
 
-use super::built_in_scalars::BuiltInScalars;
-use super::default_values::validate_default_values;
-use super::directive_definitions::validate_directive_definitions;
-use super::schema_definition::validate_schema_definition;
-use super::type_map::settle_types;
-use super::types::validate_types;
+use graphql_definitions::default_values::validate_default_values;
+use graphql_definitions::directive_definitions::validate_directive_definitions;
+use graphql_definitions::schema_definition::validate_schema_definition;
+use graphql_definitions::types::validate_types;
 use graphql_diagnostics::{DiagnosticList, ValidationError};
 use graphql_documents::documents::Schema;
+use graphql_leaf_types::built_in_scalars::BuiltInScalars;
+use graphql_leaf_types::type_map::settle_types;
 
 /// Validates a schema and settles its types: what it says of itself, its directive definitions and its types,
 /// in order, as they are handed in. Then the built-in scalars that it does not use are removed, and those that

@@ -1,11 +1,14 @@
 ghost use Rattle.std.specs.Prelude.{◌≡◌, IfOk};
 ghost use Rattle.graphql_values.specs.GivenArguments.{AreOfDirective, AreOfField, argument_coordinate_of, owner_coordinate};
 
+use graphql_coordinates::{
+    DirectiveArgumentCoordinate, DirectiveCoordinate, FieldArgumentCoordinate, SchemaCoordinate,
+    TypeAttributeCoordinate,
+};
 use graphql_diagnostics::ValidationError;
 use graphql_documents::documents::{
-    Argument, Component, Directive, DirectiveArgumentCoordinate, DirectiveCoordinate,
-    DirectiveDefinition, Field, FieldArgumentCoordinate, FieldDefinition, InputValueDefinition,
-    Name, NamedType, Node, SchemaCoordinate, SourceSpan, TypeAttributeCoordinate,
+    Argument, Component, Directive, DirectiveDefinition, Field, FieldDefinition,
+    InputValueDefinition, Name, NamedType, Node, SourceSpan,
 };
 
 /// What arguments are given to: a field of a type, or a directive, which its definition may write

@@ -13,9 +13,10 @@ ghost use Rattle.graphql_nodes.specs.declared.nodes.Node.{Node};
 ghost use Rattle.graphql_documents.specs.declared.documents.schemas.Schema.{Schema};
 ghost use Rattle.graphql_values.specs.ValueSteps.{HasEntries};
 
+use graphql_coordinates::TypeAttributeCoordinate;
 use graphql_diagnostics::{Details, DiagnosticData, DiagnosticList, ValidationError};
 use graphql_documents::documents::{
-    Component, InputObjectType, InputValueDefinition, Name, Node, TypeAttributeCoordinate, Value,
+    Component, InputObjectType, InputValueDefinition, Name, Node, Value,
 };
 
 /// Reports the first entry whose field the input object lacks.

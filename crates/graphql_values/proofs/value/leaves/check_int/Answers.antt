@@ -1,7 +1,7 @@
 use Rattle.std.proofs.Common.{◌≡◌, codes, IsTrue, IsFalse, string_bytes, refl, sym, subst, ◌∙◌, rules}
 use Rattle.graphql_diagnostics.proofs.ReportLemmas.{holds, checks-push}
 use Rattle.graphql_documents.specs.InputCoercion.{is_built_in_scalar}
-use Rattle.graphql_documents.specs.Numbers.{FitsInt, integer_value}
+use Rattle.graphql_numbers.specs.Numbers.{FitsInt, integer_value}
 use Rattle.graphql_diagnostics.specs.ValueReports.{within_itself}
 use Rattle.graphql_values.proofs.LeafLemmas.{every_int_accepted, int_cannot, small_int_accepted, large_int_refused}
 use Rattle.graphql_values.specs.ValueSteps.{takes_every_int, written_at}

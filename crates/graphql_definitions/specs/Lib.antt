@@ -1,0 +1,3 @@
+pub mod DefaultValueReports
+pub mod FieldDefinitionSteps
+pub mod RootSteps

@@ -1,0 +1,4 @@
+pub mod BuiltInScalarLemmas
+pub mod ExtensionLemmas
+pub mod TypeLemmas
+pub mod TypeMapLemmas

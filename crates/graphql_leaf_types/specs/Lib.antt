@@ -1,0 +1,3 @@
+pub mod BuiltInScalarUses
+pub mod TypeMapChanges
+pub mod TypeSteps
