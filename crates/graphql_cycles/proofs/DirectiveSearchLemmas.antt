@@ -17,7 +17,7 @@ use Rattle.graphql_documents.specs.Directives.{directive_definition}
 use Rattle.graphql_diagnostics.specs.Limits.{directive_bound}
 use Rattle.graphql_nodes.specs.Names.{AreDistinct, DifferentNames, HasDifferentNames, NameText, SameName, same_name, stands_on, with_name}
 use Rattle.graphql_documents.specs.Schemas.{type_definition}
-use Rattle.graphql_documents.specs.SchemaReferences.{AppliesBack, HasLongDirectivePath, HasLongTypePath, PartRefersBy, SchemaPart, SchemaReference, applied, by_directive, by_type, directive_part, named, part_of, references_of, type_part}
+use Rattle.graphql_documents.specs.SchemaReferences.{AppliesBack, DirectiveHasNoCycle, HasLongDirectivePath, HasLongTypePath, PartRefersBy, SchemaPart, SchemaReference, applied, by_directive, by_type, directive_part, named, part_of, references_of, type_part}
 use Rattle.graphql_documents.specs.declared.documents.definitions.DirectiveDefinition.{DirectiveDefinition}
 use Rattle.graphql_documents.specs.declared.documents.directives.Directive.{Directive}
 use Rattle.graphql_nodes.specs.declared.nodes.Node.{Node}
@@ -26,7 +26,7 @@ use Rattle.graphql_documents.specs.declared.documents.schemas.Schema.{Schema}
 use Rattle.graphql_guards.specs.Guards.{HasRoom, Refuses, path_limit, path_of}
 use Rattle.graphql_guards.specs.declared.recursion.CycleError.{CycleError}
 use Rattle.graphql_guards.specs.declared.recursion.CycleError.TheVariants.{Recursed, Limit, Memory}
-use Rattle.graphql_cycles.proofs.CycleLemmas.{closes_below, closes_fewer, closes_nothing, closes_then, goes_far_before, goes_far_here, goes_far_wider, leads_back_before, leads_back_here, leads_back_wider, path_of_way, traces_more}
+use Rattle.graphql_cycles.proofs.CycleLemmas.{closed_no_way_back, closes_below, closes_fewer, closes_nothing, closes_then, cycle_of, goes_far_before, goes_far_here, goes_far_wider, leads_back_before, leads_back_here, leads_back_wider, path_of_way, traces_more}
 use Rattle.graphql_cycles.proofs.SeenNameLemmas.{Marked, marked_grows, marked_is_seen, marked_only, names_at, nothing_seen, off_path, one_too_many, stands_deeper, stands_still, was_marked}
 use Rattle.graphql_cycles.specs.CycleSearches.{GoesOn, IsSeen, LeadsBack, StandsOn, Traces}
 use Rattle.graphql_variables.proofs.SelectionWalkLemmas.{stands_either}
@@ -34,7 +34,7 @@ use Rattle.graphql_variables.proofs.SplitLemmas.{split_at}
 use Rattle.graphql_cycles.specs.References.{reference_of}
 use Rattle.graphql_cycles.specs.declared.schema_references.Reference.{Reference}
 use Rattle.graphql_cycles.proofs.InputObjectSearchLemmas.{one_type_found}
-use Rattle.graphql_cycles.specs.DirectiveSearches.{BeginsAt, ClosesFrom, IsSeenBy, IsSeenIn, KeepsPaths, PassesPaths, SchemaName, StandsSeen, StopsBy, name_in, of_directive, of_type}
+use Rattle.graphql_cycles.specs.DirectiveSearches.{BeginsAt, ClosesFrom, IsBeginning, IsSeenBy, IsSeenIn, KeepsPaths, LeadsToError, PassesPaths, SchemaName, StandsSeen, StopsBy, name_in, of_directive, of_type}
 use Rattle.graphql_cycles.specs.declared.directives.DirectiveSearch.{DirectiveSearch}
 use Rattle.graphql_cycles.specs.declared.directives.Progress.{Progress}
 
@@ -534,3 +534,20 @@ root_goes_far schema d references progress same alone limit nowhere type_limit s
             names_on [] (path_of progress.type_path) directive_bound (path_limit progress.type_path) (filter_map named far.way) nowhere type_limit met,
           )
     ]
+
+-- what a search from the arguments of a definition found, by why it stopped or by what it has seen
+pub stops_from_root : (schema : Schema) (d : Node DirectiveDefinition) (references : List SchemaReference) (old : Progress) → references ≡ references_of (directive_part d) →
+    IsBeginning d.value.value.name old → (e : CycleError Directive) → StopsBy schema d references old e → LeadsToError schema d e
+stops_from_root schema d references old same begins (Recursed trace) stops =
+    let leads = root_leads schema d references old trace same stops in
+    (leads.before ++ leads.last ∷ [], cycle_of {IsBack = AppliesBack} (directive_part d) leads, leads.shows)
+stops_from_root schema d references old same begins Limit stops =
+    root_goes_far schema d references old same begins.directives begins.directive_limit begins.types begins.type_limit stops
+stops_from_root schema d references old same begins Memory stops = stops
+
+pub closes_from_root : (schema : Schema) (d : Node DirectiveDefinition) (references : List SchemaReference) (old new : Progress) → references ≡ references_of (directive_part d) →
+    IsBeginning d.value.value.name old → ClosesFrom schema d references old new → DirectiveHasNoCycle schema d
+closes_from_root schema d references old new same begins closes =
+    closed_no_way_back {IsBack = AppliesBack} (directive_part d)
+    (nothing_seen_in old.seen_directives.keys old.seen_types.keys begins.no_directives begins.no_types)
+    (subst (λ l. ClosesFrom schema d l old new) same closes)

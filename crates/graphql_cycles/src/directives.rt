@@ -1,4 +1,4 @@
-ghost use Rattle.std.specs.Prelude.{◌≡◌, ◌+◌, ◌∷◌, ◌⊎◌, [], List, OnOk, filter_map, map};
+ghost use Rattle.std.specs.Prelude.{◌≡◌, ◌+◌, ◌∷◌, ◌⊎◌, [], IfOk, List, MatchResult, OnOk, filter_map, map};
 ghost use Rattle.graphql_diagnostics.specs.Diagnostics.{IsDiagnostic};
 ghost use Rattle.graphql_diagnostics.specs.Limits.{DirectiveLimit, directive_bound};
 ghost use Rattle.graphql_diagnostics.specs.Reports.{ChecksWithin};
@@ -7,7 +7,7 @@ ghost use Rattle.graphql_diagnostics.specs.SchemaReports.{DirectiveDefinitionBre
 ghost use Rattle.graphql_nodes.specs.Spans.{recompose};
 ghost use Rattle.graphql_documents.specs.declared.documents.schemas.Schema.{Schema};
 ghost use Rattle.graphql_cycles.specs.CycleSearches.{Traces};
-ghost use Rattle.graphql_cycles.specs.DirectiveSearches.{BeginsAt, KeepsPaths, SearchesFor};
+ghost use Rattle.graphql_cycles.specs.DirectiveSearches.{BeginsAt, IsBeginning, KeepsPaths, LeadsToError, SearchesFor};
 ghost use Rattle.graphql_cycles.specs.References.{is_off_path, reference_of};
 
 use super::schema_references::{Reference, references_of_directive, references_of_type};
@@ -37,26 +37,34 @@ pub fn validate_directive_cycles(
         (IsDiagnostic (DirectiveDefinitionBreaks schema.now definition.now))
         (λ e. DirectiveLimit schema.now definition.now e.details e.location) diagnostics.old diagnostics.new }
 {
-    let alloc = diagnostics.allocator();
-    let name = definition.value.name.clone()?;
-    let mut progress = Progress {
-        directive_path: RecursionStack::with_root(alloc, name)?,
-        type_path: RecursionStack::new(alloc),
-        seen_directives: IndexSet::new(alloc),
-        seen_types: IndexSet::new(alloc),
-    };
-    let references = references_of_directive(alloc, definition)?;
-    let search = DirectiveSearch {
-        alloc,
-        schema,
-        root: definition,
-    };
-    match search.search_references(&references, &mut progress) {
+    match search_from(diagnostics.allocator(), schema, definition) {
         Ok(()) => Ok(()),
         Err(CycleError::Recursed(trace)) => report_cycle(diagnostics, definition, trace),
         Err(CycleError::Limit) => report_nesting(diagnostics, definition),
         Err(CycleError::Memory) => Err(ValidationError::OutOfMemory),
     }
+}
+
+/// Searches all to which the arguments of a directive definition lead for a way back to it.
+fn search_from(
+    alloc: Global,
+    schema: &Schema,
+    definition: &Node<DirectiveDefinition>,
+) -> Result<(), CycleError<Directive>>
+    ensures { MatchResult result (λ _. DirectiveHasNoCycle schema.now definition.now) (LeadsToError schema.now definition.now) }
+{
+    let Ok(references) = references_of_directive(alloc, definition) else {
+        return Err(CycleError::Memory);
+    };
+    let Ok(mut progress) = Progress::from_root(alloc, &definition.value.name) else {
+        return Err(CycleError::Memory);
+    };
+    let search = DirectiveSearch {
+        alloc,
+        schema,
+        root: definition,
+    };
+    search.search_references(&references, &mut progress)
 }
 
 /// Reports a directive definition that leads back to itself.
@@ -123,6 +131,21 @@ struct Progress<'schema> {
     type_path: RecursionStack,
     seen_directives: IndexSet<&'schema Name>,
     seen_types: IndexSet<&'schema NamedType>,
+}
+
+impl Progress<'_> {
+    /// The beginning of a search: its root stands on the path of directives, and nothing was met.
+    fn from_root<'schema>(alloc: Global, root: &Name) -> Result<Progress<'schema>, ValidationError>
+        ensures { IfOk result (IsBeginning root.now) }
+    {
+        let directive_path = RecursionStack::with_root(alloc, root.clone()?)?;
+        Ok(Progress {
+            directive_path,
+            type_path: RecursionStack::new(alloc),
+            seen_directives: IndexSet::new(alloc),
+            seen_types: IndexSet::new(alloc),
+        })
+    }
 }
 
 impl<'schema> DirectiveSearch<'schema> {

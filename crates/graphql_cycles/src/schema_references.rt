@@ -43,32 +43,29 @@ pub(super) fn references_of_type<'schema>(
     ensures { IfOk result (λ found. map reference_of found.items ≡ references_of (type_part definition.now)) }
 {
     let mut found = Vec::new(alloc);
+    add_references_of_type(&mut found, definition)?;
+    Ok(found)
+}
+
+/// Adds the references that are written in a type definition.
+fn add_references_of_type<'schema>(
+    found: &mut Vec<Reference<'schema>>,
+    definition: &'schema ExtendedType,
+) -> Result<(), ValidationError>
+    ensures { OnOk result (map reference_of found.new.items ≡ map reference_of found.old.items ++ references_of (type_part definition.now)) }
+{
     match definition {
-        ExtendedType::Scalar(scalar) => {
-            add_components(&mut found, &scalar.value.directives)?;
-            Ok(found)
-        }
-        ExtendedType::Object(object) => {
-            add_components(&mut found, &object.value.directives)?;
-            Ok(found)
-        }
-        ExtendedType::Interface(interface) => {
-            add_components(&mut found, &interface.value.directives)?;
-            Ok(found)
-        }
-        ExtendedType::Union(union) => {
-            add_components(&mut found, &union.value.directives)?;
-            Ok(found)
-        }
+        ExtendedType::Scalar(scalar) => add_components(found, &scalar.value.directives),
+        ExtendedType::Object(object) => add_components(found, &object.value.directives),
+        ExtendedType::Interface(interface) => add_components(found, &interface.value.directives),
+        ExtendedType::Union(union) => add_components(found, &union.value.directives),
         ExtendedType::Enum(enum_type) => {
-            add_components(&mut found, &enum_type.value.directives)?;
-            add_values(&mut found, &enum_type.value.values)?;
-            Ok(found)
+            add_components(found, &enum_type.value.directives)?;
+            add_values(found, &enum_type.value.values)
         }
         ExtendedType::InputObject(input_object) => {
-            add_components(&mut found, &input_object.value.directives)?;
-            add_fields(&mut found, &input_object.value.fields)?;
-            Ok(found)
+            add_components(found, &input_object.value.directives)?;
+            add_fields(found, &input_object.value.fields)
         }
     }
 }

@@ -3,8 +3,9 @@
 ghost use Rattle.std.specs.Prelude.{◌≡◌, IfOk};
 ghost use Rattle.graphql_documents.specs.Expansion.{field_pass, shape_pass};
 ghost use Rattle.graphql_documents.specs.Merging.{SameShape, type_of};
-ghost use Rattle.graphql_diagnostics.specs.MergingReports.{DisagreeOn};
+ghost use Rattle.graphql_diagnostics.specs.MergingReports.{DisagreeOn, IsArgumentValue};
 ghost use Rattle.graphql_nodes.specs.Names.{DifferentNames, SameName};
+ghost use Rattle.graphql_documents.specs.TypeReferences.{as_written};
 ghost use Rattle.graphql_documents.specs.declared.documents.schemas.Schema.{Schema};
 ghost use Rattle.graphql_merging.specs.Comparisons.{Conflicts};
 ghost use Rattle.graphql_merging.specs.Conflicts.{ReportsConflict};
@@ -13,9 +14,10 @@ ghost use Rattle.graphql_merging.specs.FieldSelections.{selection_of};
 use super::comparisons::FieldConflict;
 use super::copies::copy_of_argument;
 use super::field_selections::FieldSelection;
-use graphql_coordinates::FieldArgumentCoordinate;
+use graphql_coordinates::{FieldArgumentCoordinate, TypeAttributeCoordinate};
 use graphql_diagnostics::{BuildError, Details, DiagnosticList, ValidationError};
-use graphql_documents::documents::Name;
+use graphql_documents::documents::{Name, Type, Value};
+use std::alloc::Global;
 
 /// Reports that the types of two fields have different shapes.
 pub(super) fn report_types(
@@ -26,11 +28,9 @@ pub(super) fn report_types(
     ensures { (schema : Schema) → ¬ SameShape schema (type_of (selection_of first.entry)) (type_of (selection_of field.entry)) →
         ReportsConflict result schema shape_pass (selection_of first.entry) (selection_of field.entry) diagnostics.old diagnostics.new }
 {
+    let (original_coordinate, original_type) = typed_coordinate(first)?;
+    let (conflicting_coordinate, conflicting_type) = typed_coordinate(field)?;
     let alias = first.field.value.response_key().clone()?;
-    let original_coordinate = first.coordinate()?;
-    let original_type = first.field.value.definition.value.ty.clone()?;
-    let conflicting_coordinate = field.coordinate()?;
-    let conflicting_type = field.field.value.definition.value.ty.clone()?;
     diagnostics.push(
         field.field.location,
         Details::Build(BuildError::ConflictingFieldType {
@@ -43,6 +43,18 @@ pub(super) fn report_types(
             conflicting_type,
         }),
     )
+}
+
+/// The coordinate of a field, and its type as it is written.
+fn typed_coordinate(
+    field: FieldSelection,
+) -> Result<(TypeAttributeCoordinate, Type), ValidationError>
+    ensures coordinate { IfOk result (λ typed. typed.0 ≡ record { ty = field.entry.parent_type.now; attribute = field.entry.field.now.value.value.name }) }
+    ensures written { IfOk result (λ typed. as_written typed.1 ≡ as_written field.entry.field.now.value.value.definition.value.value.ty) }
+{
+    let ty = field.field.value.definition.value.ty.clone()?;
+    let coordinate = field.coordinate()?;
+    Ok((coordinate, ty))
 }
 
 /// Reports what two fields disagree on: their names, or an argument.
@@ -102,11 +114,9 @@ fn report_argument(
         ReportsConflict result schema field_pass (selection_of first.entry) (selection_of field.entry) diagnostics.old diagnostics.new }
 {
     let alloc = diagnostics.allocator();
+    let (original_coordinate, original_value) = given_argument(alloc, first, argument)?;
+    let (conflicting_coordinate, conflicting_value) = given_argument(alloc, field, argument)?;
     let alias = first.field.value.name.clone()?;
-    let original_coordinate = argument_coordinate(first, argument)?;
-    let original_value = copy_of_argument(alloc, &first.field.value, argument)?;
-    let conflicting_coordinate = argument_coordinate(field, argument)?;
-    let conflicting_value = copy_of_argument(alloc, &field.field.value, argument)?;
     diagnostics.push(
         field.field.location,
         Details::Build(BuildError::ConflictingFieldArgument {
@@ -121,12 +131,20 @@ fn report_argument(
     )
 }
 
-/// The coordinate of an argument of a field, on the type of its set.
-fn argument_coordinate(
+/// The coordinate of an argument of a field, on the type of its set, and its value, if the field has it.
+fn given_argument(
+    alloc: Global,
     field: FieldSelection,
     argument: &Name,
-) -> Result<FieldArgumentCoordinate, ValidationError>
-    ensures { IfOk result (λ c. c ≡ record { ty = field.entry.parent_type.now; field = field.entry.field.now.value.value.name; argument = argument.now }) }
+) -> Result<(FieldArgumentCoordinate, Option<Value>), ValidationError>
+    ensures coordinate { IfOk result (λ given. given.0 ≡ record { ty = field.entry.parent_type.now; field = field.entry.field.now.value.value.name; argument = argument.now }) }
+    ensures value { IfOk result (λ given. IsArgumentValue argument.now field.entry.field.now.value.value given.1) }
 {
-    FieldArgumentCoordinate::new(field.parent_type, &field.field.value.name, argument)
+    let value = copy_of_argument(alloc, &field.field.value, argument)?;
+    let coordinate = FieldArgumentCoordinate::new(
+        field.parent_type,
+        &field.field.value.name,
+        argument,
+    )?;
+    Ok((coordinate, value))
 }

@@ -1,8 +1,8 @@
 //! The groups in which the fields of a list are put together.
 
-ghost use Rattle.std.specs.Prelude.{◌≡◌, ◌++◌, ◌∷◌, [], IfOk, OnOk, flat_map};
+ghost use Rattle.std.specs.Prelude.{◌≡◌, ◌++◌, ◌∷◌, [], IfOk, OnOk, flat_map, map};
 ghost use Rattle.graphql_documents.specs.Expansion.{is_abstract, with_parents};
-ghost use Rattle.graphql_diagnostics.specs.MergedGroups.{groups_of, groups_on, objects_of};
+ghost use Rattle.graphql_diagnostics.specs.MergedGroups.{groups_of, groups_on, objects_of, unless_empty};
 ghost use Rattle.graphql_merging.specs.FieldSelections.{listed, lists_of, selection_of};
 ghost use Rattle.graphql_merging.specs.Groups.{by_keys, by_objects, named_fields, pass_of, with_field, with_owned};
 
@@ -118,15 +118,50 @@ fn push_groups<'doc>(
         on_abstract,
     } = FieldsOnTypes::of(alloc, schema, fields)?;
     if on_objects.is_empty() {
-        if !on_abstract.is_empty() {
-            groups.push(on_abstract)?;
-        }
-        return Ok(());
+        push_unless_empty(groups, on_abstract)
+    } else {
+        push_each_with(groups, on_objects, &on_abstract)
     }
-    for mut group in on_objects.into_values() {
-        group.extend_from_slice(&on_abstract)?;
+}
+
+/// Adds a group, if there is a field in it.
+fn push_unless_empty<'doc>(
+    groups: &mut Vec<Vec<FieldSelection<'doc>>>,
+    group: Vec<FieldSelection<'doc>>,
+) -> Result<(), ValidationError>
+    ensures { OnOk result (lists_of groups.new.items ≡ lists_of groups.old.items ++ unless_empty (listed group.entry.items)) }
+{
+    if !group.is_empty() {
         groups.push(group)?;
     }
+    Ok(())
+}
+
+/// Adds the fields on each object type as a group, each with these further fields.
+fn push_each_with<'doc>(
+    groups: &mut Vec<Vec<FieldSelection<'doc>>>,
+    on_objects: IndexMap<&Name, Vec<FieldSelection<'doc>>>,
+    further: &[FieldSelection<'doc>],
+) -> Result<(), ValidationError>
+    ensures { OnOk result (lists_of groups.new.items ≡
+        lists_of groups.old.items ++ map (λ group. listed group.items ++ listed further.now) (map (λ entry. entry.1) on_objects.entry.entries)) }
+{
+    for group in on_objects.into_values() {
+        push_with(groups, group, further)?;
+    }
+    Ok(())
+}
+
+/// Adds a group with these further fields.
+fn push_with<'doc>(
+    groups: &mut Vec<Vec<FieldSelection<'doc>>>,
+    mut group: Vec<FieldSelection<'doc>>,
+    further: &[FieldSelection<'doc>],
+) -> Result<(), ValidationError>
+    ensures { OnOk result (lists_of groups.new.items ≡ lists_of groups.old.items ++ (listed group.entry.items ++ listed further.now) ∷ []) }
+{
+    group.extend_from_slice(further)?;
+    groups.push(group)?;
     Ok(())
 }
 

@@ -1,8 +1,7 @@
-use Rattle.std.proofs.Common.{◌∙◌, ap, refl, subst}
+use Rattle.std.proofs.Common.{◌∙◌, ap, refl}
 use Rattle.graphql_documents.specs.Expansion.{field_pass}
 use Rattle.graphql_merging.proofs.ConflictReportLemmas.{conflict_pushed, copied_name}
 use Rattle.graphql_merging.specs.FieldSelections.{selection_of}
-use Rattle.graphql_diagnostics.specs.MergingReports.{IsArgumentValue}
 use Rattle.graphql_documents.specs.declared.documents.executables.Field.{Field}
 use Rattle.graphql_merging.proofs.conflict_reports.report_argument.Goals as goal
 
@@ -14,10 +13,10 @@ returns c = λ schema same differ.
       differ = differ;
       alias_is = copied_name _ _ (c.in_ok-alias.ensures.cases ∙ ap (λ (f : Field). f.name) c.deref.ensures);
       original_location_is = refl;
-      original_is = c.in_ok-original_coordinate.ensures;
-      original_value_is = subst (λ (f : Field). IsArgumentValue c.args.argument.now f c.in_ok-original_value.original_value) c.deref-2.ensures c.in_ok-original_value.ensures;
+      original_is = c.in_ok-original_coordinate.ensures.coordinate;
+      original_value_is = c.in_ok-original_coordinate.ensures.value;
       conflicting_location_is = refl;
-      conflicting_is = c.in_ok-conflicting_coordinate.ensures;
-      conflicting_value_is = subst (λ (f : Field). IsArgumentValue c.args.argument.now f c.in_ok-conflicting_value.conflicting_value) c.deref-3.ensures c.in_ok-conflicting_value.ensures;
+      conflicting_is = c.in_ok-conflicting_coordinate.ensures.coordinate;
+      conflicting_value_is = c.in_ok-conflicting_coordinate.ensures.value;
       at_is = refl;
     })
