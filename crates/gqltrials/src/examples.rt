@@ -6,7 +6,7 @@ use graphql_diagnostics::{
 };
 use graphql_documents::documents::{FileId, Schema, SourceSpan};
 use graphql_rows::{Case, Row, Subject, Validated, build_case};
-use graphql_rows_more::{TABLES, find};
+use graphql_rows_more::{find, tables};
 use graphql_schemas::schema_rules::validate_schema;
 use graphql_validation::entry::{
     validate_executable_document, validate_field_set, validate_standalone_executable,
@@ -29,13 +29,20 @@ pub fn judge_named(alloc: Global, id: &str) -> Result<(), Fault> {
 /// Judges one example after another, and prints how many there were.
 pub fn judge_all<O: Write>(alloc: Global, output: &mut O) -> Result<(), Fault> {
     let mut judged: u32 = 0;
-    for rows in TABLES {
-        for row in rows {
-            judge(alloc, row)?;
-            judged = judged.saturating_add(1);
-        }
+    for rows in tables() {
+        judged = judged.saturating_add(judge_each(alloc, rows)?);
     }
     writeln!(output, "{judged} examples").map_err(|_error| Fault::OutputFailed)
+}
+
+/// Judges the examples of a table, and counts them.
+fn judge_each(alloc: Global, rows: &[Row]) -> Result<u32, Fault> {
+    let mut judged: u32 = 0;
+    for row in rows {
+        judge(alloc, row)?;
+        judged = judged.saturating_add(1);
+    }
+    Ok(judged)
 }
 
 /// Validates the example twice, first alone, so that all that it reports is known, and then into a list that holds a

@@ -1,5 +1,5 @@
 use graphql_rows::{Row, build_case};
-use graphql_rows_more::TABLES;
+use graphql_rows_more::tables;
 use indexmap::IndexSet;
 use std::alloc::Global;
 use std::process::Abort;
@@ -13,7 +13,7 @@ fn is_built(rt: &impl Abort, alloc: Global, row: &Row) {
 #[test]
 fn each_example_is_built_under_its_own_name(rt: HostRuntime) {
     let mut names = IndexSet::new(rt.alloc());
-    for rows in TABLES {
+    for rows in tables() {
         for row in rows {
             is_built(&rt, rt.alloc(), row);
             let is_new = names.insert(row.id).expect(&rt, "memory for a name");

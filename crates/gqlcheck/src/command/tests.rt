@@ -2,7 +2,7 @@ use super::*;
 use crate::places::Place;
 use graphql_documents::documents::{FileId, SourceSpan};
 use graphql_rows::{Row, RowError};
-use graphql_rows_more::{TABLES, find};
+use graphql_rows_more::{find, tables};
 use std::io::ErrorKind;
 use std::process::Abort;
 
@@ -70,7 +70,7 @@ fn answers_row(rt: &impl Abort, alloc: Global, row: &Row) {
 #[test]
 fn examples_print_their_lines(rt: HostRuntime) {
     let alloc = rt.alloc();
-    for rows in TABLES {
+    for rows in tables() {
         for row in rows {
             answers_row(&rt, alloc, row);
         }
