@@ -67,13 +67,18 @@ fn answers_row(rt: &impl Abort, alloc: Global, row: &Row) {
     answers(rt, alloc, &words, status_of(row), row.lines, "");
 }
 
+/// Each example of a table runs.
+fn answers_each(rt: &impl Abort, alloc: Global, rows: &[Row]) {
+    for row in rows {
+        answers_row(rt, alloc, row);
+    }
+}
+
 #[test]
 fn examples_print_their_lines(rt: HostRuntime) {
     let alloc = rt.alloc();
     for rows in tables() {
-        for row in rows {
-            answers_row(&rt, alloc, row);
-        }
+        answers_each(&rt, alloc, rows);
     }
     let printed = all_lines(&rt, alloc);
     answers(&rt, alloc, &["rows"], 0, printed.as_str(), "");
