@@ -10,7 +10,7 @@ use graphql_values::directive::{check_each_directive, validate_directives};
 use graphql_variables::VariablesByName;
 use std::alloc::Global;
 
-/// Validates the directives on a definition, where there are no variables.
+/// Validates the directives on a definition, where there are no variables. The only error is want of memory.
 ///
 /// Specification: 5.7 Directives.
 pub fn validate_definition_directives(
@@ -26,7 +26,7 @@ pub fn validate_definition_directives(
     check_each_directive(diagnostics, Some(schema), directives, location, &variables)
 }
 
-/// The same over directives that may stand in extensions.
+/// The same over directives that may stand in extensions. The only error is want of memory.
 ///
 /// Specification: 5.7 Directives.
 pub fn validate_component_directives(

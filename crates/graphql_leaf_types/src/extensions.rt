@@ -33,7 +33,7 @@ pub fn extensions(
     }
 }
 
-/// Where extensions stand, in order.
+/// Where extensions stand, in order. The only error is want of memory.
 pub fn locations_of(
     alloc: Global,
     extensions: &[ExtensionId],
@@ -59,7 +59,9 @@ fn scalar_extensions(
     Ok(found)
 }
 
-/// The extensions that make up an object.
+/// The extensions that make up an object. The only error is want of memory.
+///
+/// Specification: 3.4.3 Type Extensions.
 pub fn object_extensions(
     alloc: Global,
     object: &Node<ObjectType>,
@@ -73,7 +75,9 @@ pub fn object_extensions(
     Ok(found)
 }
 
-/// The extensions that make up an interface.
+/// The extensions that make up an interface. The only error is want of memory.
+///
+/// Specification: 3.4.3 Type Extensions.
 pub fn interface_extensions(
     alloc: Global,
     interface: &Node<InterfaceType>,
@@ -87,7 +91,9 @@ pub fn interface_extensions(
     Ok(found)
 }
 
-/// The extensions that make up a union.
+/// The extensions that make up a union. The only error is want of memory.
+///
+/// Specification: 3.4.3 Type Extensions.
 pub fn union_extensions(
     alloc: Global,
     union: &Node<UnionType>,
@@ -100,7 +106,9 @@ pub fn union_extensions(
     Ok(found)
 }
 
-/// The extensions that make up an enum.
+/// The extensions that make up an enum. The only error is want of memory.
+///
+/// Specification: 3.4.3 Type Extensions.
 pub fn enum_extensions(
     alloc: Global,
     enum_type: &Node<EnumType>,
@@ -113,7 +121,9 @@ pub fn enum_extensions(
     Ok(found)
 }
 
-/// The extensions that make up an input object.
+/// The extensions that make up an input object. The only error is want of memory.
+///
+/// Specification: 3.4.3 Type Extensions.
 pub fn input_object_extensions(
     alloc: Global,
     input_object: &Node<InputObjectType>,
