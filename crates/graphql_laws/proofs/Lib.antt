@@ -7,6 +7,7 @@ pub mod FieldContentsLaws
 pub mod FirstOfGroupLaws
 pub mod FragmentLaws
 pub mod GroupLaws
+pub mod MeetingLaws
 pub mod MergedListLaws
 pub mod MergingLaws
 pub mod MetNameLemmas

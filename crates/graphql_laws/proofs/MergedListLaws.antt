@@ -15,7 +15,7 @@ use Rattle.graphql_laws.proofs.ExpandedListLaws.{lists_what_is_inside, below_lis
 use Rattle.graphql_laws.proofs.GroupLaws.{shape_groups, field_groups}
 
 -- a chain from its front
-begins : {fragments : Fragments} {set : SelectionSet} {x : FieldSelection} {xs : List FieldSelection} → Chain fragments set (x ∷ xs) → FieldInside fragments set x
+pub begins : {fragments : Fragments} {set : SelectionSet} {x : FieldSelection} {xs : List FieldSelection} → Chain fragments set (x ∷ xs) → FieldInside fragments set x
 begins (chain_of_one here) = here
 begins (chain_of_more here more) = here
 
@@ -28,7 +28,7 @@ ends : (xs : List FieldSelection) (x : FieldSelection) → ¬ (xs ++ x ∷ [] �
 ends [] x e = let no : ⊥ = cc in no
 ends (y ∷ ys) x e = let no : ⊥ = cc in no
 
-after_first : {fragments : Fragments} {set : SelectionSet} (u : FieldSelection) (xs : List FieldSelection) (x : FieldSelection) →
+pub after_first : {fragments : Fragments} {set : SelectionSet} (u : FieldSelection) (xs : List FieldSelection) (x : FieldSelection) →
     Chain fragments set (u ∷ (xs ++ x ∷ [])) → Chain fragments (set_of u) (xs ++ x ∷ [])
 after_first u xs x chain = elim (goes_on chain) [
   | inl none ↦ absurd (ends xs x none)
@@ -46,11 +46,11 @@ abbrev pub ParentsIn : Schema → Pass → FieldSelection → FieldSelection →
 ParentsIn schema shape_pass x y = Unit {0}
 ParentsIn schema field_pass x y = ParentsMayOverlap schema x y
 
-abbrev Throughout : Schema → Pass → List FieldSelection → List FieldSelection → Type 0
+abbrev pub Throughout : Schema → Pass → List FieldSelection → List FieldSelection → Type 0
 Throughout schema shape_pass xs ys = Unit {0}
 Throughout schema field_pass xs ys = AllZip (ParentsMayOverlap schema) xs ys
 
-throughout_one : (schema : Schema) (pass : Pass) (x y : FieldSelection) → ParentsIn schema pass x y → Throughout schema pass (x ∷ []) (y ∷ [])
+pub throughout_one : (schema : Schema) (pass : Pass) (x y : FieldSelection) → ParentsIn schema pass x y → Throughout schema pass (x ∷ []) (y ∷ [])
 throughout_one schema shape_pass x y h = tt
 throughout_one schema field_pass x y h = (h, tt)
 
@@ -59,7 +59,7 @@ throughout_push : (schema : Schema) (pass : Pass) (xs ys : List FieldSelection) 
 throughout_push schema shape_pass xs ys x y all h = tt
 throughout_push schema field_pass xs ys x y all h = AllZip-push (ParentsMayOverlap schema) xs ys x y all h
 
-throughout_first : (schema : Schema) (pass : Pass) (u v : FieldSelection) (xs ys : List FieldSelection) → Throughout schema pass (u ∷ xs) (v ∷ ys) →
+pub throughout_first : (schema : Schema) (pass : Pass) (u v : FieldSelection) (xs ys : List FieldSelection) → Throughout schema pass (u ∷ xs) (v ∷ ys) →
     ParentsIn schema pass u v × Throughout schema pass xs ys
 throughout_first schema shape_pass u v xs ys all = (tt, tt)
 throughout_first schema field_pass u v xs ys all = (all.0, all.1)

@@ -1,10 +1,11 @@
 //! Laws of field merging.
 
-ghost use Rattle.std.specs.Prelude.{◌≡◌, List, [], ◌∷◌, Some, Contains, IsTrue};
+ghost use Rattle.std.specs.Prelude.{◌≡◌, ◌↔◌, List, [], ◌∷◌, Some, Contains, IsTrue};
 ghost use Rattle.graphql_nodes.specs.Names.{SameName, DifferentNames};
 ghost use Rattle.graphql_documents.specs.TypeReferences.{inner_named_type};
 ghost use Rattle.graphql_documents.specs.Schemas.{type_definition, is_output_type};
 ghost use Rattle.graphql_documents.specs.Selections.{Fragments, selections_of, response_key, Includes};
+ghost use Rattle.graphql_documents.specs.MergedFields.{MeetingFieldsAgree};
 ghost use Rattle.graphql_documents.specs.Merging.{FieldSelection, FieldInside, set_of, type_of, SameKey, SameShape, SameNameAndArguments, ParentsMayOverlap, OverlapThroughout, Merges};
 ghost use Rattle.graphql_documents.specs.declared.documents.executables.Field.{Field};
 ghost use Rattle.graphql_documents.specs.declared.documents.executables.Fragment.{Fragment};
@@ -135,4 +136,13 @@ pub fn sets_of_fields_with_one_key_merge_together()
         selections_of together ≡ kind.InlineFragment i ∷ (kind.InlineFragment j ∷ []) →
         i.value.value.selection_set ≡ set_of x → j.value.value.selection_set ≡ set_of y →
         Merges schema fragments set → Merges schema fragments together }
+{}
+
+/// A set merges exactly where all fields that meet in it agree: to follow two chains from the set and to go down from
+/// two fields that are put together is one.
+///
+/// Specification: 5.3.2 Field Selection Merging, FieldsInSetCanMerge.
+pub fn set_merges_where_meeting_fields_agree()
+    ensures { (schema : Schema) (fragments : Fragments) (set : SelectionSet) →
+        Merges schema fragments set ↔ MeetingFieldsAgree schema fragments set }
 {}
