@@ -1,0 +1,5 @@
+pub mod StepLemmas
+pub mod TypeLemmas
+pub mod SpelledLemmas
+pub mod ParseLemmas
+pub mod RefusalLemmas

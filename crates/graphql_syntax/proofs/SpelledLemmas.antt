@@ -1,0 +1,132 @@
+-- The tokens of a text stand in it, each with a text of its kind.
+use Rattle.std.proofs.Common.{◌≡◌, ℕ, ◌+◌, ◌-◌, true, ◌==◌, cond, inl, inr, nat_le, Option, Some, None, List, [], ◌∷◌, ◌++◌, length, drop, refl, sym, subst, ◌∙◌, ap, arith}
+use Rattle.std.proofs.lemmas.Bool.Decides.{nat_tests}
+use Rattle.std.proofs.lemmas.List.{append_assoc, length-append, drop-drop, take_at, drop_at}
+use Rattle.graphql_tokens.specs.Ignored.{IsLineTerminator, line_feed, carriage_return, carriage_return_line_feed, IsIgnored, byte_order_mark, tab, space, line_terminator, comment, comma}
+use Rattle.graphql_tokens.specs.Strings as strings
+use Rattle.graphql_tokens.specs.Lexical.{punctuator, IsToken, sign, spread, name, integer, float, string, block_string, Lexes, nothing, ignored, token, token_between, AreTokens}
+use Rattle.graphql_tokens.specs.declared.strings.StringPart.{StringPart}
+use Rattle.graphql_tokens.specs.declared.token.Token.{Token}
+use Rattle.graphql_tokens.specs.declared.token.TokenKind.{TokenKind}
+use Rattle.graphql_tokens.specs.declared.token.TokenKind.TheVariants as kinds
+use Rattle.graphql_tokens.proofs.ScanLemmas.{chosen}
+use Rattle.graphql_syntax.specs.Inputs.{spells, is_spelled, are_spelled, text_of}
+
+-- the rest is behind a front
+abbrev Behind : List ℕ → List ℕ → Type 0
+Behind t r = (front : List ℕ) × (t ≡ front ++ r)
+
+further : (t m r : List ℕ) → Behind t m → Behind m r → Behind t r
+further t m r (a, e) (b, f) = (a ++ b, e ∙ ap (λ l. a ++ l) f ∙ sym (append_assoc a b r))
+
+unicode_behind : (t : List ℕ) (code : ℕ) (r : List ℕ) → strings.IsEscapedUnicode t code r → Behind t r
+unicode_behind _ _ _ (strings.IsEscapedUnicode.four_digits a b c d code rest v is) = (a ∷ b ∷ c ∷ d ∷ [], refl)
+unicode_behind _ _ _ (strings.IsEscapedUnicode.surrogate_pair a b c d e f g h x y rest p q s u) =
+    (a ∷ b ∷ c ∷ d ∷ 92 ∷ 117 ∷ e ∷ f ∷ g ∷ h ∷ [], refl)
+unicode_behind _ _ _ (strings.IsEscapedUnicode.braces t ds code rest w v is) =
+    (123 ∷ (ds ++ 125 ∷ []), ap (λ l. 123 ∷ l) (w ∙ sym (append_assoc ds (125 ∷ []) rest)))
+
+character_behind : (t : List ℕ) (part : StringPart) (r : List ℕ) → strings.IsStringCharacter t part r → Behind t r
+character_behind _ _ _ (strings.IsStringCharacter.plain c rest is) = (c ∷ [], refl)
+character_behind _ _ _ (strings.IsStringCharacter.unicode t code rest is) =
+    let (front, e) = unicode_behind t code rest is in (92 ∷ 117 ∷ front, ap (λ l. 92 ∷ 117 ∷ l) e)
+character_behind _ _ _ (strings.IsStringCharacter.escaped c code rest is) = (92 ∷ c ∷ [], refl)
+
+characters_behind : (t : List ℕ) (parts : List StringPart) (r : List ℕ) → strings.AreStringCharacters t parts r → Behind t r
+characters_behind _ _ _ (strings.AreStringCharacters.none rest) = ([], refl)
+characters_behind _ _ _ (strings.AreStringCharacters.more t m rest part parts is are) =
+    further t m rest (character_behind t part m is) (characters_behind m parts rest are)
+
+string_behind : (t : List ℕ) (parts : List StringPart) (r : List ℕ) → strings.IsString t parts r → Behind t r
+string_behind _ _ _ (strings.IsString.empty rest n) = (34 ∷ 34 ∷ [], refl)
+string_behind _ _ _ (strings.IsString.characters t m rest part parts is are) =
+    further (34 ∷ t) (34 ∷ rest) rest (quoted (further t m (34 ∷ rest) (character_behind t part m is) (characters_behind m parts (34 ∷ rest) are))) (34 ∷ [], refl) where
+      quoted : Behind t (34 ∷ rest) → Behind (34 ∷ t) (34 ∷ rest)
+      quoted (front, e) = (34 ∷ front, ap (λ l. 34 ∷ l) e)
+
+block_character_behind : (t raw r : List ℕ) → strings.IsBlockCharacter t raw r → Behind t r
+block_character_behind _ _ _ (strings.IsBlockCharacter.quotes rest) = (92 ∷ 34 ∷ 34 ∷ 34 ∷ [], refl)
+block_character_behind _ _ _ (strings.IsBlockCharacter.plain c rest is nq ne) = (c ∷ [], refl)
+
+block_characters_behind : (t raw r : List ℕ) → strings.AreBlockCharacters t raw r → Behind t r
+block_characters_behind _ _ _ (strings.AreBlockCharacters.none rest) = ([], refl)
+block_characters_behind _ _ _ (strings.AreBlockCharacters.more t m rest raw raws is are) =
+    further t m rest (block_character_behind t raw m is) (block_characters_behind m raws rest are)
+
+block_behind : (t raw r : List ℕ) → strings.IsBlockString t raw r → Behind t r
+block_behind _ _ _ (strings.IsBlockString.block t raw rest are) =
+    further (34 ∷ 34 ∷ 34 ∷ t) (34 ∷ 34 ∷ 34 ∷ rest) rest (quoted (block_characters_behind t raw (34 ∷ 34 ∷ 34 ∷ rest) are)) (34 ∷ 34 ∷ 34 ∷ [], refl) where
+      quoted : Behind t (34 ∷ 34 ∷ 34 ∷ rest) → Behind (34 ∷ 34 ∷ 34 ∷ t) (34 ∷ 34 ∷ 34 ∷ rest)
+      quoted (front, e) = (34 ∷ 34 ∷ 34 ∷ front, ap (λ l. 34 ∷ 34 ∷ 34 ∷ l) e)
+
+ignored_behind : (t r : List ℕ) → IsIgnored t r → Behind t r
+ignored_behind _ _ (byte_order_mark rest) = (239 ∷ 187 ∷ 191 ∷ [], refl)
+ignored_behind _ _ (tab rest) = (9 ∷ [], refl)
+ignored_behind _ _ (space rest) = (32 ∷ [], refl)
+ignored_behind _ _ (comma rest) = (44 ∷ [], refl)
+ignored_behind _ _ (line_terminator t r is) = ended t r is where
+  ended : (t r : List ℕ) → IsLineTerminator t r → Behind t r
+  ended _ _ (line_feed rest) = (10 ∷ [], refl)
+  ended _ _ (carriage_return rest n) = (13 ∷ [], refl)
+  ended _ _ (carriage_return_line_feed rest) = (13 ∷ 10 ∷ [], refl)
+ignored_behind _ _ (comment t run rest is) = (35 ∷ run, ap (λ l. 35 ∷ l) is.written)
+
+-- a sign has any text
+signed : (c b : ℕ) (kind found : TokenKind) (more : Option TokenKind) (text : List ℕ) → spells kind text ≡ true → (more ≡ Some found → spells found text ≡ true) →
+    cond (c == b) (Some kind) more ≡ Some found → spells found text ≡ true
+signed c b kind found more text is rest e = elim (chosen (c == b) (Some kind) more (Some found) e) [
+  | inl h ↦ let k = h.1 in let same : kind ≡ found = cc in subst (λ x. spells x text ≡ true) same is
+  | inr h ↦ rest h.1
+]
+
+sign_spells : (c : ℕ) (kind : TokenKind) (text : List ℕ) → punctuator c ≡ Some kind → spells kind text ≡ true
+sign_spells c kind text e =
+    signed c 33 kinds.ExclamationMark kind _ text refl (λ e. signed c 36 kinds.Dollar kind _ text refl (λ e. signed c 38 kinds.Ampersand kind _ text refl
+    (λ e. signed c 40 kinds.LeftParenthesis kind _ text refl (λ e. signed c 41 kinds.RightParenthesis kind _ text refl (λ e. signed c 58 kinds.Colon kind _ text refl
+    (λ e. signed c 61 kinds.Equals kind _ text refl (λ e. signed c 64 kinds.At kind _ text refl (λ e. signed c 91 kinds.LeftBracket kind _ text refl
+    (λ e. signed c 93 kinds.RightBracket kind _ text refl (λ e. signed c 123 kinds.LeftBrace kind _ text refl (λ e. signed c 124 kinds.VerticalBar kind _ text refl
+    (λ e. signed c 125 kinds.RightBrace kind None text refl (λ e. absurd (let b : ⊥ = cc in b)) e) e) e) e) e) e) e) e) e) e) e) e) e
+
+token_spelled : (kind : TokenKind) (t r : List ℕ) → IsToken kind t r → (front : List ℕ) × (t ≡ front ++ r) × (spells kind front ≡ true)
+token_spelled _ _ _ (sign c kind rest is) = (c ∷ [], refl, sign_spells c kind (c ∷ []) is)
+token_spelled _ _ _ (spread rest) = (46 ∷ 46 ∷ 46 ∷ [], refl, refl)
+token_spelled _ _ _ (name t s rest written is ends) = (s, written, is)
+token_spelled _ _ _ (integer t s rest written is ends) = (s, written, is)
+token_spelled _ _ _ (float t s rest written is ends) = (s, written, refl)
+token_spelled _ _ _ (string t rest parts is) = let (front, e) = string_behind t parts rest is in (front, e, refl)
+token_spelled _ _ _ (block_string t rest raw is) = let (front, e) = block_behind t raw rest is in (front, e, refl)
+
+-- the text of a token that stands at a place of the source
+at_place : (source : List ℕ) (k : ℕ) (t front r : List ℕ) (kind : TokenKind) → drop k source ≡ t → k + length t ≡ length source → t ≡ front ++ r → spells kind front ≡ true →
+    is_spelled source (token_between (length source) kind t r) ≡ true
+at_place source k t front r kind at total written is =
+    let lengths : length t ≡ length front + length r = ap length written ∙ length-append front r in
+    let begin : length source - length t ≡ k = omega arith in
+    let size : (length source - length r) - k ≡ length front = omega arith in
+    let text : text_of source (token_between (length source) kind t r) ≡ front =
+    rw (begin, size, at, written) (take_at front r (length front) refl) in
+    let ordered : nat_le (length source - length t) (length source - length r) ≡ true = grind (arith, nat_tests) in
+    let within : nat_le (length source - length r) (length source) ≡ true = grind (arith, nat_tests) in
+    rw (ordered, within, text) is
+
+rest_at : (source : List ℕ) (k : ℕ) (t front r : List ℕ) → drop k source ≡ t → k + length t ≡ length source → t ≡ front ++ r →
+    (drop (k + length front) source ≡ r) × ((k + length front) + length r ≡ length source)
+rest_at source k t front r at total written = (
+  sym (drop-drop (length front) k source) ∙ ap (λ l. drop (length front) l) (at ∙ written) ∙ drop_at front r (length front) refl,
+  omega (arith, ap length written, length-append front r),
+)
+
+spelled_from : (source : List ℕ) (k : ℕ) (t : List ℕ) (ts : List Token) (r : List ℕ) → drop k source ≡ t → k + length t ≡ length source →
+    Lexes (length source) t ts r → are_spelled source ts ≡ true
+spelled_from source k _ _ _ at total (nothing r) = refl
+spelled_from source k _ _ _ at total (ignored t m r ts i l) =
+    let (front, e) = ignored_behind t m i in
+    let (next, left) = rest_at source k t front m at total e in
+    spelled_from source (k + length front) m ts r next left l
+spelled_from source k _ _ _ at total (token kind t m r ts i l) =
+    let (front, e, is) = token_spelled kind t m i in
+    let (next, left) = rest_at source k t front m at total e in
+    rw (at_place source k t front m kind at total e is) (spelled_from source (k + length front) m ts r next left l)
+
+pub tokens_spelled : (text : List ℕ) (ts : List Token) → AreTokens text ts → are_spelled text ts ≡ true
+tokens_spelled text ts l = spelled_from text 0 text ts [] refl (omega arith) l

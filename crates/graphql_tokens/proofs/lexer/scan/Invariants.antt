@@ -1,0 +1,13 @@
+use Rattle.std.proofs.Common.{◌≤◌, length}
+use Rattle.graphql_tokens.specs.Lexical.{Lexes}
+use Rattle.graphql_tokens.proofs.lexer.scan.Given as goal
+
+abbrev pub invariant-loop-rest : goal.invariant-loop-rest
+invariant-loop-rest l = record {
+  lexes : Lexes (length l.text) l.text l.tokens.items l.rest;
+  within : length l.rest ≤ length l.text;
+  count : length l.tokens.items ≤ l.bound;
+}
+
+abbrev pub decreases-loop-rest : goal.decreases-loop-rest
+decreases-loop-rest l = length l.rest

@@ -1,0 +1,87 @@
+//! Classes of bytes, and runs of them.
+
+ghost use Rattle.std.specs.Prelude.{◌≡◌, ◌≤◌, length};
+ghost use Rattle.graphql_nodes.specs.Names.{starts_name, continues_name};
+ghost use Rattle.graphql_tokens.specs.Characters.{is_line_byte, is_source_byte, begins_with};
+ghost use Rattle.graphql_tokens.specs.Ignored.{is_comment_byte};
+ghost use Rattle.graphql_tokens.specs.Lexical.{goes_on_number};
+ghost use Rattle.graphql_tokens.specs.Scans.{after_run, belongs, strip, Gives};
+
+/// What a run of bytes is made of.
+#[derive(Clone, Copy)]
+pub(crate) enum Class {
+    Comment,
+    Digit,
+    NamePart,
+}
+
+impl Class {
+    pub(crate) fn contains(self, c: u8) -> bool
+        ensures { result ≡ belongs self c }
+    {
+        match self {
+            Class::Comment => is_comment_byte(c),
+            Class::Digit => c.is_ascii_digit(),
+            Class::NamePart => c.is_ascii_alphanumeric() || c == b'_',
+        }
+    }
+}
+
+pub(crate) fn is_line_byte(c: u8) -> bool
+    ensures { result ≡ is_line_byte c }
+{
+    c == b'\n' || c == b'\r'
+}
+
+pub(crate) fn is_source_byte(c: u8) -> bool
+    ensures { result ≡ is_source_byte c }
+{
+    c == b'\t' || is_line_byte(c) || 31 < c
+}
+
+fn is_comment_byte(c: u8) -> bool
+    ensures { result ≡ is_comment_byte c }
+{
+    is_source_byte(c) && !is_line_byte(c)
+}
+
+pub(crate) fn is_name_start(c: u8) -> bool
+    ensures { result ≡ starts_name c }
+{
+    c.is_ascii_alphabetic() || c == b'_'
+}
+
+/// Whether a number goes on here, so that it has not ended before.
+pub(crate) fn number_goes_on(text: &[u8]) -> bool
+    ensures { result ≡ begins_with goes_on_number text.now }
+{
+    match text {
+        [] => false,
+        [c, ..] => c.is_ascii_digit() || *c == b'.' || is_name_start(*c),
+    }
+}
+
+/// The text behind its first byte, where it is this one.
+#[tactic(auto, unfolding(crate::specs::Scans::strip))]
+pub(crate) fn strip(text: &[u8], byte: u8) -> Option<&[u8]>
+    ensures { Gives (λ rest. rest.now) result (strip byte text.now) }
+{
+    match text {
+        [] => None,
+        [c, rest @ ..] => { if *c == byte { Some(rest) } else { None } }
+    }
+}
+
+/// The text behind the bytes of the class at its start.
+pub(crate) fn after_run(text: &[u8], class: Class) -> &[u8]
+    ensures { result.now ≡ after_run (belongs class) text.now }
+{
+    let mut rest = text;
+    while let [c, behind @ ..] = rest {
+        if !class.contains(*c) {
+            break;
+        }
+        rest = behind;
+    }
+    rest
+}

@@ -1,0 +1,18 @@
+//! The tokens of a GraphQL text, from its bytes.
+//!
+//! Specification: 2.1 Source Text, and Appendix B.2 Lexical Tokens.
+#![tactic(auto)]
+
+mod characters;
+mod ignored;
+pub mod laws;
+pub mod lexer;
+mod numbers;
+mod quoted;
+mod scanner;
+pub mod strings;
+pub mod token;
+
+pub use lexer::{LexicalError, Scanned, Stop, scan, tokens};
+pub use strings::StringPart;
+pub use token::{Token, TokenKind};
