@@ -1,12 +1,13 @@
 //! Worked examples, validated into a list that holds a report already. `scripts/refuse-each-request` runs this with each
 //! request for memory refused once.
+use crate::collections::judge_collections;
 use crate::faults::Fault;
 use graphql_diagnostics::{
     Details, DiagnosticData, DiagnosticEntry, DiagnosticList, ValidationError,
 };
 use graphql_documents::documents::{FileId, Schema, SourceSpan};
-use graphql_rows::{Case, Row, Subject, Validated, build_case};
-use graphql_rows_more::{find, tables};
+use graphql_rows::{Case, Row, Subject, Validated, build_case, find_row};
+use graphql_rows_more::{find, many_faults, tables};
 use graphql_schemas::schema_rules::validate_schema;
 use graphql_validation::entry::{
     validate_executable_document, validate_field_set, validate_standalone_executable,
@@ -23,7 +24,8 @@ const EARLIER: SourceSpan = SourceSpan {
 
 /// Judges the example of that name.
 pub fn judge_named(alloc: Global, id: &str) -> Result<(), Fault> {
-    judge(alloc, find(id).ok_or(Fault::Usage)?)
+    let row = find(id).or_else(|| find_row(many_faults::rows(), id));
+    judge(alloc, row.ok_or(Fault::Usage)?)
 }
 
 /// Judges one example after another, and prints how many there were.
@@ -32,6 +34,7 @@ pub fn judge_all<O: Write>(alloc: Global, output: &mut O) -> Result<(), Fault> {
     for rows in tables() {
         judged = judged.saturating_add(judge_each(alloc, rows)?);
     }
+    judged = judged.saturating_add(judge_each(alloc, many_faults::rows())?);
     writeln!(output, "{judged} examples").map_err(|_error| Fault::OutputFailed)
 }
 
@@ -47,16 +50,28 @@ fn judge_each(alloc: Global, rows: &[Row]) -> Result<u32, Fault> {
 
 /// Validates the example twice, first alone, so that all that it reports is known, and then into a list that holds a
 /// report; and looks at what stands afterwards. Where memory was refused in the second run, it answers so, once that
-/// is as it must be: the earlier report, behind it only reports of the first run, and the types as they were.
+/// is as it must be: the earlier report, behind it only reports of the first run, and the types as they were. Last, what
+/// its operations answer is collected, twice too.
 fn judge(alloc: Global, row: &Row) -> Result<(), Fault> {
     let mut first = build(alloc, row)?;
     let mut expected = DiagnosticList::new(alloc);
     let judged = validate(&mut expected, &mut first)
         .map_err(Fault::from)
-        .and_then(|()| judge_second(alloc, row, &expected, &first.schema.0));
+        .and_then(|()| judge_second(alloc, row, &expected, &first.schema.0))
+        .and_then(|()| judge_fields(alloc, row.id, &first));
     drop(expected);
     drop(first);
     judged
+}
+
+/// Collects what the operations of a document answer.
+fn judge_fields(alloc: Global, id: &'static str, case: &Case) -> Result<(), Fault> {
+    match &case.validated {
+        Validated::Document(document) | Validated::Standalone(document) => {
+            judge_collections(alloc, id, &case.schema.0, document)
+        }
+        Validated::FieldSet(_) | Validated::Schema => Ok(()),
+    }
 }
 
 /// The example, built. Where its types are to be settled again, they are settled once.

@@ -1,8 +1,9 @@
 //! Tries the validation as a user would not: `gqltrials examples` validates the worked examples into a list that holds a
-//! report already, and judges what stands there afterwards, also where memory was refused; `gqltrials SHAPE SIZE`
-//! measures how merging grows with a document, and the search for cycles with a schema.
+//! report already, and judges what stands there afterwards, also where memory was refused, and collects what their
+//! operations answer; `gqltrials SHAPE SIZE` measures how merging grows with a document, and the search for cycles with a schema.
 #![tactic(auto)]
 
+mod collections;
 mod examples;
 mod faults;
 mod growth;

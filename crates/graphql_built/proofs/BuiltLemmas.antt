@@ -3,10 +3,13 @@ use Rattle.std.proofs.Common.{◌≡◌, ◌↔◌, Bool, false, IsTrue, List, �
 use Rattle.std.specs.Prelude.{Result}
 use Rattle.std.proofs.lemmas.List.Elements.{All-append, All-contains, All-nil, All-weaker}
 use Rattle.std.proofs.lemmas.Option.{same_Some}
-use Rattle.graphql_built.specs.BuiltSelections.{FragmentIsBuilt, HasDefinitionOfType, HasSetOfOutputType, InlineFragmentIsBuilt, SelectionIsBuilt, same_definition}
+use Rattle.graphql_built.specs.BuiltSelections.{FragmentIsBuilt, HasDefinitionOfType, HasSetOfOutputType, InlineFragmentIsBuilt, SelectionIsBuilt}
+use Rattle.graphql_documents.proofs.ContentLemmas.{equality_of_field_definitions}
 use Rattle.graphql_documents.proofs.ListLemmas.{All-append_left, All-append_right, each_standing}
 use Rattle.graphql_documents.proofs.SelectionLemmas.{not_inline, not_spread, same_field, same_inline, spread_not_inline}
 use Rattle.graphql_documents.specs.Built.{FieldIsBuilt, IsBuilt, OperationIsBuilt, SetsAreBuilt, StandsUnderOwnNames, TypeStandsUnderItsName}
+use Rattle.graphql_documents.specs.Contents.{SameFieldDefinition}
+use Rattle.graphql_documents.specs.contracts.documents.definitions.FieldDefinitionPartialEq.TheImpl as definition_impl
 use Rattle.graphql_documents.specs.Defer.{operations_of}
 use Rattle.graphql_nodes.specs.Names.{NameText, SameName}
 use Rattle.graphql_documents.specs.Schemas.{NamesKind, is_output_type, type_definition, type_field}
@@ -33,7 +36,7 @@ use Rattle.graphql_documents.specs.declared.documents.schemas.ObjectType.{Object
 use Rattle.graphql_documents.specs.declared.documents.schemas.Schema.{Schema}
 
 module _ (schema : Schema) (set : SelectionSet) where
-  pub sets_built : All (SelectionIsBuilt schema set.ty) (selections_of set) → SetsAreBuilt same_definition schema set
+  pub sets_built : All (SelectionIsBuilt schema set.ty) (selections_of set) → SetsAreBuilt schema set
   sets_built all inner set_itself = record {
     fields = λ f in'. ((All-contains (SelectionIsBuilt schema set.ty) (selections_of set) (kind.Field f) all in').field f refl).0;
     inline_fragments = λ i in'. ((All-contains (SelectionIsBuilt schema set.ty) (selections_of set) (kind.InlineFragment i) all in').inline_fragment i refl).0;
@@ -43,7 +46,7 @@ module _ (schema : Schema) (set : SelectionSet) where
   sets_built all inner (set_in_inline_fragment {i = i} in' below) =
       ((All-contains (SelectionIsBuilt schema set.ty) (selections_of set) (kind.InlineFragment i) all in').inline_fragment i refl).1 inner below
 
-  pub selections_built : SetsAreBuilt same_definition schema set → All (SelectionIsBuilt schema set.ty) (selections_of set)
+  pub selections_built : SetsAreBuilt schema set → All (SelectionIsBuilt schema set.ty) (selections_of set)
   selections_built built =
       each_standing (SelectionIsBuilt schema set.ty) (selections_of set)
       (λ s in'. record {
@@ -58,12 +61,12 @@ module _ (schema : Schema) (set : SelectionSet) where
 -- each kind of selection is built where what is asked of that kind holds
 module _ (schema : Schema) (parent : NameText) (s : Selection) where
   pub field_selection : (f : Node Field) → s ≡ kind.Field f →
-      (FieldIsBuilt same_definition schema parent f.value.value × SetsAreBuilt same_definition schema f.value.value.selection_set) ↔
+      (FieldIsBuilt schema parent f.value.value × SetsAreBuilt schema f.value.value.selection_set) ↔
       SelectionIsBuilt schema parent s
   field_selection f is = (
     λ h. record {
       field = λ g e.
-          subst (λ (x : Node Field). FieldIsBuilt same_definition schema parent x.value.value × SetsAreBuilt same_definition schema x.value.value.selection_set)
+          subst (λ (x : Node Field). FieldIsBuilt schema parent x.value.value × SetsAreBuilt schema x.value.value.selection_set)
           (same_field g f (sym is ∙ e)) h;
       inline_fragment = λ i e. absurd (not_inline f i (sym e ∙ is));
     },
@@ -72,23 +75,23 @@ module _ (schema : Schema) (parent : NameText) (s : Selection) where
 
   -- the same of a field that was seen to be built
   pub field_part : (f : Node Field) (x y : Field) (r q : Bool) → s ≡ kind.Field f → x ≡ f.value.value → y ≡ f.value.value →
-      IsTrue r → (IsTrue r ↔ FieldIsBuilt same_definition schema parent x) → (IsTrue q ↔ SetsAreBuilt same_definition schema y.selection_set) →
+      IsTrue r → (IsTrue r ↔ FieldIsBuilt schema parent x) → (IsTrue q ↔ SetsAreBuilt schema y.selection_set) →
       IsTrue q ↔ SelectionIsBuilt schema parent s
   field_part f x y r q is x_is y_is built itself below =
-      let here = subst (FieldIsBuilt same_definition schema parent) x_is (itself.0 built) in
-      let sets = subst (λ (g : Field). IsTrue q ↔ SetsAreBuilt same_definition schema g.selection_set) y_is below in (
+      let here = subst (FieldIsBuilt schema parent) x_is (itself.0 built) in
+      let sets = subst (λ (g : Field). IsTrue q ↔ SetsAreBuilt schema g.selection_set) y_is below in (
         λ e. (field_selection f is).0 (here, sets.0 e),
         λ h. sets.1 ((field_selection f is).1 h).1,
       )
 
   pub inline_selection : (i : Node InlineFragment) → s ≡ kind.InlineFragment i →
-      (InlineFragmentIsBuilt parent i.value.value × SetsAreBuilt same_definition schema i.value.value.selection_set) ↔
+      (InlineFragmentIsBuilt parent i.value.value × SetsAreBuilt schema i.value.value.selection_set) ↔
       SelectionIsBuilt schema parent s
   inline_selection i is = (
     λ h. record {
       field = λ f e. absurd (not_inline f i (sym is ∙ e));
       inline_fragment = λ j e.
-          subst (λ (x : Node InlineFragment). InlineFragmentIsBuilt parent x.value.value × SetsAreBuilt same_definition schema x.value.value.selection_set)
+          subst (λ (x : Node InlineFragment). InlineFragmentIsBuilt parent x.value.value × SetsAreBuilt schema x.value.value.selection_set)
           (same_inline i j (sym is ∙ e)) h;
     },
     λ h. h.inline_fragment i is,
@@ -109,7 +112,7 @@ one_fails P xs x r stands passes fails = (
 
 -- a selection of a set that is not built
 pub one_not_built : (schema : Schema) (set : SelectionSet) (x : Selection) (r : Bool) → Contains (selections_of set) x →
-    (IsTrue r ↔ SelectionIsBuilt schema set.ty x) → r ≡ false → IsTrue false ↔ SetsAreBuilt same_definition schema set
+    (IsTrue r ↔ SelectionIsBuilt schema set.ty x) → r ≡ false → IsTrue false ↔ SetsAreBuilt schema set
 one_not_built schema set x r stands built fails =
     let none = one_fails (SelectionIsBuilt schema set.ty) (selections_of set) x r stands built fails in
     (λ e. sets_built schema set (none.0 e), λ h. none.1 (selections_built schema set h))
@@ -182,14 +185,18 @@ names_found schema name test d r found is = (
 
 -- the definition of a field
 pub definition_found : (schema : Schema) (parent : NameText) (f : Field) (d : Component FieldDefinition) (r : Bool) →
-    type_field schema parent f.name ≡ Ok d → r ≡ same_definition f.definition.value.value d.node.value.value →
+    type_field schema parent f.name ≡ Ok d → r ≡ definition_impl.ghosts.eq f.definition.value.value d.node.value.value →
     IsTrue r ↔ HasDefinitionOfType schema parent f
-definition_found schema parent f d r found is = (
-  λ e. record { definition = d; is_of_parent = found; same = sym is ∙ e },
-  λ h. is ∙ ap (λ (x : Component FieldDefinition). same_definition f.definition.value.value x.node.value.value) (same_one h.definition (sym found ∙ h.is_of_parent)) ∙ h.same,
-) where
-  same_one : (x : Component FieldDefinition) → ◌≡◌ {A = Result (Component FieldDefinition) FieldLookupError} (Ok d) (Ok x) → d ≡ x
-  same_one x e = cc
+definition_found schema parent f d r found is =
+    let equality = equality_of_field_definitions f.definition.value.value d.node.value.value in (
+      λ e. record { definition = d; is_of_parent = found; same = equality.0 (sym is ∙ e) },
+      λ h.
+          is ∙
+          equality.1 (subst (λ (x : Component FieldDefinition). SameFieldDefinition f.definition.value.value x.node.value.value)
+          (sym (same_one h.definition (sym found ∙ h.is_of_parent))) h.same),
+    ) where
+      same_one : (x : Component FieldDefinition) → ◌≡◌ {A = Result (Component FieldDefinition) FieldLookupError} (Ok d) (Ok x) → d ≡ x
+      same_one x e = cc
 
 -- the set of a field
 pub set_found : (schema : Schema) (f : Field) (name : NameText) (r : Bool) → name ≡ inner_named_type f.definition.value.value.ty →
@@ -204,7 +211,7 @@ set_found schema f name r is same kinds =
 -- a field with its definition, and one without
 module _ (schema : Schema) (parent : NameText) (f : Field) where
   pub defined_field : (r : Bool) → HasDefinitionOfType schema parent f → (IsTrue r ↔ HasSetOfOutputType schema f) →
-      IsTrue r ↔ FieldIsBuilt same_definition schema parent f
+      IsTrue r ↔ FieldIsBuilt schema parent f
   defined_field r has sets = (
     λ e. let set = sets.0 e in
         record {
@@ -218,7 +225,7 @@ module _ (schema : Schema) (parent : NameText) (f : Field) where
   )
 
   pub undefined_field : (r : Bool) → (IsTrue r ↔ HasDefinitionOfType schema parent f) → r ≡ false →
-      IsTrue r ↔ FieldIsBuilt same_definition schema parent f
+      IsTrue r ↔ FieldIsBuilt schema parent f
   undefined_field r has fails = (
     λ e. absurd (let h : ⊥ = cc in h),
     λ h. has.1 (record { definition = h.definition; is_of_parent = h.is_of_parent; same = h.same }),
@@ -234,21 +241,21 @@ not_all_of_first P xs ys r all fails = (λ e. absurd (let h : ⊥ = cc in h), λ
 -- fragments under their names, as the definition of built documents has them
 pub fragments_built : (schema : Schema) (entries : List (NameText × Node Fragment)) →
     All (λ entry. FragmentIsBuilt schema entry.0 entry.1.value.value) entries ↔
-    All (λ entry. SameName entry.0 entry.1.value.value.name × SetsAreBuilt same_definition schema entry.1.value.value.selection_set) entries
+    All (λ entry. SameName entry.0 entry.1.value.value.name × SetsAreBuilt schema entry.1.value.value.selection_set) entries
 fragments_built schema entries = (
   All-weaker (λ entry. FragmentIsBuilt schema entry.0 entry.1.value.value)
-      (λ entry. SameName entry.0 entry.1.value.value.name × SetsAreBuilt same_definition schema entry.1.value.value.selection_set)
+      (λ entry. SameName entry.0 entry.1.value.value.name × SetsAreBuilt schema entry.1.value.value.selection_set)
       (λ entry h. (h.itself, h.sets)) entries,
-  All-weaker (λ entry. SameName entry.0 entry.1.value.value.name × SetsAreBuilt same_definition schema entry.1.value.value.selection_set)
+  All-weaker (λ entry. SameName entry.0 entry.1.value.value.name × SetsAreBuilt schema entry.1.value.value.selection_set)
       (λ entry. FragmentIsBuilt schema entry.0 entry.1.value.value)
       (λ entry h. record { itself = h.0; sets = h.1 }) entries,
 )
 
 -- the parts of a document
 pub document_built : (schema : Schema) (document : ExecutableDocument) (r : Bool) → StandsUnderOwnNames schema →
-    All (λ o. OperationIsBuilt same_definition schema o.value.value) (operations_of document) →
+    All (λ o. OperationIsBuilt schema o.value.value) (operations_of document) →
     (IsTrue r ↔ All (λ entry. FragmentIsBuilt schema entry.0 entry.1.value.value) document.fragments.entries) →
-    IsTrue r ↔ IsBuilt same_definition schema document
+    IsTrue r ↔ IsBuilt schema document
 document_built schema document r names operations fragments =
     let words = fragments_built schema document.fragments.entries in (
       λ e. record { names = names; operations = operations; fragments = words.0 (fragments.0 e) },

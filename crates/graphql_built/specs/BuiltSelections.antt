@@ -1,10 +1,10 @@
--- Sameness of field definitions, and when a selection is built for its type, with what is below it.
-use Rattle.std.specs.Prelude.{◌≡◌, Bool, IsTrue, Ok, unwrap_or}
+-- When a selection is built for its type, with what is below it.
+use Rattle.std.specs.Prelude.{◌≡◌, Ok, unwrap_or}
 use Rattle.graphql_documents.specs.Built.{FieldIsBuilt, SetsAreBuilt}
+use Rattle.graphql_documents.specs.Contents.{SameFieldDefinition}
 use Rattle.graphql_nodes.specs.Names.{NameText, SameName}
 use Rattle.graphql_documents.specs.Schemas.{NamesKind, is_output_type, type_field}
 use Rattle.graphql_documents.specs.TypeReferences.{inner_named_type}
-use Rattle.graphql_documents.specs.contracts.documents.definitions.FieldDefinitionPartialEq.TheImpl as field_definition_impl
 use Rattle.graphql_documents.specs.declared.documents.components.Component.{Component}
 use Rattle.graphql_documents.specs.declared.documents.definitions.FieldDefinition.{FieldDefinition}
 use Rattle.graphql_documents.specs.declared.documents.executables.Field.{Field}
@@ -15,15 +15,11 @@ use Rattle.graphql_documents.specs.declared.documents.executables.Selection.{Sel
 use Rattle.graphql_nodes.specs.declared.nodes.Node.{Node}
 use Rattle.graphql_documents.specs.declared.documents.schemas.Schema.{Schema}
 
--- two definitions of fields are the same by their contents, as `==` compares them
-abbrev pub same_definition : FieldDefinition → FieldDefinition → Bool
-same_definition = field_definition_impl.ghosts.eq
-
--- a field has the definition that the type gives it
+-- a field has the definition that the type gives it, by its contents
 pub record HasDefinitionOfType (schema : Schema) (parent : NameText) (f : Field) : Type 0 where
   pub definition : Component FieldDefinition
   pub is_of_parent : type_field schema parent f.name ≡ Ok definition
-  pub same : IsTrue (same_definition f.definition.value.value definition.node.value.value)
+  pub same : SameFieldDefinition f.definition.value.value definition.node.value.value
 
 -- a field is of an output type, and its set is of that type
 pub record HasSetOfOutputType (schema : Schema) (f : Field) : Type 0 where
@@ -37,11 +33,11 @@ InlineFragmentIsBuilt parent i = SameName i.selection_set.ty (unwrap_or i.type_c
 -- a selection is built for the type of its set, and so is each set that is written in it
 pub record SelectionIsBuilt (schema : Schema) (parent : NameText) (s : Selection) : Type 0 where
   pub field : (f : Node Field) → s ≡ kind.Field f →
-      FieldIsBuilt same_definition schema parent f.value.value × SetsAreBuilt same_definition schema f.value.value.selection_set
+      FieldIsBuilt schema parent f.value.value × SetsAreBuilt schema f.value.value.selection_set
   pub inline_fragment : (i : Node InlineFragment) → s ≡ kind.InlineFragment i →
-      InlineFragmentIsBuilt parent i.value.value × SetsAreBuilt same_definition schema i.value.value.selection_set
+      InlineFragmentIsBuilt parent i.value.value × SetsAreBuilt schema i.value.value.selection_set
 
 -- a fragment stands under its own name, and the sets that are written in it are built
 pub record FragmentIsBuilt (schema : Schema) (key : NameText) (d : Fragment) : Type 0 where
   pub itself : SameName key d.name
-  pub sets : SetsAreBuilt same_definition schema d.selection_set
+  pub sets : SetsAreBuilt schema d.selection_set

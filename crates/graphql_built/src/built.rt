@@ -6,7 +6,7 @@ mod selections;
 ghost use Rattle.indexmap.specs.IndexMap.{values};
 ghost use Rattle.std.specs.Prelude.{◌≡◌, ◌↔◌, All, IsTrue, option_to_list};
 ghost use Rattle.std.specs.Option.{option_copied};
-ghost use Rattle.graphql_built.specs.BuiltSelections.{FragmentIsBuilt, same_definition};
+ghost use Rattle.graphql_built.specs.BuiltSelections.{FragmentIsBuilt};
 ghost use Rattle.graphql_documents.specs.Built.{IsBuilt, OperationIsBuilt};
 ghost use Rattle.graphql_documents.specs.Defer.{operations_of};
 ghost use Rattle.graphql_documents.specs.Schemas.{root_operation};
@@ -33,7 +33,7 @@ use selections::sets_are_built;
 ///
 /// Specification: 3.3.1 Root Operation Types; 5.3.1 Field Selections; 2.8 Fragments.
 pub fn built_against(schema: &Schema, document: &ExecutableDocument) -> bool
-    ensures { IsTrue result ↔ IsBuilt same_definition schema.now document.now }
+    ensures { IsTrue result ↔ IsBuilt schema.now document.now }
 {
     stands_under_own_names(schema)
         && operations_are_built(schema, document)
@@ -43,7 +43,7 @@ pub fn built_against(schema: &Schema, document: &ExecutableDocument) -> bool
 /// Whether each operation is built.
 fn operations_are_built(schema: &Schema, document: &ExecutableDocument) -> bool
     ensures { IsTrue result ↔
-        All (λ o. OperationIsBuilt same_definition schema.now o.value.value) (operations_of document.now) }
+        All (λ o. OperationIsBuilt schema.now o.value.value) (operations_of document.now) }
 {
     anonymous_operation_is_built(schema, &document.operations.anonymous)
         && named_operations_are_built(schema, &document.operations.named)
@@ -52,7 +52,7 @@ fn operations_are_built(schema: &Schema, document: &ExecutableDocument) -> bool
 /// Whether the operation without a name is built, if there is one.
 fn anonymous_operation_is_built(schema: &Schema, anonymous: &Option<Node<Operation>>) -> bool
     ensures { IsTrue result ↔
-        All (λ o. OperationIsBuilt same_definition schema.now o.value.value) (option_to_list anonymous.now) }
+        All (λ o. OperationIsBuilt schema.now o.value.value) (option_to_list anonymous.now) }
 {
     match anonymous {
         Some(operation) => operation_is_built(schema, &operation.value),
@@ -63,7 +63,7 @@ fn anonymous_operation_is_built(schema: &Schema, anonymous: &Option<Node<Operati
 /// Whether each of these operations is built.
 fn named_operations_are_built(schema: &Schema, named: &IndexMap<Name, Node<Operation>>) -> bool
     ensures { IsTrue result ↔
-        All (λ o. OperationIsBuilt same_definition schema.now o.value.value) (values named.now) }
+        All (λ o. OperationIsBuilt schema.now o.value.value) (values named.now) }
 {
     named
         .values()
@@ -72,7 +72,7 @@ fn named_operations_are_built(schema: &Schema, named: &IndexMap<Name, Node<Opera
 
 /// Whether an operation stands on the root type that the schema names, and is built for it.
 fn operation_is_built(schema: &Schema, operation: &Operation) -> bool
-    ensures { IsTrue result ↔ OperationIsBuilt same_definition schema.now operation.now }
+    ensures { IsTrue result ↔ OperationIsBuilt schema.now operation.now }
 {
     match root_operation(&schema.schema_definition.value, operation.operation_type) {
         Some(root) => {

@@ -2,6 +2,7 @@ ghost use Rattle.std.specs.Prelude.{◌≡◌, IfOk, Some};
 ghost use Rattle.graphql_coordinates.specs.Coordinates.{type_coordinate_text, type_attribute_text, field_argument_text, directive_text, directive_argument_text, coordinate_text};
 
 use graphql_nodes::{Name, NamedType, ValidationError};
+use std::alloc::Global;
 use std::fmt;
 
 /// The coordinate of a type: `T`.
@@ -50,12 +51,16 @@ pub enum SchemaCoordinate {
 
 impl TypeAttributeCoordinate {
     /// The coordinate of this field, input field or value of this type.
-    pub fn new(ty: &NamedType, attribute: &Name) -> Result<TypeAttributeCoordinate, ValidationError>
+    pub fn new(
+        alloc: Global,
+        ty: &NamedType,
+        attribute: &Name,
+    ) -> Result<TypeAttributeCoordinate, ValidationError>
         ensures { IfOk result (λ c. c ≡ record { ty = ty.now; attribute = attribute.now }) }
     {
         Ok(TypeAttributeCoordinate {
-            ty: ty.clone()?,
-            attribute: attribute.clone()?,
+            ty: ty.clone_in(alloc)?,
+            attribute: attribute.clone_in(alloc)?,
         })
     }
 }
@@ -63,6 +68,7 @@ impl TypeAttributeCoordinate {
 impl FieldArgumentCoordinate {
     /// The coordinate of this argument of this field of the type.
     pub fn new(
+        alloc: Global,
         ty: &NamedType,
         field: &Name,
         argument: &Name,
@@ -70,20 +76,20 @@ impl FieldArgumentCoordinate {
         ensures { IfOk result (λ c. c ≡ record { ty = ty.now; field = field.now; argument = argument.now }) }
     {
         Ok(FieldArgumentCoordinate {
-            ty: ty.clone()?,
-            field: field.clone()?,
-            argument: argument.clone()?,
+            ty: ty.clone_in(alloc)?,
+            field: field.clone_in(alloc)?,
+            argument: argument.clone_in(alloc)?,
         })
     }
 }
 
 impl DirectiveCoordinate {
     /// The coordinate of the directive of this name.
-    pub fn new(directive: &Name) -> Result<DirectiveCoordinate, ValidationError>
+    pub fn new(alloc: Global, directive: &Name) -> Result<DirectiveCoordinate, ValidationError>
         ensures { IfOk result (λ c. c ≡ record { directive = directive.now }) }
     {
         Ok(DirectiveCoordinate {
-            directive: directive.clone()?,
+            directive: directive.clone_in(alloc)?,
         })
     }
 }
@@ -91,14 +97,15 @@ impl DirectiveCoordinate {
 impl DirectiveArgumentCoordinate {
     /// The coordinate of this argument of the directive.
     pub fn new(
+        alloc: Global,
         directive: &Name,
         argument: &Name,
     ) -> Result<DirectiveArgumentCoordinate, ValidationError>
         ensures { IfOk result (λ c. c ≡ record { directive = directive.now; argument = argument.now }) }
     {
         Ok(DirectiveArgumentCoordinate {
-            directive: directive.clone()?,
-            argument: argument.clone()?,
+            directive: directive.clone_in(alloc)?,
+            argument: argument.clone_in(alloc)?,
         })
     }
 }

@@ -3,7 +3,7 @@ ghost use Rattle.graphql_diagnostics.specs.Diagnostics.{IsDiagnostic};
 ghost use Rattle.graphql_diagnostics.specs.Limits.{DirectiveLimit, directive_bound};
 ghost use Rattle.graphql_diagnostics.specs.Reports.{ChecksWithin};
 ghost use Rattle.graphql_documents.specs.SchemaReferences.{DirectiveHasNoCycle, HasLongDirectivePath, HasLongTypePath, IsDirectiveCycle, SchemaReference, applied, by_directive, by_type};
-ghost use Rattle.graphql_diagnostics.specs.SchemaReports.{DirectiveDefinitionBreaks};
+ghost use Rattle.graphql_diagnostics.specs.SchemaReports.{DirectiveCycleReport};
 ghost use Rattle.graphql_nodes.specs.Spans.{recompose};
 ghost use Rattle.graphql_documents.specs.declared.documents.schemas.Schema.{Schema};
 ghost use Rattle.graphql_cycles.specs.CycleSearches.{Traces};
@@ -34,7 +34,7 @@ pub fn validate_directive_cycles(
     definition: &Node<DirectiveDefinition>,
 ) -> Result<(), ValidationError>
     ensures { ChecksWithin result (DirectiveHasNoCycle schema.now definition.now)
-        (IsDiagnostic (DirectiveDefinitionBreaks schema.now definition.now))
+        (IsDiagnostic (DirectiveCycleReport schema.now definition.now))
         (λ e. DirectiveLimit schema.now definition.now e.details e.location) diagnostics.old diagnostics.new }
 {
     match search_from(diagnostics.allocator(), schema, definition) {
@@ -76,7 +76,7 @@ fn report_cycle(
     ensures { (schema : Schema) (path : List SchemaReference) →
         IsDirectiveCycle schema definition.now path → Traces trace.items (filter_map applied path) →
         ChecksWithin result (DirectiveHasNoCycle schema definition.now)
-        (IsDiagnostic (DirectiveDefinitionBreaks schema definition.now))
+        (IsDiagnostic (DirectiveCycleReport schema definition.now))
         (λ e. DirectiveLimit schema definition.now e.details e.location) diagnostics.old diagnostics.new }
 {
     let head = head_of(definition);
@@ -95,7 +95,7 @@ fn report_nesting(
     ensures { (schema : Schema) →
         HasLongDirectivePath schema definition.now (directive_bound + 1) ⊎ HasLongTypePath schema definition.now (directive_bound + 1) →
         ChecksWithin result (DirectiveHasNoCycle schema definition.now)
-        (IsDiagnostic (DirectiveDefinitionBreaks schema definition.now))
+        (IsDiagnostic (DirectiveCycleReport schema definition.now))
         (λ e. DirectiveLimit schema definition.now e.details e.location) diagnostics.old diagnostics.new }
 {
     let head = head_of(definition);

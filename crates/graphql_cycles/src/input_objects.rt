@@ -3,10 +3,9 @@ ghost use Rattle.graphql_diagnostics.specs.Diagnostics.{IsDiagnostic};
 ghost use Rattle.graphql_diagnostics.specs.Limits.{InputObjectLimit, input_object_bound};
 ghost use Rattle.graphql_diagnostics.specs.Reports.{ChecksWithin};
 ghost use Rattle.graphql_documents.specs.SchemaReferences.{HasLongRequiredPath, InputObjectHasNoCycle, IsInputObjectCycle};
-ghost use Rattle.graphql_diagnostics.specs.TypeReports.{TypeBreaks};
+ghost use Rattle.graphql_diagnostics.specs.TypeReports.{InputObjectCycleReport};
 ghost use Rattle.graphql_documents.specs.declared.documents.definitions.InputValueDefinition.{InputValueDefinition};
 ghost use Rattle.graphql_nodes.specs.declared.nodes.Node.{Node};
-ghost use Rattle.graphql_documents.specs.declared.documents.schemas.ExtendedType.TheVariants as types;
 ghost use Rattle.graphql_guards.specs.Guards.{path_limit, path_of};
 ghost use Rattle.graphql_cycles.specs.CycleSearches.{Traces};
 ghost use Rattle.graphql_cycles.specs.InputObjectSearches.{BeginsAt, SearchesFor};
@@ -34,7 +33,7 @@ pub fn validate_input_object_cycles(
     input_object: &Node<InputObjectType>,
 ) -> Result<(), ValidationError>
     ensures { ChecksWithin result (InputObjectHasNoCycle schema.now input_object.now)
-        (IsDiagnostic (TypeBreaks schema.now (types.InputObject input_object.now)))
+        (IsDiagnostic (InputObjectCycleReport schema.now input_object.now))
         (λ e. InputObjectLimit schema.now input_object.now e.details e.location) diagnostics.old diagnostics.new }
 {
     let alloc = diagnostics.allocator();
@@ -63,7 +62,7 @@ fn report_cycle(
     ensures { (schema : Schema) (path : List (Node InputValueDefinition)) →
         IsInputObjectCycle schema input_object.now path → Traces trace.items path →
         ChecksWithin result (InputObjectHasNoCycle schema input_object.now)
-        (IsDiagnostic (TypeBreaks schema (types.InputObject input_object.now)))
+        (IsDiagnostic (InputObjectCycleReport schema input_object.now))
         (λ e. InputObjectLimit schema input_object.now e.details e.location) diagnostics.old diagnostics.new }
 {
     let name = input_object.value.name.clone()?;
@@ -80,7 +79,7 @@ fn report_nesting(
 ) -> Result<(), ValidationError>
     ensures { (schema : Schema) → HasLongRequiredPath schema input_object.now (input_object_bound + 1) →
         ChecksWithin result (InputObjectHasNoCycle schema input_object.now)
-        (IsDiagnostic (TypeBreaks schema (types.InputObject input_object.now)))
+        (IsDiagnostic (InputObjectCycleReport schema input_object.now))
         (λ e. InputObjectLimit schema input_object.now e.details e.location) diagnostics.old diagnostics.new }
 {
     let name = input_object.value.name.clone()?;

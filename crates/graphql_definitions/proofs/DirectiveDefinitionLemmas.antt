@@ -8,7 +8,7 @@ use Rattle.graphql_diagnostics.specs.Limits.{DirectiveLimit, DirectivesLimit}
 use Rattle.graphql_nodes.specs.Names.{IsFreeName, NameText}
 use Rattle.graphql_diagnostics.specs.Reports.{Reports, ReportsWithin}
 use Rattle.graphql_documents.specs.SchemaReferences.{DirectiveHasNoCycle}
-use Rattle.graphql_diagnostics.specs.SchemaReports.{DirectiveDefinitionBreaks, DirectiveDefinitionsBreak, directive_definition_arguments, directive_definition_name}
+use Rattle.graphql_diagnostics.specs.SchemaReports.{DirectiveCycleReport, DirectiveDefinitionBreaks, DirectiveDefinitionsBreak, directive_applies_itself, directive_definition_arguments, directive_definition_name}
 use Rattle.graphql_documents.specs.SchemaRules.{ArgumentDefinitionsHold, DirectiveDefinitionHolds}
 use Rattle.graphql_diagnostics.proofs.DiagnosticLemmas.{diagnostic_wider}
 use Rattle.graphql_diagnostics.proofs.ReportLemmas.{wider}
@@ -22,6 +22,7 @@ use Rattle.graphql_nodes.specs.declared.nodes.Node.{Node}
 use Rattle.graphql_documents.specs.declared.documents.schemas.Schema.{Schema}
 use Rattle.graphql_nodes.specs.declared.spans.SourceSpan.{SourceSpan}
 use Rattle.graphql_variables.proofs.FirstPlaceLemmas.{holds_on_ok}
+use Rattle.graphql_leaf_types.proofs.TypeLemmas.{checks_wider_within}
 
 -- a true report on a directive definition, of a rule or of a limit
 abbrev pub NamesDefinition : Schema → Node DirectiveDefinition → DiagnosticEntry → Type 0
@@ -47,18 +48,26 @@ module _ (schema : Schema) (d : Node DirectiveDefinition) where
       (λ r at broken. directive_definition_arguments broken) e said)
 
   -- it was checked, part by part
+  -- a report of a cycle is one on the definition
+  names_cycle : (e : DiagnosticEntry) → IsDiagnostic (DirectiveCycleReport schema d) e ⊎ DirectiveLimit schema d e.details e.location → NamesDefinition schema d e
+  names_cycle e (inl said) =
+      inl (diagnostic_wider (DirectiveCycleReport schema d) (DirectiveDefinitionBreaks schema d) (λ r at cycle. directive_applies_itself cycle) e said)
+  names_cycle e (inr limit) = inr limit
+
   pub definition_checked : {T E : Type 0} (r : Result T E) (old named argued new : List DiagnosticEntry) →
       Reports (IsFreeName d.value.value.name) (IsDiagnostic (NameBreaks (codes "a directive definition") d.value.value.name)) old named →
       Reports (ArgumentDefinitionsHold schema allowed_at.ArgumentDefinition d.value.value.arguments.items)
       (IsDiagnostic (ArgumentDefinitionsBreak schema allowed_at.ArgumentDefinition d.value.value.arguments.items)) named argued →
-      ChecksListWithin IsLimitEntry r (DirectiveHasNoCycle schema d) (NamesDefinition schema d) argued new →
+      ChecksListWithin IsLimitEntry r (DirectiveHasNoCycle schema d)
+      (λ e. IsDiagnostic (DirectiveCycleReport schema d) e ⊎ DirectiveLimit schema d e.details e.location) argued new →
       ChecksListWithin IsLimitEntry r (DirectiveDefinitionHolds schema d) (NamesDefinition schema d) old new
   definition_checked r old named argued new by_name by_arguments by_cycle =
       let Q = NamesDefinition schema d in
       checks_words_within IsLimitEntry r _ (DirectiveDefinitionHolds schema d) Q Q old new
       (holds_on_ok r _ (λ p. record { name = p.0; arguments = p.1.0; no_cycle = p.1.1 }, λ h. (h.name, (h.arguments, h.no_cycle)))) (λ e q. q)
       (checks_after_within IsLimitEntry r _ _ Q old named new (within IsLimitEntry (wider names_definition_name by_name))
-      (checks_after_within IsLimitEntry r _ _ Q named argued new (within IsLimitEntry (wider names_definition_arguments by_arguments)) by_cycle))
+      (checks_after_within IsLimitEntry r _ _ Q named argued new (within IsLimitEntry (wider names_definition_arguments by_arguments))
+      (checks_wider_within r _ _ Q argued new names_cycle by_cycle)))
 
 -- a report on one of the definitions is one on them together
 pub names_one : (schema : Schema) (entry : NameText × Node DirectiveDefinition) → Contains schema.directive_definitions.entries entry →

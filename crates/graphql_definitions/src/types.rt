@@ -2,10 +2,10 @@
 
 ghost use Rattle.std.specs.Prelude.{All, OnOk, flat_map};
 ghost use Rattle.graphql_diagnostics.specs.Diagnostics.{IsDiagnostic};
-ghost use Rattle.graphql_diagnostics.specs.Limits.{SchemaLimit};
+ghost use Rattle.graphql_diagnostics.specs.Limits.{TypesLimit};
 ghost use Rattle.graphql_nodes.specs.Names.{IsFreeName};
 ghost use Rattle.graphql_diagnostics.specs.Reports.{ChecksWithin};
-ghost use Rattle.graphql_diagnostics.specs.SchemaReports.{SchemaReport};
+ghost use Rattle.graphql_diagnostics.specs.SchemaReports.{TypesReport};
 ghost use Rattle.graphql_documents.specs.SchemaRules.{TypeHolds};
 ghost use Rattle.graphql_documents.specs.TypeMaps.{types_referred_by};
 ghost use Rattle.graphql_diagnostics.specs.TypeReports.{TypeBreaks};
@@ -33,7 +33,7 @@ pub fn validate_types(
 ) -> Result<(), ValidationError>
     ensures checks { ChecksWithin result
         (All (λ entry. IsFreeName entry.0 × TypeHolds schema.now entry.1) schema.now.types.entries)
-        (IsDiagnostic (SchemaReport schema.now)) (IsDiagnostic (SchemaLimit schema.now)) diagnostics.old diagnostics.new }
+        (IsDiagnostic (TypesReport schema.now)) (IsDiagnostic (TypesLimit schema.now)) diagnostics.old diagnostics.new }
     ensures records { OnOk result (Records built_in_scalars.old built_in_scalars.new
         (flat_map (λ entry. types_referred_by entry.1) schema.now.types.entries)) }
     ensures keeps { Keeps built_in_scalars.old built_in_scalars.new }

@@ -4,7 +4,7 @@ use Rattle.std.specs.declared.alloc.Global.{Global}
 use Rattle.graphql_documents.specs.Defer.{CanBeDisabled, DefersIn, Open, argument_value, defers, operations_of}
 use Rattle.graphql_nodes.specs.Names.{NameText}
 use Rattle.graphql_documents.specs.Selections.{Fragments, Inside, directives_of, fragments_of}
-use Rattle.graphql_documents.specs.Walks.{LabelsStandTooDeep}
+use Rattle.graphql_documents.specs.Walks.{DefersMetIn}
 use Rattle.graphql_diagnostics.specs.declared.build_errors.BuildError.TheVariants as build
 use Rattle.graphql_diagnostics.specs.declared.build_errors.BuildError.{BuildError}
 use Rattle.graphql_diagnostics.specs.declared.details.Details.TheVariants as details
@@ -43,16 +43,16 @@ pub record HasLabel (d : Node Directive) (text : List ℕ) (location : Option So
   pub text_is : text ≡ string_bytes label
   pub location_is : location ≡ value.location
 
--- a `@defer` has the label of an earlier one: reported at the later label's value, with the place of
--- the first that was met. That is the first of all, unless some stand too deep to be met
+-- a `@defer` has the label of an earlier one, among those that the walks over what is written meet within their
+-- bound: reported at the later label's value, with the place of the first of these that has it
 pub record RepeatsLabel (document : ExecutableDocument) (text : List ℕ) (original at : Option SourceSpan) : Type 0 where
   pub before : List (Node Directive)
   pub first : Node Directive
   pub between : List (Node Directive)
   pub again : Node Directive
   pub after : List (Node Directive)
-  pub are_all : DefersIn document (before ++ first ∷ (between ++ again ∷ after))
-  pub none_before : ¬ LabelsStandTooDeep document → (d : Node Directive) (location : Option SourceSpan) → Contains before d → ¬ HasLabel d text location
+  pub are_met : DefersMetIn document (before ++ first ∷ (between ++ again ∷ after))
+  pub none_before : (d : Node Directive) (location : Option SourceSpan) → Contains before d → ¬ HasLabel d text location
   pub first_has_it : HasLabel first text original
   pub again_has_it : HasLabel again text at
 

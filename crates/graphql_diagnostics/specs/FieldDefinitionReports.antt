@@ -4,7 +4,7 @@ use Rattle.std.specs.Borrow.{Bor}
 use Rattle.graphql_documents.specs.Arguments.{definition_named}
 use Rattle.graphql_diagnostics.specs.DirectiveReports.{DirectivesBreak}
 use Rattle.graphql_documents.specs.Implementations.{FieldList}
-use Rattle.graphql_nodes.specs.Names.{IsFreeName, NameText, SameName}
+use Rattle.graphql_nodes.specs.Names.{IsFreeName, NameText}
 use Rattle.graphql_documents.specs.Schemas.{is_input_type, is_output_type, kind_text, type_definition}
 use Rattle.graphql_documents.specs.TypeMaps.{names_built_in_scalar}
 use Rattle.graphql_documents.specs.TypeReferences.{inner_named_type}
@@ -72,7 +72,7 @@ pub record RepeatsDefinition (arguments : List (Node InputValueDefinition)) (nam
   pub after : List (Node InputValueDefinition)
   pub split : arguments ≡ before ++ again ∷ after
   pub first_is : definition_named again.value.value.name before ≡ Some first
-  pub name_is : SameName name again.value.value.name
+  pub name_is : name ≡ again.value.value.name
   pub original_is : original ≡ first.location
   pub redefined_is : redefined ≡ again.location
   pub at_is : at ≡ first.location

@@ -1,5 +1,5 @@
 -- When a report of a limit is true: a chain in the document or schema really passes the bound.
-use Rattle.std.specs.Prelude.{◌≡◌, ◌≢◌, ℕ, ◌+◌, ◌<◌, ◌≤◌, Bool, ◌⊎◌, List, [], ◌∷◌, ◌++◌, length, Option, None, Some, codes, Contains, AllPairs}
+use Rattle.std.specs.Prelude.{◌≡◌, ◌≢◌, ℕ, ◌+◌, ◌<◌, ◌≤◌, ◌⊎◌, List, [], ◌∷◌, ◌++◌, length, Option, None, Some, codes, Contains, AllPairs}
 use Rattle.indexmap.specs.IndexMap.{values}
 use Rattle.std.specs.Borrow.{Bor}
 use Rattle.graphql_documents.specs.Defer.{operations_of}
@@ -17,8 +17,8 @@ use Rattle.graphql_diagnostics.specs.declared.details.Details.TheVariants as det
 use Rattle.graphql_diagnostics.specs.declared.details.Details.{Details}
 use Rattle.graphql_nodes.specs.declared.errors.RecursionLimitError.{RecursionLimitError}
 use Rattle.graphql_documents.specs.declared.documents.definitions.DirectiveDefinition.{DirectiveDefinition}
+use Rattle.graphql_documents.specs.declared.documents.definitions.OperationType.TheVariants as operation
 use Rattle.graphql_documents.specs.declared.documents.executables.ExecutableDocument.{ExecutableDocument}
-use Rattle.graphql_documents.specs.declared.documents.executables.Field.{Field}
 use Rattle.graphql_documents.specs.declared.documents.executables.Fragment.{Fragment}
 use Rattle.graphql_documents.specs.declared.documents.executables.Operation.{Operation}
 use Rattle.graphql_documents.specs.declared.documents.executables.SelectionSet.{SelectionSet}
@@ -103,7 +103,7 @@ pub data MergingDescent (schema : Schema) (fragments : Fragments) (pass : Pass) 
 
 -- the fields of an operation nest too deep to be merged: some chain of fields passes the bound, and so
 -- do the steps of a pass from the operation's fields, no list of the same fields twice
-pub record MergingPasses (same : Field → Field → Bool) (schema : Schema) (fragments : Fragments) (set : SelectionSet) : Type 0 where
+pub record MergingPasses (schema : Schema) (fragments : Fragments) (set : SelectionSet) : Type 0 where
   pub chain : List FieldSelection
   pub last : FieldSelection
   pub is_chain : Chain fragments set (chain ++ last ∷ [])
@@ -114,22 +114,22 @@ pub record MergingPasses (same : Field → Field → Bool) (schema : Schema) (fr
   pub steps : List (List FieldSelection)
   pub begins : Expansion fragments (set ∷ []) fields
   pub descent : MergingDescent schema fragments pass fields steps
-  pub once : AllPairs (λ a b. ¬ SameFields same a b) (fields ∷ steps)
+  pub once : AllPairs (λ a b. ¬ SameFields a b) (fields ∷ steps)
   pub steps_pass : merging_bound < length steps
 
 -- the fields of one of these operations, the ones merged so far, nest too deep: reported at the last of
 -- them
-pub record MergingNestsTooDeep (same : Field → Field → Bool) (schema : Schema) (fragments : Fragments) (before : List (Node Operation)) (o : Node Operation) (at : Option SourceSpan) : Type 0 where
+pub record MergingNestsTooDeep (schema : Schema) (fragments : Fragments) (before : List (Node Operation)) (o : Node Operation) (at : Option SourceSpan) : Type 0 where
   pub deep : Node Operation
   pub is_merged : Contains (before ++ o ∷ []) deep
-  pub passes : MergingPasses same schema fragments deep.value.value.selection_set
+  pub passes : MergingPasses schema fragments deep.value.value.selection_set
   pub at_is : at ≡ o.location
 
 -- a report of a limit is true of an operation that is merged after these
-pub data MergingLimit (same : Field → Field → Bool) (schema : Schema) (fragments : Fragments) (before : List (Node Operation)) (o : Node Operation) : Details → Option SourceSpan → Type 0 where
+pub data MergingLimit (schema : Schema) (fragments : Fragments) (before : List (Node Operation)) (o : Node Operation) : Details → Option SourceSpan → Type 0 where
   merging_nests : {limit : RecursionLimitError} {at : Option SourceSpan} →
-      MergingNestsTooDeep same schema fragments before o at →
-      MergingLimit same schema fragments before o (details.RecursionLimit limit) at
+      MergingNestsTooDeep schema fragments before o at →
+      MergingLimit schema fragments before o (details.RecursionLimit limit) at
 
 -- a report of a limit is true of the walk that seeks used fragments: some operation passes its bound;
 -- reported without a place
@@ -151,52 +151,60 @@ pub data OperationsLimit (document : ExecutableDocument) : Details → Option So
   one_passes : {o : Node Operation} {said : Details} {at : Option SourceSpan} →
       Contains (operations_of document) o → OperationLimit document o.value.value said at → OperationsLimit document said at
 
--- a report of a limit is true of a subscription: the walk over its root passes its bound; reported without
--- a place
+-- a report of a limit is true of an operation: it is a subscription, and the walk over its root passes its
+-- bound; reported without a place
 pub data SubscriptionLimit (fragments : Fragments) (o : Operation) : Details → Option SourceSpan → Type 0 where
-  subscription_walk_passes : PassesDepth fragments root_walk o.selection_set →
+  subscription_walk_passes : o.operation_type ≡ operation.Subscription → PassesDepth fragments root_walk o.selection_set →
       SubscriptionLimit fragments o (details.Diagnostic report.RecursionError) None
 
--- a report of a limit is true of a walk that seeks `@defer`: for labels, at a root, or for conditions;
--- reported without a place
+-- a report of a limit is true of a walk that seeks `@defer`: for labels, at the root of a mutation or
+-- subscription, or for conditions in a subscription; reported without a place
 pub data DeferLimit (document : ExecutableDocument) : Details → Option SourceSpan → Type 0 where
   label_walk_passes : LabelsStandTooDeep document → DeferLimit document (details.Diagnostic report.RecursionError) None
   defer_root_walk_passes : {o : Node Operation} →
-      Contains (operations_of document) o → PassesDepth (fragments_of document) root_walk o.value.value.selection_set →
+      Contains (operations_of document) o → o.value.value.operation_type ≢ operation.Query →
+      PassesDepth (fragments_of document) root_walk o.value.value.selection_set →
       DeferLimit document (details.Diagnostic report.RecursionError) None
   condition_walk_passes : {o : Node Operation} →
-      Contains (operations_of document) o → PassesDepth (fragments_of document) open_walk o.value.value.selection_set →
+      Contains (operations_of document) o → o.value.value.operation_type ≡ operation.Subscription →
+      PassesDepth (fragments_of document) open_walk o.value.value.selection_set →
       DeferLimit document (details.Diagnostic report.RecursionError) None
 
 -- a report of a limit is true of a document: reported without a place, but for merging
-pub data DocumentLimit (same : Field → Field → Bool) (schema : Option Schema) (document : ExecutableDocument) : Details → Option SourceSpan → Type 0 where
+pub data DocumentLimit (schema : Option Schema) (document : ExecutableDocument) : Details → Option SourceSpan → Type 0 where
   fragment_nests : {d : Node Fragment} {name : NameText} {describe : Bor (List ℕ)} {at : Option SourceSpan} →
       Contains (values document.fragments) d → FragmentNestsTooDeep (fragments_of document) d name describe.now at →
-      DocumentLimit same schema document (details.Diagnostic (report.DeeplyNestedType name describe)) at
+      DocumentLimit schema document (details.Diagnostic (report.DeeplyNestedType name describe)) at
   walk_of_variables : {o : Node Operation} →
       Contains (operations_of document) o → PassesDepth (fragments_of document) full_walk o.value.value.selection_set →
-      DocumentLimit same schema document (details.Diagnostic report.RecursionError) None
+      DocumentLimit schema document (details.Diagnostic report.RecursionError) None
   walk_of_root : {o : Node Operation} →
-      Contains (operations_of document) o → PassesDepth (fragments_of document) root_walk o.value.value.selection_set →
-      DocumentLimit same schema document (details.Diagnostic report.RecursionError) None
+      Contains (operations_of document) o → o.value.value.operation_type ≢ operation.Query →
+      PassesDepth (fragments_of document) root_walk o.value.value.selection_set →
+      DocumentLimit schema document (details.Diagnostic report.RecursionError) None
   walk_of_labels : LabelsStandTooDeep document →
-      DocumentLimit same schema document (details.Diagnostic report.RecursionError) None
+      DocumentLimit schema document (details.Diagnostic report.RecursionError) None
   walk_of_conditions : {o : Node Operation} →
-      Contains (operations_of document) o → PassesDepth (fragments_of document) open_walk o.value.value.selection_set →
-      DocumentLimit same schema document (details.Diagnostic report.RecursionError) None
+      Contains (operations_of document) o → o.value.value.operation_type ≡ operation.Subscription →
+      PassesDepth (fragments_of document) open_walk o.value.value.selection_set →
+      DocumentLimit schema document (details.Diagnostic report.RecursionError) None
   walk_of_fragments : {o : Node Operation} {limit : RecursionLimitError} →
       Contains (operations_of document) o → PassesDepth (fragments_of document) full_walk o.value.value.selection_set →
-      DocumentLimit same schema document (details.RecursionLimit limit) None
+      DocumentLimit schema document (details.RecursionLimit limit) None
   merging_limit : {s : Schema} {before : List (Node Operation)} (after : List (Node Operation)) {o : Node Operation} {limit : RecursionLimitError} {at : Option SourceSpan} →
       schema ≡ Some s → operations_of document ≡ before ++ o ∷ after →
-      MergingNestsTooDeep same s (fragments_of document) before o at →
-      DocumentLimit same schema document (details.RecursionLimit limit) at
+      MergingNestsTooDeep s (fragments_of document) before o at →
+      DocumentLimit schema document (details.RecursionLimit limit) at
+
+-- a report of a limit is true of one of the types of a schema
+pub data TypesLimit (schema : Schema) : DiagnosticData → Option SourceSpan → Type 0 where
+  input_object_nests : {entry : NameText × ExtendedType} {d : Node InputObjectType} {name : NameText} {describe : Bor (List ℕ)} {at : Option SourceSpan} →
+      Contains schema.types.entries entry → entry.1 ≡ types.InputObject d → InputObjectNestsTooDeep schema d name describe.now at →
+      TypesLimit schema (report.DeeplyNestedType name describe) at
 
 -- a report of a limit is true of a schema
 pub data SchemaLimit (schema : Schema) : DiagnosticData → Option SourceSpan → Type 0 where
   directive_nests : {entry : NameText × Node DirectiveDefinition} {name : NameText} {describe : Bor (List ℕ)} {at : Option SourceSpan} →
       Contains schema.directive_definitions.entries entry → DirectiveNestsTooDeep schema entry.1 name describe.now at →
       SchemaLimit schema (report.DeeplyNestedType name describe) at
-  input_object_nests : {entry : NameText × ExtendedType} {d : Node InputObjectType} {name : NameText} {describe : Bor (List ℕ)} {at : Option SourceSpan} →
-      Contains schema.types.entries entry → entry.1 ≡ types.InputObject d → InputObjectNestsTooDeep schema d name describe.now at →
-      SchemaLimit schema (report.DeeplyNestedType name describe) at
+  type_nests : {r : DiagnosticData} {at : Option SourceSpan} → TypesLimit schema r at → SchemaLimit schema r at

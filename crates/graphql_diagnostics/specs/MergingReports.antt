@@ -1,5 +1,5 @@
 -- What a report says of two fields that cannot be merged. Specification: draft, 5.3.2 Field Selection Merging.
-use Rattle.std.specs.Prelude.{◌≡◌, List, is_some, IsSomeAnd, IsNone, Option, None, Some}
+use Rattle.std.specs.Prelude.{◌≡◌, ◌∷◌, ◌++◌, All, List, is_some, IsSomeAnd, IsNone, Option, None, Some}
 use Rattle.graphql_documents.specs.Arguments.{argument_named}
 use Rattle.graphql_documents.specs.Expansion.{Pass, field_pass, shape_pass}
 use Rattle.graphql_documents.specs.Merging.{FieldSelection, OverlapThroughout, SameShape, Together, type_of}
@@ -41,19 +41,30 @@ abbrev pub IsArgumentValue : NameText → Field → Option Value → Type 0
 IsArgumentValue name f (Some copy) = IsSomeAnd (argument_named name f.arguments.items) (λ a. IsCopy a.value.value.value.value.value copy)
 IsArgumentValue name f None = IsNone (argument_named name f.arguments.items)
 
--- the two fields do not have the same value for an argument
-abbrev pub DisagreeOn : NameText → Field → Field → Type 0
-DisagreeOn name a b =
-    ¬ ((is_some (argument_named name a.arguments.items) ≡ is_some (argument_named name b.arguments.items)) ×
+-- the two fields have the same value for an argument, or neither has one
+abbrev pub AgreeOn : NameText → Field → Field → Type 0
+AgreeOn name a b =
+    (is_some (argument_named name a.arguments.items) ≡ is_some (argument_named name b.arguments.items)) ×
     ((x y : Node Argument) → argument_named name a.arguments.items ≡ Some x → argument_named name b.arguments.items ≡ Some y →
-    SameValue x.value.value.value.value.value y.value.value.value.value.value))
+    SameValue x.value.value.value.value.value y.value.value.value.value.value)
 
--- two fields of one name and key have different arguments: reported at the second, with the values of one
+-- the two fields do not agree on this argument, and it is the first such one: of the first field's arguments in
+-- order, and then of the second's
+pub record DisagreeFirstOn (argument : NameText) (a b : Field) : Type 0 where
+  pub before : List (Node Argument)
+  pub given : Node Argument
+  pub after : List (Node Argument)
+  pub split : a.arguments.items ++ b.arguments.items ≡ before ++ given ∷ after
+  pub argument_is : argument ≡ given.value.value.name
+  pub differ : ¬ AgreeOn given.value.value.name a b
+  pub agree_before : All (λ x. AgreeOn x.value.value.name a b) before
+
+-- two fields of one name and key have different arguments: reported at the second, with the values of the first
 -- such argument
 pub record HaveDifferentArguments (x y : FieldSelection) (alias : NameText) (original_location : Option SourceSpan) (original : FieldArgumentCoordinate) (original_value : Option Value) (conflicting_location : Option SourceSpan) (conflicting : FieldArgumentCoordinate) (conflicting_value : Option Value) (at : Option SourceSpan) : Type 0 where
   pub argument : NameText
   pub same_field : SameName x.field.value.value.name y.field.value.value.name
-  pub differ : DisagreeOn argument x.field.value.value y.field.value.value
+  pub differ : DisagreeFirstOn argument x.field.value.value y.field.value.value
   pub alias_is : SameName alias x.field.value.value.name
   pub original_location_is : original_location ≡ x.field.location
   pub original_is : original ≡ record { ty = x.parent; field = x.field.value.value.name; argument = argument }

@@ -35,6 +35,11 @@ pub record AppliesItself (schema : Schema) (d : Node DirectiveDefinition) (name 
   pub name_is : name ≡ d.value.value.name
   pub at_is : at ≡ recompose d.location d.value.value.name.location
 
+-- the report says that a directive definition leads back to itself
+pub data DirectiveCycleReport (schema : Schema) (d : Node DirectiveDefinition) : DiagnosticData → Option SourceSpan → Type 0 where
+  references_lead_back : {name : NameText} {trace : Vec (Node Directive) Global} {at : Option SourceSpan} →
+      AppliesItself schema d name trace.items at → DirectiveCycleReport schema d (report.RecursiveDirectiveDefinition name trace) at
+
 -- two operations have one root type: reported at the later name, with the first of the name
 pub record RepeatsRoot (d : SchemaDefinition) (name : NameText) (original_operation : OperationType) (original : Option SourceSpan) (redefined_operation : OperationType) (redefined at : Option SourceSpan) : Type 0 where
   pub before : List (OperationType × ComponentName)
@@ -57,8 +62,8 @@ pub data DirectiveDefinitionBreaks (schema : Schema) (d : Node DirectiveDefiniti
       DirectiveDefinitionBreaks schema d (report.ReservedName name describe) at
   directive_definition_arguments : {r : DiagnosticData} {at : Option SourceSpan} →
       ArgumentDefinitionsBreak schema allowed_at.ArgumentDefinition d.value.value.arguments.items r at → DirectiveDefinitionBreaks schema d r at
-  directive_applies_itself : {name : NameText} {trace : Vec (Node Directive) Global} {at : Option SourceSpan} →
-      AppliesItself schema d name trace.items at → DirectiveDefinitionBreaks schema d (report.RecursiveDirectiveDefinition name trace) at
+  directive_applies_itself : {r : DiagnosticData} {at : Option SourceSpan} →
+      DirectiveCycleReport schema d r at → DirectiveDefinitionBreaks schema d r at
 
 -- the report names what is wrong with one of the directive definitions of a schema
 abbrev pub DirectiveDefinitionsBreak : Schema → DiagnosticData → Option SourceSpan → Type 0
@@ -86,16 +91,20 @@ pub data SchemaDefinitionBreaks (schema : Schema) (d : Node SchemaDefinition) : 
       DirectivesBreak (Some schema) [] allowed_at.Schema (map (λ c. c.node) d.value.value.directives.items) r at →
       SchemaDefinitionBreaks schema d r at
 
+-- the report names what is wrong with one of the types of a schema, or with the name under which it stands
+pub data TypesReport (schema : Schema) : DiagnosticData → Option SourceSpan → Type 0 where
+  name_of_type : {entry : NameText × ExtendedType} {describe : Bor (List ℕ)} {name : NameText} {at : Option SourceSpan} →
+      Contains schema.types.entries entry → IsReserved (kind_text entry.1) entry.0 describe.now name at →
+      TypesReport schema (report.ReservedName name describe) at
+  type_breaks : {entry : NameText × ExtendedType} {r : DiagnosticData} {at : Option SourceSpan} →
+      Contains schema.types.entries entry → TypeBreaks schema entry.1 r at → TypesReport schema r at
+
 -- the report names a rule that the schema breaks, or a default value that is wrong once it is settled
 pub data SchemaReport (schema : Schema) : DiagnosticData → Option SourceSpan → Type 0 where
   of_schema_definition : {r : DiagnosticData} {at : Option SourceSpan} →
       SchemaDefinitionBreaks schema schema.schema_definition r at → SchemaReport schema r at
   of_directive_definition : {entry : NameText × Node DirectiveDefinition} {r : DiagnosticData} {at : Option SourceSpan} →
       Contains schema.directive_definitions.entries entry → DirectiveDefinitionBreaks schema entry.1 r at → SchemaReport schema r at
-  name_of_type : {entry : NameText × ExtendedType} {describe : Bor (List ℕ)} {name : NameText} {at : Option SourceSpan} →
-      Contains schema.types.entries entry → IsReserved (kind_text entry.1) entry.0 describe.now name at →
-      SchemaReport schema (report.ReservedName name describe) at
-  type_breaks : {entry : NameText × ExtendedType} {r : DiagnosticData} {at : Option SourceSpan} →
-      Contains schema.types.entries entry → TypeBreaks schema entry.1 r at → SchemaReport schema r at
+  of_types : {r : DiagnosticData} {at : Option SourceSpan} → TypesReport schema r at → SchemaReport schema r at
   of_default_value : {settled : Schema} {r : DiagnosticData} {at : Option SourceSpan} →
       IsSettledSchema schema settled → HasWrongDefaultValue settled r at → SchemaReport schema r at

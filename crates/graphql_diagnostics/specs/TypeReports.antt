@@ -43,6 +43,11 @@ pub record RequiresItself (schema : Schema) (d : Node InputObjectType) (name : N
   pub name_is : name ≡ d.value.value.name
   pub at_is : at ≡ d.location
 
+-- the report says that an input object requires itself
+pub data InputObjectCycleReport (schema : Schema) (d : Node InputObjectType) : DiagnosticData → Option SourceSpan → Type 0 where
+  required_fields_lead_back : {name : NameText} {trace : Vec (Node InputValueDefinition) Global} {at : Option SourceSpan} →
+      RequiresItself schema d name trace.items at → InputObjectCycleReport schema d (report.RecursiveInputObjectDefinition name trace) at
+
 -- where the directives of a type stand. Specification: 3.13 Directives, TypeSystemDirectiveLocation
 abbrev pub directive_location_of : ExtendedType → DirectiveLocation
 directive_location_of (types.Scalar d) = allowed_at.Scalar
@@ -87,8 +92,8 @@ pub data TypeBreaks (schema : Schema) : ExtendedType → DiagnosticData → Opti
   interface_lists_itself : {d : Node InterfaceType} {listed : ComponentName} {at : Option SourceSpan} →
       Contains d.value.value.implements_interfaces.keys listed → SameName listed.name d.value.value.name → at ≡ listed.name.location →
       TypeBreaks schema (types.Interface d) (report.RecursiveInterfaceDefinition listed.name) at
-  input_object_requires_itself : {d : Node InputObjectType} {name : NameText} {trace : Vec (Node InputValueDefinition) Global} {at : Option SourceSpan} →
-      RequiresItself schema d name trace.items at → TypeBreaks schema (types.InputObject d) (report.RecursiveInputObjectDefinition name trace) at
+  input_object_requires_itself : {d : Node InputObjectType} {r : DiagnosticData} {at : Option SourceSpan} →
+      InputObjectCycleReport schema d r at → TypeBreaks schema (types.InputObject d) r at
   enum_value_breaks : {d : Node EnumType} {entry : NameText × Component EnumValueDefinition} {r : DiagnosticData} {at : Option SourceSpan} →
       Contains d.value.value.values.entries entry → EnumValueBreaks schema entry.1.node r at → TypeBreaks schema (types.Enum d) r at
   member_is_undefined : {d : Node UnionType} {member : ComponentName} {at : Option SourceSpan} →

@@ -273,7 +273,7 @@ pub enum DiagnosticData {
     UnsupportedValueType {
         value: Node<Value>,
         ty: Node<Type>,
-        /// The definition of the type.
+        /// Where the type against which the value was checked is referred to.
         definition_location: Option<SourceSpan>,
     },
     /// An integer literal for `Int` is outside 32 bits. Reported at the value.

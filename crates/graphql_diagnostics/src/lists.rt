@@ -39,7 +39,7 @@ impl DiagnosticList {
     }
 
     /// Adds a report at the end. Where memory is refused the list stays as it was, and the report is
-    /// dropped.
+    /// dropped. The list keeps its allocator.
     pub fn push(
         &mut self,
         location: Option<SourceSpan>,
@@ -47,6 +47,7 @@ impl DiagnosticList {
     ) -> Result<(), ValidationError>
         ensures ok { OnOk result (entries self.new ≡ entries self.old ++ record { location = location; details = details } ∷ []) }
         ensures err { OnErr result (entries self.new ≡ entries self.old) }
+        ensures allocator { allocator_of self.new ≡ allocator_of self.old }
     {
         self.entries.push(DiagnosticEntry { location, details })?;
         Ok(())

@@ -1,3 +1,4 @@
+pub mod ContentLemmas
 pub mod ImplementerLemmas
 pub mod ListLemmas
 pub mod SelectionLemmas

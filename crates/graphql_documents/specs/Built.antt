@@ -1,7 +1,8 @@
 -- Documents that were built against a schema: definitions stand under their own names, and each set and
 -- field has the type and definition of its place.
-use Rattle.std.specs.Prelude.{◌≡◌, Bool, Some, Ok, All, Contains, IsTrue, unwrap_or, ⊤}
+use Rattle.std.specs.Prelude.{◌≡◌, Some, Ok, All, Contains, unwrap_or, ⊤}
 use Rattle.graphql_nodes.specs.Names.{NameText, SameName}
+use Rattle.graphql_documents.specs.Contents.{SameFieldDefinition}
 use Rattle.graphql_documents.specs.TypeReferences.{inner_named_type}
 use Rattle.graphql_documents.specs.Schemas.{NamesKind, type_field, is_output_type, own_name, fields_of, input_fields_of, root_operation}
 use Rattle.graphql_documents.specs.Selections.{SetWritten, selections_of}
@@ -37,34 +38,34 @@ pub record StandsUnderOwnNames (schema : Schema) : Type 0 where
   pub types : All (λ entry. TypeStandsUnderItsName entry.0 entry.1) schema.types.entries
   pub directives : All (λ entry. SameName entry.0 entry.1.value.value.name) schema.directive_definitions.entries
 
-module _ (same_definition : FieldDefinition → FieldDefinition → Bool) where
-  -- the field has the definition that the type gives it, of an output type, and its set is of that type
-  pub record FieldIsBuilt (schema : Schema) (parent : NameText) (f : Field) : Type 0 where
-    pub definition : Component FieldDefinition
-    pub is_of_parent : type_field schema parent f.name ≡ Ok definition
-    pub same : IsTrue (same_definition f.definition.value.value definition.node.value.value)
-    pub output : NamesKind schema is_output_type (inner_named_type f.definition.value.value.ty)
-    pub set_type : SameName f.selection_set.ty (inner_named_type f.definition.value.value.ty)
+-- the field has the definition that the type gives it, by its contents, of an output type, and its set is of
+-- that type
+pub record FieldIsBuilt (schema : Schema) (parent : NameText) (f : Field) : Type 0 where
+  pub definition : Component FieldDefinition
+  pub is_of_parent : type_field schema parent f.name ≡ Ok definition
+  pub same : SameFieldDefinition f.definition.value.value definition.node.value.value
+  pub output : NamesKind schema is_output_type (inner_named_type f.definition.value.value.ty)
+  pub set_type : SameName f.selection_set.ty (inner_named_type f.definition.value.value.ty)
 
-  -- what stands in the set is built for its type
-  pub record SetIsBuilt (schema : Schema) (set : SelectionSet) : Type 0 where
-    pub fields : (f : Node Field) → Contains (selections_of set) (kind.Field f) → FieldIsBuilt schema set.ty f.value.value
-    pub inline_fragments : (i : Node InlineFragment) → Contains (selections_of set) (kind.InlineFragment i) →
-        SameName i.value.value.selection_set.ty (unwrap_or i.value.value.type_condition set.ty)
+-- what stands in the set is built for its type
+pub record SetIsBuilt (schema : Schema) (set : SelectionSet) : Type 0 where
+  pub fields : (f : Node Field) → Contains (selections_of set) (kind.Field f) → FieldIsBuilt schema set.ty f.value.value
+  pub inline_fragments : (i : Node InlineFragment) → Contains (selections_of set) (kind.InlineFragment i) →
+      SameName i.value.value.selection_set.ty (unwrap_or i.value.value.type_condition set.ty)
 
-  -- so is each set that is written in it
-  abbrev pub SetsAreBuilt : Schema → SelectionSet → Type 0
-  SetsAreBuilt schema set = (inner : SelectionSet) → SetWritten set inner → SetIsBuilt schema inner
+-- so is each set that is written in it
+abbrev pub SetsAreBuilt : Schema → SelectionSet → Type 0
+SetsAreBuilt schema set = (inner : SelectionSet) → SetWritten set inner → SetIsBuilt schema inner
 
-  -- an operation stands on the root type that the schema names, and is built for it
-  pub record OperationIsBuilt (schema : Schema) (o : Operation) : Type 0 where
-    pub root : ComponentName
-    pub named : root_operation schema.schema_definition.value.value o.operation_type ≡ Some root
-    pub root_type : SameName o.selection_set.ty root.name
-    pub sets : SetsAreBuilt schema o.selection_set
+-- an operation stands on the root type that the schema names, and is built for it
+pub record OperationIsBuilt (schema : Schema) (o : Operation) : Type 0 where
+  pub root : ComponentName
+  pub named : root_operation schema.schema_definition.value.value o.operation_type ≡ Some root
+  pub root_type : SameName o.selection_set.ty root.name
+  pub sets : SetsAreBuilt schema o.selection_set
 
-  -- the document was built against the schema; two definitions of fields are the same by their contents
-  pub record IsBuilt (schema : Schema) (document : ExecutableDocument) : Type 0 where
-    pub names : StandsUnderOwnNames schema
-    pub operations : All (λ o. OperationIsBuilt schema o.value.value) (operations_of document)
-    pub fragments : All (λ entry. SameName entry.0 entry.1.value.value.name × SetsAreBuilt schema entry.1.value.value.selection_set) document.fragments.entries
+-- the document was built against the schema
+pub record IsBuilt (schema : Schema) (document : ExecutableDocument) : Type 0 where
+  pub names : StandsUnderOwnNames schema
+  pub operations : All (λ o. OperationIsBuilt schema o.value.value) (operations_of document)
+  pub fragments : All (λ entry. SameName entry.0 entry.1.value.value.name × SetsAreBuilt schema entry.1.value.value.selection_set) document.fragments.entries

@@ -1,6 +1,7 @@
 pub mod Arguments
 pub mod Built
 pub mod CollectFields
+pub mod Contents
 pub mod Defer
 pub mod DirectiveLocations
 pub mod Directives

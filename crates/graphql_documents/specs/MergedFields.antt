@@ -1,7 +1,8 @@
 -- Field merging by passes over lists of fields: how two fields come together, what is asked of them, and
 -- which lists a walk has seen, where one of the same fields as one before is passed over. Specification: draft, 5.3.2 Field Selection Merging.
-use Rattle.std.specs.Prelude.{◌≡◌, ◌≢◌, Bool, List, [], ◌∷◌, IsTrue, All, Contains}
+use Rattle.std.specs.Prelude.{◌≡◌, ◌≢◌, List, [], ◌∷◌, IsTrue, All, Contains}
 use Rattle.graphql_nodes.specs.Names.{SameName}
+use Rattle.graphql_documents.specs.Contents.{SameField}
 use Rattle.graphql_documents.specs.Expansion.{Expansion, IsGroup, MergedSet, Pass, field_pass, nested_sets, shape_pass}
 use Rattle.graphql_documents.specs.Merging.{FieldInside, FieldSelection, ParentsMayOverlap, SameFields, SameKey, SameNameAndArguments, SameShape, set_of, type_of}
 use Rattle.graphql_documents.specs.Selections.{Fragments, response_key}
@@ -47,30 +48,25 @@ ListPasses schema pass fields =
 
 -- what two fields of the same contents have in common: key, name, arguments and type, and for each field
 -- inside the set of the one, one inside the set of the other that is the same, on a type of the same name
-pub record AreAlike (fragments : Fragments) (same : Field → Field → Bool) (a b : Field) : Type 0 where
+pub record AreAlike (fragments : Fragments) (a b : Field) : Type 0 where
   pub key : SameName (response_key a) (response_key b)
   pub name_and_arguments : SameNameAndArguments a b
   pub ty : IsTrue (same_type a.definition.value.value.ty b.definition.value.value.ty)
   pub inside : (x : FieldSelection) → FieldInside fragments a.selection_set x →
-      (y : FieldSelection) × FieldInside fragments b.selection_set y × SameName x.parent y.parent × IsTrue (same x.field.value.value y.field.value.value)
-
--- the test compares fields by their contents
-pub record ComparesContents (fragments : Fragments) (same : Field → Field → Bool) : Type 0 where
-  pub alike : (a b : Field) → IsTrue (same a b) → AreAlike fragments same a b
-  pub goes_on : (a b c : Field) → IsTrue (same a b) → IsTrue (same b c) → IsTrue (same a c)
+      (y : FieldSelection) × FieldInside fragments b.selection_set y × SameName x.parent y.parent × SameField x.field.value.value y.field.value.value
 
 -- a list that was seen has the same fields as the expansion of these sets
-pub record ExpansionIsSeen (same : Field → Field → Bool) (fragments : Fragments) (seen : List (List FieldSelection)) (sets : List SelectionSet) : Type 0 where
+pub record ExpansionIsSeen (fragments : Fragments) (seen : List (List FieldSelection)) (sets : List SelectionSet) : Type 0 where
   pub fields : List FieldSelection
   pub known : List FieldSelection
   pub expansion : Expansion fragments sets fields
   pub is_seen : Contains seen known
-  pub same_fields : SameFields same fields known
+  pub same_fields : SameFields fields known
 
 -- a walk has seen these lists, all of them merged: the fields of each operation, and those below each group
 -- of a list that was seen
-pub record HasSeen (same : Field → Field → Bool) (schema : Schema) (fragments : Fragments) (operations : List (Node Operation)) (pass : Pass) (seen : List (List FieldSelection)) : Type 0 where
+pub record HasSeen (schema : Schema) (fragments : Fragments) (operations : List (Node Operation)) (pass : Pass) (seen : List (List FieldSelection)) : Type 0 where
   pub merged : All (MergedSet schema fragments operations pass) seen
-  pub begun : (o : Node Operation) → Contains operations o → ExpansionIsSeen same fragments seen (o.value.value.selection_set ∷ [])
+  pub begun : (o : Node Operation) → Contains operations o → ExpansionIsSeen fragments seen (o.value.value.selection_set ∷ [])
   pub closed : (fields group : List FieldSelection) → Contains seen fields → IsGroup schema fields pass group → nested_sets group ≢ [] →
-      ExpansionIsSeen same fragments seen (nested_sets group)
+      ExpansionIsSeen fragments seen (nested_sets group)

@@ -1,7 +1,8 @@
 -- When the fields of an operation can be merged. Specification: draft, 5.3.2 Field Selection Merging.
-use Rattle.std.specs.Prelude.{Bool, ◌≡◌, List, [], ◌∷◌, ◌++◌, Some, Contains, IsTrue, is_some}
+use Rattle.std.specs.Prelude.{◌≡◌, List, [], ◌∷◌, ◌++◌, Some, Contains, IsTrue, is_some}
 use Rattle.std.specs.List.{AllZip}
 use Rattle.graphql_nodes.specs.Names.{NameText, SameName}
+use Rattle.graphql_documents.specs.Contents.{SameField}
 use Rattle.graphql_documents.specs.Values.{SameValue}
 use Rattle.graphql_documents.specs.Arguments.{argument_named}
 use Rattle.graphql_documents.specs.Schemas.{type_definition, is_composite}
@@ -92,11 +93,9 @@ pub record SameNameAndArguments (a b : Field) : Type 0 where
 abbrev pub SameKey : FieldSelection → FieldSelection → Type 0
 SameKey a b = SameName (response_key a.field.value.value) (response_key b.field.value.value)
 
--- the two lists have the same fields in order, on types of the same names; two fields are the same by
--- their contents
-abbrev pub SameFields : (Field → Field → Bool) → List FieldSelection → List FieldSelection → Type 0
-SameFields same xs ys =
-    AllZip (λ a b. SameName a.parent b.parent × IsTrue (same a.field.value.value b.field.value.value)) xs ys
+-- the two lists have the same fields in order, by their contents, on types of the same names
+abbrev pub SameFields : List FieldSelection → List FieldSelection → Type 0
+SameFields xs ys = AllZip (λ a b. SameName a.parent b.parent × SameField a.field.value.value b.field.value.value) xs ys
 
 -- two chains with the same keys at each step, which end in these two fields
 pub record Together (fragments : Fragments) (set : SelectionSet) (xs ys : List FieldSelection) (x y : FieldSelection) : Type 0 where

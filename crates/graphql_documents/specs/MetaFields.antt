@@ -1,8 +1,11 @@
 -- The meta-fields that every schema has. Specification: 4.1 Type Name Introspection, 4.2 Schema Introspection.
-use Rattle.std.specs.Prelude.{◌≡◌, ℕ, Bool, false, List, [], ◌∷◌, codes, length, map, is_some, sum_by}
-use Rattle.graphql_documents.specs.TypeReferences.{type_text}
+use Rattle.std.specs.Prelude.{◌≡◌, ℕ, Bool, false, List, [], ◌∷◌, All, None, codes, length, map, is_some, sum_by}
+use Rattle.graphql_documents.specs.TypeReferences.{inner_named_type, type_text}
+use Rattle.graphql_documents.specs.declared.documents.components.Component.{Component}
+use Rattle.graphql_documents.specs.declared.documents.components.ComponentOrigin.TheVariants as origin
 use Rattle.graphql_documents.specs.declared.documents.definitions.FieldDefinition.{FieldDefinition}
 use Rattle.graphql_documents.specs.declared.documents.definitions.InputValueDefinition.{InputValueDefinition}
+use Rattle.graphql_nodes.specs.declared.nodes.Node.{Node}
 
 -- the name and the type of an argument, and whether it has a default
 abbrev pub argument_signature : InputValueDefinition → List ℕ × List ℕ × Bool
@@ -27,3 +30,19 @@ IsSchemaField d = HasSignature d (codes "__schema") [] (codes "__Schema!")
 -- `__type(name: String!): __Type`
 abbrev pub IsTypeField : FieldDefinition → Type 0
 IsTypeField d = HasSignature d (codes "__type") ((codes "name", codes "String!", false) ∷ []) (codes "__Type")
+
+-- no text holds the argument: it has no place, and neither have its name, its type and the name in that
+pub record ArgumentHasNoPlace (argument : Node InputValueDefinition) : Type 0 where
+  pub itself : argument.location ≡ None
+  pub name : argument.value.value.name.location ≡ None
+  pub ty : argument.value.value.ty.location ≡ None
+  pub type_name : (inner_named_type argument.value.value.ty.value.value).location ≡ None
+
+-- no text holds the field: it is of no extension and has no place, and neither have its name, the name in its type
+-- and its arguments
+pub record FieldHasNoPlace (field : Component FieldDefinition) : Type 0 where
+  pub origin : field.origin ≡ origin.Definition
+  pub itself : field.node.location ≡ None
+  pub name : field.node.value.value.name.location ≡ None
+  pub type_name : (inner_named_type field.node.value.value.ty).location ≡ None
+  pub arguments : All ArgumentHasNoPlace field.node.value.value.arguments.items

@@ -1,5 +1,5 @@
 -- The built-in scalars that a schema keeps: those that it uses. Specification: 3.5 Scalars, Built-in Scalars.
-use Rattle.std.specs.Prelude.{◌≡◌, ℕ, Bool, true, false, ◌&&◌, not, All, IsTrue, List, [], ◌∷◌, ◌++◌, Some, codes, filter, flat_map, map}
+use Rattle.std.specs.Prelude.{◌≡◌, ℕ, Bool, true, false, ◌&&◌, not, All, IsTrue, List, [], ◌∷◌, ◌++◌, None, Some, codes, filter, flat_map, map}
 use Rattle.std.specs.List.{AllZip, list_all, list_any}
 use Rattle.std.specs.Str.{bytes_eq}
 use Rattle.graphql_nodes.specs.Names.{NameText}
@@ -63,13 +63,16 @@ kept_types schema = filter (λ entry. not (is_unused_built_in schema entry)) sch
 abbrev pub missing_scalars : Schema → List (List ℕ)
 missing_scalars schema = filter (λ text. uses_type schema text && not (has_type schema text)) built_in_scalar_names
 
--- a built-in scalar of this name, without directives, at the very start of the built-in file
+-- a built-in scalar of this name, without directives, at the very start of the built-in file; its name, and the
+-- key under which it is found, have no place
 pub record IsAddedScalar (text : List ℕ) (entry : NameText × ExtendedType) : Type 0 where
   pub scalar : Node ScalarType
   pub location : SourceSpan
   pub is_scalar : entry.1 ≡ Scalar scalar
   pub key : entry.0.text ≡ text
+  pub key_place : entry.0.location ≡ None
   pub name : scalar.value.value.name.text ≡ text
+  pub name_place : scalar.value.value.name.location ≡ None
   pub no_directives : scalar.value.value.directives.items ≡ []
   pub is_at : scalar.location ≡ Some location
   pub in_built_in_file : location.file_id.0 ≡ 0

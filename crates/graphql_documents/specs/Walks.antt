@@ -1,8 +1,10 @@
 -- Walks over selections, how deep they go, and what they list.
-use Rattle.std.specs.Prelude.{◌≡◌, ℕ, suc, ◌<◌, Bool, true, false, not, List, [], ◌∷◌, Some, IsTrue, IsFalse, All, Contains}
-use Rattle.graphql_documents.specs.Defer.{can_be_excluded, sets_of}
+use Rattle.std.specs.Prelude.{◌≡◌, ℕ, suc, ◌<◌, Bool, true, false, not, List, [], ◌∷◌, ◌++◌, Some, IsTrue, IsFalse, All, Contains, flat_map}
+use Rattle.std.specs.List.{AllZip}
+use Rattle.graphql_documents.specs.Defer.{can_be_excluded, defers, sets_of}
 use Rattle.graphql_nodes.specs.Names.{AreDistinct, NameText}
 use Rattle.graphql_documents.specs.Selections.{Fragments, fragments_of, selections_of}
+use Rattle.graphql_documents.specs.declared.documents.directives.Directive.{Directive}
 use Rattle.graphql_documents.specs.declared.documents.executables.ExecutableDocument.{ExecutableDocument}
 use Rattle.graphql_documents.specs.declared.documents.executables.Field.{Field}
 use Rattle.graphql_documents.specs.declared.documents.executables.Fragment.{Fragment}
@@ -62,6 +64,35 @@ written_walk = record { into_fields = true; into_fragments = false; goes_through
 -- into what cannot be left out: for the conditions of `@defer`
 abbrev pub open_walk : Walk
 open_walk = record { into_fields = true; into_fragments = true; goes_through = λ s. not (can_be_excluded s) }
+
+-- these `@defer` applications are met by a walk over what is written on the selections and below them, in order,
+-- which may go into so many sets, one in another, that of the selections counted; and whether it comes to its
+-- end. Where it would go into a further set it stops
+pub data DefersMet : ℕ → List Selection → List (Node Directive) → Bool → Type 0 where
+  met_no_further : {selections : List Selection} → DefersMet 0 selections [] false
+  met_on_none : {room : ℕ} → DefersMet (suc room) [] [] true
+  met_on_field : (f : Node Field) {room : ℕ} {rest : List Selection} {below after : List (Node Directive)} {complete : Bool} →
+      DefersMet room (selections_of f.value.value.selection_set) below true → DefersMet (suc room) rest after complete →
+      DefersMet (suc room) (kind.Field f ∷ rest) (defers f.value.value.directives.items ++ (below ++ after)) complete
+  met_until_in_field : (f : Node Field) {room : ℕ} {rest : List Selection} {below : List (Node Directive)} →
+      DefersMet room (selections_of f.value.value.selection_set) below false →
+      DefersMet (suc room) (kind.Field f ∷ rest) (defers f.value.value.directives.items ++ below) false
+  met_on_inline_fragment : (i : Node InlineFragment) {room : ℕ} {rest : List Selection} {below after : List (Node Directive)} {complete : Bool} →
+      DefersMet room (selections_of i.value.value.selection_set) below true → DefersMet (suc room) rest after complete →
+      DefersMet (suc room) (kind.InlineFragment i ∷ rest) (defers i.value.value.directives.items ++ (below ++ after)) complete
+  met_until_in_inline_fragment : (i : Node InlineFragment) {room : ℕ} {rest : List Selection} {below : List (Node Directive)} →
+      DefersMet room (selections_of i.value.value.selection_set) below false →
+      DefersMet (suc room) (kind.InlineFragment i ∷ rest) (defers i.value.value.directives.items ++ below) false
+  met_on_spread : (p : Node FragmentSpread) {room : ℕ} {rest : List Selection} {after : List (Node Directive)} {complete : Bool} →
+      DefersMet (suc room) rest after complete →
+      DefersMet (suc room) (kind.FragmentSpread p ∷ rest) (defers p.value.value.directives.items ++ after) complete
+
+-- these are met in the document, in order: in each of its sets, by a walk that goes as deep below the set as walks go
+abbrev pub DefersMetIn : ExecutableDocument → List (Node Directive) → Type 0
+DefersMetIn document met =
+    (parts : List (List (Node Directive))) ×
+    AllZip (λ set part. (complete : Bool) × DefersMet (suc walk_bound) (selections_of set) part complete) (sets_of document) parts ×
+    (met ≡ flat_map (λ part. part) parts)
 
 -- a set of the document is too deep for the walk that seeks labels
 abbrev pub LabelsStandTooDeep : ExecutableDocument → Type 0

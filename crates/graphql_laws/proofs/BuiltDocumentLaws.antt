@@ -11,7 +11,6 @@ use Rattle.graphql_documents.specs.Selections.{fragments_of, Includes, includes_
 use Rattle.graphql_documents.specs.Merging.{FieldSelection, FieldInside, ParentsMayOverlap, Merges, set_of, type_of, SameKey, SameShape, SameNameAndArguments}
 use Rattle.graphql_documents.specs.Expansion.{Pass, shape_pass, field_pass, IsGroup, MergedSet, merged_operation, merged_below}
 use Rattle.graphql_nodes.specs.declared.nodes.Node.{Node}
-use Rattle.graphql_documents.specs.declared.documents.definitions.FieldDefinition.{FieldDefinition}
 use Rattle.graphql_documents.specs.declared.documents.schemas.Schema.{Schema}
 use Rattle.graphql_documents.specs.declared.documents.executables.ExecutableDocument.{ExecutableDocument}
 use Rattle.graphql_documents.specs.declared.documents.executables.Fragment.{Fragment}
@@ -44,14 +43,14 @@ entry_found {X} test (e ∷ es) x found = decided (test e.0) refl (λ later. ent
   decided true is more = let same : Some e.1 ≡ Some x = rw is at found in (e, stands_first e es, cc)
   decided false is more = let m = more (rw is at found) in (m.0, stands_behind e es m.0 m.1, m.2)
 
-module _ (same : FieldDefinition → FieldDefinition → Bool) (schema : Schema) (document : ExecutableDocument) (built : IsBuilt same schema document) where
-  built_fragment : (name : NameText) (d : Node Fragment) → fragments_of document name ≡ Some d → SetsAreBuilt same schema d.value.value.selection_set
+module _ (schema : Schema) (document : ExecutableDocument) (built : IsBuilt schema document) where
+  built_fragment : (name : NameText) (d : Node Fragment) → fragments_of document name ≡ Some d → SetsAreBuilt schema d.value.value.selection_set
   built_fragment name d found =
       let e = entry_found (same_name name) document.fragments.entries d found in
-      let all = All-contains (λ entry. SameName entry.0 entry.1.value.value.name × SetsAreBuilt same schema entry.1.value.value.selection_set) document.fragments.entries e.0 built.fragments e.1 in
-      subst (λ (f : Node Fragment). SetsAreBuilt same schema f.value.value.selection_set) e.2 all.1
+      let all = All-contains (λ entry. SameName entry.0 entry.1.value.value.name × SetsAreBuilt schema entry.1.value.value.selection_set) document.fragments.entries e.0 built.fragments e.1 in
+      subst (λ (f : Node Fragment). SetsAreBuilt schema f.value.value.selection_set) e.2 all.1
 
-  built_inside : {set inner : SelectionSet} → Includes (fragments_of document) set inner → SetsAreBuilt same schema set → SetsAreBuilt same schema inner
+  built_inside : {set inner : SelectionSet} → Includes (fragments_of document) set inner → SetsAreBuilt schema set → SetsAreBuilt schema inner
   built_inside includes_itself sets = sets
   built_inside (includes_inline_fragment stands more) sets = built_inside more (λ s written. sets s (set_in_inline_fragment stands written))
   built_inside (includes_spread {p = p} {d = d} stands found more) sets = built_inside more (built_fragment p.value.value.fragment_name d found)
@@ -59,9 +58,9 @@ module _ (same : FieldDefinition → FieldDefinition → Bool) (schema : Schema)
   -- the field is of an output type, and its set is built
   record BuiltField (x : FieldSelection) : Type 0 where
     output : NamesKind schema is_output_type (inner_named_type (type_of x))
-    sets : SetsAreBuilt same schema (set_of x)
+    sets : SetsAreBuilt schema (set_of x)
 
-  built_field : (set : SelectionSet) (x : FieldSelection) → SetsAreBuilt same schema set → FieldInside (fragments_of document) set x → BuiltField x
+  built_field : (set : SelectionSet) (x : FieldSelection) → SetsAreBuilt schema set → FieldInside (fragments_of document) set x → BuiltField x
   built_field set x sets here =
       let inner = built_inside here.included sets in
       record {
@@ -75,7 +74,7 @@ module _ (same : FieldDefinition → FieldDefinition → Bool) (schema : Schema)
     built_merged (merged_operation {o = o} {fields = fields} stands expands) x in_x =
         let set = o.value.value.selection_set in
         let from = (lists_what_is_inside (fragments_of document) (one_fragment_found document) (set ∷ []) fields expands x).0 in_x in
-        let operation = All-contains (λ (p : Node Operation). OperationIsBuilt same schema p.value.value) (operations_of document) o built.operations (All-contains (Contains (operations_of document)) operations o own stands) in
+        let operation = All-contains (λ (p : Node Operation). OperationIsBuilt schema p.value.value) (operations_of document) o built.operations (All-contains (Contains (operations_of document)) operations o own stands) in
         built_field set x operation.sets (subst (λ s. FieldInside (fragments_of document) s x) (only_one set from.0 from.1) from.2)
     built_merged {pass} (merged_below {fields = fields} {below = below} above step) x in_x =
         let from = (below_lists_what_is_inside (fragments_of document) (one_fragment_found document) step.group below step.expansion x).0 in_x in

@@ -9,10 +9,12 @@ use denote.Hole.Carrier.{Values}
 use denote.Hole.Compared.{compared_is}
 use lib.Pointwise.{pointwise}
 use Rattle.graphql_nodes.specs.Names.{NameText, SameName, same_name}
+use Rattle.graphql_documents.proofs.ContentLemmas.{equality_of_field_definitions, equality_of_fields}
+use Rattle.graphql_documents.specs.Contents.{SameField}
 use Rattle.graphql_documents.specs.TypeReferences.{same_type}
 use Rattle.graphql_documents.specs.Selections.{Fragments, Includes, includes_itself, includes_inline_fragment, includes_spread, fragments_of, selections_of}
 use Rattle.graphql_documents.specs.Merging.{FieldInside, FieldSelection, SameFields}
-use Rattle.graphql_documents.specs.MergedFields.{AreAlike, ComparesContents}
+use Rattle.graphql_documents.specs.MergedFields.{AreAlike}
 use Rattle.graphql_documents.specs.contracts.documents.directives.ArgumentPartialEq.TheImpl as argument_impl
 use Rattle.graphql_documents.specs.contracts.documents.definitions.FieldDefinitionPartialEq.TheImpl as definition_impl
 use Rattle.graphql_documents.specs.contracts.documents.executables.FieldPartialEq.TheImpl as field_impl
@@ -21,8 +23,6 @@ use Rattle.graphql_documents.specs.contracts.documents.executables.FieldEq.TheIm
 use Rattle.graphql_documents.specs.contracts.documents.executables.SelectionSetEq.TheImpl.Laws as set_eq_laws
 use Rattle.graphql_documents.specs.contracts.documents.executables.FragmentSpreadPartialEq.TheImpl as spread_impl
 use Rattle.graphql_documents.specs.contracts.documents.executables.Selection as selection_type
-use Rattle.graphql_documents.specs.contracts.documents.type_references.TypePartialEq.TheImpl as type_impl
-use Rattle.graphql_documents.specs.contracts.documents.type_references.TypePartialEq.TheImpl.Laws as type_laws
 use Rattle.graphql_documents.specs.declared.documents.directives.Argument.{Argument}
 use Rattle.graphql_documents.specs.declared.documents.definitions.FieldDefinition.{FieldDefinition}
 use Rattle.graphql_documents.specs.declared.documents.executables.ExecutableDocument.{ExecutableDocument}
@@ -35,29 +35,11 @@ use Rattle.graphql_documents.specs.declared.documents.executables.Selection.TheO
 use Rattle.graphql_documents.specs.declared.documents.executables.Selection.TheVariants as kind
 use Rattle.graphql_documents.specs.declared.documents.executables.SelectionSet.{SelectionSet}
 use Rattle.graphql_nodes.specs.declared.nodes.Node.{Node}
-use Rattle.graphql_documents.specs.declared.documents.type_references.Type.{«Type»}
-use Rattle.graphql_documents.specs.declared.documents.type_references.Type.TheVariants.{Named, NonNullNamed, List', NonNullList'}
 use Rattle.graphql_documents.proofs.ListLemmas.{none_stands, only_one, stands_first, stands_behind}
 use Rattle.graphql_nodes.proofs.NameLemmas.{same_name_itself, same_name_back, same_name_then}
 use Rattle.graphql_documents.proofs.SelectionLemmas.{one_fragment_found}
 use Rattle.graphql_laws.specs.Equality.{field_equality}
 use Rattle.graphql_laws.proofs.ValueContentsLaws.{both, equal_arguments_are_same}
-
--- ==== types
-
-abbrev equal_types : «Type» → «Type» → Bool
-equal_types = type_impl.ghosts.eq
-
--- the equality goes by the parts of the two
-type_parts : (a b : «Type») → IsTrue (equal_types a b) → IsTrue (type_laws.unfolded a b)
-type_parts a b h = subst IsTrue (type_laws.is a b) h
-
-equal_types_are_same : (a b : «Type») → IsTrue (equal_types a b) → IsTrue (same_type a b)
-equal_types_are_same (Named a) (Named b) h = type_parts (Named a) (Named b) h
-equal_types_are_same (NonNullNamed a) (NonNullNamed b) h = type_parts (NonNullNamed a) (NonNullNamed b) h
-equal_types_are_same (List' place a) (List' other b) h = equal_types_are_same a b (type_parts (List' place a) (List' other b) h)
-equal_types_are_same (NonNullList' place a) (NonNullList' other b) h = equal_types_are_same a b (type_parts (NonNullList' place a) (NonNullList' other b) h)
-equal_types_are_same a b h = absurd (let none : false ≡ true = type_parts a b h in let no : ⊥ = cc in no)
 
 -- ==== selections
 
@@ -112,7 +94,7 @@ pub spread_names : (a b : FragmentSpread) → IsTrue (equal_spreads a b) → Sam
 spread_names a b h = (both _ _ h).0
 
 definition_types : (a b : FieldDefinition) → IsTrue (definition_impl.ghosts.eq a b) → IsTrue (same_type a.ty b.ty)
-definition_types a b h = equal_types_are_same a.ty b.ty (both _ _ (both _ _ (both _ _ h).1).1).0
+definition_types a b h = ((equality_of_field_definitions a b).0 h).ty
 
 -- two selections of one kind
 abbrev pub Opened : Type 0
@@ -242,37 +224,49 @@ module _ (fragments : Fragments) (respects : (a b : NameText) → SameName a b �
   key_of_alias (Some a) None m n h same = absurd (let no : ⊥ = cc in no)
   key_of_alias (Some a) (Some b) m n h same = h
 
-  alike : (a b : Field) → IsTrue (field_equality a b) → AreAlike fragments field_equality a b
-  alike a b h =
-      let parts = field_parts a b h in
+  pub alike : (a b : Field) → SameField a b → AreAlike fragments a b
+  alike a b same =
+      let parts = field_parts a b ((equality_of_fields a b).1 same) in
       record {
         key = key_of_alias a.alias b.alias a.name b.name parts.alias parts.name;
         name_and_arguments = record { name = parts.name; arguments = equal_arguments_are_same a.arguments.items b.arguments.items parts.arguments };
         ty = definition_types a.definition.value.value b.definition.value.value parts.definition;
         inside = λ x here.
-            subst (λ parent. HasLike b.selection_set parent x.field.value.value) (sym here.parent_is)
-            (has_like here.included x.field here.stands b.selection_set parts.set);
+            let y = subst (λ parent. HasLike b.selection_set parent x.field.value.value) (sym here.parent_is)
+            (has_like here.included x.field here.stands b.selection_set parts.set) in
+            (y.0, y.1, y.2, (equality_of_fields x.field.value.value y.0.field.value.value).0 y.3);
       }
 
-pub field_equality_compares_contents : (document : ExecutableDocument) → ComparesContents (fragments_of document) field_equality
-field_equality_compares_contents document = record { alike = alike (fragments_of document) (one_fragment_found document); goes_on = field_then }
+pub fields_alike : (document : ExecutableDocument) (a b : Field) → SameField a b → AreAlike (fragments_of document) a b
+fields_alike document = alike (fragments_of document) (one_fragment_found document)
+
+-- ==== the same contents
+
+pub same_field_itself : (a : Field) → SameField a a
+same_field_itself a = (equality_of_fields a a).0 (field_itself a)
+
+pub same_field_back : (a b : Field) → SameField a b → SameField b a
+same_field_back a b ab = (equality_of_fields b a).0 (field_back a b ((equality_of_fields a b).1 ab))
+
+pub same_field_then : (a b c : Field) → SameField a b → SameField b c → SameField a c
+same_field_then a b c ab bc = (equality_of_fields a c).0 (field_then a b c ((equality_of_fields a b).1 ab) ((equality_of_fields b c).1 bc))
 
 -- ==== lists of fields
 
-pub same_fields_itself : (xs : List FieldSelection) → SameFields field_equality xs xs
+pub same_fields_itself : (xs : List FieldSelection) → SameFields xs xs
 same_fields_itself [] = tt
-same_fields_itself (x ∷ xs) = ((same_name_itself x.parent, field_itself x.field.value.value), same_fields_itself xs)
+same_fields_itself (x ∷ xs) = ((same_name_itself x.parent, same_field_itself x.field.value.value), same_fields_itself xs)
 
-pub same_fields_back : (xs ys : List FieldSelection) → SameFields field_equality xs ys → SameFields field_equality ys xs
+pub same_fields_back : (xs ys : List FieldSelection) → SameFields xs ys → SameFields ys xs
 same_fields_back [] [] same = tt
 same_fields_back [] (y ∷ ys) same = absurd same
 same_fields_back (x ∷ xs) [] same = absurd same
 same_fields_back (x ∷ xs) (y ∷ ys) same = (
-  (same_name_back x.parent y.parent same.0.0, field_back x.field.value.value y.field.value.value same.0.1),
+  (same_name_back x.parent y.parent same.0.0, same_field_back x.field.value.value y.field.value.value same.0.1),
   same_fields_back xs ys same.1,
 )
 
-pub same_fields_then : (xs ys zs : List FieldSelection) → SameFields field_equality xs ys → SameFields field_equality ys zs → SameFields field_equality xs zs
+pub same_fields_then : (xs ys zs : List FieldSelection) → SameFields xs ys → SameFields ys zs → SameFields xs zs
 same_fields_then [] [] zs first second = second
 same_fields_then [] (y ∷ ys) zs first second = absurd first
 same_fields_then (x ∷ xs) [] zs first second = absurd first
@@ -280,7 +274,7 @@ same_fields_then (x ∷ xs) (y ∷ ys) [] first second = absurd second
 same_fields_then (x ∷ xs) (y ∷ ys) (z ∷ zs) first second = (
   (
     same_name_then x.parent y.parent z.parent first.0.0 second.0.0,
-    field_then x.field.value.value y.field.value.value z.field.value.value first.0.1 second.0.1,
+    same_field_then x.field.value.value y.field.value.value z.field.value.value first.0.1 second.0.1,
   ),
   same_fields_then xs ys zs first.1 second.1,
 )

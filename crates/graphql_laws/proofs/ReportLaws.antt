@@ -1,6 +1,6 @@
 -- What a true report cannot say.
 use Rattle.std.proofs.Common.{◌≡◌, ℕ, ◌≤◌, List, Some, ◌∙◌, sym, ap, arith}
-use Rattle.std.specs.Prelude.{◌≢◌, Bool, Option}
+use Rattle.std.specs.Prelude.{◌≢◌, Option}
 use Rattle.std.specs.Borrow.{Bor}
 use Rattle.std.proofs.lemmas.Option.{same_Some}
 use Rattle.graphql_nodes.specs.Names.{NameText}
@@ -30,15 +30,15 @@ module _ (document : ExecutableDocument)
       let over = p.passes in
       let f : ⊥ = omega arith in f
 
-  pub no_limit : (same : Field → Field → Bool) (schema : Option Schema) (d : Details) (at : Option SourceSpan) →
-      d ≡ details.Diagnostic report.RecursionError → ¬ DocumentLimit same schema document d at
-  no_limit same schema d at is (fragment_nests in' nests) = let f : ⊥ = cc in f
-  no_limit same schema d at is (walk_of_variables {o = o} in' p) = no_descent_passes _ _ p
-  no_limit same schema d at is (walk_of_root {o = o} in' p) = no_descent_passes _ _ p
-  no_limit same schema d at is (walk_of_labels deep) = no_descent_passes _ _ deep.2
-  no_limit same schema d at is (walk_of_conditions {o = o} in' p) = no_descent_passes _ _ p
-  no_limit same schema d at is (walk_of_fragments in' p) = let f : ⊥ = cc in f
-  no_limit same schema d at is (merging_limit after has split nests) = let f : ⊥ = cc in f
+  pub no_limit : (schema : Option Schema) (d : Details) (at : Option SourceSpan) →
+      d ≡ details.Diagnostic report.RecursionError → ¬ DocumentLimit schema document d at
+  no_limit schema d at is (fragment_nests in' nests) = let f : ⊥ = cc in f
+  no_limit schema d at is (walk_of_variables {o = o} in' p) = no_descent_passes _ _ p
+  no_limit schema d at is (walk_of_root {o = o} in' other p) = no_descent_passes _ _ p
+  no_limit schema d at is (walk_of_labels deep) = no_descent_passes _ _ deep.2
+  no_limit schema d at is (walk_of_conditions {o = o} in' one p) = no_descent_passes _ _ p
+  no_limit schema d at is (walk_of_fragments in' p) = let f : ⊥ = cc in f
+  no_limit schema d at is (merging_limit after has split nests) = let f : ⊥ = cc in f
 
 pub other_place : (schema : Option Schema) (place : Option NameText) (f : Node Field)
     (owner : TypeAttributeCoordinate) (output : NameText) (describe : Bor (List ℕ)) (at : Option SourceSpan) →

@@ -6,6 +6,8 @@ use Rattle.std.specs.List.{AllZip, cons_option, list_any}
 use Rattle.std.specs.Prelude.{IsFalse, IsTrue, filter, filter_map, is_some, slice_get}
 use Rattle.std.specs.Str.{bytes_eq}
 use lib.Pointwise.{pointwise}
+use Rattle.graphql_documents.proofs.ContentLemmas.{equality_of_fields}
+use Rattle.graphql_documents.specs.Contents.{SameField}
 use Rattle.graphql_documents.specs.Expansion.{ExpandsFrom, FragmentSets, IsGroup, MergedSet, Pass, as_field, expand_next, expanded, fields_standing, followed_by, group_by_key, group_by_object, group_of_abstract, into_inline_fragment, into_spread, is_abstract, is_object, is_object_named, merged_below, merged_operation, nested_sets, no_more, past_field, past_spread, with_key_of, with_parents}
 use Rattle.graphql_documents.specs.MergedFields.{HasSeen}
 use Rattle.graphql_documents.specs.Merging.{FieldSelection, SameFields, set_of}
@@ -26,7 +28,7 @@ use Rattle.graphql_documents.proofs.ListLemmas.{none_stands, only_one, stands_be
 use Rattle.graphql_nodes.proofs.NameLemmas.{same_text}
 use Rattle.graphql_documents.proofs.SelectionLemmas.{one_fragment_found}
 use Rattle.graphql_laws.specs.Equality.{field_equality}
-use Rattle.graphql_laws.proofs.FieldContentsLaws.{EqualOpen, Opened, equal_selections, equal_sets, field_equality_compares_contents, field_sets, inline_sets, is_field, is_inline, is_spread, opened, same_fields_then, set_itself_equal, set_parts, spread_names}
+use Rattle.graphql_laws.proofs.FieldContentsLaws.{EqualOpen, Opened, equal_selections, equal_sets, field_sets, fields_alike, inline_sets, is_field, is_inline, is_spread, opened, same_fields_then, set_itself_equal, set_parts, spread_names}
 use Rattle.graphql_laws.proofs.MetNameLemmas.{met_alike}
 use Rattle.graphql_laws.proofs.OneExpansionLaws.{one_expansion}
 use Rattle.graphql_laws.proofs.SchemaLaws.{one_type_found}
@@ -57,6 +59,12 @@ zip_map R S f g alike [] (y ∷ ys) z = absurd z
 zip_map R S f g alike (x ∷ xs) [] z = absurd z
 zip_map R S f g alike (x ∷ xs) (y ∷ ys) z = (alike x y z.0, zip_map R S f g alike xs ys z.1)
 
+zip_weaker : {X Y : Type 0} (R S : X → Y → Type 0) → ((x : X) (y : Y) → R x y → S x y) → (xs : List X) (ys : List Y) → AllZip R xs ys → AllZip S xs ys
+zip_weaker R S weaker [] [] z = z
+zip_weaker R S weaker [] (y ∷ ys) z = absurd z
+zip_weaker R S weaker (x ∷ xs) [] z = absurd z
+zip_weaker R S weaker (x ∷ xs) (y ∷ ys) z = (weaker x y z.0, zip_weaker R S weaker xs ys z.1)
+
 zip_nil : {X Y : Type 0} (R : X → Y → Type 0) (ys : List Y) → AllZip R [] ys → ys ≡ []
 zip_nil R [] z = refl
 zip_nil R (y ∷ ys) z = absurd z
@@ -78,6 +86,14 @@ zip_like R (u ∷ us) (v ∷ vs) z x stands = elim (Contains-append_cases (u ∷
 
 abbrev AlikeField : FieldSelection → FieldSelection → Type 0
 AlikeField a b = SameName a.parent b.parent × IsTrue (field_equality a.field.value.value b.field.value.value)
+
+as_equal : (xs ys : List FieldSelection) → SameFields xs ys → AllZip AlikeField xs ys
+as_equal = zip_weaker (λ a b. SameName a.parent b.parent × SameField a.field.value.value b.field.value.value) AlikeField
+    (λ x y h. (h.0, (equality_of_fields x.field.value.value y.field.value.value).1 h.1))
+
+as_same : (xs ys : List FieldSelection) → AllZip AlikeField xs ys → SameFields xs ys
+as_same = zip_weaker AlikeField (λ a b. SameName a.parent b.parent × SameField a.field.value.value b.field.value.value)
+    (λ x y h. (h.0, (equality_of_fields x.field.value.value y.field.value.value).0 h.1))
 
 abbrev AlikeSets : SelectionSet → SelectionSet → Type 0
 AlikeSets a b = IsTrue (equal_sets a b)
@@ -203,7 +219,7 @@ module _ (document : ExecutableDocument) where
 
   -- fields alike have one key
   same_keys : (x y : FieldSelection) → AlikeField x y → SameName (response_key x.field.value.value) (response_key y.field.value.value)
-  same_keys x y h = ((field_equality_compares_contents document).alike x.field.value.value y.field.value.value h.1).key
+  same_keys x y h = (fields_alike document x.field.value.value y.field.value.value ((equality_of_fields x.field.value.value y.field.value.value).0 h.1)).key
 
   keyed : (x y u v : FieldSelection) → AlikeField x y → AlikeField u v →
       same_name (response_key u.field.value.value) (response_key x.field.value.value) ≡ same_name (response_key v.field.value.value) (response_key y.field.value.value)
@@ -268,23 +284,23 @@ module _ (document : ExecutableDocument) where
     pub record WasSeen (seen : List (List FieldSelection)) (fields : List FieldSelection) : Type 0 where
       pub known : List FieldSelection
       pub is_seen : Contains seen known
-      pub same_fields : SameFields field_equality fields known
+      pub same_fields : SameFields fields known
 
-    pub merged_was_seen : (operations : List (Node Operation)) {pass : Pass} (seen : List (List FieldSelection)) → HasSeen field_equality schema F operations pass seen →
+    pub merged_was_seen : (operations : List (Node Operation)) {pass : Pass} (seen : List (List FieldSelection)) → HasSeen schema F operations pass seen →
         {fields : List FieldSelection} → MergedSet schema F operations pass fields → WasSeen seen fields
     merged_was_seen operations seen has {fields} (merged_operation {o = o} stands expands) =
         let e = has.begun o stands in
         record {
           known = e.known;
           is_seen = e.is_seen;
-          same_fields = subst (λ l. SameFields field_equality l e.known) (one_expansion F e.expansion expands) e.same_fields;
+          same_fields = subst (λ l. SameFields l e.known) (one_expansion F e.expansion expands) e.same_fields;
         }
-    merged_was_seen operations seen has {fields} (merged_below above step) =
+    merged_was_seen operations seen has {fields} (merged_below {fields = step_fields} above step) =
         let up = merged_was_seen operations seen has above in
-        let g = group_alike step.is_group up.known up.same_fields in
+        let g = group_alike step.is_group up.known (as_equal step_fields up.known up.same_fields) in
         let nested = nested_alike step.group g.group' g.alike in
         let filled : nested_sets g.group' ≢ [] = λ none. step.nested (zip_nil_back AlikeSets (nested_sets step.group) (subst (AllZip AlikeSets (nested_sets step.group)) none nested)) in
         let e = has.closed up.known g.group' up.is_seen g.is_group filled in
         let x = expands_alike step.expansion (nested_sets g.group') nested [] (λ k. refl) in
-        let same : SameFields field_equality fields e.fields = subst (SameFields field_equality fields) (one_expansion F x.found e.expansion) x.alike in
+        let same : SameFields fields e.fields = as_same fields e.fields (subst (AllZip AlikeField fields) (one_expansion F x.found e.expansion) x.alike) in
         record { known = e.known; is_seen = e.is_seen; same_fields = same_fields_then fields e.fields e.known same e.same_fields }

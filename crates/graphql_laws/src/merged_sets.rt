@@ -1,6 +1,6 @@
 //! Laws of the lists of fields that are merged together, and of the groups in them.
 
-ghost use Rattle.std.specs.Prelude.{◌≡◌, ◌≢◌, ◌↔◌, ◌+◌, Bool, List, [], ◌∷◌, ◌++◌, All, Contains, length};
+ghost use Rattle.std.specs.Prelude.{◌≡◌, ◌≢◌, ◌↔◌, ◌+◌, List, [], ◌∷◌, ◌++◌, All, Contains, length};
 ghost use Rattle.graphql_nodes.specs.Names.{NameText, SameName};
 ghost use Rattle.graphql_documents.specs.TypeReferences.{inner_named_type};
 ghost use Rattle.graphql_documents.specs.Selections.{Fragments, fragments_of, selections_of};
@@ -10,7 +10,6 @@ ghost use Rattle.graphql_documents.specs.Defer.{operations_of};
 ghost use Rattle.graphql_diagnostics.specs.Limits.{MergingDescent};
 ghost use Rattle.graphql_documents.specs.Merging.{FieldSelection, FieldInside, Chain, SameKey, ParentsMayOverlap, set_of, type_of, SameShape, SameNameAndArguments, Together, OverlapThroughout, Merges};
 ghost use Rattle.graphql_documents.specs.Expansion.{Expansion, Pass, IsGroup, shape_pass, field_pass, nested_sets, MergedSet};
-ghost use Rattle.graphql_documents.specs.declared.documents.definitions.FieldDefinition.{FieldDefinition};
 ghost use Rattle.graphql_documents.specs.declared.documents.executables.ExecutableDocument.{ExecutableDocument};
 ghost use Rattle.graphql_documents.specs.declared.documents.executables.Operation.{Operation};
 ghost use Rattle.graphql_documents.specs.declared.documents.executables.SelectionSet.{SelectionSet};
@@ -145,8 +144,7 @@ pub fn first_of_each_group_decides_names_and_arguments()
 ///
 /// Specification: 5.3.2 Field Selection Merging.
 pub fn operations_merge_where_the_first_of_each_group_agrees_with_the_rest()
-    ensures { (same_definition : FieldDefinition → FieldDefinition → Bool) (schema : Schema) (document : ExecutableDocument) →
-        IsBuilt same_definition schema document →
+    ensures { (schema : Schema) (document : ExecutableDocument) → IsBuilt schema document →
         (operations : List (Node Operation)) → All (Contains (operations_of document)) operations →
         ((o : Node Operation) → Contains operations o → Merges schema (fragments_of document) o.value.value.selection_set) ↔
         (((fields group : List FieldSelection) (first : FieldSelection) (rest : List FieldSelection) →

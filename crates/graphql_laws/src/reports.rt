@@ -1,6 +1,6 @@
 //! Laws of reports: what a true report cannot say.
 
-ghost use Rattle.std.specs.Prelude.{◌≢◌, ℕ, ◌≤◌, Bool, List, Option, None, Some};
+ghost use Rattle.std.specs.Prelude.{◌≢◌, ℕ, ◌≤◌, List, Option, None, Some};
 ghost use Rattle.std.specs.Borrow.{Bor};
 ghost use Rattle.graphql_nodes.specs.Names.{NameText};
 ghost use Rattle.graphql_documents.specs.Selections.{fragments_of};
@@ -21,10 +21,10 @@ ghost use Rattle.graphql_nodes.specs.declared.spans.SourceSpan.{SourceSpan};
 
 /// Where no descent in a document passes 500 sets, no report of a limit of its walks is true.
 pub fn limit_of_a_shallow_document_is_not_true()
-    ensures { (same : Field → Field → Bool) (schema : Option Schema) (document : ExecutableDocument) →
+    ensures { (schema : Option Schema) (document : ExecutableDocument) →
         ((walk : Walk) (set : SelectionSet) (depth : ℕ) (entered : List NameText) →
         Descent (fragments_of document) walk set depth entered → depth ≤ 500) →
-        ¬ DocumentLimit same schema document (details.Diagnostic report.RecursionError) None }
+        ¬ DocumentLimit schema document (details.Diagnostic report.RecursionError) None }
 {}
 
 /// A missing selection is reported at its field, and at no other place.

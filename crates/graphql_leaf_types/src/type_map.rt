@@ -219,7 +219,7 @@ fn add_if_missing(
 /// every schema has.
 fn built_in_scalar(alloc: Global, text: &str) -> Result<ExtendedType, ValidationError>
     requires { IsTrue (is_name text.now) }
-    ensures { IfOk result (λ definition. (key : NameText) → key.text ≡ text.now → IsAddedScalar text.now (key, definition)) }
+    ensures { IfOk result (λ definition. (key : NameText) → key.text ≡ text.now → key.location ≡ None → IsAddedScalar text.now (key, definition)) }
 {
     let scalar = ScalarType {
         name: known_name(alloc, text)?,
@@ -235,7 +235,8 @@ fn built_in_scalar(alloc: Global, text: &str) -> Result<ExtendedType, Validation
 
 fn known_name(alloc: Global, text: &str) -> Result<Name, ValidationError>
     requires { IsTrue (is_name text.now) }
-    ensures { IfOk result (λ name. name.text ≡ text.now) }
+    ensures text { IfOk result (λ name. name.text ≡ text.now) }
+    ensures place { IfOk result (λ name. name.location ≡ None) }
 {
     let text = String::from_str(alloc, text)?;
     Ok(Name::new(text, None).unwrap())

@@ -2,6 +2,7 @@ pub mod ArgumentComparisonLemmas
 pub mod ConflictLemmas
 pub mod ConflictReportLemmas
 pub mod CopyLemmas
+pub mod DisagreementLemmas
 pub mod ExpansionSizeLemmas
 pub mod ExpansionStepLemmas
 pub mod FieldSelectionLemmas

@@ -26,12 +26,11 @@ use Rattle.graphql_nodes.specs.declared.spans.SourceSpan.{SourceSpan}
 use Rattle.std.specs.Prelude.{Option}
 use Rattle.graphql_laws.proofs.DescentLaws.{descent_has_chain}
 use Rattle.graphql_laws.proofs.OrderedGroupLaws.{groups_listed}
-use Rattle.graphql_merging.specs.FieldSelections.{same_field}
 use Rattle.graphql_diagnostics.specs.Reports.{Appends}
 use Rattle.graphql_merging.specs.MergedOperations.{AreLimits, ExaminesInBoth, HasExamined, HasMerged, Merging, MergesOneMore}
 use Rattle.graphql_merging.specs.Passes.{AreNew, DescendsBeyond, ExaminesSet, HasPassed, IsClosedIn, IsNew, Stage, counted, next_new, no_new}
 use Rattle.graphql_merging.proofs.PassLemmas.{counted_none, counted_then, new_then, seen_further}
-use Rattle.graphql_laws.proofs.FieldContentsLaws.{field_equality_compares_contents, same_fields_back}
+use Rattle.graphql_laws.proofs.FieldContentsLaws.{same_fields_back}
 use Rattle.graphql_laws.proofs.SeenListLaws.{seen_lists_decide}
 use Rattle.graphql_documents.specs.Built.{IsBuilt}
 use Rattle.graphql_documents.specs.Defer.{operations_of}
@@ -39,19 +38,19 @@ use Rattle.graphql_documents.specs.declared.documents.definitions.FieldDefinitio
 use Rattle.graphql_documents.specs.declared.documents.executables.ExecutableDocument.{ExecutableDocument}
 
 abbrev Differ : List FieldSelection → List FieldSelection → Type 0
-Differ a b = ¬ SameFields same_field a b
+Differ a b = ¬ SameFields a b
 
 -- each of some new lists is new, and none is the same as another
 each_new : {known lists : List (List FieldSelection)} → AreNew known lists → All (IsNew known) lists
 each_new {known} no_new = All-nil (IsNew known)
 each_new {known} (next_new {list = list} {rest = rest} here behind) =
     All-cons (IsNew known) list rest here
-    (All-weaker (IsNew (known ++ list ∷ [])) (IsNew known) (λ l new. All-append_left (λ k. ¬ SameFields same_field l k) known (list ∷ []) new) rest (each_new behind))
+    (All-weaker (IsNew (known ++ list ∷ [])) (IsNew known) (λ l new. All-append_left (λ k. ¬ SameFields l k) known (list ∷ []) new) rest (each_new behind))
 
 differ_behind : (known : List (List FieldSelection)) {lists : List (List FieldSelection)} (list : List FieldSelection) → AreNew (known ++ list ∷ []) lists → All (Differ list) lists
 differ_behind known {lists} list behind =
     All-weaker (IsNew (known ++ list ∷ [])) (Differ list)
-    (λ l new same. All-contains (λ k. ¬ SameFields same_field l k) (known ++ list ∷ []) list new (Contains-append_right known (list ∷ []) list (stands_first list [])) (same_fields_back list l same))
+    (λ l new same. All-contains (λ k. ¬ SameFields l k) (known ++ list ∷ []) list new (Contains-append_right known (list ∷ []) list (stands_first list [])) (same_fields_back list l same))
     lists (each_new behind)
 
 all_differ : {known lists : List (List FieldSelection)} → AreNew known lists → AllPairs Differ lists
@@ -64,7 +63,8 @@ disagree schema shape_pass x y (details.Build (build.ConflictingFieldType alias 
 disagree schema field_pass x y (details.Build (build.ConflictingFieldName alias original_location original conflicting_location conflicting)) at says agree =
     let same = agree.name in let other = says.differ in (let no : ⊥ = cc in no)
 disagree schema field_pass x y (details.Build (build.ConflictingFieldArgument alias original_location original original_value conflicting_location conflicting conflicting_value)) at says agree =
-    says.differ (agree.arguments.names says.argument, λ a b. agree.arguments.values says.argument a b)
+    let name = says.differ.given.value.value.name in
+    says.differ.differ (agree.arguments.names name, λ a b. agree.arguments.values name a b)
 disagree schema pass x y said at says agree = absurd says
 
 module _ (schema : Schema) (pass : Pass) where
@@ -157,17 +157,17 @@ module _ (schema : Schema) (fragments : Fragments) (pass : Pass) where
         (All-weaker (MergedSet schema fragments operations pass) (MergedSet schema fragments (operations ++ o ∷ []) pass) (λ list. merged_more (o ∷ [])) old.lists before.merged)
         (e.merged (operations ++ o ∷ []) (merged_operation last e.expansion)))
 
-    further : (sets : List SelectionSet) → ExpansionIsSeen same_field fragments old.lists sets → ExpansionIsSeen same_field fragments new.lists sets
-    further sets known = subst (λ l. ExpansionIsSeen same_field fragments l sets) (sym e.more.lists_are) (seen_further e.added known)
+    further : (sets : List SelectionSet) → ExpansionIsSeen fragments old.lists sets → ExpansionIsSeen fragments new.lists sets
+    further sets known = subst (λ l. ExpansionIsSeen fragments l sets) (sym e.more.lists_are) (seen_further e.added known)
 
-    seen : HasSeen same_field schema fragments operations pass old.lists →
-        All (IsClosedIn schema fragments pass new.lists) e.added × ExpansionIsSeen same_field fragments new.lists (o.value.value.selection_set ∷ []) →
-        HasSeen same_field schema fragments (operations ++ o ∷ []) pass new.lists
+    seen : HasSeen schema fragments operations pass old.lists →
+        All (IsClosedIn schema fragments pass new.lists) e.added × ExpansionIsSeen fragments new.lists (o.value.value.selection_set ∷ []) →
+        HasSeen schema fragments (operations ++ o ∷ []) pass new.lists
     seen was now = record {
       merged = all_merged;
       begun = λ x stands. elim (Contains-append_cases operations (o ∷ []) x stands) [
         | inl earlier ↦ further (x.value.value.selection_set ∷ []) (was.begun x earlier)
-        | inr this ↦ subst (λ y. ExpansionIsSeen same_field fragments new.lists (y.value.value.selection_set ∷ [])) (sym (only_one o x this)) now.1
+        | inr this ↦ subst (λ y. ExpansionIsSeen fragments new.lists (y.value.value.selection_set ∷ [])) (sym (only_one o x this)) now.1
       ];
       closed = λ list group stands is_group nested. elim (Contains-append_cases old.lists e.added list (subst (λ l. Contains l list) e.more.lists_are stands)) [
         | inl earlier ↦ further (nested_sets group) (was.closed list group earlier is_group nested)
@@ -177,7 +177,7 @@ module _ (schema : Schema) (fragments : Fragments) (pass : Pass) where
 
   -- the bound was passed: some chain of fields passes it, and so do the steps of this pass
   pub passes_deep : ((a b : NameText) → SameName a b → fragments a ≡ fragments b) → (set : SelectionSet) (old new : Stage) (e : ExaminesSet schema fragments pass set old new) → old.depth ≡ 0 →
-      DescendsBeyond schema fragments pass (old.lists ++ e.fields ∷ []) old.depth e.fields → MergingPasses same_field schema fragments set
+      DescendsBeyond schema fragments pass (old.lists ++ e.fields ∷ []) old.depth e.fields → MergingPasses schema fragments set
   passes_deep respects set old new e top d =
       let long = d.beyond in
       let some = λ (none : d.steps ≡ []). (let empty : length d.steps ≡ 0 = ap length none in let no : ⊥ = omega (arith, long, top, empty) in no) in
@@ -295,7 +295,7 @@ module _ (schema : Schema) (fragments : Fragments) (respects : (a b : NameText) 
     depth_there : x.fields_before.depth ≡ 0
     depth_there = x.depth_next ∙ x.of_shapes.more.depth ∙ x.depth_first
 
-    nests : HasPassed x.fields_after → MergingPasses same_field schema fragments o.value.value.selection_set
+    nests : HasPassed x.fields_after → MergingPasses schema fragments o.value.value.selection_set
     nests passed = elim (x.of_fields.passes passed) [
       | inl before' ↦ elim (x.of_shapes.passes (let h = x.highest_next in omega (arith, h, before'))) [
         | inl first ↦ absurd (let h = x.highest_first in omega (arith, h, first))
@@ -329,7 +329,7 @@ module _ (schema : Schema) (fragments : Fragments) (respects : (a b : NameText) 
   }
 
   -- one of the operations so far nests too deep, if it is said so
-  pub too_deep_so_far : HasMerged schema fragments old → IsTrue new.too_deep → MergingNestsTooDeep same_field schema fragments old.operations o o.location
+  pub too_deep_so_far : HasMerged schema fragments old → IsTrue new.too_deep → MergingNestsTooDeep schema fragments old.operations o o.location
   too_deep_so_far was h =
       let d = (merged_next was).deep h in
       record { deep = d.0; is_merged = subst (λ l. Contains l d.0) operations d.1; passes = d.2; at_is = refl }
@@ -368,12 +368,11 @@ longer n m xs ys is_n is_m = (
 )
 
 -- where the document was built, and no operation nests too deep, there is no conflict exactly where all merge
-pub conflicts_decide : (same_definition : FieldDefinition → FieldDefinition → Bool) (schema : Schema) (document : ExecutableDocument) (m : Merging) →
-    IsBuilt same_definition schema document → All (Contains (operations_of document)) m.operations → HasMerged schema (fragments_of document) m → IsFalse m.too_deep →
+pub conflicts_decide : (schema : Schema) (document : ExecutableDocument) (m : Merging) → IsBuilt schema document → All (Contains (operations_of document)) m.operations → HasMerged schema (fragments_of document) m → IsFalse m.too_deep →
     IsFalse m.conflicting ↔ All (λ o. Merges schema (fragments_of document) o.value.value.selection_set) m.operations
-conflicts_decide same_definition schema document m built own was shallow =
+conflicts_decide schema document m built own was shallow =
     let Merging' = λ (o : Node Operation). Merges schema (fragments_of document) o.value.value.selection_set in
-    let decide = seen_lists_decide same_definition same_field schema document built (field_equality_compares_contents document) m.operations own m.shapes m.fields (was.shapes.all shallow) (was.fields.all shallow) in (
+    let decide = seen_lists_decide schema document built m.operations own m.shapes m.fields (was.shapes.all shallow) (was.fields.all shallow) in (
       λ h. each_standing Merging' m.operations (λ o stands. decide.1 (was.silent.0 h) o stands),
       λ all. was.silent.1 (decide.0 (λ o stands. All-contains Merging' m.operations o all stands)),
     )

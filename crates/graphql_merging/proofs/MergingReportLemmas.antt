@@ -3,6 +3,7 @@ use Rattle.std.proofs.Common.{◌≡◌, Bool, List, [], ◌∷◌, inr, sym, su
 use Rattle.std.proofs.lemmas.List.Elements.{All-cons, All-nil}
 use Rattle.std.specs.Prelude.{◌⊎◌, Err, IsTrue, Ok, OnErr, OnOk, Option, Result}
 use Rattle.graphql_documents.specs.Expansion.{Pass, field_pass, shape_pass}
+use Rattle.graphql_diagnostics.specs.Diagnostics.{IsLimitEntry, limit_of_depth}
 use Rattle.graphql_diagnostics.specs.Limits.{MergingLimit, MergingNestsTooDeep, merging_nests}
 use Rattle.graphql_diagnostics.specs.MergedGroups.{SaysConflict}
 use Rattle.graphql_documents.specs.Merging.{FieldSelection}
@@ -22,7 +23,6 @@ use Rattle.graphql_documents.proofs.ListLemmas.{only_one}
 use Rattle.graphql_diagnostics.proofs.ReportLemmas.{kept, kept_wider}
 use Rattle.graphql_laws.proofs.MergedListLaws.{fields_come_together, group_has, shapes_come_together}
 use Rattle.graphql_laws.proofs.OrderedGroupLaws.{groups_listed}
-use Rattle.graphql_merging.specs.FieldSelections.{same_field}
 use Rattle.graphql_merging.specs.MergedOperations.{AreLimits, beyond_bound, within_bound}
 use Rattle.graphql_merging.specs.Passes.{IsConflict}
 
@@ -51,17 +51,28 @@ module _ (schema : Schema) (fragments : Fragments) (respects : (a b : NameText) 
 
 abbrev Said : Schema → Fragments → List (Node Operation) → Node Operation → DiagnosticEntry → Type 0
 Said schema fragments before o e =
-    MergingReport schema fragments o.value.value.selection_set e.details e.location ⊎ MergingLimit same_field schema fragments before o e.details e.location
+    MergingReport schema fragments o.value.value.selection_set e.details e.location ⊎ MergingLimit schema fragments before o e.details e.location
 
 limits_true : (schema : Schema) (fragments : Fragments) (before : List (Node Operation)) (o : Node Operation) (too_deep : Bool) {reports : List DiagnosticEntry} →
-    (IsTrue too_deep → MergingNestsTooDeep same_field schema fragments before o o.location) → AreLimits o too_deep reports → All (Said schema fragments before o) reports
+    (IsTrue too_deep → MergingNestsTooDeep schema fragments before o o.location) → AreLimits o too_deep reports → All (Said schema fragments before o) reports
 limits_true schema fragments before o too_deep nests (within_bound within) = All-nil (Said schema fragments before o)
 limits_true schema fragments before o too_deep nests (beyond_bound beyond) =
     All-cons (Said schema fragments before o) _ [] (inr (merging_nests (nests beyond))) (All-nil (Said schema fragments before o))
 
+limits_are : (P : DiagnosticEntry → Type 0) {o : Node Operation} {too_deep : Bool} {reports : List DiagnosticEntry} → AreLimits o too_deep reports → All (λ e. P e ⊎ IsLimitEntry e) reports
+limits_are P (within_bound within) = All-nil (λ e. P e ⊎ IsLimitEntry e)
+limits_are P (beyond_bound beyond) = All-cons (λ e. P e ⊎ IsLimitEntry e) _ [] (inr limit_of_depth) (All-nil (λ e. P e ⊎ IsLimitEntry e))
+
+-- behind other reports there is that of the limit, or none
+pub limit_kept : {T E : Type 0} (r : Result T E) (P : DiagnosticEntry → Type 0) (o : Node Operation) (too_deep : Bool) (mid after : List DiagnosticEntry) →
+    OnOk r (Appends (AreLimits o too_deep) mid after) → OnErr r (after ≡ mid) → KeepsReports (λ e. P e ⊎ IsLimitEntry e) mid after
+limit_kept (Ok x) P o too_deep mid after limits unchanged = record { added = limits.added; appended = limits.appended; each = limits_are P limits.are }
+limit_kept (Err x) P o too_deep mid after limits unchanged =
+    subst (KeepsReports (λ e. P e ⊎ IsLimitEntry e) mid) (sym unchanged) (kept (λ e. P e ⊎ IsLimitEntry e) mid)
+
 -- the report of the limit is true where one of the operations nests too deep
 pub limit_reported : {T E : Type 0} (r : Result T E) (schema : Schema) (fragments : Fragments) (before : List (Node Operation)) (o : Node Operation) (too_deep : Bool) (mid after : List DiagnosticEntry) →
-    OnOk r (Appends (AreLimits o too_deep) mid after) → OnErr r (after ≡ mid) → (IsTrue too_deep → MergingNestsTooDeep same_field schema fragments before o o.location) →
+    OnOk r (Appends (AreLimits o too_deep) mid after) → OnErr r (after ≡ mid) → (IsTrue too_deep → MergingNestsTooDeep schema fragments before o o.location) →
     KeepsReports (Said schema fragments before o) mid after
 limit_reported (Ok x) schema fragments before o too_deep mid after limits unchanged nests =
     record { added = limits.added; appended = limits.appended; each = limits_true schema fragments before o too_deep nests limits.are }

@@ -17,7 +17,6 @@ use Rattle.graphql_documents.specs.declared.documents.executables.SelectionSet.{
 use Rattle.graphql_documents.specs.declared.documents.schemas.Schema.{Schema}
 use Rattle.graphql_documents.proofs.ListLemmas.{All-append_left, All-append_right, each_standing, stands_first}
 use Rattle.graphql_diagnostics.proofs.ReportLemmas.{appended_then}
-use Rattle.graphql_merging.specs.FieldSelections.{same_field}
 use Rattle.graphql_merging.specs.Passes.{AreNew, DescendsBeyond, Examines, ExaminesMore, ExaminesSet, GoesBelow, HasPassed, IsClosedIn, IsKnownBelow, IsNew, Stage, counted, next_new, no_new}
 
 -- what is new behind some lists, and then behind those too
@@ -31,11 +30,11 @@ new_fewer : {known more a : List (List FieldSelection)} → ((list : List FieldS
 new_fewer fewer no_new = no_new
 new_fewer {known} {more} fewer (next_new {list = list} here behind) =
     next_new (fewer list here) (new_fewer (λ l is_new.
-    let P = λ (k : List FieldSelection). ¬ SameFields same_field l k in
+    let P = λ (k : List FieldSelection). ¬ SameFields l k in
     All-append P known (list ∷ []) (fewer l (All-append_left P more (list ∷ []) is_new)) (All-append_right P more (list ∷ []) is_new)) behind)
 
 new_before : (known further : List (List FieldSelection)) {a : List (List FieldSelection)} → AreNew (known ++ further) a → AreNew known a
-new_before known further new = new_fewer (λ list is_new. All-append_left (λ k. ¬ SameFields same_field list k) known further is_new) new
+new_before known further new = new_fewer (λ list is_new. All-append_left (λ k. ¬ SameFields list k) known further is_new) new
 
 -- the conflicts of some groups and of more are those of all
 all_conflicts : {schema : Schema} {pass : Pass} {a b : List (List FieldSelection)} {xs ys : List DiagnosticEntry} →
@@ -91,7 +90,7 @@ first_new (next_new here behind) = here
 
 -- what is known stays known
 pub seen_further : {fragments : Fragments} {known : List (List FieldSelection)} {sets : List SelectionSet} (further : List (List FieldSelection)) →
-    ExpansionIsSeen same_field fragments known sets → ExpansionIsSeen same_field fragments (known ++ further) sets
+    ExpansionIsSeen fragments known sets → ExpansionIsSeen fragments (known ++ further) sets
 seen_further {known = known} further e = record {
   fields = e.fields;
   known = e.known;
@@ -168,7 +167,7 @@ module _ (schema : Schema) (fragments : Fragments) (pass : Pass) where
   }
 
   -- what is below the group was examined before
-  pub below_known : (group : List FieldSelection) (stage : Stage) → stage.comparisons < 2 ^ 64 → ExpansionIsSeen same_field fragments stage.lists (nested_sets group) → GoesBelow schema fragments pass (group ∷ []) stage stage
+  pub below_known : (group : List FieldSelection) (stage : Stage) → stage.comparisons < 2 ^ 64 → ExpansionIsSeen fragments stage.lists (nested_sets group) → GoesBelow schema fragments pass (group ∷ []) stage stage
   below_known group stage small seen = record {
     added = [];
     more = more_none schema pass stage small;
@@ -211,7 +210,7 @@ module _ (schema : Schema) (fragments : Fragments) (pass : Pass) where
     });
   }
 
-  module _ (itself : (list : List FieldSelection) → SameFields same_field list list) where
+  module _ (itself : (list : List FieldSelection) → SameFields list list) where
     -- what is below the group was new, and was examined, one step deeper
     pub below_examined : (group below : List FieldSelection) (old down up new : Stage) →
         nested_sets group ≢ [] → Expansion fragments (nested_sets group) below → old.depth < merging_bound →
@@ -257,7 +256,7 @@ module _ (schema : Schema) (fragments : Fragments) (pass : Pass) where
       all_new : AreNew old.lists (below ∷ e.below)
       all_new = subst (λ l. AreNew l (below ∷ e.below)) lists e.more.are_new
 
-      seen : ExpansionIsSeen same_field fragments new.lists (nested_sets group)
+      seen : ExpansionIsSeen fragments new.lists (nested_sets group)
       seen = record {
         fields = below;
         known = below;
@@ -290,7 +289,7 @@ module _ (schema : Schema) (fragments : Fragments) (pass : Pass) where
 
   -- the fields of a set were examined before
   pub set_known : (set : SelectionSet) (fields known : List FieldSelection) (stage : Stage) → stage.comparisons < 2 ^ 64 → Expansion fragments (set ∷ []) fields →
-      Contains stage.lists known → SameFields same_field fields known → ExaminesSet schema fragments pass set stage stage
+      Contains stage.lists known → SameFields fields known → ExaminesSet schema fragments pass set stage stage
   set_known set fields known stage small expansion stands same = record {
     fields = fields;
     added = [];

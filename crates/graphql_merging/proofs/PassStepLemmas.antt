@@ -23,7 +23,7 @@ use Rattle.graphql_documents.proofs.ListLemmas.{each_standing, more_is, stands_m
 use Rattle.graphql_diagnostics.proofs.ReportLemmas.{kept_wider}
 use Rattle.graphql_laws.proofs.OrderedGroupLaws.{comparisons_of_groups, groups_listed}
 use Rattle.graphql_variables.proofs.UseLemmas.{any_has, has_any}
-use Rattle.graphql_merging.specs.FieldSelections.{listed, lists_of, same_field, same_selection, selection_of}
+use Rattle.graphql_merging.specs.FieldSelections.{listed, lists_of, same_selection, selection_of}
 use Rattle.graphql_merging.proofs.FieldSelectionLemmas.{compared_with_any}
 use Rattle.graphql_merging.specs.Passes.{IsConflict, IsConflictAmong, IsNew, counted}
 use Rattle.graphql_merging.specs.declared.field_selections.FieldSelection.{FieldSelection}
@@ -56,15 +56,15 @@ counted_groups schema field_pass list n = refl
 
 -- a list that is not among the known is new
 pub new_unknown : (known : List (List merging.FieldSelection)) (list : List merging.FieldSelection) →
-    ¬ Any (merging.SameFields same_field list) known → IsNew known list
+    ¬ Any (merging.SameFields list) known → IsNew known list
 new_unknown known list unknown =
-    each_standing (λ l. ¬ merging.SameFields same_field list l) known (λ l stands same. unknown (has_any (merging.SameFields same_field list) known l stands same))
+    each_standing (λ l. ¬ merging.SameFields list l) known (λ l stands same. unknown (has_any (merging.SameFields list) known l stands same))
 
 -- what was examined has the same fields as an expansion
 pub expansion_known : (fragments : Fragments) (known : List (List merging.FieldSelection)) (sets : List SelectionSet) (list : List merging.FieldSelection) →
-    Expansion fragments sets list → Any (merging.SameFields same_field list) known → ExpansionIsSeen same_field fragments known sets
+    Expansion fragments sets list → Any (merging.SameFields list) known → ExpansionIsSeen fragments known sets
 expansion_known fragments known sets list expansion any =
-    let h = any_has (merging.SameFields same_field list) known any in
+    let h = any_has (merging.SameFields list) known any in
     record { fields = list; known = h.0; expansion = expansion; is_seen = h.1; same_fields = h.2 }
 
 -- a vector that says that it is empty has no items, and another has
@@ -104,8 +104,8 @@ not_known fields known is_new = by (list_any (λ k. pointwise same_selection fie
   by : (b : Bool) → list_any (λ k. pointwise same_selection fields k.items) known ≡ b → IsFalse (list_any (λ k. pointwise same_selection fields k.items) known)
   by false other = other
   by true found =
-      let h = any_has (merging.SameFields same_field (listed fields)) (lists_of known) ((compared_with_any fields known).0 found) in
-      absurd (All-contains (λ l. ¬ merging.SameFields same_field (listed fields) l) (lists_of known) h.0 is_new h.1 h.2)
+      let h = any_has (merging.SameFields (listed fields)) (lists_of known) ((compared_with_any fields known).0 found) in
+      absurd (All-contains (λ l. ¬ merging.SameFields (listed fields) l) (lists_of known) h.0 is_new h.1 h.2)
 
 -- the sets of one field more: its own behind the others, if it selects something
 nested_more : (fields : List FieldSelection) (x : FieldSelection) →
@@ -134,6 +134,6 @@ nested_one_more sets group i x b within item is known =
     )
 
 -- a known list with the same fields
-pub known_with : (known : List (List merging.FieldSelection)) (list : List merging.FieldSelection) → Any (merging.SameFields same_field list) known →
-    (l : List merging.FieldSelection) × Contains known l × merging.SameFields same_field list l
-known_with known list any = any_has (merging.SameFields same_field list) known any
+pub known_with : (known : List (List merging.FieldSelection)) (list : List merging.FieldSelection) → Any (merging.SameFields list) known →
+    (l : List merging.FieldSelection) × Contains known l × merging.SameFields list l
+known_with known list any = any_has (merging.SameFields list) known any

@@ -2,8 +2,6 @@
 use Rattle.std.specs.Prelude.{Bool, List, Vec, map}
 use Rattle.std.specs.declared.alloc.Global.{Global}
 use Rattle.graphql_documents.specs.Merging as merging
-use Rattle.graphql_documents.specs.contracts.documents.executables.FieldPartialEq.TheImpl as field_impl
-use Rattle.graphql_documents.specs.declared.documents.executables.Field.{Field}
 use Rattle.graphql_merging.specs.contracts.field_selections.FieldSelectionPartialEq.TheImpl as selection_impl
 use Rattle.graphql_merging.specs.declared.field_selections.FieldSelection.{FieldSelection}
 
@@ -19,10 +17,6 @@ listed fields = map selection_of fields
 abbrev pub lists_of : List (Vec FieldSelection Global) → List (List merging.FieldSelection)
 lists_of lists = map (λ fields. listed fields.items) lists
 
--- the two have the same contents, wherever they stand
-abbrev pub same_field : Field → Field → Bool
-same_field = field_impl.ghosts.eq
-
--- the two have the same contents, on types of the same names
+-- what `==` answers of two of them
 abbrev pub same_selection : FieldSelection → FieldSelection → Bool
 same_selection = selection_impl.ghosts.eq

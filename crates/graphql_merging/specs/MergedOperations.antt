@@ -12,7 +12,6 @@ use Rattle.graphql_diagnostics.specs.declared.lists.DiagnosticEntry.{DiagnosticE
 use Rattle.graphql_documents.specs.declared.documents.executables.Operation.{Operation}
 use Rattle.graphql_nodes.specs.declared.nodes.Node.{Node}
 use Rattle.graphql_documents.specs.declared.documents.schemas.Schema.{Schema}
-use Rattle.graphql_merging.specs.FieldSelections.{same_field}
 use Rattle.graphql_documents.specs.declared.documents.executables.SelectionSet.{SelectionSet}
 use Rattle.graphql_merging.specs.Passes.{AreNew, ExaminesSet, HasPassed, Stage, counted}
 
@@ -30,7 +29,7 @@ pub record Merging : Type 0 where
 pub record HasExamined (schema : Schema) (fragments : Fragments) (operations : List (Node Operation)) (pass : Pass) (too_deep : Bool) (lists : List (List FieldSelection)) : Type 0 where
   pub merged : All (MergedSet schema fragments operations pass) lists
   pub once : AreNew [] lists
-  pub all : IsFalse too_deep → HasSeen same_field schema fragments operations pass lists
+  pub all : IsFalse too_deep → HasSeen schema fragments operations pass lists
 
 -- the operations were merged: each pass has examined their lists; there is no conflict exactly where in each
 -- group of each list the first field agrees with the rest; the bound is passed by one of them, if it is; and
@@ -39,7 +38,7 @@ pub record HasMerged (schema : Schema) (fragments : Fragments) (m : Merging) : T
   pub shapes : HasExamined schema fragments m.operations shape_pass m.too_deep m.shapes
   pub fields : HasExamined schema fragments m.operations field_pass m.too_deep m.fields
   pub silent : IsFalse m.conflicting ↔ (All (ListPasses schema shape_pass) m.shapes × All (ListPasses schema field_pass) m.fields)
-  pub deep : IsTrue m.too_deep → (o : Node Operation) × Contains m.operations o × MergingPasses same_field schema fragments o.value.value.selection_set
+  pub deep : IsTrue m.too_deep → (o : Node Operation) × Contains m.operations o × MergingPasses schema fragments o.value.value.selection_set
   pub comparisons : m.comparisons ≡ counted shape_pass 0 (sum_by comparisons_of m.shapes)
 
 -- the report that an operation nests too deep, if one does

@@ -12,7 +12,6 @@ use Rattle.graphql_documents.specs.declared.documents.executables.Operation.{Ope
 use Rattle.graphql_documents.specs.declared.documents.executables.SelectionSet.{SelectionSet}
 use Rattle.graphql_nodes.specs.declared.nodes.Node.{Node}
 use Rattle.graphql_documents.specs.declared.documents.schemas.Schema.{Schema}
-use Rattle.graphql_merging.specs.FieldSelections.{same_field}
 
 -- where a pass stands: the lists that it has examined, how often it has compared two shapes, how deep it
 -- is and was, and what was reported
@@ -29,7 +28,7 @@ HasPassed stage = merging_bound < stage.highest
 
 -- no known list has the same fields
 abbrev pub IsNew : List (List FieldSelection) → List FieldSelection → Type 0
-IsNew known list = All (λ l. ¬ SameFields same_field list l) known
+IsNew known list = All (λ l. ¬ SameFields list l) known
 
 -- each of the lists is new behind the known ones and those before it
 pub data AreNew : List (List FieldSelection) → List (List FieldSelection) → Type 0 where
@@ -44,7 +43,7 @@ counted field_pass before further = before
 
 -- what is below the group is known, if something is
 abbrev pub IsKnownBelow : Fragments → List (List FieldSelection) → List FieldSelection → Type 0
-IsKnownBelow fragments known group = nested_sets group ≢ [] → ExpansionIsSeen same_field fragments known (nested_sets group)
+IsKnownBelow fragments known group = nested_sets group ≢ [] → ExpansionIsSeen fragments known (nested_sets group)
 
 -- what is below each group of the list is known
 abbrev pub IsClosedIn : Schema → Fragments → Pass → List (List FieldSelection) → List FieldSelection → Type 0
@@ -96,7 +95,7 @@ pub record ExaminesSet (schema : Schema) (fragments : Fragments) (pass : Pass) (
   pub merged : (operations : List (Node Operation)) → MergedSet schema fragments operations pass fields →
       All (MergedSet schema fragments operations pass) added
   pub known : ¬ HasPassed new →
-      All (IsClosedIn schema fragments pass new.lists) added × ExpansionIsSeen same_field fragments new.lists (set ∷ [])
+      All (IsClosedIn schema fragments pass new.lists) added × ExpansionIsSeen fragments new.lists (set ∷ [])
   pub passes : HasPassed new → HasPassed old ⊎ DescendsBeyond schema fragments pass (old.lists ++ fields ∷ []) old.depth fields
 
 -- the report is of a conflict in one of these groups

@@ -3,7 +3,7 @@
 ghost use Rattle.std.specs.Prelude.{◌≡◌, IfOk};
 ghost use Rattle.graphql_documents.specs.Expansion.{field_pass, shape_pass};
 ghost use Rattle.graphql_documents.specs.Merging.{SameShape, type_of};
-ghost use Rattle.graphql_diagnostics.specs.MergingReports.{DisagreeOn, IsArgumentValue};
+ghost use Rattle.graphql_diagnostics.specs.MergingReports.{DisagreeFirstOn, IsArgumentValue};
 ghost use Rattle.graphql_nodes.specs.Names.{DifferentNames, SameName};
 ghost use Rattle.graphql_documents.specs.TypeReferences.{as_written};
 ghost use Rattle.graphql_documents.specs.declared.documents.schemas.Schema.{Schema};
@@ -28,8 +28,9 @@ pub(super) fn report_types(
     ensures { (schema : Schema) → ¬ SameShape schema (type_of (selection_of first.entry)) (type_of (selection_of field.entry)) →
         ReportsConflict result schema shape_pass (selection_of first.entry) (selection_of field.entry) diagnostics.old diagnostics.new }
 {
-    let (original_coordinate, original_type) = typed_coordinate(first)?;
-    let (conflicting_coordinate, conflicting_type) = typed_coordinate(field)?;
+    let alloc = diagnostics.allocator();
+    let (original_coordinate, original_type) = typed_coordinate(alloc, first)?;
+    let (conflicting_coordinate, conflicting_type) = typed_coordinate(alloc, field)?;
     let alias = first.field.value.response_key().clone()?;
     diagnostics.push(
         field.field.location,
@@ -47,13 +48,14 @@ pub(super) fn report_types(
 
 /// The coordinate of a field, and its type as it is written.
 fn typed_coordinate(
+    alloc: Global,
     field: FieldSelection,
 ) -> Result<(TypeAttributeCoordinate, Type), ValidationError>
     ensures coordinate { IfOk result (λ typed. typed.0 ≡ record { ty = field.entry.parent_type.now; attribute = field.entry.field.now.value.value.name }) }
     ensures written { IfOk result (λ typed. as_written typed.1 ≡ as_written field.entry.field.now.value.value.definition.value.value.ty) }
 {
     let ty = field.field.value.definition.value.ty.clone()?;
-    let coordinate = field.coordinate()?;
+    let coordinate = field.coordinate(alloc)?;
     Ok((coordinate, ty))
 }
 
@@ -69,9 +71,13 @@ pub(super) fn report_conflict(
 {
     match conflict {
         FieldConflict::Names => report_names(diagnostics, first, field),
-        FieldConflict::FirstAlone(argument)
-        | FieldConflict::SecondAlone(argument)
-        | FieldConflict::Both(argument, _) => {
+        FieldConflict::FirstAlone(argument) => {
+            report_argument(diagnostics, first, field, &argument.value.name)
+        }
+        FieldConflict::SecondAlone(argument) => {
+            report_argument(diagnostics, first, field, &argument.value.name)
+        }
+        FieldConflict::Both(argument, _) => {
             report_argument(diagnostics, first, field, &argument.value.name)
         }
     }
@@ -87,8 +93,9 @@ fn report_names(
         ReportsConflict result schema field_pass (selection_of first.entry) (selection_of field.entry) diagnostics.old diagnostics.new }
 {
     let alias = first.field.value.response_key().clone()?;
-    let original_selection = first.coordinate()?;
-    let conflicting_selection = field.coordinate()?;
+    let alloc = diagnostics.allocator();
+    let original_selection = first.coordinate(alloc)?;
+    let conflicting_selection = field.coordinate(alloc)?;
     diagnostics.push(
         field.field.location,
         Details::Build(BuildError::ConflictingFieldName {
@@ -101,7 +108,7 @@ fn report_names(
     )
 }
 
-/// Reports that two fields of one name do not have the same value for this argument.
+/// Reports that two fields of one name do not have the same value for this argument, the first such one.
 fn report_argument(
     diagnostics: &mut DiagnosticList,
     first: FieldSelection,
@@ -110,7 +117,7 @@ fn report_argument(
 ) -> Result<(), ValidationError>
     ensures { (schema : Schema) →
         SameName first.entry.field.now.value.value.name field.entry.field.now.value.value.name →
-        DisagreeOn argument.now first.entry.field.now.value.value field.entry.field.now.value.value →
+        DisagreeFirstOn argument.now first.entry.field.now.value.value field.entry.field.now.value.value →
         ReportsConflict result schema field_pass (selection_of first.entry) (selection_of field.entry) diagnostics.old diagnostics.new }
 {
     let alloc = diagnostics.allocator();
@@ -142,6 +149,7 @@ fn given_argument(
 {
     let value = copy_of_argument(alloc, &field.field.value, argument)?;
     let coordinate = FieldArgumentCoordinate::new(
+        alloc,
         field.parent_type,
         &field.field.value.name,
         argument,

@@ -17,7 +17,7 @@ impl<'doc> Examined<'doc> {
     ghost use Rattle.std.specs.Prelude.{◌≡◌, ◌↔◌, ◌++◌, ◌∷◌, [], IsTrue, OnOk};
     ghost use Rattle.std.specs.List.{Any};
     ghost use Rattle.graphql_documents.specs.Merging.{SameFields};
-    ghost use Rattle.graphql_merging.specs.FieldSelections.{listed, same_field};
+    ghost use Rattle.graphql_merging.specs.FieldSelections.{listed};
     ghost use Rattle.graphql_merging.specs.Passes.{IsNew};
     ghost use Rattle.graphql_merging.specs.Stages.{examined_lists};
 
@@ -34,7 +34,7 @@ impl<'doc> Examined<'doc> {
 
     /// Whether the same fields were examined, in the same order.
     pub(crate) fn knows(&self, fields: &Vec<FieldSelection<'doc>>) -> bool
-        ensures { IsTrue result ↔ Any (SameFields same_field (listed fields.now.items)) (examined_lists self.now) }
+        ensures { IsTrue result ↔ Any (SameFields (listed fields.now.items)) (examined_lists self.now) }
     {
         self.lists.contains(fields)
     }

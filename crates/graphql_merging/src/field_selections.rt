@@ -5,6 +5,7 @@ ghost use Rattle.std.specs.Prelude.{◌≡◌, IfOk};
 use graphql_coordinates::TypeAttributeCoordinate;
 use graphql_diagnostics::ValidationError;
 use graphql_documents::documents::{Field, NamedType, Node};
+use std::alloc::Global;
 
 /// A field, with the type of the set in which it stands. Two are compared and hashed by the text of the
 /// type and by what the fields hold, wherever these stand.
@@ -17,10 +18,10 @@ pub struct FieldSelection<'a> {
 }
 
 impl<'a> FieldSelection<'a> {
-    /// The coordinate of the field: its name, on the type of the set. The only error is want of memory.
-    pub fn coordinate(&self) -> Result<TypeAttributeCoordinate, ValidationError>
+    /// The coordinate of the field: its name, on the type of the set. The only error is that memory is refused.
+    pub fn coordinate(&self, alloc: Global) -> Result<TypeAttributeCoordinate, ValidationError>
         ensures { IfOk result (λ c. c ≡ record { ty = self.now.parent_type.now; attribute = self.now.field.now.value.value.name }) }
     {
-        TypeAttributeCoordinate::new(self.parent_type, &self.field.value.name)
+        TypeAttributeCoordinate::new(alloc, self.parent_type, &self.field.value.name)
     }
 }

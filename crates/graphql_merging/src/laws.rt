@@ -1,11 +1,10 @@
 //! The law of the operations that were merged.
 
-ghost use Rattle.std.specs.Prelude.{◌↔◌, All, Bool, Contains, IsFalse};
+ghost use Rattle.std.specs.Prelude.{◌↔◌, All, Contains, IsFalse};
 ghost use Rattle.graphql_documents.specs.Built.{IsBuilt};
 ghost use Rattle.graphql_documents.specs.Defer.{operations_of};
 ghost use Rattle.graphql_documents.specs.Merging.{Merges};
 ghost use Rattle.graphql_documents.specs.Selections.{fragments_of};
-ghost use Rattle.graphql_documents.specs.declared.documents.definitions.FieldDefinition.{FieldDefinition};
 ghost use Rattle.graphql_merging.specs.Mergers.{IsSound, document_of, has_refused, merging_of, schema_of};
 ghost use Rattle.graphql_merging.specs.declared.merging.FieldsInSetCanMerge.{FieldsInSetCanMerge};
 
@@ -15,8 +14,7 @@ ghost use Rattle.graphql_merging.specs.declared.merging.FieldsInSetCanMerge.{Fie
 ///
 /// Specification: 5.3.2 Field Selection Merging.
 pub fn conflicts_decide_whether_operations_merge()
-    ensures { (same_definition : FieldDefinition → FieldDefinition → Bool) (m : FieldsInSetCanMerge) →
-        IsBuilt same_definition (schema_of m) (document_of m) →
+    ensures { (m : FieldsInSetCanMerge) → IsBuilt (schema_of m) (document_of m) →
         All (Contains (operations_of (document_of m))) (merging_of m).operations →
         IsSound m → IsFalse (has_refused m) → IsFalse (merging_of m).too_deep →
         IsFalse (merging_of m).conflicting ↔

@@ -28,14 +28,13 @@ pub struct FieldsInSetCanMerge<'s, 'doc> {
 
 impl<'s, 'doc> FieldsInSetCanMerge<'s, 'doc> {
     ghost use Rattle.std.specs.Prelude.{◌≡◌, ◌⊎◌, ◌++◌, ◌∷◌, [], IfOk, IsErr, IsFalse, IsTrue, OnErr, OnOk, is_err, sum_by};
-    ghost use Rattle.graphql_diagnostics.specs.Diagnostics.{entries};
+    ghost use Rattle.graphql_diagnostics.specs.Diagnostics.{IsLimitEntry, entries};
     ghost use Rattle.graphql_documents.specs.Expansion.{shape_pass};
     ghost use Rattle.graphql_diagnostics.specs.Limits.{MergingLimit};
     ghost use Rattle.graphql_diagnostics.specs.MergedGroups.{comparisons_of};
     ghost use Rattle.graphql_diagnostics.specs.MergingReports.{MergingReport};
     ghost use Rattle.graphql_diagnostics.specs.Reports.{Appends, KeepsReports};
     ghost use Rattle.graphql_documents.specs.Selections.{fragments_of};
-    ghost use Rattle.graphql_merging.specs.FieldSelections.{same_field};
     ghost use Rattle.graphql_merging.specs.MergedOperations.{AreLimits, ExaminesInBoth, HasMerged, MergesOneMore};
     ghost use Rattle.graphql_merging.specs.Mergers.{IsSound, document_of, has_refused, merging_of, schema_of};
     ghost use Rattle.graphql_merging.specs.Passes.{counted};
@@ -74,7 +73,10 @@ impl<'s, 'doc> FieldsInSetCanMerge<'s, 'doc> {
     /// group at that field; last, at the operation, that this operation or an earlier one nests fields
     /// too deep. Lists of fields that were examined for an earlier operation are not examined again.
     ///
-    /// The only error is want of memory. After it each later call answers the same and reports nothing.
+    /// The only error is that memory is refused. After it each later call answers the same and reports nothing.
+    /// In any case the old reports stay, and each further one is true of two chains of fields of the operation,
+    /// or is one of the limit; that one is true too of a value that is sound, as all are that `new` and these
+    /// calls make.
     ///
     /// Specification: 5.3.2 Field Selection Merging.
     pub fn validate_operation(
@@ -85,12 +87,15 @@ impl<'s, 'doc> FieldsInSetCanMerge<'s, 'doc> {
         ensures schema { schema_of self.new ≡ schema_of self.old }
         ensures document { document_of self.new ≡ document_of self.old }
         ensures refused { has_refused self.new ≡ is_err result }
+        ensures reports { KeepsReports
+            (λ e. MergingReport (schema_of self.old) (fragments_of (document_of self.old)) operation.now.value.value.selection_set e.details e.location ⊎ IsLimitEntry e)
+            (entries diagnostics.old) (entries diagnostics.new) }
         ensures stays { IsTrue (has_refused self.old) → IsErr result × (entries diagnostics.new ≡ entries diagnostics.old) }
         ensures merges { OnOk result (MergesOneMore (schema_of self.old) operation.now (merging_of self.old) (merging_of self.new) (entries diagnostics.old) (entries diagnostics.new)) }
         ensures sound { IsSound self.old → IsSound self.new }
         ensures truth { IsSound self.old → KeepsReports
             (λ e. MergingReport (schema_of self.old) (fragments_of (document_of self.old)) operation.now.value.value.selection_set e.details e.location ⊎
-            MergingLimit same_field (schema_of self.old) (fragments_of (document_of self.old)) (merging_of self.old).operations operation.now e.details e.location)
+            MergingLimit (schema_of self.old) (fragments_of (document_of self.old)) (merging_of self.old).operations operation.now e.details e.location)
             (entries diagnostics.old) (entries diagnostics.new) }
     {
         if self.refused {
@@ -117,12 +122,15 @@ impl<'s, 'doc> FieldsInSetCanMerge<'s, 'doc> {
     ) -> Result<(), ValidationError>
         ensures schema { schema_of self.new ≡ schema_of self.old }
         ensures document { document_of self.new ≡ document_of self.old }
+        ensures reports { KeepsReports
+            (λ e. MergingReport (schema_of self.old) (fragments_of (document_of self.old)) operation.now.value.value.selection_set e.details e.location ⊎ IsLimitEntry e)
+            (entries diagnostics.old) (entries diagnostics.new) }
         ensures merges { OnOk result (MergesOneMore (schema_of self.old) operation.now (merging_of self.old) (merging_of self.new) (entries diagnostics.old) (entries diagnostics.new)) }
         ensures merged { OnOk result (HasMerged (schema_of self.old) (fragments_of (document_of self.old)) (merging_of self.old) →
             HasMerged (schema_of self.old) (fragments_of (document_of self.old)) (merging_of self.new)) }
         ensures truth { HasMerged (schema_of self.old) (fragments_of (document_of self.old)) (merging_of self.old) → KeepsReports
             (λ e. MergingReport (schema_of self.old) (fragments_of (document_of self.old)) operation.now.value.value.selection_set e.details e.location ⊎
-            MergingLimit same_field (schema_of self.old) (fragments_of (document_of self.old)) (merging_of self.old).operations operation.now e.details e.location)
+            MergingLimit (schema_of self.old) (fragments_of (document_of self.old)) (merging_of self.old).operations operation.now e.details e.location)
             (entries diagnostics.old) (entries diagnostics.new) }
     {
         self.operations.push(operation)?;

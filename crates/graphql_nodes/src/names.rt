@@ -1,4 +1,4 @@
-ghost use Rattle.std.specs.Prelude.{◌≡◌, IsTrue, IsSome, IfSome, ◌↔◌, Some, string_bytes};
+ghost use Rattle.std.specs.Prelude.{◌≡◌, IsTrue, IsSome, IfOk, IfSome, ◌↔◌, Some, string_bytes};
 ghost use Rattle.std.proofs.Common.{rules};
 ghost use Rattle.std.specs.Hash as fed;
 ghost use Rattle.std.specs.List.{list_all};
@@ -6,7 +6,7 @@ ghost use Rattle.std.specs.Cmp.Rules.{comparing, hashing};
 ghost use Rattle.graphql_nodes.specs.Names.{is_name, starts_name, continues_name, same_name};
 
 use super::spans::SourceSpan;
-use std::alloc::AllocError;
+use std::alloc::{AllocError, Global};
 use std::fmt;
 use std::hash::{Hash, Hasher};
 use std::marker::Model;
@@ -47,6 +47,16 @@ impl Name {
         } else {
             None
         }
+    }
+
+    /// A copy of the name, its place included, in memory of this allocator.
+    pub fn clone_in(&self, alloc: Global) -> Result<Name, AllocError>
+        ensures { IfOk result (λ copy. copy ≡ self.now) }
+    {
+        Ok(Name {
+            text: String::from_str(alloc, self.as_str())?,
+            location: self.location,
+        })
     }
 
     /// The text of the name.

@@ -18,7 +18,7 @@ use Rattle.graphql_diagnostics.specs.Diagnostics.{IsLimitEntry, limit_of_walk}
 use Rattle.graphql_diagnostics.specs.Limits.{label_walk_passes}
 use Rattle.graphql_nodes.specs.Names.{NameText}
 use Rattle.graphql_diagnostics.specs.Reports.{KeepsReports}
-use Rattle.graphql_documents.specs.Walks.{LabelsStandTooDeep}
+use Rattle.graphql_documents.specs.Walks.{DefersMetIn, LabelsStandTooDeep}
 use Rattle.graphql_diagnostics.specs.declared.build_errors.BuildError.TheVariants as build
 use Rattle.graphql_diagnostics.specs.declared.data.DiagnosticData.TheVariants as report
 use Rattle.graphql_diagnostics.specs.declared.details.Details.TheVariants as details
@@ -33,7 +33,7 @@ use Rattle.graphql_documents.proofs.ListLemmas.{All-append_left, All-append_righ
 use Rattle.graphql_diagnostics.proofs.ReportLemmas.{broken}
 use Rattle.graphql_diagnostics.proofs.ReportWithinLemmas.{both_within, in_words_within, kept_within, passed, within}
 use Rattle.graphql_variables.proofs.FirstPlaceLemmas.{chosen_or, find_none, first_found, found_at, kept_or, pairs_more}
-use Rattle.graphql_operations.specs.DeferLabels.{AreMetOf, DeferTruth, LabelsHoldAmong, LabelsSoFar, RemembersLabels, first_place_in, has_text, is_text, label_of, label_place, none_met, one_met, one_missed}
+use Rattle.graphql_operations.specs.DeferLabels.{DeferTruth, LabelsHoldAmong, LabelsSoFar, RemembersLabels, first_place_in, has_text, is_text, label_of, label_place}
 
 same_bytes : (a : List ℕ) → bytes_eq a a ≡ true
 same_bytes a = (bytes_eq-Decides a a).1 refl
@@ -168,30 +168,27 @@ pub variable_breaks : (met : List (Node Directive)) (d : Node Directive) (value 
     ¬ LabelHoldsBehind met d
 variable_breaks met d value name labelled is h = h.1 value name labelled is
 
--- what was met of a list stands there, behind others that do not pass the test, unless labels stand too deep
-record Splits (Deep : Type 0) (test : Node Directive → Bool) (passed : List (Node Directive)) (first : Node Directive) : Type 0 where
+-- the first that passes a test stands behind others that do not
+record Splits (test : Node Directive → Bool) (met : List (Node Directive)) (first : Node Directive) : Type 0 where
   before : List (Node Directive)
   between : List (Node Directive)
-  split : passed ≡ before ++ first ∷ between
-  none_before : ¬ Deep → All (λ x. test x ≡ false) before
+  split : met ≡ before ++ first ∷ between
+  none_before : All (λ x. test x ≡ false) before
 
-module _ {Deep : Type 0} (test : Node Directive → Bool) (first : Node Directive) where
-  splits : {met passed : List (Node Directive)} → AreMetOf Deep met passed → find test met ≡ Some first → Splits Deep test passed first
-  splits none_met e = absurd (let no : ⊥ = cc in no)
-  splits (one_met {met = met} {all = all} d more) e = by (test d) refl e (splits more) where
-    by : (b : Bool) → test d ≡ b → cond b (Some d) (find test met) ≡ Some first → (find test met ≡ Some first → Splits Deep test all first) → Splits Deep test (d ∷ all) first
-    by true is found later = record { before = []; between = all; split = ap (λ x. x ∷ all) (same_Some d first found); none_before = λ shallow. All-nil (λ x. test x ≡ false) }
+module _ (test : Node Directive → Bool) (first : Node Directive) where
+  splits : (met : List (Node Directive)) → find test met ≡ Some first → Splits test met first
+  splits [] e = absurd (let no : ⊥ = cc in no)
+  splits (d ∷ more) e = by (test d) refl e (splits more) where
+    by : (b : Bool) → test d ≡ b → cond b (Some d) (find test more) ≡ Some first → (find test more ≡ Some first → Splits test more first) → Splits test (d ∷ more) first
+    by true is found later = record { before = []; between = more; split = ap (λ x. x ∷ more) (same_Some d first found); none_before = All-nil (λ x. test x ≡ false) }
     by false is found later =
         let rest = later found in
         record {
           before = d ∷ rest.before;
           between = rest.between;
           split = ap (λ l. d ∷ l) rest.split;
-          none_before = λ shallow. All-cons (λ x. test x ≡ false) d rest.before is (rest.none_before shallow);
+          none_before = All-cons (λ x. test x ≡ false) d rest.before is rest.none_before;
         }
-  splits (one_missed d deep more) e =
-      let rest = splits more e in
-      record { before = d ∷ rest.before; between = rest.between; split = ap (λ l. d ∷ l) rest.split; none_before = λ shallow. absurd (shallow deep) }
 
 -- what has a text has it as its label
 has_label : (d : Node Directive) (text : List ℕ) → has_text text d ≡ true → HasLabel d text (label_place d)
@@ -207,8 +204,8 @@ has_label d text e = by (label_of d) refl where
       by_value value is value.value.value refl (sym (ap (λ o. option_map_or (λ (value : Node Value). is_text text value.value.value) o false) is) ∙ e)
 
 -- a text that was met before breaks the rule, and the report of it is true
-module _ (document : ExecutableDocument) (met passed after : List (Node Directive)) (d : Node Directive) (text : List ℕ) (original location : Option SourceSpan)
-    (are_all : DefersIn document (passed ++ (d ∷ after))) (are_met : AreMetOf (LabelsStandTooDeep document) met passed) (h : HasLabel d text location)
+module _ (document : ExecutableDocument) (met later : List (Node Directive)) (d : Node Directive) (text : List ℕ) (original location : Option SourceSpan)
+    (are_met : DefersMetIn document (met ++ (d ∷ later))) (h : HasLabel d text location)
     (known : Some original ≡ first_place_in met text) where
   pub repetition_breaks : ¬ LabelHoldsBehind met d
   repetition_breaks holds =
@@ -222,16 +219,16 @@ module _ (document : ExecutableDocument) (met passed after : List (Node Directiv
   says_repetition =
       let first = first_found label_place (find (has_text text) met) original (sym known) in
       let at = found_at (has_text text) met first.0 first.1 in
-      let parts = splits (has_text text) first.0 are_met first.1 in
+      let parts = splits (has_text text) first.0 met first.1 in
       record {
         before = parts.before;
         first = first.0;
         between = parts.between;
         again = d;
-        after = after;
-        are_all = subst (DefersIn document) (ap (λ l. l ++ (d ∷ after)) parts.split ∙ append_assoc parts.before (first.0 ∷ parts.between) (d ∷ after)) are_all;
-        none_before = λ shallow x place in' has.
-            let no : has_text text x ≡ false = All-contains (λ y. has_text text y ≡ false) parts.before x (parts.none_before shallow) in' in
+        after = later;
+        are_met = subst (DefersMetIn document) (ap (λ l. l ++ (d ∷ later)) parts.split ∙ append_assoc parts.before (first.0 ∷ parts.between) (d ∷ later)) are_met;
+        none_before = λ x place in' has.
+            let no : has_text text x ≡ false = All-contains (λ y. has_text text y ≡ false) parts.before x parts.none_before in' in
             let yes : has_text text x ≡ true = text_is x text place has text ∙ same_bytes text in
             cc;
         first_has_it = subst (HasLabel first.0 text) (sym first.2) (has_label first.0 text at.3);
@@ -253,39 +250,25 @@ says_variable document passed after d value name are_all labelled is = record {
   at_is = refl;
 }
 
--- what was met, with more behind it
-met_then : {Deep : Type 0} {met all more others : List (Node Directive)} → AreMetOf Deep met all → AreMetOf Deep more others → AreMetOf Deep (met ++ more) (all ++ others)
-met_then none_met b = b
-met_then (one_met d a) b = one_met d (met_then a b)
-met_then (one_missed d deep a) b = one_missed d deep (met_then a b)
-
-all_missed : {Deep : Type 0} → Deep → (ds : List (Node Directive)) → AreMetOf Deep [] ds
-all_missed deep [] = none_met
-all_missed deep (d ∷ ds) = one_missed d deep (all_missed deep ds)
-
 -- one application more was passed
-module _ {S : Type 0} {document : ExecutableDocument} {passed : List (Node Directive)} {labels : IndexMap (Bor (List ℕ)) (Option SourceSpan) S} {old mid : List DiagnosticEntry}
-    (so_far : LabelsSoFar document passed labels old mid) (d : Node Directive) {labels' : IndexMap (Bor (List ℕ)) (Option SourceSpan) S}
-    (remembered : RemembersLabels labels' (so_far.met ++ d ∷ [])) where
+module _ {S : Type 0} {document : ExecutableDocument} {passed met : List (Node Directive)} {labels : IndexMap (Bor (List ℕ)) (Option SourceSpan) S} {old mid : List DiagnosticEntry}
+    (so_far : LabelsSoFar document passed met labels old mid) (d : Node Directive) {labels' : IndexMap (Bor (List ℕ)) (Option SourceSpan) S}
+    (remembered : RemembersLabels labels' (met ++ d ∷ [])) where
   -- with nothing to report
-  pub passed_well : LabelHoldsBehind so_far.met d → LabelsSoFar document (passed ++ d ∷ []) labels' old mid
+  pub passed_well : LabelHoldsBehind met d → LabelsSoFar document (passed ++ d ∷ []) (met ++ d ∷ []) labels' old mid
   passed_well holds = record {
-    met = so_far.met ++ d ∷ [];
-    are_met = met_then so_far.are_met (one_met d none_met);
     remembered = remembered;
-    reported = in_words_within IsLimitEntry (λ p. (labels_more so_far.met d).0 (p, holds), λ q. ((labels_more so_far.met d).1 q).0) so_far.reported;
+    reported = in_words_within IsLimitEntry (λ p. (labels_more met d).0 (p, holds), λ q. ((labels_more met d).1 q).0) so_far.reported;
     whole = λ added is none. ap (λ l. l ++ d ∷ []) (so_far.whole added is none);
   }
 
   -- with a report
-  pub passed_badly : (new : List DiagnosticEntry) (e : DiagnosticEntry) → new ≡ mid ++ e ∷ [] → ¬ LabelHoldsBehind so_far.met d → DeferTruth document e →
-      LabelsSoFar document (passed ++ d ∷ []) labels' old new
+  pub passed_badly : (new : List DiagnosticEntry) (e : DiagnosticEntry) → new ≡ mid ++ e ∷ [] → ¬ LabelHoldsBehind met d → DeferTruth document e →
+      LabelsSoFar document (passed ++ d ∷ []) (met ++ d ∷ []) labels' old new
   passed_badly new e is breaks says = record {
-    met = so_far.met ++ d ∷ [];
-    are_met = met_then so_far.are_met (one_met d none_met);
     remembered = remembered;
-    reported = in_words_within IsLimitEntry (labels_more so_far.met d)
-        (both_within IsLimitEntry so_far.reported (within IsLimitEntry (broken (DeferTruth document) (LabelHoldsBehind so_far.met d) mid new e is breaks says)));
+    reported = in_words_within IsLimitEntry (labels_more met d)
+        (both_within IsLimitEntry so_far.reported (within IsLimitEntry (broken (DeferTruth document) (LabelHoldsBehind met d) mid new e is breaks says)));
     whole = λ added added_is none.
         let before = so_far.reported.added in
         let same : added ≡ before ++ e ∷ [] =
@@ -295,16 +278,14 @@ module _ {S : Type 0} {document : ExecutableDocument} {passed : List (Node Direc
   }
 
 -- the rest of a set was missed, and a limit says so
-pub passed_to_limit : {S : Type 0} {document : ExecutableDocument} {passed : List (Node Directive)} {labels : IndexMap (Bor (List ℕ)) (Option SourceSpan) S} {old mid : List DiagnosticEntry} →
-    (so_far : LabelsSoFar document passed labels old mid) (missed : List (Node Directive)) (new : List DiagnosticEntry) →
+pub passed_to_limit : {S : Type 0} {document : ExecutableDocument} {passed met : List (Node Directive)} {labels : IndexMap (Bor (List ℕ)) (Option SourceSpan) S} {old mid : List DiagnosticEntry} →
+    (so_far : LabelsSoFar document passed met labels old mid) (missed : List (Node Directive)) (new : List DiagnosticEntry) →
     new ≡ mid ++ record { location = None; details = details.Diagnostic report.RecursionError } ∷ [] → LabelsStandTooDeep document →
-    LabelsSoFar document (passed ++ missed) labels old new
-passed_to_limit {document = document} {passed = before} {old = old} {mid = mid} so_far missed new is deep =
+    LabelsSoFar document (passed ++ missed) met labels old new
+passed_to_limit {document = document} {passed = before} {met = met} {old = old} {mid = mid} so_far missed new is deep =
     let e : DiagnosticEntry = record { location = None; details = details.Diagnostic report.RecursionError } in
-    let Rule = LabelsHoldAmong so_far.met in
+    let Rule = LabelsHoldAmong met in
     record {
-      met = so_far.met;
-      are_met = subst (λ l. AreMetOf (LabelsStandTooDeep document) l (before ++ missed)) (append-nil so_far.met) (met_then so_far.are_met (all_missed deep missed));
       remembered = so_far.remembered;
       reported = in_words_within IsLimitEntry (λ p. p.0, λ p. (p, p))
           (both_within IsLimitEntry so_far.reported (passed IsLimitEntry Rule (DeferTruth document) mid new e is limit_of_walk (inr (label_walk_passes deep))));
@@ -316,58 +297,58 @@ passed_to_limit {document = document} {passed = before} {old = old} {mid = mid} 
     }
 
 -- the reports so far stay
-pub kept_so_far : {S : Type 0} {document : ExecutableDocument} {passed : List (Node Directive)} {labels : IndexMap (Bor (List ℕ)) (Option SourceSpan) S} {old new : List DiagnosticEntry} →
-    LabelsSoFar document passed labels old new → KeepsReports (DeferTruth document) old new
+pub kept_so_far : {S : Type 0} {document : ExecutableDocument} {passed met : List (Node Directive)} {labels : IndexMap (Bor (List ℕ)) (Option SourceSpan) S} {old new : List DiagnosticEntry} →
+    LabelsSoFar document passed met labels old new → KeepsReports (DeferTruth document) old new
 kept_so_far so_far = kept_within IsLimitEntry so_far.reported
 
 -- one application more, by its label
-module _ {S : Type 0} {document : ExecutableDocument} {before : List (Node Directive)} {labels : IndexMap (Bor (List ℕ)) (Option SourceSpan) S} {old mid : List DiagnosticEntry}
-    (so_far : LabelsSoFar document before labels old mid) (d : Node Directive) where
+module _ {S : Type 0} {document : ExecutableDocument} {before met : List (Node Directive)} {labels : IndexMap (Bor (List ℕ)) (Option SourceSpan) S} {old mid : List DiagnosticEntry}
+    (so_far : LabelsSoFar document before met labels old mid) (d : Node Directive) where
   -- a report of it was pushed
-  pub reported_badly : {T E : Type 0} (r : Result T E) {labels' : IndexMap (Bor (List ℕ)) (Option SourceSpan) S} → RemembersLabels labels' (so_far.met ++ d ∷ []) →
+  pub reported_badly : {T E : Type 0} (r : Result T E) {labels' : IndexMap (Bor (List ℕ)) (Option SourceSpan) S} → RemembersLabels labels' (met ++ d ∷ []) →
       (new : List DiagnosticEntry) (e : DiagnosticEntry) → OnOk r (new ≡ mid ++ e ∷ []) → OnErr r (new ≡ mid) →
-      ¬ LabelHoldsBehind so_far.met d → DeferTruth document e →
-      MatchResult r (λ _. LabelsSoFar document (before ++ d ∷ []) labels' old new) (λ _. KeepsReports (DeferTruth document) old new)
+      ¬ LabelHoldsBehind met d → DeferTruth document e →
+      MatchResult r (λ _. LabelsSoFar document (before ++ d ∷ []) (met ++ d ∷ []) labels' old new) (λ _. KeepsReports (DeferTruth document) old new)
   reported_badly (Ok x) remembered new e ok err breaks says = passed_badly so_far d remembered new e ok breaks says
   reported_badly (Err x) remembered new e ok err breaks says = subst (KeepsReports (DeferTruth document) old) (sym err) (kept_so_far so_far)
 
   -- it has none
-  pub passed_unlabelled : label_of d ≡ None → LabelsSoFar document (before ++ d ∷ []) labels old mid
+  pub passed_unlabelled : label_of d ≡ None → LabelsSoFar document (before ++ d ∷ []) (met ++ d ∷ []) labels old mid
   passed_unlabelled none =
       let no_text : HasNoText d = λ value s some is. absurd (let no : ⊥ = cc in no) in
       passed_well so_far d (remembers_no_text so_far.remembered d no_text)
-      (no_text_holds so_far.met d no_text (λ value name some is. absurd (let no : ⊥ = cc in no)))
+      (no_text_holds met d no_text (λ value name some is. absurd (let no : ⊥ = cc in no)))
 
   module _ (value : Node Value) (labelled : label_of d ≡ Some value) where
     -- it is neither a text nor a variable
     pub passed_other : ((name : NameText) → value.value.value ≢ literal.Variable name) → ((s : String Global) → value.value.value ≢ literal.String s) →
-        LabelsSoFar document (before ++ d ∷ []) labels old mid
+        LabelsSoFar document (before ++ d ∷ []) (met ++ d ∷ []) labels old mid
     passed_other no_variable no_text =
         let given : (v : Node Value) → label_of d ≡ Some v → value ≡ v = λ v some. same_Some value v (sym labelled ∙ some) in
         let none : HasNoText d = λ v s some is. no_text s (ap (λ (w : Node Value). w.value.value) (given v some) ∙ is) in
         passed_well so_far d (remembers_no_text so_far.remembered d none)
-        (no_text_holds so_far.met d none (λ v name some is. no_variable name (ap (λ (w : Node Value). w.value.value) (given v some) ∙ is)))
+        (no_text_holds met d none (λ v name some is. no_variable name (ap (λ (w : Node Value). w.value.value) (given v some) ∙ is)))
 
     -- it is a variable
     pub reported_variable : {T E : Type 0} (r : Result T E) (name : NameText) → value.value.value ≡ literal.Variable name → (after : List (Node Directive)) →
         DefersIn document (before ++ (d ∷ after)) → (new : List DiagnosticEntry) →
         OnOk r (new ≡ mid ++ record { location = value.location; details = details.Build build.DeferLabelMustNotBeVariable } ∷ []) → OnErr r (new ≡ mid) →
-        MatchResult r (λ _. LabelsSoFar document (before ++ d ∷ []) labels old new) (λ _. KeepsReports (DeferTruth document) old new)
+        MatchResult r (λ _. LabelsSoFar document (before ++ d ∷ []) (met ++ d ∷ []) labels old new) (λ _. KeepsReports (DeferTruth document) old new)
     reported_variable r name is after are_all new ok err =
         let none : HasNoText d = λ v s some text.
         let given : value ≡ v = same_Some value v (sym labelled ∙ some) in
         let both : literal.Variable name ≡ literal.String s = sym is ∙ ap (λ (w : Node Value). w.value.value) given ∙ text in
         let no : ⊥ = cc in no in
-        reported_badly r (remembers_no_text so_far.remembered d none) new _ ok err (variable_breaks so_far.met d value name labelled is)
+        reported_badly r (remembers_no_text so_far.remembered d none) new _ ok err (variable_breaks met d value name labelled is)
         (inl (of_defer (says_variable document before after d value name are_all labelled is)))
 
   -- it is a text that was met
   pub reported_repetition : {T E : Type 0} (r : Result T E) (text : List ℕ) (original location : Option SourceSpan) (label : String Global) → HasLabel d text location →
-      Some original ≡ first_place_in so_far.met text → string_bytes label ≡ text → {labels' : IndexMap (Bor (List ℕ)) (Option SourceSpan) S} →
-      RemembersLabels labels' (so_far.met ++ d ∷ []) → (after : List (Node Directive)) → DefersIn document (before ++ (d ∷ after)) → (new : List DiagnosticEntry) →
+      Some original ≡ first_place_in met text → string_bytes label ≡ text → {labels' : IndexMap (Bor (List ℕ)) (Option SourceSpan) S} →
+      RemembersLabels labels' (met ++ d ∷ []) → (later : List (Node Directive)) → DefersMetIn document (met ++ (d ∷ later)) → (new : List DiagnosticEntry) →
       OnOk r (new ≡ mid ++ record { location = location; details = details.Build (build.DuplicateDeferLabel label original) } ∷ []) → OnErr r (new ≡ mid) →
-      MatchResult r (λ _. LabelsSoFar document (before ++ d ∷ []) labels' old new) (λ _. KeepsReports (DeferTruth document) old new)
-  reported_repetition r text original location label h known same remembered after are_all new ok err =
-      reported_badly r remembered new _ ok err (repetition_breaks document so_far.met before after d text original location are_all so_far.are_met h known)
+      MatchResult r (λ _. LabelsSoFar document (before ++ d ∷ []) (met ++ d ∷ []) labels' old new) (λ _. KeepsReports (DeferTruth document) old new)
+  reported_repetition r text original location label h known same remembered later are_met new ok err =
+      reported_badly r remembered new _ ok err (repetition_breaks document met later d text original location are_met h known)
       (inl (of_defer (subst (λ l. RepeatsLabel document l original location) (sym same)
-      (says_repetition document so_far.met before after d text original location are_all so_far.are_met h known))))
+      (says_repetition document met later d text original location are_met h known))))

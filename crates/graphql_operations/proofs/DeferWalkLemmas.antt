@@ -1,6 +1,6 @@
 -- The check of labels over a list of applications, over what a walk has met of a set, and over the sets of
 -- a document.
-use Rattle.std.proofs.Common.{◌≡◌, ℕ, ◌+◌, ◌<◌, ◌≤◌, Bool, Bor, List, [], ◌∷◌, ◌++◌, Option, Contains, IsTrue, IsFalse, length, get_or, map, take, refl, sym, ◌∙◌, ap, subst, append_assoc, None, arith}
+use Rattle.std.proofs.Common.{◌≡◌, ℕ, suc, ◌+◌, ◌<◌, ◌≤◌, Bool, Bor, List, [], ◌∷◌, ◌++◌, Option, Contains, IsTrue, IsFalse, length, get_or, map, take, refl, sym, ◌∙◌, ap, subst, append_assoc, None, arith}
 use Rattle.std.proofs.lemmas.List.{append-nil, map-append, take_all}
 use Rattle.std.proofs.lemmas.List.Concat.{flat_map-append}
 use Rattle.std.specs.List.{AllZip}
@@ -11,6 +11,7 @@ use Rattle.graphql_documents.specs.Defer.{DefersIn, DefersOn, HasFixedLabel, Lab
 use Rattle.graphql_diagnostics.specs.Diagnostics.{IsLimitEntry}
 use Rattle.graphql_diagnostics.specs.Reports.{KeepsReports, ReportsWithin}
 use Rattle.graphql_documents.specs.Selections.{fragments_of, selections_of}
+use Rattle.graphql_documents.specs.Walks.{DefersMet, DefersMetIn, walk_bound}
 use Rattle.graphql_diagnostics.specs.declared.data.DiagnosticData.TheVariants as report
 use Rattle.graphql_diagnostics.specs.declared.details.Details.TheVariants as details
 use Rattle.graphql_diagnostics.specs.declared.lists.DiagnosticEntry.{DiagnosticEntry}
@@ -21,9 +22,9 @@ use Rattle.graphql_nodes.specs.declared.nodes.Node.{Node}
 use Rattle.graphql_nodes.specs.declared.spans.SourceSpan.{SourceSpan}
 use Rattle.graphql_documents.proofs.ListLemmas.{more_is}
 use Rattle.graphql_variables.proofs.FirstPlaceLemmas.{next_at}
-use Rattle.graphql_operations.specs.DeferLabels.{DeferTruth, HasMetDefers, LabelsHoldAmong, LabelsSoFar, RemembersLabels, none_met}
+use Rattle.graphql_operations.specs.DeferLabels.{DeferTruth, HasMetDefers, LabelsHoldAmong, LabelsSoFar, RemembersLabels}
 use Rattle.graphql_operations.proofs.DeferLabelLemmas.{kept_so_far, passed_to_limit}
-use Rattle.graphql_operations.proofs.WrittenDeferLemmas.{has_defers, one_list_of_defers}
+use Rattle.graphql_operations.proofs.WrittenDeferLemmas.{has_defers, has_met, one_list_met, one_list_of_defers}
 
 -- a list of references, at its next
 module _ {X : Type 0} (xs : List (Bor X)) (i : ℕ) (x : Bor X) (in' : i < length xs) (item : x ≡ get_or xs i x) where
@@ -47,27 +48,36 @@ module _ {X : Type 0} (xs : List (Bor X)) (i : ℕ) (x : Bor X) (in' : i < lengt
 
 -- what a walk has met of a set, of whose applications this is the list
 module _ (document : ExecutableDocument) (set : SelectionSet) (stands : Contains (sets_of document) set) (here : List (Node Directive)) (on : DefersOn (selections_of set) here)
+    (found : List (Node Directive)) (done : Bool) (within : DefersMet (suc walk_bound) (selections_of set) found done)
     (met : List (Node Directive)) (complete : Bool) (h : HasMetDefers set met complete) where
   here_is : met ++ h.missed ≡ here
   here_is = one_list_of_defers h.order here on
 
+  found_is : met ≡ found
+  found_is = (one_list_met h.within found done within).0
+
+  pub at_met : (known later : List (Node Directive)) → DefersMetIn document (known ++ (found ++ later)) → DefersMetIn document (known ++ (met ++ later))
+  at_met known later all = subst (λ l. DefersMetIn document (known ++ (l ++ later))) (sym found_is) all
+
   pub at_set : (before after : List (Node Directive)) → DefersIn document (before ++ (here ++ after)) → DefersIn document (before ++ (met ++ (h.missed ++ after)))
   at_set before after all = subst (DefersIn document) (ap (λ l. before ++ l) (ap (λ l. l ++ after) (sym here_is) ∙ append_assoc met h.missed after)) all
 
-  module _ {S : Type 0} (before : List (Node Directive)) {labels : IndexMap (Bor (List ℕ)) (Option SourceSpan) S} {old mid : List DiagnosticEntry} (so_far : LabelsSoFar document (before ++ met) labels old mid) where
+  module _ {S : Type 0} (before known : List (Node Directive)) {labels : IndexMap (Bor (List ℕ)) (Option SourceSpan) S} {old mid : List DiagnosticEntry} (so_far : LabelsSoFar document (before ++ met) (known ++ met) labels old mid) where
     -- it came to its end
-    pub set_whole : IsTrue complete → LabelsSoFar document (before ++ here) labels old mid
+    pub set_whole : IsTrue complete → LabelsSoFar document (before ++ here) (known ++ found) labels old mid
     set_whole done =
         let same : met ≡ here = sym (append-nil met) ∙ ap (λ l. met ++ l) (sym (h.all done)) ∙ here_is in
-        subst (λ l. LabelsSoFar document (before ++ l) labels old mid) same so_far
+        subst (λ l. LabelsSoFar document (before ++ l) (known ++ found) labels old mid) same
+        (subst (λ l. LabelsSoFar document (before ++ met) (known ++ l) labels old mid) found_is so_far)
 
     -- it passed its bound
     pub set_cut : IsFalse complete → {T E : Type 0} (r : Result T E) (new : List DiagnosticEntry) →
         OnOk r (new ≡ mid ++ record { location = None; details = details.Diagnostic report.RecursionError } ∷ []) → OnErr r (new ≡ mid) →
-        MatchResult r (λ _. LabelsSoFar document (before ++ here) labels old new) (λ _. KeepsReports (DeferTruth document) old new)
+        MatchResult r (λ _. LabelsSoFar document (before ++ here) (known ++ found) labels old new) (λ _. KeepsReports (DeferTruth document) old new)
     set_cut cut (Ok x) new ok err =
-        subst (λ l. LabelsSoFar document l labels old new) (append_assoc before met h.missed ∙ ap (λ l. before ++ l) here_is)
-        (passed_to_limit so_far h.missed new ok (set, stands, h.bound cut (fragments_of document)))
+        subst (λ l. LabelsSoFar document l (known ++ found) labels old new) (append_assoc before met h.missed ∙ ap (λ l. before ++ l) here_is)
+        (subst (λ l. LabelsSoFar document ((before ++ met) ++ h.missed) (known ++ l) labels old new) found_is
+        (passed_to_limit so_far h.missed new ok (set, stands, h.bound cut (fragments_of document))))
     set_cut cut (Err x) new ok err = subst (KeepsReports (DeferTruth document) old) (sym err) (kept_so_far so_far)
 
 -- the applications of a set, and of the sets of a document
@@ -77,6 +87,21 @@ defers_of_set set = (has_defers (selections_of set)).0
 pub on_set : (set : SelectionSet) → DefersOn (selections_of set) (defers_of_set set)
 unfolding defers_of_set
 on_set set = (has_defers (selections_of set)).1
+
+-- what a walk meets of it
+abbrev MeetsOf : SelectionSet → List (Node Directive) → Type 0
+MeetsOf set part = (complete : Bool) × DefersMet (suc walk_bound) (selections_of set) part complete
+
+pub met_of_set : SelectionSet → List (Node Directive)
+met_of_set set = (has_met (suc walk_bound) (selections_of set)).0
+
+pub meets_set : (set : SelectionSet) → (complete : Bool) × DefersMet (suc walk_bound) (selections_of set) (met_of_set set) complete
+unfolding met_of_set
+meets_set set = let met = has_met (suc walk_bound) (selections_of set) in (met.1, met.2)
+
+each_met : (xs : List SelectionSet) → AllZip MeetsOf xs (map met_of_set xs)
+each_met [] = tt
+each_met (x ∷ xs) = (meets_set x, each_met xs)
 
 each_on : (xs : List SelectionSet) → AllZip (λ set part. DefersOn (selections_of set) part) xs (map defers_of_set xs)
 each_on [] = tt
@@ -89,27 +114,38 @@ parts_are (x ∷ xs) [] zip = absurd zip
 parts_are (x ∷ xs) (part ∷ parts) zip =
     ap (λ p. p ∷ parts) (one_list_of_defers zip.0 (defers_of_set x) (on_set x)) ∙ ap (λ l. defers_of_set x ∷ l) (parts_are xs parts zip.1)
 
-flat_parts : (xs : List SelectionSet) → flat_map (λ part. part) (map defers_of_set xs) ≡ flat_map defers_of_set xs
-flat_parts [] = refl
-flat_parts (x ∷ xs) = ap (λ l. defers_of_set x ++ l) (flat_parts xs)
+module _ (of : SelectionSet → List (Node Directive)) where
+  flat_parts : (xs : List SelectionSet) → flat_map (λ part. part) (map of xs) ≡ flat_map of xs
+  flat_parts [] = refl
+  flat_parts (x ∷ xs) = ap (λ l. of x ++ l) (flat_parts xs)
 
-all_in : (document : ExecutableDocument) → DefersIn document (flat_map defers_of_set (sets_of document))
-all_in document = (map defers_of_set (sets_of document), each_on (sets_of document), sym (flat_parts (sets_of document)))
+  flat_refs : (xs : List (Bor SelectionSet)) → flat_map (λ x. of x.now) xs ≡ flat_map of (map (λ b. b.now) xs)
+  flat_refs [] = refl
+  flat_refs (x ∷ xs) = ap (λ l. of x.now ++ l) (flat_refs xs)
 
-one_list_in : (document : ExecutableDocument) (applications : List (Node Directive)) → DefersIn document applications → applications ≡ flat_map defers_of_set (sets_of document)
-one_list_in document applications (parts, zip, is) = is ∙ ap (flat_map (λ part. part)) (parts_are (sets_of document) parts zip) ∙ flat_parts (sets_of document)
+pub all_in : (document : ExecutableDocument) → DefersIn document (flat_map defers_of_set (sets_of document))
+all_in document = (map defers_of_set (sets_of document), each_on (sets_of document), sym (flat_parts defers_of_set (sets_of document)))
 
--- the applications of sets that stand behind references
+all_met_in : (document : ExecutableDocument) → DefersMetIn document (flat_map met_of_set (sets_of document))
+all_met_in document = (map met_of_set (sets_of document), each_met (sets_of document), sym (flat_parts met_of_set (sets_of document)))
+
+pub one_list_in : (document : ExecutableDocument) (applications : List (Node Directive)) → DefersIn document applications → applications ≡ flat_map defers_of_set (sets_of document)
+one_list_in document applications (parts, zip, is) =
+    is ∙ ap (flat_map (λ part. part)) (parts_are (sets_of document) parts zip) ∙ flat_parts defers_of_set (sets_of document)
+
+-- the applications of sets that stand behind references, and those that are met of them
 abbrev pub defers_at : Bor SelectionSet → List (Node Directive)
 defers_at set = defers_of_set set.now
 
-flat_refs : (xs : List (Bor SelectionSet)) → flat_map defers_at xs ≡ flat_map defers_of_set (map (λ b. b.now) xs)
-flat_refs [] = refl
-flat_refs (x ∷ xs) = ap (λ l. defers_of_set x.now ++ l) (flat_refs xs)
+abbrev pub met_at : Bor SelectionSet → List (Node Directive)
+met_at set = met_of_set set.now
 
 module _ (document : ExecutableDocument) (xs : List (Bor SelectionSet)) (are : map (λ b. b.now) xs ≡ sets_of document) where
   all_at : flat_map defers_at xs ≡ flat_map defers_of_set (sets_of document)
-  all_at = flat_refs xs ∙ ap (flat_map defers_of_set) are
+  all_at = flat_refs defers_of_set xs ∙ ap (flat_map defers_of_set) are
+
+  all_met_at : flat_map met_at xs ≡ flat_map met_of_set (sets_of document)
+  all_met_at = flat_refs met_of_set xs ∙ ap (flat_map met_of_set) are
 
   module _ (i : ℕ) (x : Bor SelectionSet) (in' : i < length xs) (item : x ≡ get_or xs i x) where
     pub sets_behind : List (Node Directive)
@@ -122,14 +158,32 @@ module _ (document : ExecutableDocument) (xs : List (Bor SelectionSet)) (are : m
         (sym all_at ∙ ap (flat_map defers_at) (next_at xs i x in' item).split ∙ flat_map-append defers_at (take i xs) (x ∷ (next_at xs i x in' item).after))
         (all_in document)
 
-    pub sets_more : flat_map defers_at (take i xs) ++ defers_of_set x.now ≡ flat_map defers_at (take (i + 1) xs)
-    sets_more =
-        sym (ap (flat_map defers_at) (more_is xs i x in' item) ∙ flat_map-append defers_at (take i xs) (x ∷ []) ∙
-        ap (λ l. flat_map defers_at (take i xs) ++ l) (append-nil (defers_of_set x.now)))
+    pub met_behind : List (Node Directive)
+    met_behind = flat_map met_at (next_at xs i x in' item).after
+
+    pub met_in_document : DefersMetIn document (flat_map met_at (take i xs) ++ (met_of_set x.now ++ met_behind))
+    unfolding met_behind
+    met_in_document =
+        subst (DefersMetIn document)
+        (sym all_met_at ∙ ap (flat_map met_at) (next_at xs i x in' item).split ∙ flat_map-append met_at (take i xs) (x ∷ (next_at xs i x in' item).after))
+        (all_met_in document)
+
+    one_more_of : (of : SelectionSet → List (Node Directive)) → flat_map (λ y. of y.now) (take i xs) ++ of x.now ≡ flat_map (λ y. of y.now) (take (i + 1) xs)
+    one_more_of of =
+        let at : Bor SelectionSet → List (Node Directive) = λ y. of y.now in
+        sym (ap (flat_map at) (more_is xs i x in' item) ∙ flat_map-append at (take i xs) (x ∷ []) ∙
+        ap (λ l. flat_map at (take i xs) ++ l) (append-nil (of x.now)))
+
+    pub sets_more : {S : Type 0} {labels : IndexMap (Bor (List ℕ)) (Option SourceSpan) S} {old new : List DiagnosticEntry} →
+        LabelsSoFar document (flat_map defers_at (take i xs) ++ defers_of_set x.now) (flat_map met_at (take i xs) ++ met_of_set x.now) labels old new →
+        LabelsSoFar document (flat_map defers_at (take (i + 1) xs)) (flat_map met_at (take (i + 1) xs)) labels old new
+    sets_more {labels = labels} {old = old} {new = new} so_far =
+        subst (λ l. LabelsSoFar document l (flat_map met_at (take (i + 1) xs)) labels old new) (one_more_of defers_of_set)
+        (subst (λ l. LabelsSoFar document (flat_map defers_at (take i xs) ++ defers_of_set x.now) l labels old new) (one_more_of met_of_set) so_far)
 
   -- all sets were passed
   pub all_passed : {S : Type 0} {labels : IndexMap (Bor (List ℕ)) (Option SourceSpan) S} {old new : List DiagnosticEntry} (i : ℕ) → length xs ≤ i →
-      LabelsSoFar document (flat_map defers_at (take i xs)) labels old new → ReportsWithin IsLimitEntry (LabelsHold document) (DeferTruth document) old new
+      LabelsSoFar document (flat_map defers_at (take i xs)) (flat_map met_at (take i xs)) labels old new → ReportsWithin IsLimitEntry (LabelsHold document) (DeferTruth document) old new
   all_passed i past so_far =
       let r = so_far.reported in
       let all_is : flat_map defers_at (take i xs) ≡ flat_map defers_of_set (sets_of document) = ap (flat_map defers_at) (take_all i xs past) ∙ all_at in
@@ -147,10 +201,8 @@ module _ (document : ExecutableDocument) (xs : List (Bor SelectionSet)) (are : m
 
 -- nothing was passed yet
 pub nothing_passed : {S : Type 0} {document : ExecutableDocument} {labels : IndexMap (Bor (List ℕ)) (Option SourceSpan) S} (old : List DiagnosticEntry) →
-    RemembersLabels labels [] → LabelsSoFar document [] labels old old
+    RemembersLabels labels [] → LabelsSoFar document [] [] labels old old
 nothing_passed {document = document} old remembered = record {
-  met = [];
-  are_met = none_met;
   remembered = remembered;
   reported = record {
     added = [];

@@ -6,4 +6,5 @@ pub mod OperationDeferLemmas
 mod PossibleTypeLemmas
 pub mod SubscriptionLemmas
 pub mod UsedFragmentLemmas
+pub mod WrittenDeferLaws
 pub mod WrittenDeferLemmas

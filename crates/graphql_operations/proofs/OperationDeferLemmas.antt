@@ -177,7 +177,7 @@ module _ (fragments : Fragments) (o : Operation) (e : DiagnosticEntry) where
         type_is = refl;
         at_is = refl;
       })))
-  root_said other (inr l) = inr (rw (l.details_are, l.at_is) (root_walk_passes l.passes))
+  root_said other (inr l) = inr (rw (l.details_are, l.at_is) (root_walk_passes other l.passes))
 
   pub condition_said : o.operation_type ≡ operation_type.Subscription →
       RuleBreaks rule.CanBeDisabled fragments o.selection_set e ⊎ RuleLimit rule.CanBeDisabled fragments o.selection_set e → Truth
@@ -192,7 +192,7 @@ module _ (fragments : Fragments) (o : Operation) (e : DiagnosticEntry) where
         fixed = breaks.breaks;
         at_is = refl;
       })))
-  condition_said is (inr l) = inr (rw (l.details_are, l.at_is) (open_walk_passes l.passes))
+  condition_said is (inr l) = inr (rw (l.details_are, l.at_is) (open_walk_passes is l.passes))
 
 -- the reports and limits of an operation, as those of its document
 module _ (document : ExecutableDocument) (o : Node Operation) (in' : Contains (operations_of document) o) where
@@ -201,8 +201,8 @@ module _ (document : ExecutableDocument) (o : Node Operation) (in' : Contains (o
   of_the_report (is_fixed h) = of_defer (o, in', h)
 
   of_the_limit : {said : Details} {at : Option SourceSpan} → OperationDeferLimit (fragments_of document) o.value.value said at → DeferLimit document said at
-  of_the_limit (root_walk_passes p) = defer_root_walk_passes in' p
-  of_the_limit (open_walk_passes p) = condition_walk_passes in' p
+  of_the_limit (root_walk_passes other p) = defer_root_walk_passes in' other p
+  of_the_limit (open_walk_passes is p) = condition_walk_passes in' is p
 
   pub of_an_operations_defer : (e : DiagnosticEntry) → Truth (fragments_of document) o.value.value e →
       DeferReport document e.details e.location ⊎ DeferLimit document e.details e.location

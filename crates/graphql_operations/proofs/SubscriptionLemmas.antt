@@ -164,7 +164,7 @@ module _ (document : ExecutableDocument) (o : Node Operation) (xs : List (Bor Se
         let Holds = OperationSubscriptionHolds document o.value.value in
         let Q = SubscriptionTruth (fragments_of document) o in
         let both = checks_after_within IsLimitEntry r Roots Holds Q old mid new first
-        (checks_limit IsLimitEntry r Holds Q mid new _ ok err limit_of_walk (inr (subscription_walk_passes (h.bound cut)))) in
+        (checks_limit IsLimitEntry r Holds Q mid new _ ok err limit_of_walk (inr (subscription_walk_passes is_one (h.bound cut)))) in
         let same : (Roots × Holds) ↔ Holds = (λ p. p.1, λ holds. (listed_hold (holds is_one), holds)) in
         checks_words_within IsLimitEntry r (Roots × Holds) Holds Q Q old new (holds_on_ok r ((Roots × Holds) ↔ Holds) same) (λ e q. q) both
 

@@ -42,8 +42,8 @@ pub is_document_report : {schema : Option Schema} {document : ExecutableDocument
     FragmentUseReport document d at → DocumentReport schema document d at
 is_document_report (of_unused unused) = of_unused_fragment unused
 
-pub is_document_limit : {same : Field → Field → Bool} {schema : Option Schema} {document : ExecutableDocument} {d : Details} {at : Option SourceSpan} →
-    FragmentWalkLimit document d at → DocumentLimit same schema document d at
+pub is_document_limit : {schema : Option Schema} {document : ExecutableDocument} {d : Details} {at : Option SourceSpan} →
+    FragmentWalkLimit document d at → DocumentLimit schema document d at
 is_document_limit (fragment_walk_passes stands passes) = walk_of_fragments stands passes
 
 -- the selection is a spread of this name

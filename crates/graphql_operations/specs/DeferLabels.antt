@@ -1,16 +1,16 @@
 -- The steps of the check of the labels of `@defer`, for the contracts of its private functions.
-use Rattle.std.specs.Prelude.{◌≡◌, ◌⊎◌, ◌+◌, ◌<◌, ℕ, Bool, false, List, [], ◌∷◌, ◌++◌, Option, All, AllPairs, Contains, IsFalse, IsTrue, Result, MatchResult, codes, find, option_map, string_bytes}
+use Rattle.std.specs.Prelude.{◌≡◌, ◌⊎◌, ◌+◌, ◌<◌, ◌≤◌, ℕ, suc, Bool, false, List, [], ◌∷◌, ◌++◌, Option, All, AllPairs, Contains, IsFalse, IsTrue, Result, MatchResult, codes, find, option_map, string_bytes}
 use Rattle.std.specs.Borrow.{Bor}
 use Rattle.std.specs.Option.{option_and_then, option_map_or}
 use Rattle.std.specs.Str.{bytes_eq}
 use Rattle.indexmap.specs.IndexMap.{IndexMap, get_by}
-use Rattle.graphql_documents.specs.Defer.{DefersIn, DefersOn, HasFixedLabel, HaveDifferentLabels, argument_value}
+use Rattle.graphql_documents.specs.Defer.{DefersIn, DefersOn, HasFixedLabel, HaveDifferentLabels, argument_value, defers, sets_of}
 use Rattle.graphql_diagnostics.specs.DeferReports.{DeferReport}
 use Rattle.graphql_diagnostics.specs.Diagnostics.{IsLimitEntry, entries}
 use Rattle.graphql_diagnostics.specs.Limits.{DeferLimit}
 use Rattle.graphql_diagnostics.specs.Reports.{KeepsReports, ReportsWithin}
-use Rattle.graphql_documents.specs.Selections.{Fragments, selections_of}
-use Rattle.graphql_documents.specs.Walks.{Descent, LabelsStandTooDeep, PassesDepth, written_walk}
+use Rattle.graphql_documents.specs.Selections.{Fragments, Written, directives_of, selections_of}
+use Rattle.graphql_documents.specs.Walks.{DefersMet, DefersMetIn, Descent, PassesDepth, walk_bound, written_walk}
 use Rattle.graphql_diagnostics.specs.declared.lists.DiagnosticEntry.{DiagnosticEntry}
 use Rattle.graphql_diagnostics.specs.declared.lists.DiagnosticList.{DiagnosticList}
 use Rattle.graphql_documents.specs.declared.documents.directives.Directive.{Directive}
@@ -31,14 +31,15 @@ GoesBeyond limit depth selections =
 
 -- behind those that it had met, a walk that stands so deep has met these `@defer` applications; with
 -- those that it missed they are all that stand on the selections and below them. It missed some only
--- where it did not come to its end
-pub record MeetsDefers (limit depth : ℕ) (selections : List Selection) (old new : List (Node Directive)) (complete : Bool) : Type 0 where
+-- where it did not come to its end. They are those within its bound, where it has room for so many sets at least
+pub record MeetsDefers (limit depth least : ℕ) (selections : List Selection) (old new : List (Node Directive)) (complete : Bool) : Type 0 where
   pub met : List (Node Directive)
   pub missed : List (Node Directive)
   pub appended : new ≡ old ++ met
   pub order : DefersOn selections (met ++ missed)
   pub all : IsTrue complete → missed ≡ []
   pub bound : IsFalse complete → GoesBeyond limit depth selections
+  pub within : (room : ℕ) → least ≤ room → depth + room ≡ limit + 1 → DefersMet room selections met complete
 
 -- a whole walk over a set has met these
 pub record HasMetDefers (set : SelectionSet) (met : List (Node Directive)) (complete : Bool) : Type 0 where
@@ -46,6 +47,16 @@ pub record HasMetDefers (set : SelectionSet) (met : List (Node Directive)) (comp
   pub order : DefersOn (selections_of set) (met ++ missed)
   pub all : IsTrue complete → missed ≡ []
   pub bound : IsFalse complete → (fragments : Fragments) → PassesDepth fragments written_walk set
+  pub within : DefersMet (suc walk_bound) (selections_of set) met complete
+
+-- a `@defer` is written in the document: on a selection that stands in one of its sets, at any depth, spreads not
+-- followed
+pub record IsWrittenDefer (document : ExecutableDocument) (d : Node Directive) : Type 0 where
+  pub set : SelectionSet
+  pub s : Selection
+  pub of_document : Contains (sets_of document) set
+  pub written : Written set s
+  pub deferred : Contains (defers (directives_of s)) d
 
 -- the value is this text
 abbrev pub is_text : List ℕ → Value → Bool
@@ -72,12 +83,6 @@ first_place_in met text = option_map label_place (find (has_text text) met)
 pub record RemembersLabels {S : Type 0} (labels : IndexMap (Bor (List ℕ)) (Option SourceSpan) S) (met : List (Node Directive)) : Type 0 where
   pub look_up : (text : List ℕ) → get_by (λ k. bytes_eq text k.now) labels ≡ first_place_in met text
 
--- these are the others but for some that were missed, and none was missed but where labels stand too deep
-pub data AreMetOf (Deep : Type 0) : List (Node Directive) → List (Node Directive) → Type 0 where
-  none_met : AreMetOf Deep [] []
-  one_met : {met all : List (Node Directive)} (d : Node Directive) → AreMetOf Deep met all → AreMetOf Deep (d ∷ met) (d ∷ all)
-  one_missed : {met all : List (Node Directive)} (d : Node Directive) → Deep → AreMetOf Deep met all → AreMetOf Deep met (d ∷ all)
-
 -- the labels of these are texts and differ
 abbrev pub LabelsHoldAmong : List (Node Directive) → Type 0
 LabelsHoldAmong applications = AllPairs HaveDifferentLabels applications × All HasFixedLabel applications
@@ -86,27 +91,26 @@ LabelsHoldAmong applications = AllPairs HaveDifferentLabels applications × All 
 abbrev pub DeferTruth : ExecutableDocument → DiagnosticEntry → Type 0
 DeferTruth document e = DeferReport document e.details e.location ⊎ DeferLimit document e.details e.location
 
--- the check of labels has passed these applications, the first of the document: it has met them, or
--- reported that a walk passes its bound, remembers the labels that it has met, and has reported what is
--- wrong with them
-pub record LabelsSoFar {S : Type 0} (document : ExecutableDocument) (passed : List (Node Directive)) (labels : IndexMap (Bor (List ℕ)) (Option SourceSpan) S) (old new : List DiagnosticEntry) : Type 0 where
-  pub met : List (Node Directive)
-  pub are_met : AreMetOf (LabelsStandTooDeep document) met passed
+-- the check of labels has passed these applications, the first of the document, and has met those: all of them,
+-- or it has reported that a walk passes its bound. It remembers the labels that it has met, and has reported what
+-- is wrong with them
+pub record LabelsSoFar {S : Type 0} (document : ExecutableDocument) (passed met : List (Node Directive)) (labels : IndexMap (Bor (List ℕ)) (Option SourceSpan) S) (old new : List DiagnosticEntry) : Type 0 where
   pub remembered : RemembersLabels labels met
   pub reported : ReportsWithin IsLimitEntry (LabelsHoldAmong met) (DeferTruth document) old new
   pub whole : (added : List DiagnosticEntry) → new ≡ old ++ added → All (λ e. ¬ IsLimitEntry e) added → met ≡ passed
 
 -- a call that checks the labels of further applications, which stand in the document behind those that
--- were passed
-abbrev pub PassesLabelsIn : {S T E : Type 0} → Result T E → ExecutableDocument → List (Node Directive) → IndexMap (Bor (List ℕ)) (Option SourceSpan) S → IndexMap (Bor (List ℕ)) (Option SourceSpan) S → DiagnosticList → DiagnosticList → Type 0
-PassesLabelsIn result document applications labels labels' old new =
-    (passed after : List (Node Directive)) (first : List DiagnosticEntry) →
-    DefersIn document (passed ++ (applications ++ after)) → LabelsSoFar document passed labels first (entries old) →
+-- were passed, of which walks meet these
+abbrev pub PassesLabelsIn : {S T E : Type 0} → Result T E → ExecutableDocument → List (Node Directive) → List (Node Directive) → IndexMap (Bor (List ℕ)) (Option SourceSpan) S → IndexMap (Bor (List ℕ)) (Option SourceSpan) S → DiagnosticList → DiagnosticList → Type 0
+PassesLabelsIn result document applications found labels labels' old new =
+    (passed after met later : List (Node Directive)) (first : List DiagnosticEntry) →
+    DefersIn document (passed ++ (applications ++ after)) → DefersMetIn document (met ++ (found ++ later)) →
+    LabelsSoFar document passed met labels first (entries old) →
     MatchResult result
-    (λ _. LabelsSoFar document (passed ++ applications) labels' first (entries new))
+    (λ _. LabelsSoFar document (passed ++ applications) (met ++ found) labels' first (entries new))
     (λ _. KeepsReports (DeferTruth document) first (entries new))
 
--- the same, whatever the document is
+-- the same of applications that walks meet, whatever the document is
 abbrev pub PassesLabels : {S T E : Type 0} → Result T E → List (Node Directive) → IndexMap (Bor (List ℕ)) (Option SourceSpan) S → IndexMap (Bor (List ℕ)) (Option SourceSpan) S → DiagnosticList → DiagnosticList → Type 0
 PassesLabels result applications labels labels' old new =
-    (document : ExecutableDocument) → PassesLabelsIn result document applications labels labels' old new
+    (document : ExecutableDocument) → PassesLabelsIn result document applications applications labels labels' old new

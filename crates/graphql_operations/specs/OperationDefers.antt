@@ -1,5 +1,5 @@
 -- The rules of `@defer` in one operation, for the contracts of their checks.
-use Rattle.std.specs.Prelude.{◌≡◌, Bool, true, false, List, None, Option, All, Contains, IsTrue, codes}
+use Rattle.std.specs.Prelude.{◌≡◌, ◌≢◌, Bool, true, false, List, None, Option, All, Contains, IsTrue, codes}
 use Rattle.std.specs.Borrow.{Bor}
 use Rattle.std.specs.Str.{bytes_eq}
 use Rattle.graphql_documents.specs.Defer.{CanBeDisabled, Open, defers}
@@ -12,6 +12,7 @@ use Rattle.graphql_diagnostics.specs.declared.data.DiagnosticData.TheVariants as
 use Rattle.graphql_diagnostics.specs.declared.details.Details.TheVariants as details
 use Rattle.graphql_diagnostics.specs.declared.details.Details.{Details}
 use Rattle.graphql_diagnostics.specs.declared.lists.DiagnosticEntry.{DiagnosticEntry}
+use Rattle.graphql_documents.specs.declared.documents.definitions.OperationType.TheVariants as operation
 use Rattle.graphql_documents.specs.declared.documents.definitions.OperationType.{OperationType}
 use Rattle.graphql_documents.specs.declared.documents.directives.Directive.{Directive}
 use Rattle.graphql_documents.specs.declared.documents.executables.Operation.{Operation}
@@ -30,11 +31,11 @@ pub data OperationDeferReport (fragments : Fragments) (o : Operation) : Details 
   is_fixed : {at : Option SourceSpan} → HasFixedDefer fragments o at →
       OperationDeferReport fragments o (details.Build build.DeferInSubscriptionMustBeConditional) at
 
--- and a report of a limit: one of the walks passes its bound
+-- and a report of a limit: one of the walks that are taken of such an operation passes its bound
 pub data OperationDeferLimit (fragments : Fragments) (o : Operation) : Details → Option SourceSpan → Type 0 where
-  root_walk_passes : PassesDepth fragments root_walk o.selection_set →
+  root_walk_passes : o.operation_type ≢ operation.Query → PassesDepth fragments root_walk o.selection_set →
       OperationDeferLimit fragments o (details.Diagnostic report.RecursionError) None
-  open_walk_passes : PassesDepth fragments open_walk o.selection_set →
+  open_walk_passes : o.operation_type ≡ operation.Subscription → PassesDepth fragments open_walk o.selection_set →
       OperationDeferLimit fragments o (details.Diagnostic report.RecursionError) None
 
 -- the walk of a rule, and the selections that it meets

@@ -6,7 +6,7 @@ ghost use Rattle.graphql_documents.specs.contracts.documents.schemas.Schema as s
 
 use super::possible_types::PossibleTypes;
 use graphql_diagnostics::ValidationError;
-use graphql_documents::documents::{ExtendedType, Name, Node, Schema, VariableDefinition};
+use graphql_documents::documents::{ExtendedType, Name, Schema};
 use graphql_variables::VariablesByName;
 use indexmap::IndexSet;
 use std::alloc::Global;
@@ -30,44 +30,43 @@ impl<'a> OperationValidationContext<'a> {
     ghost use Rattle.graphql_nodes.specs.Names.{stands_on, with_name};
     ghost use Rattle.graphql_operations.specs.Contexts.{SharesWith, entered_names, schema_of, variables_of};
 
-    /// The context of an operation with these variables, which has gone into no fragment. The only error
-    /// is want of memory.
+    /// The context of an operation with these variables, which has gone into no fragment. It takes no
+    /// memory; what it holds later grows by this allocator.
     pub fn new(
         alloc: Global,
         schema: Option<&'a Schema>,
-        variables: &'a [Node<VariableDefinition>],
-    ) -> Result<OperationValidationContext<'a>, ValidationError>
-        ensures schema { IfOk result (λ context. schema_of context ≡ option_copied schema.entry) }
-        ensures variables { IfOk result (λ context. variables_of context ≡ variables.now) }
-        ensures entered { IfOk result (λ context. entered_names context ≡ []) }
+        variables: VariablesByName<'a>,
+    ) -> OperationValidationContext<'a>
+        ensures schema { schema_of result ≡ option_copied schema.entry }
+        ensures variables { variables_of result ≡ variables.entry }
+        ensures entered { entered_names result ≡ [] }
     {
-        Ok(OperationValidationContext {
+        OperationValidationContext {
             schema,
-            variables: VariablesByName::new(alloc, variables)?,
+            variables,
             entered: IndexSet::new(alloc),
             possible_types: None,
-        })
+        }
     }
 
     /// The context of the next operation of the document, with these variables: it has gone into no
-    /// fragment, and keeps what was found of the schema. The only error is want of memory.
+    /// fragment, and keeps what was found of the schema. It takes no memory.
     pub fn next(
         self,
         alloc: Global,
-        variables: &'a [Node<VariableDefinition>],
-    ) -> Result<OperationValidationContext<'a>, ValidationError>
-        ensures schema { IfOk result (λ context. schema_of context ≡ schema_of self.entry) }
-        ensures variables { IfOk result (λ context. variables_of context ≡ variables.now) }
-        ensures entered { IfOk result (λ context. entered_names context ≡ []) }
+        variables: VariablesByName<'a>,
+    ) -> OperationValidationContext<'a>
+        ensures schema { schema_of result ≡ schema_of self.entry }
+        ensures variables { variables_of result ≡ variables.entry }
+        ensures entered { entered_names result ≡ [] }
     {
-        let variables = VariablesByName::new(alloc, variables)?;
         let entered = IndexSet::new(alloc);
-        Ok(OperationValidationContext {
+        OperationValidationContext {
             schema: self.schema,
             variables,
             entered,
             possible_types: self.possible_types,
-        })
+        }
     }
 
     /// Goes into the fragment of this name, and answers whether it is the first time. The only error is

@@ -6,6 +6,7 @@
 mod context;
 mod defer;
 mod fragments_used;
+pub mod laws;
 mod possible_types;
 mod spread_types;
 mod subscription;

@@ -1,4 +1,6 @@
-use crate::build::{both, document, document_in_file, field_set, schema as build_schema};
+use crate::build::{
+    both, document, document_in_file, field_set, schema as build_schema, schema_in_file,
+};
 use crate::errors::RowError;
 use crate::rows::{Row, Subject};
 use graphql_documents::documents::{ExecutableDocument, FieldSet, FileId, Schema, Valid};
@@ -25,10 +27,17 @@ pub enum Validated {
 
 /// The example that the row writes.
 pub fn build_case(alloc: Global, row: &Row) -> Result<Case, RowError> {
-    let schema = build_schema(alloc, row.schema)?;
+    let schema = schema_of(alloc, row)?;
     let validated = built(alloc, &schema.0, row.subject);
     let (schema, validated) = both(Ok(schema), validated)?;
     Ok(Case { schema, validated })
+}
+
+fn schema_of(alloc: Global, row: &Row) -> Result<Valid<Schema>, RowError> {
+    match row.subject {
+        Subject::SchemaInFile => schema_in_file(alloc, row.schema, FILE),
+        _ => build_schema(alloc, row.schema),
+    }
 }
 
 fn built(alloc: Global, schema: &Schema, subject: Subject) -> Result<Validated, RowError> {
@@ -44,9 +53,10 @@ fn built(alloc: Global, schema: &Schema, subject: Subject) -> Result<Validated, 
             Ok(Validated::Document(built_by(alloc, builder, text)?))
         }
         Subject::Standalone(text) => Ok(Validated::Standalone(document(alloc, schema, text)?)),
-        Subject::Schema | Subject::SettledTypes | Subject::TypesSettledAgain => {
-            Ok(Validated::Schema)
-        }
+        Subject::Schema
+        | Subject::SchemaInFile
+        | Subject::SettledTypes
+        | Subject::TypesSettledAgain => Ok(Validated::Schema),
     }
 }
 

@@ -37,7 +37,9 @@ pub enum Subject {
     Standalone(&'static str),
     /// The schema, by `validate_schema`.
     Schema,
-    /// The same, and the types afterwards are shown.
+    /// The same, where the text is file 1.
+    SchemaInFile,
+    /// The schema, and the types afterwards are shown.
     SettledTypes,
     /// The same for a schema that was validated before.
     TypesSettledAgain,

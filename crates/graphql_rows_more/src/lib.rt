@@ -3,6 +3,7 @@
 
 ghost use Rattle.std.specs.Prelude.{◌≡◌, IfSome};
 
+pub mod many_faults;
 pub mod schemas;
 pub mod up_to_32;
 pub mod up_to_38;

@@ -1,6 +1,8 @@
 -- Inline fragments, spreads and fragments, in the words of what is asked of them.
-use Rattle.std.proofs.Common.{◌≡◌, ◌↔◌, ◌⊎◌, inl, inr, ◌+◌, ◌<◌, List, ◌++◌, length, Bool, false, Option, None, Some, Result, Ok, Err, IfOk, refl, sym, ap, ◌∙◌, subst, arith}
-use Rattle.std.proofs.lemmas.List.{append-nil, length-append}
+use Rattle.std.proofs.Common.{◌≡◌, ◌↔◌, ◌⊎◌, inl, inr, ◌+◌, ◌<◌, ◌≤◌, List, [], ◌∷◌, ◌++◌, All, append_assoc, length, Bool, IsTrue, false, Option, None, Some, Result, Ok, Err, IfOk, refl, sym, ap, ◌∙◌, subst, arith}
+use Rattle.std.proofs.lemmas.List.{append-nil, append_cancel_left, length-append}
+use Rattle.std.proofs.lemmas.List.Elements.{All-nil}
+use Rattle.graphql_documents.proofs.ListLemmas.{All-append_right}
 use Rattle.std.proofs.lemmas.Option.{none-some, same_Some}
 use Rattle.graphql_diagnostics.specs.Diagnostics.{IsDiagnostic, IsLimitEntry}
 use Rattle.graphql_documents.specs.Directives.{ApplicationsHold}
@@ -41,11 +43,55 @@ kept_second {old = old} {mid = mid} {new = new} a b same =
     let all : length new ≡ length old = ap length same in
     omega (arith, first, second, all)
 
+nothing_added : {Entry : Type 0} (xs : List Entry) → length xs ≡ 0 → xs ≡ []
+nothing_added [] e = refl
+nothing_added (x ∷ xs) e = absurd (let no : ⊥ = omega (arith, e) in no)
+
+-- where the list is no longer, the rule holds
+pub silent_rule : {Entry P : Type 0} {Q : Entry → Type 0} {old new : List Entry} → Reports P Q old new → length new ≤ length old → P
+silent_rule {old = old} {new = new} r short =
+    let all : length new ≡ length old + length r.added = ap length r.appended ∙ length-append old r.added in
+    r.silent.0 (nothing_added r.added (omega (arith, all, short)))
+
+-- two rules, the second within a bound: where nothing was added both hold; and where both hold and none of what was
+-- added is of a limit, nothing was added
+module _ {Entry P R : Type 0} {Q Q' IsOfLimit : Entry → Type 0} {old mid new : List Entry} (a : Reports P Q old mid) (b : ReportsWithin IsOfLimit R Q' mid new) where
+  pub both_hold : length new ≡ length old → P × R
+  both_hold same =
+      let first : length mid ≡ length old + length a.added = ap length a.appended ∙ length-append old a.added in
+      let second : length new ≡ length mid + length b.added = ap length b.appended ∙ length-append mid b.added in
+      let none_first = nothing_added a.added (omega (arith, first, second, same)) in
+      let none_second = nothing_added b.added (omega (arith, first, second, same)) in
+      (a.silent.0 none_first, (b.silent (subst (All (λ e. ¬ IsOfLimit e)) (sym none_second) (All-nil (λ e. ¬ IsOfLimit e)))).0 none_second)
+
+  pub none_added : {Q'' : Entry → Type 0} {start : List Entry} → KeepsReports Q'' start old → KeepsReports (λ e. ¬ IsOfLimit e) start new → P → R → length new ≡ length old
+  none_added {start = start} before kept p r =
+      let none_first = a.silent.1 p in
+      let all : new ≡ start ++ (before.added ++ (a.added ++ b.added)) =
+      b.appended ∙ ap (λ l. l ++ b.added) (a.appended ∙ ap (λ l. l ++ a.added) before.appended) ∙ append_assoc (start ++ before.added) a.added b.added ∙
+      append_assoc start before.added (a.added ++ b.added) in
+      let same : kept.added ≡ before.added ++ (a.added ++ b.added) = append_cancel_left start kept.added (before.added ++ (a.added ++ b.added)) (sym kept.appended ∙ all) in
+      let each = All-append_right (λ e. ¬ IsOfLimit e) a.added b.added
+      (All-append_right (λ e. ¬ IsOfLimit e) before.added (a.added ++ b.added) (subst (All (λ e. ¬ IsOfLimit e)) same kept.each)) in
+      let none_second = (b.silent each).1 r in
+      let first : length mid ≡ length old + length a.added = ap length a.appended ∙ length-append old a.added in
+      let second : length new ≡ length mid + length b.added = ap length b.appended ∙ length-append mid b.added in
+      let zero_first : length a.added ≡ 0 = ap length none_first in
+      let zero_second : length b.added ≡ 0 = ap length none_second in
+      omega (arith, first, second, zero_first, zero_second)
+
 -- a check that says no, of a rule that is stronger
 pub says_no : {E : Type 0} (result : Result Bool E) (P R : Type 0) → (R → P) → IfOk result (λ goes_on. goes_on ≡ false → ¬ P) →
     IfOk result (λ goes_on. goes_on ≡ false → ¬ R)
 says_no (Ok x) P R needs says = λ is r. says is (needs r)
 says_no (Err e) P R needs says = says
+
+-- what is known of the condition of an inline fragment
+pub known_target : {E : Type 0} (result : Result Bool E) (schema : Option Schema) (given : Option NameText) (condition : NameText) → given ≡ Some condition →
+    IfOk result (λ goes_on. IsTrue goes_on → TargetHolds schema condition) →
+    IfOk result (λ goes_on. IsTrue goes_on → (other : NameText) → given ≡ Some other → TargetHolds schema other)
+known_target (Ok x) schema given condition is known = λ yes other is'. subst (TargetHolds schema) (same_Some condition other (sym is ∙ is')) (known yes)
+known_target (Err e) schema given condition is known = known
 
 -- without a schema, and where the type around is not known, nothing is asked of a condition
 module _ (schema : Option Schema) (condition : NameText) where

@@ -11,7 +11,7 @@ use Rattle.graphql_documents.specs.Implementations.{FieldList}
 use Rattle.graphql_nodes.specs.Names.{NameText, IsFreeName, same_name}
 use Rattle.graphql_documents.specs.Schemas.{is_input_type, is_output_type, type_definition}
 use Rattle.graphql_documents.specs.SchemaRules.{ArgumentDefinitionsHold, DirectiveDefinitionHolds, FieldDefinitionHolds, FieldDefinitionsHold, InputValueDefinitionHolds, NamesType, SchemaHolds, TypeHolds}
-use Rattle.graphql_documents.specs.TypeMaps.{IsSettledSchema, OnlyScalarsHaveBuiltInNames, argument_types, built_in_scalar_names, field_types, names_built_in_scalar, types_referred, types_referred_by, uses_type}
+use Rattle.graphql_documents.specs.TypeMaps.{IsSettledSchema, argument_types, built_in_scalar_names, field_types, names_built_in_scalar, types_referred, types_referred_by, uses_type}
 use Rattle.graphql_documents.specs.TypeReferences.{inner_named_type}
 use Rattle.graphql_documents.specs.declared.documents.components.Component.{Component}
 use Rattle.graphql_documents.specs.declared.documents.definitions.DirectiveDefinition.{DirectiveDefinition}
@@ -24,6 +24,7 @@ use Rattle.graphql_documents.specs.declared.documents.schemas.Schema.{Schema}
 use Rattle.graphql_documents.specs.declared.documents.schemas.ExtendedType.{ExtendedType}
 use Rattle.graphql_documents.specs.declared.documents.schemas.ExtendedType.TheVariants.{Object, Interface, InputObject}
 use Rattle.graphql_nodes.proofs.NameLemmas.{same_name_back}
+use Rattle.graphql_schema_laws.specs.BuiltInNames.{BuiltInNamesAreOfScalars}
 use Rattle.graphql_schema_laws.proofs.SettledLaws.{Entry, same_references, used_has}
 use Rattle.graphql_schema_laws.proofs.SettledTypeLemmas.{other_type}
 
@@ -36,7 +37,7 @@ some_is_there : {X : Type 0} (o : Option X) (x : X) → o ≡ Some x → IsSome 
 some_is_there o x is = rw is refl
 
 -- where a key passes, a look-up finds something
-some_looked_up : {K V : Type 0} (test : K → Bool) (xs : List (K × V)) → list_any (λ (e : K × V). test e.0) xs ≡ true → IsSome (lookup test xs)
+pub some_looked_up : {K V : Type 0} (test : K → Bool) (xs : List (K × V)) → list_any (λ (e : K × V). test e.0) xs ≡ true → IsSome (lookup test xs)
 some_looked_up test [] any = absurd (let no : ⊥ = cc in no)
 some_looked_up {K} {V} test (x ∷ xs) any = by (test x.0) refl (some_looked_up test xs) where
   by : (b : Bool) → test x.0 ≡ b → (list_any (λ (e : K × V). test e.0) xs ≡ true → IsSome (lookup test xs)) → IsSome (lookup test (x ∷ xs))
@@ -91,7 +92,7 @@ module _ (schema : Schema) where
       (All-weaker (λ (entry : Entry). IsFreeName entry.0 × TypeHolds schema entry.1) (λ entry. All Known (types_referred_by entry.1))
       (λ entry holds. type_known entry.1 holds.1) schema.types.entries holds.types))
 
-module _ (schema settled : Schema) (only : OnlyScalarsHaveBuiltInNames schema) (is : IsSettledSchema schema settled) where
+module _ (schema settled : Schema) (scalars : BuiltInNamesAreOfScalars schema) (is : IsSettledSchema schema settled) where
   -- one of the five names that the schema uses
   named_is_defined : (name : NameText) → Contains (types_referred schema) name → names_built_in_scalar name.text ≡ true → IsSome (type_definition settled name)
   named_is_defined name (k, within, at) named =
@@ -100,14 +101,14 @@ module _ (schema settled : Schema) (only : OnlyScalarsHaveBuiltInNames schema) (
       let (i, text, among, there, same) = Any-from_list_any (bytes_eq name.text) built_in_scalar_names named in
       let stands : Contains built_in_scalar_names name.text =
       subst (Contains built_in_scalar_names) (sym ((bytes_eq-Decides name.text text).0 same)) (i, among, there) in
-      let (j, entry, in_types, found, is_name) = Any-from_list_any (λ (entry : Entry). bytes_eq entry.0.text name.text) settled.types.entries (used_has schema settled only is name.text stands used) in
+      let (j, entry, in_types, found, is_name) = Any-from_list_any (λ (entry : Entry). bytes_eq entry.0.text name.text) settled.types.entries (used_has schema settled scalars is name.text stands used) in
       some_looked_up (same_name name) settled.types.entries
       (list_any-from_Any (λ (entry : Entry). same_name name entry.0) settled.types.entries (j, entry, in_types, found, same_name_back entry.0 name is_name))
 
   pub referred_is_defined : SchemaHolds schema → (name : NameText) → Contains (types_referred settled) name → IsSome (type_definition settled name)
   referred_is_defined holds name stands = by (names_built_in_scalar name.text) refl (All-contains (Known schema) (types_referred schema) name (all_known schema holds) stood) where
     stood : Contains (types_referred schema) name
-    stood = subst (λ l. Contains l name) (same_references schema settled only is) stands
+    stood = subst (λ l. Contains l name) (same_references schema settled scalars is) stands
 
     by : (b : Bool) → names_built_in_scalar name.text ≡ b → Known schema name → IsSome (type_definition settled name)
     by true named found = named_is_defined name stood named

@@ -14,6 +14,7 @@ use Rattle.graphql_documents.specs.declared.documents.schemas.Schema.{Schema}
 use Rattle.graphql_documents.specs.declared.documents.schemas.ExtendedType.{ExtendedType}
 use Rattle.graphql_documents.specs.declared.documents.schemas.ExtendedType.TheVariants.{Scalar}
 use Rattle.graphql_documents.proofs.ListLemmas.{kept_by_filter, all_pass, each_standing, stands_first, stands_behind}
+use Rattle.graphql_schema_laws.specs.BuiltInNames.{BuiltInNamesAreOfScalars}
 
 -- an entry of a type map
 abbrev pub Entry : Type 0
@@ -36,20 +37,27 @@ same_kept test (e ∷ es) none =
       by true stays same = rw stays (ap (λ l. types_referred_by e.1 ++ l) same)
       by false goes same = rw (goes, All-head (λ entry. test entry ≡ false → types_referred_by entry.1 ≡ []) e es none goes) same
 
-unused_is_scalar : (b n u s : Bool) → (n ≡ true → s ≡ true) → not (b && (n && not u)) ≡ false → s ≡ true
-unused_is_scalar b true u s only goes = only refl
-unused_is_scalar true false u s only goes = absurd (let no : ⊥ = cc in no)
-unused_is_scalar false false u s only goes = absurd (let no : ⊥ = cc in no)
+-- so it is where only scalars stand under those names
+pub only_built_in : (schema : Schema) → OnlyScalarsHaveBuiltInNames schema → BuiltInNamesAreOfScalars schema
+only_built_in schema only =
+    All-weaker (λ (entry : Entry). IsTrue (names_built_in_scalar entry.0.text) → IsTrue (is_scalar_type entry.1))
+    (λ (entry : Entry). IsTrue (is_built_in entry.1) → IsTrue (names_built_in_scalar entry.0.text) → IsTrue (is_scalar_type entry.1))
+    (λ entry scalar built_in. scalar) schema.types.entries only
+
+unused_is_scalar : (b n u s : Bool) → (b ≡ true → n ≡ true → s ≡ true) → not (b && (n && not u)) ≡ false → s ≡ true
+unused_is_scalar true true u s scalar goes = scalar refl refl
+unused_is_scalar true false u s scalar goes = absurd (let no : ⊥ = cc in no)
+unused_is_scalar false n u s scalar goes = absurd (let no : ⊥ = cc in no)
 
 -- what goes refers to nothing
-kept_refer : (schema : Schema) → OnlyScalarsHaveBuiltInNames schema → refers (kept_types schema) ≡ refers schema.types.entries
-kept_refer schema only =
+kept_refer : (schema : Schema) → BuiltInNamesAreOfScalars schema → refers (kept_types schema) ≡ refers schema.types.entries
+kept_refer schema scalars =
     same_kept (λ entry. not (is_unused_built_in schema entry)) schema.types.entries
-    (All-weaker (λ (entry : Entry). IsTrue (names_built_in_scalar entry.0.text) → IsTrue (is_scalar_type entry.1))
+    (All-weaker (λ (entry : Entry). IsTrue (is_built_in entry.1) → IsTrue (names_built_in_scalar entry.0.text) → IsTrue (is_scalar_type entry.1))
     (λ entry. not (is_unused_built_in schema entry) ≡ false → types_referred_by entry.1 ≡ [])
     (λ entry scalar goes. scalar_refers_to_none entry.1
     (unused_is_scalar (is_built_in entry.1) (names_built_in_scalar entry.0.text) (uses_type schema entry.0.text) (is_scalar_type entry.1) scalar goes))
-    schema.types.entries only)
+    schema.types.entries scalars)
 
 -- what comes refers to nothing
 added_refer : (texts : List (List ℕ)) (added : List Entry) → AllZip IsAddedScalar texts added → refers added ≡ []
@@ -58,20 +66,20 @@ added_refer [] (e ∷ es) each = absurd each
 added_refer (t ∷ ts) [] each = absurd each
 added_refer (t ∷ ts) (e ∷ es) each = rw each.0.is_scalar (added_refer ts es each.1)
 
-pub same_references : (schema settled : Schema) → OnlyScalarsHaveBuiltInNames schema → IsSettledSchema schema settled →
+pub same_references : (schema settled : Schema) → BuiltInNamesAreOfScalars schema → IsSettledSchema schema settled →
     types_referred settled ≡ types_referred schema
-same_references schema settled only is =
+same_references schema settled scalars is =
     let (added, entries, each) = is.types in
     let types : refers settled.types.entries ≡ refers schema.types.entries =
     ap refers entries ∙ flat_map-append (λ (entry : Entry). types_referred_by entry.1) (kept_types schema) added ∙
-    ap (λ l. refers (kept_types schema) ++ l) (added_refer (missing_scalars schema) added each) ∙ append-nil (refers (kept_types schema)) ∙ kept_refer schema only in
+    ap (λ l. refers (kept_types schema) ++ l) (added_refer (missing_scalars schema) added each) ∙ append-nil (refers (kept_types schema)) ∙ kept_refer schema scalars in
     ap (λ l. flat_map (λ entry. argument_types entry.1.value.value.arguments.items) settled.directive_definitions.entries ++ l) types ∙
     ap (λ d. flat_map (λ entry. argument_types entry.1.value.value.arguments.items) d.entries ++ refers schema.types.entries) is.directives
 
 -- so the same types are used
-same_uses : (schema settled : Schema) (text : List ℕ) → OnlyScalarsHaveBuiltInNames schema → IsSettledSchema schema settled →
+same_uses : (schema settled : Schema) (text : List ℕ) → BuiltInNamesAreOfScalars schema → IsSettledSchema schema settled →
     uses_type settled text ≡ uses_type schema text
-same_uses schema settled text only is = ap (λ l. list_any (λ (name : NameText). bytes_eq name.text text) l) (same_references schema settled only is)
+same_uses schema settled text scalars is = ap (λ l. list_any (λ (name : NameText). bytes_eq name.text text) l) (same_references schema settled scalars is)
 
 -- each text that is added passes a test that all missing ones pass
 pub added_pass : (P : List ℕ → Type 0) (texts : List (List ℕ)) (added : List Entry) → AllZip IsAddedScalar texts added → All P texts → All (λ e. P e.0.text) added
@@ -91,13 +99,13 @@ missing_used schema =
       first_of_both true b e = refl
       first_of_both false b e = absurd (let no : ⊥ = cc in no)
 
-used_stays : (b n u : Bool) → u ≡ true → not (b && (n && not u)) ≡ true
+pub used_stays : (b n u : Bool) → u ≡ true → not (b && (n && not u)) ≡ true
 used_stays false n u e = refl
 used_stays true false u e = refl
 used_stays true true u e = rw e refl
 
 -- for each text, one of the added has it
-added_for : (texts : List (List ℕ)) (added : List Entry) → AllZip IsAddedScalar texts added → All (λ text. (entry : Entry) × Contains added entry × (entry.0.text ≡ text)) texts
+pub added_for : (texts : List (List ℕ)) (added : List Entry) → AllZip IsAddedScalar texts added → All (λ text. (entry : Entry) × Contains added entry × (entry.0.text ≡ text)) texts
 added_for [] added each = All-nil (λ text. (entry : Entry) × Contains added entry × (entry.0.text ≡ text))
 added_for (t ∷ ts) [] each = absurd each
 added_for (t ∷ ts) (e ∷ es) each =
@@ -105,7 +113,7 @@ added_for (t ∷ ts) (e ∷ es) each =
     (All-weaker (λ text. (entry : Entry) × Contains es entry × (entry.0.text ≡ text)) (λ text. (entry : Entry) × Contains (e ∷ es) entry × (entry.0.text ≡ text))
     (λ text found. (found.0, stands_behind e es found.0 found.1, found.2)) ts (added_for ts es each.1))
 
-none_added : (texts : List (List ℕ)) (added : List Entry) → texts ≡ [] → AllZip IsAddedScalar texts added → added ≡ []
+pub none_added : (texts : List (List ℕ)) (added : List Entry) → texts ≡ [] → AllZip IsAddedScalar texts added → added ≡ []
 none_added [] [] e each = refl
 none_added [] (y ∷ ys) e each = absurd each
 none_added (x ∷ xs) added e each = absurd (let no : ⊥ = cc in no)
@@ -116,7 +124,7 @@ none_pass p [] all = refl
 none_pass p (x ∷ xs) all = rw (All-head (λ x. p x ≡ false) x xs all) (none_pass p xs (All-tail (λ x. p x ≡ false) x xs all))
 
 -- a schema, settled
-module _ (schema settled : Schema) (only : OnlyScalarsHaveBuiltInNames schema) (is : IsSettledSchema schema settled) where
+module _ (schema settled : Schema) (scalars : BuiltInNamesAreOfScalars schema) (is : IsSettledSchema schema settled) where
   abbrev added : List Entry
   added = is.types.0
 
@@ -126,14 +134,14 @@ module _ (schema settled : Schema) (only : OnlyScalarsHaveBuiltInNames schema) (
   kept_stay : All Stays (kept_types schema)
   kept_stay =
       All-weaker (λ entry. not (is_unused_built_in schema entry) ≡ true) Stays
-      (λ entry stays. ap (λ u. not (is_built_in entry.1 && (names_built_in_scalar entry.0.text && not u))) (same_uses schema settled entry.0.text only is) ∙ stays)
+      (λ entry stays. ap (λ u. not (is_built_in entry.1 && (names_built_in_scalar entry.0.text && not u))) (same_uses schema settled entry.0.text scalars is) ∙ stays)
       (kept_types schema) (filter_passes (λ entry. not (is_unused_built_in schema entry)) schema.types.entries)
 
   added_stay : All Stays added
   added_stay =
       All-weaker (λ (entry : Entry). uses_type schema entry.0.text ≡ true) Stays
       (λ entry used. used_stays (is_built_in entry.1) (names_built_in_scalar entry.0.text) (uses_type settled entry.0.text)
-      (same_uses schema settled entry.0.text only is ∙ used))
+      (same_uses schema settled entry.0.text scalars is ∙ used))
       added (added_pass (λ text. uses_type schema text ≡ true) (missing_scalars schema) added is.types.2 (missing_used schema))
 
   all_kept : kept_types settled ≡ settled.types.entries
@@ -167,8 +175,8 @@ module _ (schema settled : Schema) (only : OnlyScalarsHaveBuiltInNames schema) (
       (each_standing (λ text. (uses_type settled text && not (has_type settled text)) ≡ false) built_in_scalar_names
       (λ text named. by text named (uses_type schema text) refl)) where
         by : (text : List ℕ) → Contains built_in_scalar_names text → (b : Bool) → uses_type schema text ≡ b → (uses_type settled text && not (has_type settled text)) ≡ false
-        by text named true used = rw (same_uses schema settled text only is, used, used_has text named used) refl
-        by text named false unused = rw (same_uses schema settled text only is, unused) refl
+        by text named true used = rw (same_uses schema settled text scalars is, used, used_has text named used) refl
+        by text named false unused = rw (same_uses schema settled text scalars is, unused) refl
 
   pub settled_again : (again : List Entry) → IsSettled settled again → again ≡ settled.types.entries
   settled_again again (further, entries, each) =

@@ -27,7 +27,7 @@ module _ {K V : Type 0} (test : K → Bool) where
   found_in_front [] ys all = none_found ys all
   found_in_front (x ∷ xs) ys all = ap (λ o. cond (test x.0) (Some x.1) o) (found_in_front xs ys all)
 
-  found_in_filter : (p : K × V → Bool) (xs : List (K × V)) → All (λ e. test e.0 ≡ true → p e ≡ true) xs → lookup test (filter p xs) ≡ lookup test xs
+  pub found_in_filter : (p : K × V → Bool) (xs : List (K × V)) → All (λ e. test e.0 ≡ true → p e ≡ true) xs → lookup test (filter p xs) ≡ lookup test xs
   found_in_filter p [] all = refl
   found_in_filter p (x ∷ xs) all = by (p x) refl (test x.0) refl (found_in_filter p xs (All-tail (λ (e : K × V). test e.0 ≡ true → p e ≡ true) x xs all)) where
     by : (b : Bool) → p x ≡ b → (c : Bool) → test x.0 ≡ c → lookup test (filter p xs) ≡ lookup test xs → lookup test (filter p (x ∷ xs)) ≡ lookup test (x ∷ xs)
@@ -41,7 +41,7 @@ known_names =
     each_standing (λ text. names_built_in_scalar text ≡ true) built_in_scalar_names
     (λ text stands. list_any-from_Any (bytes_eq text) built_in_scalar_names (stands.0, text, stands.1, stands.2, (bytes_eq-Decides text text).1 refl))
 
-missing_known : (schema : Schema) → All (λ text. names_built_in_scalar text ≡ true) (missing_scalars schema)
+pub missing_known : (schema : Schema) → All (λ text. names_built_in_scalar text ≡ true) (missing_scalars schema)
 missing_known schema = All-filter (λ text. uses_type schema text && not (has_type schema text)) (λ text. names_built_in_scalar text ≡ true) built_in_scalar_names known_names
 
 -- a scalar that was added under one of the five names
@@ -50,7 +50,7 @@ pub record IsAdded (entry : Entry) : Type 0 where
   pub known : names_built_in_scalar text ≡ true
   pub is_added : IsAddedScalar text entry
 
-each_added : (texts : List (List ℕ)) (added : List Entry) → AllZip IsAddedScalar texts added → All (λ text. names_built_in_scalar text ≡ true) texts → All IsAdded added
+pub each_added : (texts : List (List ℕ)) (added : List Entry) → AllZip IsAddedScalar texts added → All (λ text. names_built_in_scalar text ≡ true) texts → All IsAdded added
 each_added [] [] zip all = All-nil IsAdded
 each_added [] (e ∷ es) zip all = absurd zip
 each_added (t ∷ ts) [] zip all = absurd zip

@@ -1,1 +1,2 @@
+pub mod BuiltInNames
 pub mod InputFields

@@ -5,6 +5,7 @@ ghost use Rattle.graphql_nodes.specs.Names.{NameText};
 ghost use Rattle.graphql_documents.specs.SchemaRules.{SchemaHolds};
 ghost use Rattle.graphql_documents.specs.Schemas.{type_definition};
 ghost use Rattle.graphql_documents.specs.TypeMaps.{names_built_in_scalar, types_referred, IsSettled, IsSettledSchema, OnlyScalarsHaveBuiltInNames};
+ghost use Rattle.graphql_schema_laws.specs.BuiltInNames.{BuiltInNamesAreOfScalars};
 ghost use Rattle.graphql_documents.specs.declared.documents.schemas.ExtendedType.{ExtendedType};
 ghost use Rattle.graphql_documents.specs.declared.documents.schemas.Schema.{Schema};
 
@@ -14,17 +15,17 @@ ghost use Rattle.graphql_documents.specs.declared.documents.schemas.Schema.{Sche
 /// Specification: 3.5 Scalars, Built-in Scalars.
 pub fn settled_schema_refers_to_the_same_types()
     ensures { (schema settled : Schema) →
-        OnlyScalarsHaveBuiltInNames schema → IsSettledSchema schema settled →
+        BuiltInNamesAreOfScalars schema → IsSettledSchema schema settled →
         types_referred settled ≡ types_referred schema }
 {}
 
-/// A schema that is settled once more stays as it is, if only scalars stand under the names of the
-/// built-in scalars.
+/// A schema that is settled once more stays as it is, if what every schema has under the names of the
+/// built-in scalars are scalars.
 ///
 /// Specification: 3.5 Scalars, Built-in Scalars.
 pub fn schema_that_is_settled_again_stays_as_it_is()
     ensures { (schema settled : Schema) (again : List (NameText × ExtendedType)) →
-        OnlyScalarsHaveBuiltInNames schema → IsSettledSchema schema settled → IsSettled settled again →
+        BuiltInNamesAreOfScalars schema → IsSettledSchema schema settled → IsSettled settled again →
         again ≡ settled.types.entries }
 {}
 
@@ -50,6 +51,6 @@ pub fn settled_schema_has_only_scalars_under_built_in_names()
 /// Specification: 3.3 Schema; 3.5 Scalars, Built-in Scalars.
 pub fn settled_schema_defines_the_types_to_which_it_refers()
     ensures { (schema settled : Schema) (name : NameText) →
-        SchemaHolds schema → OnlyScalarsHaveBuiltInNames schema → IsSettledSchema schema settled →
+        SchemaHolds schema → BuiltInNamesAreOfScalars schema → IsSettledSchema schema settled →
         Contains (types_referred settled) name → IsSome (type_definition settled name) }
 {}

@@ -4,13 +4,13 @@ use Rattle.std.specs.Prelude.{Result, Ok, Err, IsErr, OnErr, OnOk, Option, IsFal
 use Rattle.std.proofs.lemmas.Result.{MatchResult-from_err}
 use Rattle.graphql_diagnostics.specs.DefaultValues.{HasWrongDefaultValue}
 use Rattle.graphql_diagnostics.specs.Diagnostics.{IsDiagnostic, IsLimitEntry, Says}
-use Rattle.graphql_diagnostics.specs.Limits.{DirectiveLimit, DirectivesLimit, SchemaLimit}
+use Rattle.graphql_diagnostics.specs.Limits.{DirectiveLimit, DirectivesLimit, SchemaLimit, TypesLimit}
 use Rattle.graphql_diagnostics.specs.Limits.DirectiveLimit.{references_nest}
-use Rattle.graphql_diagnostics.specs.Limits.SchemaLimit.{directive_nests}
+use Rattle.graphql_diagnostics.specs.Limits.SchemaLimit.{directive_nests, type_nests}
 use Rattle.graphql_nodes.specs.Names.{IsFreeName, NameText}
 use Rattle.graphql_diagnostics.specs.Reports.{Reports, ReportsWithin}
-use Rattle.graphql_diagnostics.specs.SchemaReports.{DirectiveDefinitionsBreak, SchemaDefinitionBreaks, SchemaReport}
-use Rattle.graphql_diagnostics.specs.SchemaReports.SchemaReport.{of_default_value, of_directive_definition, of_schema_definition}
+use Rattle.graphql_diagnostics.specs.SchemaReports.{DirectiveDefinitionsBreak, SchemaDefinitionBreaks, SchemaReport, TypesReport}
+use Rattle.graphql_diagnostics.specs.SchemaReports.SchemaReport.{of_default_value, of_directive_definition, of_schema_definition, of_types}
 use Rattle.graphql_documents.specs.SchemaRules.{DirectiveDefinitionHolds, SchemaDefinitionHolds, SchemaHolds, TypeHolds}
 use Rattle.graphql_documents.specs.Schemas.{is_built_in}
 use Rattle.graphql_documents.specs.TypeMaps.{IsSettled, IsSettledSchema, is_recorded, is_unused_built_in, names_built_in_scalar, types_referred, uses_type}
@@ -23,6 +23,7 @@ use Rattle.graphql_documents.specs.declared.documents.schemas.Schema.{Schema}
 use Rattle.graphql_nodes.specs.declared.spans.SourceSpan.{SourceSpan}
 use Rattle.graphql_diagnostics.proofs.DiagnosticLemmas.{diagnostic_wider}
 use Rattle.graphql_diagnostics.proofs.ReportWithinLemmas.{ChecksListWithin, both_within, checks_after_within, checks_words_within, wider_within, within}
+use Rattle.graphql_leaf_types.proofs.TypeLemmas.{checks_wider_within}
 use Rattle.graphql_leaf_types.specs.BuiltInScalarUses.{Records, holds_text}
 use Rattle.graphql_schemas.specs.SchemaChecks.{SchemaTruth}
 use Rattle.graphql_leaf_types.specs.TypeMapChanges.{Settles, is_unused}
@@ -43,6 +44,10 @@ module _ (schema : Schema) where
     by : (details : Details) (at : Option SourceSpan) → DirectiveLimit schema limit.0.1 details at → Says (SchemaLimit schema) details at
     by details at (references_nest nests) = directive_nests limit.1 nests
 
+  types_break : (e : DiagnosticEntry) → IsDiagnostic (TypesReport schema) e ⊎ IsDiagnostic (TypesLimit schema) e → SchemaTruth schema e
+  types_break e (inl said) = inl (diagnostic_wider (TypesReport schema) (SchemaReport schema) (λ r at broken. of_types broken) e said)
+  types_break e (inr limit) = inr (diagnostic_wider (TypesLimit schema) (SchemaLimit schema) (λ r at nests. type_nests nests) e limit)
+
   pub defaults_break : (settled : Schema) → IsSettledSchema schema settled → (e : DiagnosticEntry) → IsDiagnostic (HasWrongDefaultValue settled) e → SchemaTruth schema e
   defaults_break settled is e said =
       inl (diagnostic_wider (HasWrongDefaultValue settled) (SchemaReport schema) (λ r at wrong. of_default_value is wrong) e said)
@@ -52,7 +57,8 @@ module _ (schema : Schema) where
       Reports (SchemaDefinitionHolds schema schema.schema_definition.value.value) (IsDiagnostic (SchemaDefinitionBreaks schema schema.schema_definition)) first second →
       ReportsWithin IsLimitEntry (All (λ entry. DirectiveDefinitionHolds schema entry.1) schema.directive_definitions.entries)
       (λ e. IsDiagnostic (DirectiveDefinitionsBreak schema) e ⊎ DirectivesLimit schema e.details e.location) second third →
-      ChecksListWithin IsLimitEntry result (All (λ entry. IsFreeName entry.0 × TypeHolds schema entry.1) schema.types.entries) (SchemaTruth schema) third last →
+      ChecksListWithin IsLimitEntry result (All (λ entry. IsFreeName entry.0 × TypeHolds schema entry.1) schema.types.entries)
+      (λ e. IsDiagnostic (TypesReport schema) e ⊎ IsDiagnostic (TypesLimit schema) e) third last →
       ChecksListWithin IsLimitEntry result (SchemaHolds schema) (SchemaTruth schema) first last
   parts_checked result first second third last a b c =
       let A = SchemaDefinitionHolds schema schema.schema_definition.value.value in
@@ -65,7 +71,8 @@ module _ (schema : Schema) where
         λ h. ((h.definition, h.directives), h.types),
       ))
       (λ e q. q)
-      (checks_after_within IsLimitEntry result (A × B) C (SchemaTruth schema) first third last before c) where
+      (checks_after_within IsLimitEntry result (A × B) C (SchemaTruth schema) first third last before
+      (checks_wider_within result C _ (SchemaTruth schema) third last types_break c)) where
         always : {T E : Type 0} (r : Result T E) (P : Type 0) → P → OnOk r P
         always (Ok x) P p = p
         always (Err x) P p = tt

@@ -1,7 +1,9 @@
 use super::fixtures::{is_text, name, schema_of};
 use graphql_diagnostics::DiagnosticList;
 use graphql_documents::documents::{ExecutableDocument, Schema, Selection, SelectionSet};
+use graphql_merging::expansion::expand_selections;
 use graphql_merging::field_selections::FieldSelection;
+use graphql_merging::groups::fields_by_key;
 use graphql_rows::build::document;
 use graphql_validation::collect::collect_fields;
 use graphql_validation::entry::validate_executable_document;
@@ -99,7 +101,9 @@ fn shown(
     for (key, fields) in collected {
         write!(text, "{key}:").expect(rt, "memory for a line");
         for field in fields {
-            let coordinate = field.coordinate().expect(rt, "memory for a coordinate");
+            let coordinate = field
+                .coordinate(alloc)
+                .expect(rt, "memory for a coordinate");
             write!(text, " {coordinate}").expect(rt, "memory for a line");
         }
         text.push_str("\n").expect(rt, "memory for a line");
@@ -145,4 +149,27 @@ fn what_is_collected_of_a_silent_document_has_one_field_a_key(rt: HostRuntime) {
     let validated = validate_executable_document(&mut diagnostics, &schema.0, &document);
     validated.expect(&rt, "memory for reports");
     assert!(&rt; diagnostics.is_empty());
+}
+
+/// The fields of the operation's set and of the fragments in it, by key.
+fn expanded(rt: &impl Abort, alloc: Global, document: &ExecutableDocument) -> String {
+    let sets = [set_of(rt, document, From::Operation)];
+    let fields = expand_selections(alloc, &document.fragments, &sets);
+    let fields = fields.expect(rt, "memory for fields");
+    let by_key = fields_by_key(alloc, &fields).expect(rt, "memory for keys");
+    shown(rt, alloc, &by_key)
+}
+
+#[test]
+fn fields_of_a_set_and_of_its_fragments_are_listed_by_key(rt: HostRuntime) {
+    let alloc = rt.alloc();
+    let schema = schema_of(&rt, alloc, ITSELF);
+    let written = "{ ...F x: a y: a ... { x: b } } fragment F on Query { y: b }";
+    let document = document(alloc, &schema.0, written).expect(&rt, "a document");
+    let found = expanded(&rt, alloc, &document);
+    is_text(
+        &rt,
+        found.as_str(),
+        "x: Query.a Query.b\ny: Query.a Query.b\n",
+    );
 }

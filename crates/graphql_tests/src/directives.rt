@@ -2,7 +2,8 @@ use super::fixtures::{query_of_itself, reports};
 use graphql_diagnostics::DiagnosticList;
 use graphql_documents::documents::{DirectiveLocation, Schema};
 use graphql_rows::build::directives;
-use graphql_values::directive::validate_directives;
+use graphql_values::directive::{check_directives, check_each_directive, validate_directives};
+use graphql_values::variable::VariablesByName;
 use std::alloc::Global;
 use std::process::Abort;
 
@@ -54,4 +55,23 @@ fn directives_are_checked(rt: HostRuntime) {
         check(&rt, alloc, Some(&schema.0), applied, expected);
     }
     check(&rt, alloc, None, "@skip", UNDEFINED);
+}
+
+/// The lines of both calls on directives whose variables are by name.
+const TWICE: &str = "- cannot find directive `@x` in this document\n\
+    - cannot find directive `@x` in this document\n";
+
+#[test]
+fn directives_are_checked_where_the_variables_are_by_name(rt: HostRuntime) {
+    let alloc = rt.alloc();
+    let built = directives(alloc, "@x").expect(&rt, "a directive");
+    let mut given = Vec::new(alloc);
+    let only = built.first().expect(&rt, "a directive");
+    given.push(only).expect(&rt, "memory for a reference");
+    let none = VariablesByName::new(alloc, &[]).expect(&rt, "no variables");
+    let place = DirectiveLocation::Field;
+    let mut found = DiagnosticList::new(alloc);
+    check_directives(&mut found, None, &given, place, &none).expect(&rt, "memory");
+    check_each_directive(&mut found, None, &built, place, &none).expect(&rt, "memory");
+    reports(&rt, alloc, &found, TWICE);
 }

@@ -1,4 +1,4 @@
-use super::fixtures::{name, node};
+use super::fixtures::{argument_definition, name, node};
 use graphql_documents::documents::{FileId, Node, SourceSpan};
 
 #[test]
@@ -13,4 +13,15 @@ fn nodes_are_the_same_wherever_they_stand(rt: HostRuntime) {
     let copy = located.clone().expect(&rt, "memory for a copy");
     assert_eq!(rt; copy.location, Some(place));
     assert!(rt; copy == node(&rt, rt.alloc(), name(&rt, rt.alloc(), "a")));
+}
+
+#[test]
+fn copies_of_names_and_types_are_equal(rt: HostRuntime) {
+    let alloc = rt.alloc();
+    let definition = argument_definition(&rt, alloc, "(a: [Int!])");
+    let (own, ty) = (&definition.value.name, &definition.value.ty);
+    assert!(rt; own.clone().expect(&rt, "memory for a name") == *own);
+    assert!(rt; ty.clone().expect(&rt, "memory for a type") == *ty);
+    let ty = &*ty.value;
+    assert!(rt; ty.clone().expect(&rt, "memory for a type") == *ty);
 }

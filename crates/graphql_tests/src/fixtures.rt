@@ -62,6 +62,24 @@ pub(crate) fn reports(
     is_text(rt, found.as_str(), expected);
 }
 
+/// The call brought these reports, each on a line as examples have it: its place as `file:start-end`, or
+/// `-` for none, and what it says.
+pub(crate) fn reports_as_lines(
+    rt: &impl Abort,
+    alloc: Global,
+    diagnostics: &DiagnosticList,
+    expected: &str,
+) {
+    let mut found = String::new(alloc);
+    for entry in diagnostics.iter() {
+        show_file(rt, &mut found, entry.location);
+        show_place(rt, &mut found, entry.location);
+        let written = write!(found, " {}\n", entry.details);
+        written.expect(rt, "memory for a line");
+    }
+    is_text(rt, found.as_str(), expected);
+}
+
 /// The call brought these reports, each on a line: its place as `start-end`, what it says, and, of a
 /// rule of subscriptions, of `@defer` or of merging, its fields. `-` stands for no place and for no name.
 pub(crate) fn reports_in_full(
@@ -85,6 +103,14 @@ pub(crate) fn reports_in_full(
 
 fn show(rt: &impl Abort, shown: &mut String, text: &str) {
     shown.push_str(text).expect(rt, "memory for a line");
+}
+
+/// Shows the file of a place, if there is one.
+fn show_file(rt: &impl Abort, shown: &mut String, place: Option<SourceSpan>) {
+    if let Some(span) = place {
+        let written = write!(shown, "{}:", span.file_id.0);
+        written.expect(rt, "memory for a line");
+    }
 }
 
 fn show_place(rt: &impl Abort, shown: &mut String, place: Option<SourceSpan>) {

@@ -8,6 +8,8 @@ mod collect;
 #[cfg(test)]
 mod defer;
 #[cfg(test)]
+mod definitions;
+#[cfg(test)]
 mod diagnostics;
 #[cfg(test)]
 mod directives;
@@ -26,6 +28,8 @@ mod fragment_cycles;
 #[cfg(test)]
 mod guards;
 #[cfg(test)]
+mod many_faults;
+#[cfg(test)]
 mod merging;
 #[cfg(test)]
 mod messages;
@@ -33,6 +37,8 @@ mod messages;
 mod notation;
 #[cfg(test)]
 mod numbers;
+#[cfg(test)]
+mod operations;
 #[cfg(test)]
 mod schema_rules;
 #[cfg(test)]

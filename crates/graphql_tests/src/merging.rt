@@ -78,6 +78,14 @@ const CONFLICTS: &[(&str, &str)] = &[
     ),
 ];
 
+/// Two fields that disagree in two arguments: the first of them is named.
+const TWO_ARGUMENTS: Row = Row {
+    id: "two arguments",
+    schema: "type Query { f(m: Int, n: Int): Int }",
+    subject: Subject::Document("{ x: f(m: 1, n: 1) x: f(m: 2, n: 2) }"),
+    lines: "",
+};
+
 /// The example brings these reports.
 fn brings(rt: &impl Abort, alloc: Global, row: &Row, expected: &str) {
     let case = build_case(alloc, row).expect(rt, "an example");
@@ -95,4 +103,6 @@ fn conflicts_name_the_first_field_and_the_one_that_conflicts(rt: HostRuntime) {
         let row = find(id).expect(&rt, "an example");
         brings(&rt, rt.alloc(), row, expected);
     }
+    let first = "- ConflictingFieldArgument f Query.f(m:) Query.f(m:)\n";
+    brings(&rt, rt.alloc(), &TWO_ARGUMENTS, first);
 }

@@ -2,8 +2,10 @@ use super::fixtures::{argument_definition, reports, schema_of};
 use graphql_diagnostics::DiagnosticList;
 use graphql_documents::documents::{Argument, Node, Schema, Type, VariableDefinition};
 use graphql_rows::build::{arguments, variables};
-use graphql_values::value::validate_values;
-use graphql_values::variable::{is_variable_usage_allowed, validate_variable_usage};
+use graphql_values::value::{check_value_of_type, validate_values};
+use graphql_values::variable::{
+    VariablesByName, check_variable_usage, is_variable_usage_allowed, validate_variable_usage,
+};
 use std::alloc::Global;
 use std::process::Abort;
 
@@ -90,4 +92,27 @@ fn variables_in_lists_go_by_the_innermost_type(rt: HostRuntime) {
         let found = checked(&rt, alloc, &schema.0, &place.value.ty, &argument, &built);
         reports(&rt, alloc, &found, expected);
     }
+}
+
+/// The lines of both calls that find variables by their names.
+const BY_NAME: &str =
+    "- variable `$v` of type `Int` cannot be used for argument `n` of type `Int!`\n\
+    - variable `$w` is not defined\n";
+
+#[test]
+fn usages_and_values_find_variables_by_name(rt: HostRuntime) {
+    let alloc = rt.alloc();
+    let schema = schema_of(&rt, alloc, "");
+    let built = defined(&rt, alloc, "($v: Int)");
+    let variables = VariablesByName::new(alloc, &built).expect(&rt, "memory");
+    let place = argument_definition(&rt, alloc, "(n: Int!)");
+    let mut found = DiagnosticList::new(alloc);
+    let usage = given(&rt, alloc, "(n: $v)");
+    let allowed = check_variable_usage(&mut found, &place, &variables, &usage);
+    assert!(rt; !allowed.expect(&rt, "memory"));
+    let (ty, other) = (&place.value.ty, given(&rt, alloc, "(n: $w)"));
+    let value = &other.value.value;
+    let checked = check_value_of_type(&mut found, &schema.0, ty, value, &variables);
+    checked.expect(&rt, "memory");
+    reports(&rt, alloc, &found, BY_NAME);
 }

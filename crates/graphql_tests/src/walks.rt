@@ -1,8 +1,12 @@
-use super::fixtures::{is_text, query_of_itself};
+use super::fixtures::{is_text, name, query_of_itself};
 use graphql_documents::documents::{ExecutableDocument, Selection, SelectionSet};
 use graphql_rows::build::document;
-use graphql_values::variable::{Walked, walk_selections, walk_selections_with_deduped_fragments};
+use graphql_values::variable::{
+    Walked, walk_open_selections, walk_selections, walk_selections_with_deduped_fragments,
+};
+use graphql_variables::first_places::first_place;
 use std::alloc::Global;
+use std::collections::HashMap;
 use std::fmt::Write;
 use std::process::Abort;
 
@@ -88,4 +92,25 @@ fn walks_go_into_500_sets(rt: HostRuntime) {
     assert!(rt; !is_complete_inside(&rt, alloc, "{ <1-501:... { ><1-501:} >}"));
     assert!(rt; is_complete_below(&rt, alloc, "{ <1-500:q { ><1-500:} >}"));
     assert!(rt; !is_complete_below(&rt, alloc, "{ <1-501:q { ><1-501:} >}"));
+}
+
+#[test]
+fn a_walk_passes_over_what_a_condition_may_leave_out(rt: HostRuntime) {
+    let alloc = rt.alloc();
+    let written = "{ q { a @skip(if: true) b } q @include(if: false) { a } ...F } \
+        fragment F on Query { a @skip(if: false) }";
+    let document = document_of(&rt, alloc, written);
+    let walked = walk_open_selections(alloc, &document, set_of(&rt, &document));
+    let walked = walked.expect(&rt, "memory");
+    has_listed(&rt, alloc, &walked, " q b ...F a");
+}
+
+#[test]
+fn the_first_place_of_a_name_is_kept(rt: HostRuntime) {
+    let alloc = rt.alloc();
+    let met = name(&rt, alloc, "a");
+    let mut seen = HashMap::new(alloc);
+    let first = first_place(&mut seen, &met, None).expect(&rt, "memory for a name");
+    let second = first_place(&mut seen, &met, None).expect(&rt, "memory for a name");
+    assert!(rt; first == None && second == Some(None));
 }

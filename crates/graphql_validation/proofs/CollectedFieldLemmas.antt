@@ -147,25 +147,25 @@ ends_empty [] x is = let no' : ⊥ = cc in no'
 ends_empty (y ∷ ys) x is = let no' : ⊥ = cc in no'
 
 -- what a name finds among fragments whose sets are built is built
-found_built : (same : FieldDefinition → FieldDefinition → Bool) (schema : Schema) (test : NameText → Bool) (es : List (NameText × Node Fragment)) (d : Node Fragment) →
-    All (λ entry. SameName entry.0 entry.1.value.value.name × SetsAreBuilt same schema entry.1.value.value.selection_set) es → lookup test es ≡ Some d →
-    SetsAreBuilt same schema d.value.value.selection_set
-found_built same schema test [] d all found = absurd (let no' : ⊥ = cc in no')
-found_built same schema test (e ∷ es) d all found = decided (test e.0) refl (λ later. found_built same schema test es d (All-append_right (λ entry. SameName entry.0 entry.1.value.value.name × SetsAreBuilt same schema entry.1.value.value.selection_set) (e ∷ []) es all) later) where
-  decided : (b : Bool) → test e.0 ≡ b → (lookup test es ≡ Some d → SetsAreBuilt same schema d.value.value.selection_set) → SetsAreBuilt same schema d.value.value.selection_set
+found_built : (schema : Schema) (test : NameText → Bool) (es : List (NameText × Node Fragment)) (d : Node Fragment) →
+    All (λ entry. SameName entry.0 entry.1.value.value.name × SetsAreBuilt schema entry.1.value.value.selection_set) es → lookup test es ≡ Some d →
+    SetsAreBuilt schema d.value.value.selection_set
+found_built schema test [] d all found = absurd (let no' : ⊥ = cc in no')
+found_built schema test (e ∷ es) d all found = decided (test e.0) refl (λ later. found_built schema test es d (All-append_right (λ entry. SameName entry.0 entry.1.value.value.name × SetsAreBuilt schema entry.1.value.value.selection_set) (e ∷ []) es all) later) where
+  decided : (b : Bool) → test e.0 ≡ b → (lookup test es ≡ Some d → SetsAreBuilt schema d.value.value.selection_set) → SetsAreBuilt schema d.value.value.selection_set
   decided true is more =
       let here : Some e.1 ≡ Some d = rw is at found in
       let it : e.1 ≡ d = cc in
-      subst (λ (f : Node Fragment). SetsAreBuilt same schema f.value.value.selection_set) it (All-head (λ entry. SameName entry.0 entry.1.value.value.name × SetsAreBuilt same schema entry.1.value.value.selection_set) e es all).1
+      subst (λ (f : Node Fragment). SetsAreBuilt schema f.value.value.selection_set) it (All-head (λ entry. SameName entry.0 entry.1.value.value.name × SetsAreBuilt schema entry.1.value.value.selection_set) e es all).1
   decided false is more = more (rw is at found)
 
-module _ (same : FieldDefinition → FieldDefinition → Bool) (schema : Schema) (document : ExecutableDocument) (built : IsBuilt same schema document) where
+module _ (schema : Schema) (document : ExecutableDocument) (built : IsBuilt schema document) where
   abbrev F : Fragments
   F = fragments_of document
 
   -- a collected field is built for its parent, and its set is built
-  collected_built : {object : NameText} {set : SelectionSet} {x : FieldSelection} → CollectedFrom schema F object set x → SetsAreBuilt same schema set →
-      IsComposite schema x.parent × SetsAreBuilt same schema (set_of x)
+  collected_built : {object : NameText} {set : SelectionSet} {x : FieldSelection} → CollectedFrom schema F object set x → SetsAreBuilt schema set →
+      IsComposite schema x.parent × SetsAreBuilt schema (set_of x)
   collected_built (collected_here {set = set} {x = x} applies stands is) sets =
       let f = (sets set set_itself).fields x.field stands in (
         subst (IsComposite schema) (sym is) (has_field schema set.ty x.field.value.value.name f.definition f.is_of_parent),
@@ -173,10 +173,10 @@ module _ (same : FieldDefinition → FieldDefinition → Bool) (schema : Schema)
       )
   collected_built (collected_in_inline_fragment applies stands condition more) sets = collected_built more (λ s written. sets s (set_in_inline_fragment stands written))
   collected_built (collected_in_spread {p = p} {d = d} applies stands found more) sets =
-      collected_built more (found_built same schema (same_name p.value.value.fragment_name) document.fragments.entries d built.fragments found)
+      collected_built more (found_built schema (same_name p.value.value.fragment_name) document.fragments.entries d built.fragments found)
 
-  module _ (operation : Operation) (sets : SetsAreBuilt same schema operation.selection_set) where
-    gathered_built : {path : List (NameText × NameText)} {set : SelectionSet} → Gathered schema F operation path set → SetsAreBuilt same schema set
+  module _ (operation : Operation) (sets : SetsAreBuilt schema operation.selection_set) where
+    gathered_built : {path : List (NameText × NameText)} {set : SelectionSet} → Gathered schema F operation path set → SetsAreBuilt schema set
     gathered_built gathered_at_root = sets
     gathered_built (gathered_below object key x above from is) = (collected_built from (gathered_built above)).1
 
@@ -243,7 +243,7 @@ module _ (same : FieldDefinition → FieldDefinition → Bool) (schema : Schema)
       Contains (under_key key fields) x → Contains (under_key key fields) y →
       SameNameAndArguments x.field.value.value y.field.value.value × SameShape schema (type_of x) (type_of y)
   agree_under_key operation stands merges path object sets gathered fields walk key x y in_x in_y =
-      let is_built = All-contains (λ (o : Node Operation). OperationIsBuilt same schema o.value.value) (operations_of document) operation built.operations stands in
+      let is_built = All-contains (λ (o : Node Operation). OperationIsBuilt schema o.value.value) (operations_of document) operation built.operations stands in
       let kx = kept_passes (λ (z : FieldSelection). same_name (key_of z) key) fields x in_x in
       let ky = kept_passes (λ (z : FieldSelection). same_name (key_of z) key) fields y in_y in
       let from_x = any_has (λ s. CollectedFrom schema F object s x) sets ((lists_what_is_collected schema F object (one_fragment_found document) sets fields walk x).0 kx.0) in

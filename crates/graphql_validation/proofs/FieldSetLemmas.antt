@@ -1,6 +1,7 @@
 -- A field set has no fragments, so what a walk over it says comes without a limit.
 use Rattle.std.proofs.Common.{◌≡◌, inl, inr, true, false, List, [], Some, ap}
 use Rattle.std.specs.Map.{lookup}
+use Rattle.std.specs.Prelude.{Result, Ok, Err, MatchResult}
 use Rattle.std.proofs.lemmas.Option.{none-some}
 use Rattle.std.proofs.lemmas.List.Elements.{All-weaker}
 use Rattle.graphql_diagnostics.specs.Diagnostics.{IsLimitEntry}
@@ -46,6 +47,15 @@ module _ (schema : Schema) (set : SelectionSet) where
         silent = w.reports.silent (All-weaker (NamesBrokenFieldSetRule schema set) (λ e. ¬ IsLimitEntry e) no_limit w.reports.added each);
         each = each;
       }
+
+  -- none of them is of a limit
+  pub field_set_has_no_limit : {T E : Type 0} (r : Result T E) {old new : List DiagnosticEntry} →
+      MatchResult r (λ _. Reports (FieldSetHolds schema set) (NamesBrokenFieldSetRule schema set) old new) (λ _. KeepsReports (NamesBrokenFieldSetRule schema set) old new) →
+      KeepsReports (λ e. ¬ IsLimitEntry e) old new
+  field_set_has_no_limit (Ok v) x =
+      record { added = x.added; appended = x.appended; each = All-weaker (NamesBrokenFieldSetRule schema set) (λ e. ¬ IsLimitEntry e) no_limit x.added x.each }
+  field_set_has_no_limit (Err e) x =
+      record { added = x.added; appended = x.appended; each = All-weaker (NamesBrokenFieldSetRule schema set) (λ e. ¬ IsLimitEntry e) no_limit x.added x.each }
 
   pub field_set_kept : {entered : List NameText} {old new : List DiagnosticEntry} →
       WalkStops (Some schema) no_fragments [] (Some set.ty) (selections_of set) [] entered old new →

@@ -150,24 +150,24 @@ report_is_no_limit {d = d} b limit =
     let no' : ⊥ = cc in no'
 
 -- each limit of a document is one
-pub limit_is_one : {same : Field → Field → Bool} {schema : Option Schema} {document : ExecutableDocument} {d : Details} {at : Option SourceSpan} →
-    DocumentLimit same schema document d at → IsLimit d
+pub limit_is_one : {schema : Option Schema} {document : ExecutableDocument} {d : Details} {at : Option SourceSpan} →
+    DocumentLimit schema document d at → IsLimit d
 limit_is_one (limits.fragment_nests in' nests) = limit_of_path
 limit_is_one (limits.walk_of_variables in' passes) = limit_of_walk
-limit_is_one (limits.walk_of_root in' passes) = limit_of_walk
+limit_is_one (limits.walk_of_root in' other passes) = limit_of_walk
 limit_is_one (limits.walk_of_labels passes) = limit_of_walk
-limit_is_one (limits.walk_of_conditions in' passes) = limit_of_walk
+limit_is_one (limits.walk_of_conditions in' one passes) = limit_of_walk
 limit_is_one (limits.walk_of_fragments in' passes) = limit_of_depth
 limit_is_one (limits.merging_limit after is split nests) = limit_of_depth
 
 -- what is true of an entry, where it is no limit, and where it is one
-module _ (same : Field → Field → Bool) (schema : Option Schema) (document : ExecutableDocument) where
-  pub report_unless_limit : (e : DiagnosticEntry) → DocumentReport schema document e.details e.location ⊎ DocumentLimit same schema document e.details e.location →
+module _ (schema : Option Schema) (document : ExecutableDocument) where
+  pub report_unless_limit : (e : DiagnosticEntry) → DocumentReport schema document e.details e.location ⊎ DocumentLimit schema document e.details e.location →
       ¬ IsLimitEntry e → DocumentReport schema document e.details e.location
   report_unless_limit e (inl b) no' = b
   report_unless_limit e (inr l) no' = absurd (no' (limit_is_one l))
 
-  pub limit_if_one : (e : DiagnosticEntry) → DocumentReport schema document e.details e.location ⊎ DocumentLimit same schema document e.details e.location →
-      IsLimitEntry e → DocumentLimit same schema document e.details e.location
+  pub limit_if_one : (e : DiagnosticEntry) → DocumentReport schema document e.details e.location ⊎ DocumentLimit schema document e.details e.location →
+      IsLimitEntry e → DocumentLimit schema document e.details e.location
   limit_if_one e (inl b) is = absurd (report_is_no_limit b is)
   limit_if_one e (inr l) is = l

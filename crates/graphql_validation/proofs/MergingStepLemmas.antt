@@ -26,7 +26,6 @@ use Rattle.graphql_documents.specs.declared.documents.schemas.Schema.{Schema}
 use Rattle.graphql_nodes.specs.declared.spans.SourceSpan.{SourceSpan}
 use Rattle.graphql_diagnostics.proofs.ReportLemmas.{appended_then, both_nil, kept_wider}
 use Rattle.graphql_documents.proofs.ListLemmas.{All-append_left, All-append_right, more_is, stands_first}
-use Rattle.graphql_merging.specs.FieldSelections.{same_field}
 use Rattle.graphql_merging.specs.MergedOperations.{AreLimits, HasMerged, MergesOneMore, Merging, beyond_bound, within_bound}
 use Rattle.graphql_merging.proofs.MergedOperationLemmas.{conflicts_decide}
 use Rattle.graphql_validation.proofs.DocumentLemmas.{DocumentTruth}
@@ -37,12 +36,12 @@ module _ (schema : Schema) (document : ExecutableDocument) (before after : List 
       DocumentReport (Some schema) document d at
   by_merging stands (of_conflict broken) = document_report.of_merging refl stands broken
 
-  by_merging_limit : {d : Details} {at : Option SourceSpan} → MergingLimit same_field schema (fragments_of document) before o d at → DocumentLimit same_field (Some schema) document d at
+  by_merging_limit : {d : Details} {at : Option SourceSpan} → MergingLimit schema (fragments_of document) before o d at → DocumentLimit (Some schema) document d at
   by_merging_limit (merging_nests nests) = merging_limit after refl split nests
 
   pub of_merged : Contains (operations_of document) o → (e : DiagnosticEntry) →
       MergingReport schema (fragments_of document) o.value.value.selection_set e.details e.location ⊎
-      MergingLimit same_field schema (fragments_of document) before o e.details e.location → DocumentTruth same_field (Some schema) document e
+      MergingLimit schema (fragments_of document) before o e.details e.location → DocumentTruth (Some schema) document e
   of_merged stands e (inl says) = inl (by_merging stands says)
   of_merged stands e (inr limit) = inr (by_merging_limit limit)
 
@@ -54,7 +53,7 @@ IsNoLimit e = ¬ IsLimitEntry e
 pub record ValidatedSoFar (schema : Schema) (document : ExecutableDocument) (done : List (Node Operation)) (m : Merging) (old now : List DiagnosticEntry) : Type 0 where
   pub added : List DiagnosticEntry
   pub appended : now ≡ old ++ added
-  pub each : All (DocumentTruth same_field (Some schema) document) added
+  pub each : All (DocumentTruth (Some schema) document) added
   pub silent : All IsNoLimit added → (added ≡ []) ↔ (All (λ o. OperationSubscriptionHolds document o.value.value) done × IsFalse m.conflicting)
   pub shallow : All IsNoLimit added → IsFalse m.too_deep
 
@@ -69,7 +68,7 @@ no_limits o too_deep (beyond_bound beyond) none = absurd (All-head IsNoLimit _ [
 
 module _ (schema : Schema) (document : ExecutableDocument) where
   abbrev Truth : DiagnosticEntry → Type 0
-  Truth = DocumentTruth same_field (Some schema) document
+  Truth = DocumentTruth (Some schema) document
 
   abbrev Sub : Node Operation → Type 0
   Sub o = OperationSubscriptionHolds document o.value.value
@@ -140,15 +139,15 @@ module _ (schema : Schema) (document : ExecutableDocument) where
   }
 
   -- all operations of a document that was built were validated
-  pub validated_all : (same_definition : FieldDefinition → FieldDefinition → Bool) (m : Merging) {old new : List DiagnosticEntry} → IsBuilt same_definition schema document →
+  pub validated_all : (m : Merging) {old new : List DiagnosticEntry} → IsBuilt schema document →
       m.operations ≡ operations_of document → HasMerged schema (fragments_of document) m → ValidatedSoFar schema document (operations_of document) m old new →
       ReportsWithin IsLimitEntry (All Sub (operations_of document) × All (λ o. Merges schema (fragments_of document) o.value.value.selection_set) (operations_of document)) Truth old new
-  validated_all same_definition m built operations was so_far = record {
+  validated_all m built operations was so_far = record {
     added = so_far.added;
     appended = so_far.appended;
     silent = λ none.
         let s = so_far.silent none in
-        let merge = conflicts_decide same_definition schema document m built (subst (All (Contains (operations_of document))) (sym operations) (All-contains_itself (operations_of document))) was (so_far.shallow none) in
+        let merge = conflicts_decide schema document m built (subst (All (Contains (operations_of document))) (sym operations) (All-contains_itself (operations_of document))) was (so_far.shallow none) in
         let all = λ (l : List (Node Operation)). All (λ o. Merges schema (fragments_of document) o.value.value.selection_set) l in (
           λ e. let p = s.0 e in (p.0, subst all operations (merge.0 p.1)),
           λ p. s.1 (p.0, merge.1 (subst all (sym operations) p.1)),
@@ -168,11 +167,11 @@ split_at xs i x are within item =
 abbrev pub MergedTruth : Schema → ExecutableDocument → List (Node Operation) → Node Operation → DiagnosticEntry → Type 0
 MergedTruth schema document before o e =
     MergingReport schema (fragments_of document) o.value.value.selection_set e.details e.location ⊎
-    MergingLimit same_field schema (fragments_of document) before o e.details e.location
+    MergingLimit schema (fragments_of document) before o e.details e.location
 
 pub merged_kept : {schema schema' : Schema} {document document' : ExecutableDocument} {before before' : List (Node Operation)} (after : List (Node Operation)) (o : Node Operation) {old new : List DiagnosticEntry} →
     schema' ≡ schema → document' ≡ document → before' ≡ before → operations_of document ≡ before ++ o ∷ after → KeepsReports (MergedTruth schema' document' before' o) old new →
-    KeepsReports (DocumentTruth same_field (Some schema) document) old new
+    KeepsReports (DocumentTruth (Some schema) document) old new
 merged_kept {schema} {schema'} {document} {document'} {before} {before'} after o {old} {new} is_schema is_document is_before split kept =
     let stands = subst (λ l. Contains l o) (sym split) (Contains-append_right before (o ∷ after) o (stands_first o after)) in
     kept_wider (of_merged schema document before after o split stands)
@@ -186,7 +185,7 @@ merged_of {schema} {schema'} {document} {document'} {m} is_schema is_document wa
     subst (λ d. HasMerged schema (fragments_of d) m) is_document (subst (λ s. HasMerged s (fragments_of document') m) is_schema was)
 
 pub kept_so_far : (schema : Schema) (document : ExecutableDocument) {done : List (Node Operation)} {m : Merging} {old now : List DiagnosticEntry} →
-    ValidatedSoFar schema document done m old now → KeepsReports (DocumentTruth same_field (Some schema) document) old now
+    ValidatedSoFar schema document done m old now → KeepsReports (DocumentTruth (Some schema) document) old now
 kept_so_far schema document so_far = record { added = so_far.added; appended = so_far.appended; each = so_far.each }
 
 -- a document holds exactly where its parts do

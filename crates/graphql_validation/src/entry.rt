@@ -2,7 +2,7 @@
 
 ghost use Rattle.indexmap.specs.IndexMap.{values};
 ghost use Rattle.std.specs.Option.{option_copied};
-ghost use Rattle.std.specs.Prelude.{◌≡◌, ◌↔◌, ◌⊎◌, [], All, Bool, None, OnOk, Some};
+ghost use Rattle.std.specs.Prelude.{◌≡◌, ◌↔◌, ◌⊎◌, [], All, None, OnOk, Some};
 ghost use Rattle.graphql_documents.specs.Built.{IsBuilt};
 ghost use Rattle.graphql_documents.specs.Defer.{DeferHolds, operations_of};
 ghost use Rattle.graphql_diagnostics.specs.Diagnostics.{IsLimitEntry, entries};
@@ -13,9 +13,6 @@ ghost use Rattle.graphql_diagnostics.specs.Limits.{DocumentLimit};
 ghost use Rattle.graphql_documents.specs.Merging.{Merges};
 ghost use Rattle.graphql_diagnostics.specs.Reports.{Appends, Checks, ChecksWithin, KeepsReports, ReportsWithin};
 ghost use Rattle.graphql_documents.specs.Selections.{fragments_of};
-ghost use Rattle.graphql_documents.specs.declared.documents.definitions.FieldDefinition.{FieldDefinition};
-ghost use Rattle.graphql_documents.specs.declared.documents.executables.Field.{Field};
-ghost use Rattle.graphql_merging.specs.FieldSelections.{same_field};
 
 use graphql_diagnostics::{DiagnosticList, ValidationError};
 use graphql_documents::documents::{ExecutableDocument, FieldSet, OperationMap, Schema, Valid};
@@ -24,6 +21,7 @@ use graphql_rules::operations::{
     OperationValidationContext, operations_of, validate_defer, validate_fragments_used,
     validate_operation_definitions, validate_selection_set, validate_subscription,
 };
+use graphql_variables::VariablesByName;
 use indexmap::IndexMap;
 use std::alloc::Global;
 
@@ -49,12 +47,12 @@ pub fn validate_executable_document(
     schema: &Schema,
     document: &ExecutableDocument,
 ) -> Result<(), ValidationError>
-    ensures silence { (same : FieldDefinition → FieldDefinition → Bool) → IsBuilt same schema.now document.now →
+    ensures silence { IsBuilt schema.now document.now →
         OnOk result (Appends (λ added. All (λ e. ¬ IsLimitEntry e) added → ((added ≡ []) ↔ DocumentHolds (Some schema.now) document.now))
         (entries diagnostics.old) (entries diagnostics.new)) }
     ensures reports { KeepsReports (λ e. ¬ IsLimitEntry e → DocumentReport (Some schema.now) document.now e.details e.location)
         (entries diagnostics.old) (entries diagnostics.new) }
-    ensures limits { KeepsReports (λ e. IsLimitEntry e → DocumentLimit same_field (Some schema.now) document.now e.details e.location)
+    ensures limits { KeepsReports (λ e. IsLimitEntry e → DocumentLimit (Some schema.now) document.now e.details e.location)
         (entries diagnostics.old) (entries diagnostics.new) }
     ensures parts { OnOk result (Appends (λ added. added ≡ [] →
         All (λ o. OperationHolds (Some schema.now) document.now o.value.value) (operations_of document.now) ×
@@ -74,9 +72,9 @@ pub fn validate_standalone_executable(
     diagnostics: &mut DiagnosticList,
     document: &ExecutableDocument,
 ) -> Result<(), ValidationError>
-    ensures { (same : Field → Field → Bool) → ChecksWithin result (DocumentHolds None document.now)
+    ensures { ChecksWithin result (DocumentHolds None document.now)
         (λ e. DocumentReport None document.now e.details e.location)
-        (λ e. DocumentLimit same None document.now e.details e.location)
+        (λ e. DocumentLimit None document.now e.details e.location)
         diagnostics.old diagnostics.new }
 {
     validate_with_or_without_schema(diagnostics, None, document)
@@ -88,11 +86,11 @@ fn validate_with_or_without_schema(
     schema: Option<&Schema>,
     document: &ExecutableDocument,
 ) -> Result<(), ValidationError>
-    ensures { (same : Field → Field → Bool) → ChecksWithin result
+    ensures { ChecksWithin result
         (All (λ o. OperationHolds (option_copied schema.entry) document.now o.value.value) (operations_of document.now) ×
         All (λ d. IsFragmentUsed document.now d.value.value) (values document.now.fragments) × DeferHolds document.now)
         (λ e. DocumentReport (option_copied schema.entry) document.now e.details e.location)
-        (λ e. DocumentLimit same (option_copied schema.entry) document.now e.details e.location)
+        (λ e. DocumentLimit (option_copied schema.entry) document.now e.details e.location)
         diagnostics.old diagnostics.new }
 {
     validate_operation_definitions(diagnostics, document, schema)?;
@@ -107,14 +105,14 @@ fn validate_with_schema(
     schema: &Schema,
     document: &ExecutableDocument,
 ) -> Result<(), ValidationError>
-    ensures holds { (same : FieldDefinition → FieldDefinition → Bool) → IsBuilt same schema.now document.now →
+    ensures holds { IsBuilt schema.now document.now →
         OnOk result (ReportsWithin IsLimitEntry
         (All (λ o. OperationSubscriptionHolds document.now o.value.value) (operations_of document.now) ×
         All (λ o. Merges schema.now (fragments_of document.now) o.value.value.selection_set) (operations_of document.now))
-        (λ e. DocumentReport (Some schema.now) document.now e.details e.location ⊎ DocumentLimit same_field (Some schema.now) document.now e.details e.location)
+        (λ e. DocumentReport (Some schema.now) document.now e.details e.location ⊎ DocumentLimit (Some schema.now) document.now e.details e.location)
         (entries diagnostics.old) (entries diagnostics.new)) }
     ensures truth { KeepsReports
-        (λ e. DocumentReport (Some schema.now) document.now e.details e.location ⊎ DocumentLimit same_field (Some schema.now) document.now e.details e.location)
+        (λ e. DocumentReport (Some schema.now) document.now e.details e.location ⊎ DocumentLimit (Some schema.now) document.now e.details e.location)
         (entries diagnostics.old) (entries diagnostics.new) }
     ensures subscriptions { OnOk result (Appends (λ added. added ≡ [] → All (λ o. OperationSubscriptionHolds document.now o.value.value) (operations_of document.now))
         (entries diagnostics.old) (entries diagnostics.new)) }
@@ -132,7 +130,7 @@ fn validate_with_schema(
 /// Validates a field set against a schema: every selection that is reached holds at its place. There are
 /// no fragments to spread and no variables. The only error is want of memory.
 ///
-/// Reports come in the order of the set, each selection with what is below it.
+/// Reports come in the order of the set, each selection with what is below it. No limit is reported.
 ///
 /// Specification: 5.3 Fields; 5.4 Arguments; 5.5 Fragments; 5.6 Values; 5.7 Directives.
 pub fn validate_field_set(
@@ -140,13 +138,15 @@ pub fn validate_field_set(
     schema: &Valid<Schema>,
     field_set: &FieldSet,
 ) -> Result<(), ValidationError>
-    ensures { Checks result (FieldSetHolds schema.now.0 field_set.now.selection_set)
+    ensures checks { Checks result (FieldSetHolds schema.now.0 field_set.now.selection_set)
         (NamesBrokenFieldSetRule schema.now.0 field_set.now.selection_set)
         diagnostics.old diagnostics.new }
+    ensures limits { KeepsReports (λ e. ¬ IsLimitEntry e) (entries diagnostics.old) (entries diagnostics.new) }
 {
     let alloc = diagnostics.allocator();
     let document = empty_document(alloc);
-    let mut context = OperationValidationContext::new(alloc, Some(&schema.0), &[])?;
+    let variables = VariablesByName::new(alloc, &[])?;
+    let mut context = OperationValidationContext::new(alloc, Some(&schema.0), variables);
     let set = &field_set.selection_set;
     validate_selection_set(
         diagnostics,

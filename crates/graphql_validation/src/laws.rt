@@ -1,7 +1,7 @@
 //! What follows for whoever answers a request from what the calls say. Each law is a function that does nothing,
 //! whose contract is the law.
 
-ghost use Rattle.std.specs.Prelude.{◌↔◌, [], All, Any, Bool, Contains, List};
+ghost use Rattle.std.specs.Prelude.{◌↔◌, [], All, Any, Contains, List};
 ghost use Rattle.graphql_documents.specs.Built.{IsBuilt};
 ghost use Rattle.graphql_documents.specs.CollectFields.{CollectedFrom, CollectsFrom, Gathered};
 ghost use Rattle.graphql_documents.specs.Defer.{operations_of};
@@ -9,7 +9,6 @@ ghost use Rattle.graphql_diagnostics.specs.MergedGroups.{under_key};
 ghost use Rattle.graphql_documents.specs.Merging.{FieldSelection, Merges, SameNameAndArguments, SameShape, type_of};
 ghost use Rattle.graphql_nodes.specs.Names.{NameText};
 ghost use Rattle.graphql_documents.specs.Selections.{fragments_of};
-ghost use Rattle.graphql_documents.specs.declared.documents.definitions.FieldDefinition.{FieldDefinition};
 ghost use Rattle.graphql_documents.specs.declared.documents.executables.ExecutableDocument.{ExecutableDocument};
 ghost use Rattle.graphql_documents.specs.declared.documents.executables.Operation.{Operation};
 ghost use Rattle.graphql_documents.specs.declared.documents.executables.SelectionSet.{SelectionSet};
@@ -32,8 +31,8 @@ pub fn walk_lists_what_is_collected()
 ///
 /// Specification: 5.3.2 Field Selection Merging; 6.3.2 Field Collection.
 pub fn fields_under_one_key_agree()
-    ensures { (same : FieldDefinition → FieldDefinition → Bool) (schema : Schema) (document : ExecutableDocument) (operation : Node Operation) →
-        IsBuilt same schema document → Contains (operations_of document) operation →
+    ensures { (schema : Schema) (document : ExecutableDocument) (operation : Node Operation) →
+        IsBuilt schema document → Contains (operations_of document) operation →
         Merges schema (fragments_of document) operation.value.value.selection_set →
         (path : List (NameText × NameText)) (object : NameText) (sets : List SelectionSet) →
         All (Gathered schema (fragments_of document) operation.value.value path) sets →

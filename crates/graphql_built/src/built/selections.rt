@@ -1,7 +1,7 @@
 //! Selection sets that are built for their types.
 
 ghost use Rattle.std.specs.Prelude.{◌↔◌, IsTrue};
-ghost use Rattle.graphql_built.specs.BuiltSelections.{HasDefinitionOfType, HasSetOfOutputType, InlineFragmentIsBuilt, SelectionIsBuilt, same_definition};
+ghost use Rattle.graphql_built.specs.BuiltSelections.{HasDefinitionOfType, HasSetOfOutputType, InlineFragmentIsBuilt, SelectionIsBuilt};
 ghost use Rattle.graphql_documents.specs.Built.{FieldIsBuilt, SetsAreBuilt};
 ghost use Rattle.graphql_documents.specs.Schemas.{NamesKind, is_output_type};
 
@@ -12,7 +12,7 @@ use graphql_documents::documents::{
 /// Whether the set, and each set that is written in it, is built for its type.
 #[cycle(selection)]
 pub(super) fn sets_are_built(schema: &Schema, set: &SelectionSet) -> bool
-    ensures { IsTrue result ↔ SetsAreBuilt same_definition schema.now set.now }
+    ensures { IsTrue result ↔ SetsAreBuilt schema.now set.now }
 {
     for selection in &set.selections {
         if !selection_is_built(schema, &set.ty, selection) {
@@ -42,7 +42,7 @@ fn selection_is_built(schema: &Schema, parent: &NamedType, selection: &Selection
 
 /// Whether a field has the definition that the type gives it, of an output type, and a set of that type.
 fn field_is_built(schema: &Schema, parent: &NamedType, field: &Field) -> bool
-    ensures { IsTrue result ↔ FieldIsBuilt same_definition schema.now parent.now field.now }
+    ensures { IsTrue result ↔ FieldIsBuilt schema.now parent.now field.now }
 {
     has_definition_of_type(schema, parent, field) && has_set_of_output_type(schema, field)
 }

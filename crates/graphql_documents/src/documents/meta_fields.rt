@@ -1,7 +1,9 @@
-ghost use Rattle.std.specs.Prelude.{◌≡◌, None, IsTrue, IfOk, codes, false, length};
+ghost use Rattle.std.specs.Prelude.{◌≡◌, ◌∷◌, [], All, None, IsTrue, IfOk, codes, false, length};
 ghost use Rattle.std.proofs.Props.{props};
 ghost use Rattle.graphql_nodes.specs.Names.{is_name};
-ghost use Rattle.graphql_documents.specs.MetaFields.{IsTypename, IsSchemaField, IsTypeField, argument_signature};
+ghost use Rattle.graphql_documents.specs.MetaFields.{ArgumentHasNoPlace, FieldHasNoPlace, IsTypename, IsSchemaField, IsTypeField, argument_signature};
+ghost use Rattle.graphql_documents.specs.TypeReferences.{inner_named_type};
+ghost use Rattle.graphql_documents.specs.declared.documents.components.ComponentOrigin.TheVariants as origin;
 
 use super::components::{Component, ComponentOrigin};
 use super::definitions::{FieldDefinition, InputValueDefinition};
@@ -24,11 +26,11 @@ pub struct MetaFields {
 }
 
 impl MetaFields {
-    /// The three meta-fields, without locations.
+    /// The three meta-fields. No text holds them: neither they nor any of their parts have locations.
     pub fn new(alloc: Global) -> Result<MetaFields, ValidationError>
-        ensures typename { IfOk result (λ fields. fields.typename.node.location ≡ None) }
-        ensures schema { IfOk result (λ fields. fields.schema.node.location ≡ None) }
-        ensures type_by_name { IfOk result (λ fields. fields.type_by_name.node.location ≡ None) }
+        ensures typename { IfOk result (λ fields. FieldHasNoPlace fields.typename) }
+        ensures schema { IfOk result (λ fields. FieldHasNoPlace fields.schema) }
+        ensures type_by_name { IfOk result (λ fields. FieldHasNoPlace fields.type_by_name) }
     {
         let typename = typename(alloc)?;
         let schema = schema_field(alloc)?;
@@ -44,7 +46,7 @@ impl MetaFields {
 /// `__typename: String!`
 fn typename(alloc: Global) -> Result<Component<FieldDefinition>, ValidationError>
     ensures field { IfOk result (λ field. IsTypename field.node.value.value) }
-    ensures location { IfOk result (λ field. field.node.location ≡ None) }
+    ensures place { IfOk result (λ field. FieldHasNoPlace field) }
 {
     let name = known_name(alloc, "__typename")?;
     let ty = Type::NonNullNamed(known_name(alloc, "String")?);
@@ -54,7 +56,7 @@ fn typename(alloc: Global) -> Result<Component<FieldDefinition>, ValidationError
 /// `__schema: __Schema!`
 fn schema_field(alloc: Global) -> Result<Component<FieldDefinition>, ValidationError>
     ensures field { IfOk result (λ field. IsSchemaField field.node.value.value) }
-    ensures location { IfOk result (λ field. field.node.location ≡ None) }
+    ensures place { IfOk result (λ field. FieldHasNoPlace field) }
 {
     let name = known_name(alloc, "__schema")?;
     let ty = Type::NonNullNamed(known_name(alloc, "__Schema")?);
@@ -64,7 +66,7 @@ fn schema_field(alloc: Global) -> Result<Component<FieldDefinition>, ValidationE
 /// `__type(name: String!): __Type`
 fn type_field(alloc: Global) -> Result<Component<FieldDefinition>, ValidationError>
     ensures field { IfOk result (λ field. IsTypeField field.node.value.value) }
-    ensures location { IfOk result (λ field. field.node.location ≡ None) }
+    ensures place { IfOk result (λ field. FieldHasNoPlace field) }
 {
     let mut arguments = Vec::new(alloc);
     arguments.push(name_argument(alloc)?)?;
@@ -77,6 +79,7 @@ fn type_field(alloc: Global) -> Result<Component<FieldDefinition>, ValidationErr
 fn name_argument(alloc: Global) -> Result<Node<InputValueDefinition>, ValidationError>
     ensures signature { IfOk result (λ argument. argument_signature argument.value.value ≡ (codes "name", codes "String!", false)) }
     ensures directives { IfOk result (λ argument. length argument.value.value.directives.items ≡ 0) }
+    ensures place { IfOk result ArgumentHasNoPlace }
 {
     let definition = InputValueDefinition {
         name: known_name(alloc, "name")?,
@@ -89,7 +92,7 @@ fn name_argument(alloc: Global) -> Result<Node<InputValueDefinition>, Validation
 
 fn known_name(alloc: Global, text: &str) -> Result<Name, ValidationError>
     requires { IsTrue (is_name text.now) }
-    ensures { IfOk result (λ name. name.text ≡ text.now) }
+    ensures { IfOk result (λ name. name ≡ record { text = text.now; location = None }) }
 {
     let text = String::from_str(alloc, text)?;
     match Name::new(text, None) {
@@ -108,6 +111,7 @@ fn field(
     ensures arguments { IfOk result (λ field. field.node.value.value.arguments ≡ arguments) }
     ensures ty { IfOk result (λ field. field.node.value.value.ty ≡ ty) }
     ensures directives { IfOk result (λ field. length field.node.value.value.directives.items ≡ 0) }
+    ensures origin { IfOk result (λ field. field.origin ≡ origin.Definition) }
     ensures location { IfOk result (λ field. field.node.location ≡ None) }
 {
     let definition = FieldDefinition {

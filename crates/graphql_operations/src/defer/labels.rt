@@ -1,11 +1,12 @@
 ghost use Rattle.std.specs.Option.{option_copied};
-ghost use Rattle.std.specs.Prelude.{◌≡◌, ◌∷◌, ◌++◌, [], Contains, IfOk, List, OnOk, Some, map};
+ghost use Rattle.std.specs.Prelude.{◌≡◌, ◌∷◌, ◌++◌, [], Bool, suc, Contains, IfOk, List, OnOk, Some, map};
 ghost use Rattle.graphql_documents.specs.Defer.{DefersIn, DefersOn, LabelsHold, sets_of};
 ghost use Rattle.graphql_diagnostics.specs.DeferReports.{DeferReport, HasLabel};
 ghost use Rattle.graphql_diagnostics.specs.Diagnostics.{entries};
 ghost use Rattle.graphql_diagnostics.specs.Limits.{DeferLimit};
 ghost use Rattle.graphql_diagnostics.specs.Reports.{ChecksWithin, KeepsReports};
 ghost use Rattle.graphql_documents.specs.Selections.{selections_of};
+ghost use Rattle.graphql_documents.specs.Walks.{DefersMet, walk_bound};
 ghost use Rattle.graphql_diagnostics.specs.declared.lists.DiagnosticEntry.{DiagnosticEntry};
 ghost use Rattle.graphql_documents.specs.declared.documents.values.Value.TheVariants as literal;
 ghost use Rattle.graphql_operations.specs.DeferLabels.{DeferTruth, LabelsSoFar, PassesLabels, PassesLabelsIn, RemembersLabels, first_place_in, has_text, label_of, label_place};
@@ -71,9 +72,10 @@ fn check_set<'doc>(
     labels: &mut Labels<'doc>,
     diagnostics: &mut DiagnosticList,
 ) -> Result<(), ValidationError>
-    ensures { (document : ExecutableDocument) (here : List (Node Directive)) →
+    ensures { (document : ExecutableDocument) (here found : List (Node Directive)) (complete : Bool) →
         Contains (sets_of document) set.now → DefersOn (selections_of set.now) here →
-        PassesLabelsIn result document here labels.old labels.new diagnostics.old diagnostics.new }
+        DefersMet (suc walk_bound) (selections_of set.now) found complete →
+        PassesLabelsIn result document here found labels.old labels.new diagnostics.old diagnostics.new }
 {
     let written = written_defers(diagnostics.allocator(), set)?;
     check_labels(&written.applications, labels, diagnostics)?;

@@ -47,7 +47,7 @@ fn walk_set<'doc>(
     met: &mut Vec<&'doc Node<Directive>>,
     depth: &mut DepthCounter,
 ) -> Result<bool, ValidationError>
-    ensures walks { IfOk result (λ complete. MeetsDefers (depth_limit depth.old) (depth_of depth.old) (selections_of set.now)
+    ensures walks { IfOk result (λ complete. MeetsDefers (depth_limit depth.old) (depth_of depth.old) 1 (selections_of set.now)
         (map (λ d. d.now) met.old.items) (map (λ d. d.now) met.new.items) complete) }
     ensures depth { OnOk result (depth_of depth.new ≡ depth_of depth.old) }
     ensures limit { OnOk result (depth_limit depth.new ≡ depth_limit depth.old) }
@@ -67,7 +67,7 @@ fn walk_selection<'doc>(
     met: &mut Vec<&'doc Node<Directive>>,
     depth: &mut DepthCounter,
 ) -> Result<bool, ValidationError>
-    ensures walks { IfOk result (λ complete. MeetsDefers (depth_limit depth.old) (depth_of depth.old) (selection.now ∷ [])
+    ensures walks { IfOk result (λ complete. MeetsDefers (depth_limit depth.old) (depth_of depth.old) 1 (selection.now ∷ [])
         (map (λ d. d.now) met.old.items) (map (λ d. d.now) met.new.items) complete) }
     ensures depth { OnOk result (depth_of depth.new ≡ depth_of depth.old) }
     ensures limit { OnOk result (depth_limit depth.new ≡ depth_limit depth.old) }
@@ -89,7 +89,7 @@ fn walk_deeper<'doc>(
     met: &mut Vec<&'doc Node<Directive>>,
     depth: &mut DepthCounter,
 ) -> Result<bool, ValidationError>
-    ensures walks { IfOk result (λ complete. MeetsDefers (depth_limit depth.old) (depth_of depth.old + 1) (selections_of set.now)
+    ensures walks { IfOk result (λ complete. MeetsDefers (depth_limit depth.old) (depth_of depth.old + 1) 0 (selections_of set.now)
         (map (λ d. d.now) met.old.items) (map (λ d. d.now) met.new.items) complete) }
     ensures depth { OnOk result (depth_of depth.new ≡ depth_of depth.old) }
     ensures limit { OnOk result (depth_limit depth.new ≡ depth_limit depth.old) }

@@ -30,8 +30,21 @@ const BASE: &str = "
 /// the roots are the types that are called `Query`, `Mutation` and `Subscription`.
 pub fn schema(alloc: Global, text: &str) -> Result<Valid<Schema>, RowError> {
     let written = written_out(alloc, text)?;
-    let mut schema = empty_schema(alloc)?;
-    read_schema(alloc, written.as_str(), &mut schema).and(Ok(Valid(schema)))
+    whole_schema(Reader::new(alloc, written.as_str(), Place::Nowhere))
+}
+
+/// The same, where the text is this file.
+pub fn schema_in_file(
+    alloc: Global,
+    text: &str,
+    file_id: FileId,
+) -> Result<Valid<Schema>, RowError> {
+    whole_schema(Reader::new(alloc, text, Place::In(file_id)))
+}
+
+fn whole_schema(reader: Reader<'_>) -> Result<Valid<Schema>, RowError> {
+    let mut schema = empty_schema(reader.alloc)?;
+    read_schema(reader, &mut schema).and(Ok(Valid(schema)))
 }
 
 fn empty_schema(alloc: Global) -> Result<Schema, RowError> {
@@ -49,10 +62,10 @@ fn meta_fields(alloc: Global) -> Result<MetaFields, RowError> {
     Ok(MetaFields::new(alloc)?)
 }
 
-fn read_schema(alloc: Global, text: &str, schema: &mut Schema) -> Result<(), RowError> {
-    add_definitions(Reader::new(alloc, BASE, BUILT_IN), schema)?;
-    add_definitions(Reader::new(alloc, text, Place::Nowhere), schema)?;
-    add_named_roots(alloc, schema)
+fn read_schema(reader: Reader<'_>, schema: &mut Schema) -> Result<(), RowError> {
+    add_definitions(Reader::new(reader.alloc, BASE, BUILT_IN), schema)?;
+    add_definitions(reader, schema)?;
+    add_named_roots(reader.alloc, schema)
 }
 
 /// Reads all definitions of a text.

@@ -122,7 +122,11 @@ pub fn validate_leaf_field_selection(
     let Some(type_definition) = type_without_selection(schema, &field.value, field_type) else {
         return Ok(true);
     };
-    let coordinate = TypeAttributeCoordinate::new(parent_type, &field.value.name)?;
+    let coordinate = TypeAttributeCoordinate::new(
+        diagnostics.allocator(),
+        parent_type,
+        &field.value.name,
+    )?;
     let output_type = field_type.inner_named_type().clone()?;
     diagnostics.push(
         field.location,

@@ -1,9 +1,10 @@
-ghost use Rattle.std.specs.Prelude.{◌≡◌, ◌≢◌, Some, None, false, IfOk};
+ghost use Rattle.std.specs.Prelude.{◌≡◌, ◌≢◌, Some, None, false, IfOk, IsTrue};
 ghost use Rattle.std.specs.Option.{option_copied};
-ghost use Rattle.graphql_diagnostics.specs.Diagnostics.{IsDiagnostic, entries};
-ghost use Rattle.graphql_documents.specs.FragmentSpreads.{FragmentHolds, InlineFragmentHolds, IsPossibleIn, TargetHolds};
+ghost use Rattle.graphql_diagnostics.specs.Diagnostics.{IsDiagnostic, IsLimitEntry, entries};
+ghost use Rattle.graphql_documents.specs.FragmentSpreads.{FragmentHasNoCycle, FragmentHolds, InlineFragmentHolds, IsPossibleIn, TargetHolds};
 ghost use Rattle.graphql_diagnostics.specs.Limits.{FragmentLimit};
-ghost use Rattle.graphql_diagnostics.specs.Reports.{Checks, ChecksWithin};
+ghost use Rattle.graphql_diagnostics.specs.Reports.{Checks, ChecksWithin, KeepsReports};
+ghost use Rattle.graphql_nodes.specs.Names.{NameText};
 ghost use Rattle.graphql_diagnostics.specs.SelectionReports.{FragmentBreaks, InlineFragmentBreaks, SpreadBreaks};
 ghost use Rattle.graphql_documents.specs.Selections.{Fragments, fragments_of};
 ghost use Rattle.graphql_operations.specs.Contexts.{IsAgainst, StaysAsItWas, parent_of, schema_of, variables_of};
@@ -33,6 +34,8 @@ pub(super) fn check_inline_fragment<'a>(
     ensures checks { Checks result (InlineFragmentHolds (schema_of context.old) (variables_of context.old) (parent_of against_type.entry) inline.now.value.value)
         (IsDiagnostic (InlineFragmentSays (schema_of context.old) (variables_of context.old) (parent_of against_type.entry) inline.now))
         diagnostics.old diagnostics.new }
+    ensures goes_on { IfOk result (λ goes_on. IsTrue goes_on → (condition : NameText) → inline.now.value.value.type_condition ≡ Some condition →
+        TargetHolds (schema_of context.old) condition) }
     ensures answer { IfOk result (λ goes_on. goes_on ≡ false → ¬ InlineFragmentHolds (schema_of context.old) (variables_of context.old) (parent_of against_type.entry) inline.now.value.value) }
     ensures context { StaysAsItWas context.old context.new }
 {
@@ -64,6 +67,7 @@ fn check_condition<'a>(
         (IsDiagnostic (InlineFragmentBreaks (schema_of context.old) (parent_of against_type.entry) inline.now))
         diagnostics.old diagnostics.new }
     ensures answer { IfOk result (λ goes_on. goes_on ≡ false → ¬ TargetHolds (schema_of context.old) condition.now) }
+    ensures goes_on { IfOk result (λ goes_on. IsTrue goes_on → TargetHolds (schema_of context.old) condition.now) }
     ensures context { StaysAsItWas context.old context.new }
 {
     let Some(schema) = context.schema else {
@@ -163,6 +167,10 @@ pub(super) fn check_fragment(
         (λ e. FragmentLimit (fragments_of document.now) fragment.now e.details e.location)
         diagnostics.old diagnostics.new }
     ensures answer { IfOk result (λ goes_on. goes_on ≡ false → entries diagnostics.new ≢ entries diagnostics.old) }
+    ensures goes_on { IfOk result (λ goes_on. IsTrue goes_on →
+        TargetHolds (schema_of context.now) fragment.now.value.value.selection_set.ty × FragmentHasNoCycle (fragments_of document.now) fragment.now) }
+    ensures stops { IfOk result (λ goes_on. goes_on ≡ false → TargetHolds (schema_of context.now) fragment.now.value.value.selection_set.ty →
+        FragmentHasNoCycle (fragments_of document.now) fragment.now → ¬ KeepsReports (λ e. ¬ IsLimitEntry e) (entries diagnostics.old) (entries diagnostics.new)) }
 {
     check_each_directive(
         diagnostics,

@@ -15,7 +15,7 @@ use graphql_documents::documents::{
 };
 use graphql_operations::{OperationValidationContext, operations_of};
 use graphql_values::directive::{check_each_directive, validate_variable_definitions};
-use graphql_variables::validate_unused_variables;
+use graphql_variables::{VariablesByName, validate_unused_variables};
 
 /// Validates the operations of a document, each with the fragments that it reaches: the one without a
 /// name, then the others in order. The only error is want of memory.
@@ -33,9 +33,11 @@ pub fn validate_operation_definitions(
 {
     let alloc = diagnostics.allocator();
     let operations = operations_of(alloc, document)?;
-    let mut context = OperationValidationContext::new(alloc, schema, &[])?;
+    let none = VariablesByName::new(alloc, &[])?;
+    let mut context = OperationValidationContext::new(alloc, schema, none);
     for operation in &operations {
-        context = context.next(alloc, &operation.value.variables)?;
+        let variables = VariablesByName::new(alloc, &operation.value.variables)?;
+        context = context.next(alloc, variables);
         check_operation(diagnostics, document, &operation.value, &mut context)?;
     }
     Ok(())
@@ -59,7 +61,8 @@ pub fn validate_operation(
         diagnostics.old diagnostics.new }
 {
     let alloc = diagnostics.allocator();
-    let mut context = OperationValidationContext::new(alloc, schema, &operation.variables)?;
+    let variables = VariablesByName::new(alloc, &operation.variables)?;
+    let mut context = OperationValidationContext::new(alloc, schema, variables);
     check_operation(diagnostics, document, operation, &mut context)
 }
 

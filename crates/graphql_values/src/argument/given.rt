@@ -66,7 +66,7 @@ fn report_undefined_argument(
     ensures { (schema : Schema) (variables : List (Node VariableDefinition)) →
         Checks result ⊥ (IsDiagnostic (GivenArgumentReport schema variables arguments.now)) diagnostics.old diagnostics.new }
 {
-    let coordinate = arguments.owner.coordinate()?;
+    let coordinate = arguments.owner.coordinate(diagnostics.allocator())?;
     let name = argument.value.name.clone()?;
     diagnostics.push(
         argument.location,

@@ -10,6 +10,7 @@ use graphql_documents::documents::{
     Argument, Component, Directive, DirectiveDefinition, Field, FieldDefinition,
     InputValueDefinition, Name, NamedType, Node, SourceSpan,
 };
+use std::alloc::Global;
 
 /// What arguments are given to: a field of a type, or a directive, which its definition may write
 /// otherwise than its application.
@@ -37,32 +38,36 @@ pub struct GivenArguments<'a> {
 
 impl ArgumentOwner<'_> {
     /// The coordinate of the field or directive.
-    pub fn coordinate(&self) -> Result<SchemaCoordinate, ValidationError>
+    pub fn coordinate(&self, alloc: Global) -> Result<SchemaCoordinate, ValidationError>
         ensures { IfOk result (λ c. c ≡ owner_coordinate self.now) }
     {
         match *self {
             ArgumentOwner::Field { parent, field } => {
-                let coordinate = TypeAttributeCoordinate::new(parent, field)?;
+                let coordinate = TypeAttributeCoordinate::new(alloc, parent, field)?;
                 Ok(SchemaCoordinate::TypeAttribute(coordinate))
             }
             ArgumentOwner::Directive { application, .. } => {
-                let coordinate = DirectiveCoordinate::new(application)?;
+                let coordinate = DirectiveCoordinate::new(alloc, application)?;
                 Ok(SchemaCoordinate::Directive(coordinate))
             }
         }
     }
 
     /// The coordinate of an argument of the field or directive.
-    pub fn argument_coordinate(&self, argument: &Name) -> Result<SchemaCoordinate, ValidationError>
+    pub fn argument_coordinate(
+        &self,
+        alloc: Global,
+        argument: &Name,
+    ) -> Result<SchemaCoordinate, ValidationError>
         ensures { IfOk result (λ c. c ≡ argument_coordinate_of self.now argument.now) }
     {
         match *self {
             ArgumentOwner::Field { parent, field } => {
-                let coordinate = FieldArgumentCoordinate::new(parent, field, argument)?;
+                let coordinate = FieldArgumentCoordinate::new(alloc, parent, field, argument)?;
                 Ok(SchemaCoordinate::FieldArgument(coordinate))
             }
             ArgumentOwner::Directive { definition, .. } => {
-                let coordinate = DirectiveArgumentCoordinate::new(definition, argument)?;
+                let coordinate = DirectiveArgumentCoordinate::new(alloc, definition, argument)?;
                 Ok(SchemaCoordinate::DirectiveArgument(coordinate))
             }
         }

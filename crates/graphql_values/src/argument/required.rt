@@ -40,7 +40,10 @@ fn validate_required_argument(
     if !definition.value.is_required() || is_given(arguments.given, &definition.value.name) {
         return Ok(());
     }
-    let coordinate = arguments.owner.argument_coordinate(&definition.value.name)?;
+    let alloc = diagnostics.allocator();
+    let coordinate = arguments
+        .owner
+        .argument_coordinate(alloc, &definition.value.name)?;
     let name = definition.value.name.clone()?;
     let expected_type = definition.value.ty.clone()?;
     diagnostics.push(

@@ -72,7 +72,11 @@ pub(super) fn check_required_field(
     if is_satisfied(&field.node.value, entries, name) {
         return Ok(());
     }
-    let coordinate = TypeAttributeCoordinate::new(&input_object.value.name, name)?;
+    let coordinate = TypeAttributeCoordinate::new(
+        diagnostics.allocator(),
+        &input_object.value.name,
+        name,
+    )?;
     let reported = name.clone()?;
     let expected_type = field.node.value.ty.clone()?;
     diagnostics.push(

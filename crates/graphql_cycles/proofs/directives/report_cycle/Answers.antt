@@ -2,14 +2,14 @@ use Rattle.std.proofs.Common.{rules, inl}
 use Rattle.graphql_diagnostics.proofs.ReportLemmas.{checks-push}
 use Rattle.graphql_diagnostics.proofs.ReportWithinLemmas.{checks_within}
 use Rattle.graphql_diagnostics.specs.Diagnostics.{IsLimitEntry}
-use Rattle.graphql_diagnostics.specs.SchemaReports.{directive_applies_itself}
+use Rattle.graphql_diagnostics.specs.SchemaReports.{references_lead_back}
 use Rattle.graphql_cycles.proofs.directives.report_cycle.Goals as goal
 
 pub returns : goal.returns
 returns c = λ schema path cycle traces.
     checks_within IsLimitEntry _ _ _ _ _ _ (λ e said. inl said)
     (checks-push _ _ _ _ _ _ c.push.ensures.ok c.push.ensures.err (λ none. none path cycle)
-    (directive_applies_itself {name = c.in_ok-name.name} {trace = c.args.trace} {at = c.head_of-head.result} (record {
+    (references_lead_back {name = c.in_ok-name.name} {trace = c.args.trace} {at = c.head_of-head.result} (record {
       path = path;
       is_cycle = cycle;
       trace_is = traces.copies;

@@ -7,9 +7,9 @@ use Rattle.graphql_documents.specs.declared.documents.directives.Directive.{Dire
 use Rattle.graphql_documents.specs.declared.documents.schemas.ExtendedType.TheVariants as types
 use Rattle.graphql_documents.specs.declared.documents.schemas.InputObjectType.{InputObjectType}
 use Rattle.graphql_diagnostics.proofs.ReportLemmas.{kept_then, kept_wider, wider}
-use Rattle.graphql_diagnostics.proofs.ReportWithinLemmas.{both_within, checks_after_within, checks_refused_within, checks_within, kept_within, within}
+use Rattle.graphql_diagnostics.proofs.ReportWithinLemmas.{both_within, checks_after_within, checks_refused_within, checks_within, kept_within, wider_within, within}
 use Rattle.graphql_leaf_types.proofs.BuiltInScalarLemmas.{keeps_itself}
-use Rattle.graphql_definitions.proofs.NamedTypeLemmas.{KindTruth}
+use Rattle.graphql_definitions.proofs.NamedTypeLemmas.{KindTruth, names_input_object_cycle}
 use Rattle.graphql_leaf_types.proofs.TypeLemmas.{checks_iff_within, directives_checked, directives_kept, input_object_decides, on_ok_known}
 use Rattle.graphql_definitions.proofs.input_objects.validate_input_object_definition.Goals as goal
 
@@ -34,7 +34,7 @@ returns-in_err-validate_input_object_cycles-clause-checks c =
     let applied = wider {Q' = KindTruth schema (types.InputObject d)} (λ e said. inl said)
     (directives_checked schema (types.InputObject d) c.deref-2.result.now are refl c.in_ok-validate_component_directives.ensures) in
     checks_refused_within IsLimitEntry _ _ _ _ _ c.from_residual-in_err-validate_input_object_cycles.ensures.0
-    (kept_then (kept_within IsLimitEntry (within IsLimitEntry applied)) c.in_err-validate_input_object_cycles.ensures)
+    (kept_then (kept_within IsLimitEntry (within IsLimitEntry applied)) (kept_wider (names_input_object_cycle schema d) c.in_err-validate_input_object_cycles.ensures))
 
 pub returns-in_err-validate_input_object_cycles-clause-keeps : goal.returns-in_err-validate_input_object_cycles-clause-keeps
 returns-in_err-validate_input_object_cycles-clause-keeps c = keeps_itself c.args.built_in_scalars.now
@@ -48,7 +48,7 @@ returns-in_err-validate_input_fields-clause-checks c =
     let applied = wider {Q' = KindTruth schema (types.InputObject d)} (λ e said. inl said)
     (directives_checked schema (types.InputObject d) c.deref-2.result.now are refl c.in_ok-validate_component_directives.ensures) in
     checks_refused_within IsLimitEntry _ _ _ _ _ c.from_residual-in_err-validate_input_fields.ensures.0
-    (kept_then (kept_within IsLimitEntry (both_within IsLimitEntry (within IsLimitEntry applied) c.in_ok-validate_input_object_cycles.ensures))
+    (kept_then (kept_within IsLimitEntry (both_within IsLimitEntry (within IsLimitEntry applied) (wider_within IsLimitEntry (names_input_object_cycle schema d) c.in_ok-validate_input_object_cycles.ensures)))
     (kept_wider (λ e said. inl said) c.in_err-validate_input_fields.ensures.checks))
 
 pub returns-clause-checks : goal.returns-clause-checks
@@ -64,7 +64,7 @@ returns-clause-checks c =
     let fields = wider {Q' = says} (λ e said. inl said) c.in_ok-validate_input_fields.ensures.checks in
     checks_iff_within last _ _ says _ _ (input_object_decides schema d)
     (checks_after_within IsLimitEntry last _ _ says _ _ _
-    (both_within IsLimitEntry (both_within IsLimitEntry (within IsLimitEntry applied) c.in_ok-validate_input_object_cycles.ensures) (within IsLimitEntry fields))
+    (both_within IsLimitEntry (both_within IsLimitEntry (within IsLimitEntry applied) (wider_within IsLimitEntry (names_input_object_cycle schema d) c.in_ok-validate_input_object_cycles.ensures)) (within IsLimitEntry fields))
     (checks_within IsLimitEntry last _ _ says _ _ (λ e said. inl said) (c.validate_is_not_empty.ensures schema)))
 
 pub returns-clause-records : goal.returns-clause-records

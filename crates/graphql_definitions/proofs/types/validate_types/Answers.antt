@@ -13,7 +13,7 @@ use Rattle.graphql_documents.proofs.ListLemmas.{done_next, stands_next}
 use Rattle.graphql_diagnostics.proofs.ReportWithinLemmas.{checks_refused_within, kept_within, wider_within, within}
 use Rattle.graphql_leaf_types.specs.BuiltInScalarUses.{Records}
 use Rattle.graphql_leaf_types.proofs.BuiltInScalarLemmas.{keeps_by, keeps_then, records_done, records_none}
-use Rattle.graphql_definitions.proofs.NamedTypeLemmas.{SchemaTruth, names_type}
+use Rattle.graphql_definitions.proofs.NamedTypeLemmas.{TypesTruth, names_type}
 use Rattle.graphql_leaf_types.proofs.TypeLemmas.{done_more_within}
 use Rattle.graphql_definitions.proofs.types.validate_types.Goals as goal
 
@@ -53,7 +53,7 @@ loop-name-preserved c =
       is_finite = tt;
       done = done ++ x ∷ [];
       all = done_next _ done c.loop-name.name-iterator c.next.new.self x c.loop-name.invariant.all c.in-Some.ensures.steps;
-      checked = done_more_within (λ (entry : NameText × ExtendedType). IsFreeName entry.0 × TypeHolds schema entry.1) (SchemaTruth schema) done x _ _ _
+      checked = done_more_within (λ (entry : NameText × ExtendedType). IsFreeName entry.0 × TypeHolds schema entry.1) (TypesTruth schema) done x _ _ _
           c.loop-name.invariant.checked
           (wider_within IsLimitEntry (names_type schema x.0 x.1 stands) c.in_ok-validate_type_definition.ensures.checks);
       records = records_done (λ (entry : NameText × ExtendedType). types_referred_by entry.1) done x c.loop-name.invariant.records c.in_ok-validate_type_definition.ensures.records;
@@ -66,7 +66,7 @@ returns c =
     let are : done ≡ schema.types.entries =
     sym (c.loop-name.invariant.all ∙ ap (λ l. done ++ l) c.in-None.ensures.steps.0 ∙ append-nil done) in
     record {
-      checks = subst (λ l. ReportsWithin IsLimitEntry (All (λ (entry : NameText × ExtendedType). IsFreeName entry.0 × TypeHolds schema entry.1) l) (SchemaTruth schema)
+      checks = subst (λ l. ReportsWithin IsLimitEntry (All (λ (entry : NameText × ExtendedType). IsFreeName entry.0 × TypeHolds schema entry.1) l) (TypesTruth schema)
           (entries c.args.diagnostics.now) (entries c.loop-name.diagnostics)) are c.loop-name.invariant.checked;
       records = subst (λ l. Records c.args.built_in_scalars.now c.loop-name.built_in_scalars (flat_map (λ (entry : NameText × ExtendedType). types_referred_by entry.1) l)) are
           c.loop-name.invariant.records;

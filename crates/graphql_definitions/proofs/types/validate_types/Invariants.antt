@@ -1,10 +1,10 @@
 use Rattle.std.proofs.Common.{◌≡◌, ◌++◌, All, List}
 use Rattle.std.specs.Prelude.{◌⊎◌, flat_map}
 use Rattle.graphql_diagnostics.specs.Diagnostics.{IsDiagnostic, IsLimitEntry, entries}
-use Rattle.graphql_diagnostics.specs.Limits.{SchemaLimit}
+use Rattle.graphql_diagnostics.specs.Limits.{TypesLimit}
 use Rattle.graphql_nodes.specs.Names.{IsFreeName, NameText}
 use Rattle.graphql_diagnostics.specs.Reports.{ReportsWithin}
-use Rattle.graphql_diagnostics.specs.SchemaReports.{SchemaReport}
+use Rattle.graphql_diagnostics.specs.SchemaReports.{TypesReport}
 use Rattle.graphql_documents.specs.SchemaRules.{TypeHolds}
 use Rattle.graphql_documents.specs.TypeMaps.{types_referred_by}
 use Rattle.graphql_documents.specs.declared.documents.schemas.ExtendedType.{ExtendedType}
@@ -19,6 +19,6 @@ invariant-loop-name l = record {
   done : List (NameText × ExtendedType);
   all : l.schema.types.entries ≡ done ++ l.name-iterator;
   checked : ReportsWithin IsLimitEntry (All (λ entry. IsFreeName entry.0 × TypeHolds l.schema entry.1) done)
-      (λ e. IsDiagnostic (SchemaReport l.schema) e ⊎ IsDiagnostic (SchemaLimit l.schema) e) (entries l.initial.diagnostics) (entries l.diagnostics);
+      (λ e. IsDiagnostic (TypesReport l.schema) e ⊎ IsDiagnostic (TypesLimit l.schema) e) (entries l.initial.diagnostics) (entries l.diagnostics);
   records : Records l.initial.built_in_scalars l.built_in_scalars (flat_map (λ entry. types_referred_by entry.1) done);
 }

@@ -3,4 +3,4 @@ use Rattle.std.proofs.Common.{None, refl}
 use Rattle.graphql_laws.proofs.reports.limit_of_a_shallow_document_is_not_true.Goals as goal
 
 pub returns : goal.returns
-returns c same schema document shallow = no_limit document shallow same schema _ None refl
+returns c schema document shallow = no_limit document shallow schema _ None refl

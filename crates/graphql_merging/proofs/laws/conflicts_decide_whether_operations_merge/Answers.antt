@@ -3,5 +3,5 @@ use Rattle.graphql_merging.proofs.MergedOperationLemmas.{conflicts_decide}
 use Rattle.graphql_merging.proofs.laws.conflicts_decide_whether_operations_merge.Goals as goal
 
 pub returns : goal.returns
-returns c same_definition m built own sound kept shallow =
-    conflicts_decide same_definition (schema_of m) (document_of m) (merging_of m) built own (sound kept) shallow
+returns c m built own sound kept shallow =
+    conflicts_decide (schema_of m) (document_of m) (merging_of m) built own (sound kept) shallow

@@ -2,41 +2,40 @@ use Rattle.std.proofs.Common.{◌++◌, Some}
 use Rattle.graphql_diagnostics.specs.Diagnostics.{IsLimitEntry}
 use Rattle.graphql_diagnostics.proofs.ReportLemmas.{appended_then, both_nil, kept_then, kept_wider, on_ok}
 use Rattle.graphql_diagnostics.proofs.ReportWithinLemmas.{both_within, in_words_within, kept_within}
-use Rattle.graphql_merging.specs.FieldSelections.{same_field}
 use Rattle.graphql_validation.proofs.LimitLemmas.{limit_if_one, report_unless_limit}
 use Rattle.graphql_validation.proofs.MergingStepLemmas.{document_holds, silent_holds}
 use Rattle.graphql_validation.proofs.entry.validate_executable_document.Goals as goal
 
 pub returns-in_err-validate_with_or_without_schema-clause-reports : goal.returns-in_err-validate_with_or_without_schema-clause-reports
 returns-in_err-validate_with_or_without_schema-clause-reports c =
-    kept_wider (report_unless_limit same_field (Some c.args.schema.now) c.args.document.now) (c.in_err-validate_with_or_without_schema.ensures same_field)
+    kept_wider (report_unless_limit (Some c.args.schema.now) c.args.document.now) (c.in_err-validate_with_or_without_schema.ensures)
 
 pub returns-in_err-validate_with_or_without_schema-clause-limits : goal.returns-in_err-validate_with_or_without_schema-clause-limits
 returns-in_err-validate_with_or_without_schema-clause-limits c =
-    kept_wider (limit_if_one same_field (Some c.args.schema.now) c.args.document.now) (c.in_err-validate_with_or_without_schema.ensures same_field)
+    kept_wider (limit_if_one (Some c.args.schema.now) c.args.document.now) (c.in_err-validate_with_or_without_schema.ensures)
 
 pub returns-clause-silence : goal.returns-clause-silence
-returns-clause-silence c same built =
+returns-clause-silence c built =
     on_ok c.validate_with_schema.result _ _
     (λ r.
     let all = in_words_within IsLimitEntry (document_holds c.args.schema.now c.args.document.now)
-    (both_within IsLimitEntry (c.in_ok-validate_with_or_without_schema.ensures same_field) r) in
+    (both_within IsLimitEntry (c.in_ok-validate_with_or_without_schema.ensures) r) in
     record { added = all.added; appended = all.appended; are = all.silent })
-    (c.validate_with_schema.ensures.holds same built)
+    (c.validate_with_schema.ensures.holds built)
 
 pub returns-clause-reports : goal.returns-clause-reports
 returns-clause-reports c =
-    kept_wider (report_unless_limit same_field (Some c.args.schema.now) c.args.document.now)
-    (kept_then (kept_within IsLimitEntry (c.in_ok-validate_with_or_without_schema.ensures same_field)) c.validate_with_schema.ensures.truth)
+    kept_wider (report_unless_limit (Some c.args.schema.now) c.args.document.now)
+    (kept_then (kept_within IsLimitEntry (c.in_ok-validate_with_or_without_schema.ensures)) c.validate_with_schema.ensures.truth)
 
 pub returns-clause-limits : goal.returns-clause-limits
 returns-clause-limits c =
-    kept_wider (limit_if_one same_field (Some c.args.schema.now) c.args.document.now)
-    (kept_then (kept_within IsLimitEntry (c.in_ok-validate_with_or_without_schema.ensures same_field)) c.validate_with_schema.ensures.truth)
+    kept_wider (limit_if_one (Some c.args.schema.now) c.args.document.now)
+    (kept_then (kept_within IsLimitEntry (c.in_ok-validate_with_or_without_schema.ensures)) c.validate_with_schema.ensures.truth)
 
 pub returns-clause-parts : goal.returns-clause-parts
 returns-clause-parts c =
-    let first = c.in_ok-validate_with_or_without_schema.ensures same_field in
+    let first = c.in_ok-validate_with_or_without_schema.ensures in
     on_ok c.validate_with_schema.result _ _
     (λ r. record {
       added = first.added ++ r.added;

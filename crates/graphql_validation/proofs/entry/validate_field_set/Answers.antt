@@ -1,4 +1,4 @@
-use Rattle.std.proofs.Common.{[], Some, refl, subst}
+use Rattle.std.proofs.Common.{[], Some, refl, subst, ◌∙◌}
 use Rattle.std.proofs.lemmas.Result.{MatchResult-from_err, MatchResult-weaker}
 use Rattle.graphql_diagnostics.proofs.ReportLemmas.{kept}
 use Rattle.graphql_diagnostics.specs.Diagnostics.{entries}
@@ -7,11 +7,14 @@ use Rattle.graphql_documents.proofs.SelectionLemmas.{one_fragment_found}
 use Rattle.graphql_operations.specs.Contexts.{entered_names}
 use Rattle.graphql_rules.specs.SelectionSteps.{Walks}
 use Rattle.graphql_rules.proofs.WalkLemmas.{walks_as}
-use Rattle.graphql_validation.proofs.FieldSetLemmas.{field_set_checked, field_set_kept, has_no_fragments}
+use Rattle.graphql_validation.proofs.FieldSetLemmas.{field_set_checked, field_set_has_no_limit, field_set_kept, has_no_fragments}
 use Rattle.graphql_validation.proofs.entry.validate_field_set.Goals as goal
 
-pub returns-in_err-context : goal.returns-in_err-context
-returns-in_err-context c = MatchResult-from_err _ _ _ c.from_residual.ensures.0 (λ y. kept _ _)
+pub returns-in_err-variables : goal.returns-in_err-variables
+returns-in_err-variables c = record {
+  checks = MatchResult-from_err _ _ _ c.from_residual.ensures.0 (λ y. kept _ _);
+  limits = kept _ _;
+}
 
 pub returns : goal.returns
 returns c =
@@ -22,9 +25,11 @@ returns c =
     let new = entered_names c.validate_selection_set.new.context in
     let old = entries c.args.diagnostics.now in
     let further = entries c.validate_selection_set.new.diagnostics in
+    let checked =
     MatchResult-weaker r
     (subst (λ F. Walks r (Some s) F [] (Some set.ty) (selections_of set) [] new old further) (has_no_fragments D c.empty_document-document.ensures)
     (walks_as (Some s) (fragments_of D) [] (one_fragment_found D) r new old further
-    c.in_ok-context.ensures.schema c.in_ok-context.ensures.variables refl refl c.in_ok-context.ensures.entered c.validate_selection_set.ensures.walks))
+    c.new-context.ensures.schema (c.new-context.ensures.variables ∙ c.in_ok-variables.ensures) refl refl c.new-context.ensures.entered c.validate_selection_set.ensures.walks))
     (λ _ w. field_set_checked s set w)
-    (λ _ k. field_set_kept s set k)
+    (λ _ k. field_set_kept s set k) in
+    record { checks = checked; limits = field_set_has_no_limit s set r checked }

@@ -5,8 +5,8 @@ use Rattle.graphql_diagnostics.proofs.ReportWithinLemmas.{in_words_within}
 use Rattle.graphql_validation.proofs.entry.validate_standalone_executable.Goals as goal
 
 pub returns : goal.returns
-returns c = λ same.
-    MatchResult-weaker c.validate_with_or_without_schema.result (c.validate_with_or_without_schema.ensures same)
+returns c =
+    MatchResult-weaker c.validate_with_or_without_schema.result c.validate_with_or_without_schema.ensures
     (λ _ checked. in_words_within IsLimitEntry (
       λ p. record {
         operations = p.0;

@@ -7,7 +7,6 @@ use Rattle.graphql_nodes.specs.declared.nodes.Node.{Node}
 use Rattle.graphql_diagnostics.proofs.ReportLemmas.{kept_then, kept_wider}
 use Rattle.graphql_documents.proofs.ListLemmas.{more_is}
 use Rattle.graphql_diagnostics.proofs.ReportWithinLemmas.{kept_within, wider_within}
-use Rattle.graphql_merging.specs.FieldSelections.{same_field}
 use Rattle.graphql_merging.specs.MergedOperations.{MergesOneMore}
 use Rattle.graphql_merging.specs.Mergers.{merging_of}
 use Rattle.graphql_variables.proofs.ReferenceLemmas.{stands_referred}
@@ -33,7 +32,7 @@ returns-in_err-validate_subscription-clause-truth c =
     let are = ap (λ (l : List (Bor (Node Operation))). map (λ b. b.now) l) c.deref-operation-items.ensures.value ∙ c.in_ok-operations.ensures in
     let among = subst (λ l. Contains l x.now) are (stands_referred xs c.loop-operation.operation-index x c.loop-operation-test.true c.operation-item.is) in
     kept_then (kept_so_far c.args.schema.now D c.loop-operation.invariant.so_far)
-    (kept_wider (of_a_subscription same_field c.args.schema.now D x.now among) c.in_err-validate_subscription.ensures)
+    (kept_wider (of_a_subscription c.args.schema.now D x.now among) c.in_err-validate_subscription.ensures)
 
 pub returns-in_err-validate_operation-clause-truth : goal.returns-in_err-validate_operation-clause-truth
 returns-in_err-validate_operation-clause-truth c =
@@ -45,7 +44,7 @@ returns-in_err-validate_operation-clause-truth c =
     let are = ap (λ (l : List (Bor (Node Operation))). map (λ b. b.now) l) c.deref-operation-items.ensures.value ∙ c.in_ok-operations.ensures in
     let among = subst (λ l. Contains l x.now) are (stands_referred xs i x c.loop-operation-test.true c.operation-item.is) in
     kept_then (kept_so_far c.args.schema.now D inv.so_far)
-    (kept_then (kept_wider (of_a_subscription same_field c.args.schema.now D x.now among) (kept_within IsLimitEntry c.in_ok-validate_subscription.ensures))
+    (kept_then (kept_wider (of_a_subscription c.args.schema.now D x.now among) (kept_within IsLimitEntry c.in_ok-validate_subscription.ensures))
     (merged_kept (map (λ b. b.now) (drop (i + 1) xs)) x.now inv.schema inv.document inv.operations (split_at xs i x are c.loop-operation-test.true c.operation-item.is)
     (c.in_err-validate_operation.ensures.truth inv.sound)))
 
@@ -72,20 +71,20 @@ loop-operation-preserved c =
       kept = c.in_ok-validate_operation.ensures.refused;
       so_far = subst (λ l. ValidatedSoFar S D l m' (entries c.args.diagnostics.now) (entries c.validate_operation.new.diagnostics)) (sym further)
           (validated_more S D done x.now m m' inv.so_far
-          (wider_within IsLimitEntry (of_a_subscription same_field S D x.now among) c.in_ok-validate_subscription.ensures) merges
+          (wider_within IsLimitEntry (of_a_subscription S D x.now among) c.in_ok-validate_subscription.ensures) merges
           (merged_kept (map (λ b. b.now) (drop (i + 1) xs)) x.now inv.schema inv.document inv.operations (split_at xs i x are c.loop-operation-test.true c.operation-item.is)
           (c.in_ok-validate_operation.ensures.truth inv.sound)));
     }
 
 pub returns-clause-holds : goal.returns-clause-holds
-returns-clause-holds c same built =
+returns-clause-holds c built =
     let S = c.args.schema.now in
     let D = c.args.document.now in
     let xs = c.deref-operation-items.result.now in
     let inv = c.loop-operation.invariant in
     let m = merging_of c.loop-operation.merging in
     let all = ap (λ (l : List (Bor (Node Operation))). map (λ b. b.now) l) (take_all c.loop-operation.operation-index xs c.loop-operation-test.false ∙ c.deref-operation-items.ensures.value) ∙ c.in_ok-operations.ensures in
-    validated_all S D same m built (inv.operations ∙ all) (merged_of inv.schema inv.document (inv.sound inv.kept))
+    validated_all S D m built (inv.operations ∙ all) (merged_of inv.schema inv.document (inv.sound inv.kept))
     (subst (λ l. ValidatedSoFar S D l m (entries c.args.diagnostics.now) (entries c.loop-operation.diagnostics)) all inv.so_far)
 
 pub returns-clause-truth : goal.returns-clause-truth

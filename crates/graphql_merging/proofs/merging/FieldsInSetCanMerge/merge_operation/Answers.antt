@@ -1,15 +1,30 @@
 use Rattle.std.proofs.Common.{◌↔◌, ◌<◌, ◌||◌, IsTrue, length, map, nat_lt, ◌∙◌, ap, inl}
 use Rattle.std.proofs.lemmas.List.{map-append}
 use Rattle.graphql_diagnostics.specs.Diagnostics.{entries}
+use Rattle.graphql_diagnostics.specs.MergingReports.{MergingReport}
 use Rattle.graphql_diagnostics.specs.Reports.{Appends}
+use Rattle.graphql_diagnostics.specs.declared.lists.DiagnosticEntry.{DiagnosticEntry}
 use Rattle.graphql_documents.specs.Selections.{fragments_of}
 use Rattle.graphql_diagnostics.proofs.ReportLemmas.{kept_then, kept_wider, on_ok}
 use Rattle.graphql_documents.proofs.SelectionLemmas.{one_fragment_found}
 use Rattle.graphql_merging.specs.MergedOperations.{AreLimits, MergesOneMore}
 use Rattle.graphql_merging.specs.Mergers.{document_of, merging_of, schema_of}
-use Rattle.graphql_merging.proofs.MergingReportLemmas.{limit_reported}
+use Rattle.graphql_merging.proofs.MergingReportLemmas.{limit_kept, limit_reported}
 use Rattle.graphql_merging.proofs.MergedOperationLemmas.{always, longer, merged_next, one_more, too_deep_so_far}
 use Rattle.graphql_merging.proofs.merging.FieldsInSetCanMerge.merge_operation.Goals as goal
+
+pub returns-in_err-deep-clause-reports : goal.returns-in_err-deep-clause-reports
+returns-in_err-deep-clause-reports c = kept_wider (λ e says. inl says) c.in_err-deep.ensures.truth
+
+pub returns-clause-reports : goal.returns-clause-reports
+returns-clause-reports c =
+    let m = c.args.self.now in
+    let o = c.args.operation.now in
+    let too_deep = c.examine_operation.new.self.too_deep || c.in_ok-deep.deep in
+    kept_then (kept_wider (λ e says. inl says) c.in_ok-deep.ensures.truth)
+    (limit_kept c.report_limit.result
+    (λ (e : DiagnosticEntry). MergingReport (schema_of m) (fragments_of (document_of m)) o.value.value.selection_set e.details e.location)
+    o too_deep (entries c.examine_operation.new.diagnostics) (entries c.report_limit.new.diagnostics) c.report_limit.ensures.limits c.report_limit.ensures.err)
 
 pub returns-clause-merges : goal.returns-clause-merges
 returns-clause-merges c =

@@ -1,5 +1,6 @@
 use Rattle.std.proofs.Common.{◌++◌, List, map, take}
 use Rattle.graphql_documents.specs.Defer.{DefersIn}
+use Rattle.graphql_documents.specs.Walks.{DefersMetIn}
 use Rattle.graphql_diagnostics.specs.Diagnostics.{entries}
 use Rattle.graphql_diagnostics.specs.declared.lists.DiagnosticEntry.{DiagnosticEntry}
 use Rattle.graphql_documents.specs.declared.documents.directives.Directive.{Directive}
@@ -10,7 +11,9 @@ use Rattle.graphql_operations.proofs.defer.labels.check_labels.Given as goal
 
 abbrev pub invariant-loop-application : goal.invariant-loop-application
 invariant-loop-application l =
-    (document : ExecutableDocument) (passed after : List (Node Directive)) (first : List DiagnosticEntry) →
+    (document : ExecutableDocument) (passed after met later : List (Node Directive)) (first : List DiagnosticEntry) →
     DefersIn document (passed ++ (map (λ d. d.now) l.applications ++ after)) →
-    LabelsSoFar document passed l.initial.labels first (entries l.initial.diagnostics) →
-    LabelsSoFar document (passed ++ map (λ d. d.now) (take l.application-index l.applications)) l.labels first (entries l.diagnostics)
+    DefersMetIn document (met ++ (map (λ d. d.now) l.applications ++ later)) →
+    LabelsSoFar document passed met l.initial.labels first (entries l.initial.diagnostics) →
+    LabelsSoFar document (passed ++ map (λ d. d.now) (take l.application-index l.applications))
+    (met ++ map (λ d. d.now) (take l.application-index l.applications)) l.labels first (entries l.diagnostics)

@@ -17,6 +17,6 @@ abbrev pub invariant-walk_set-loop-selection : goal.invariant-walk_set-loop-sele
 invariant-walk_set-loop-selection l = record {
   depth : depth_of l.depth ≡ depth_of l.initial.depth;
   limit : depth_limit l.depth ≡ depth_limit l.initial.depth;
-  meets : MeetsDefers (depth_limit l.initial.depth) (depth_of l.initial.depth) (take l.selection-index l.selection-items)
+  meets : MeetsDefers (depth_limit l.initial.depth) (depth_of l.initial.depth) 1 (take l.selection-index l.selection-items)
       (map (λ d. d.now) l.initial.met.items) (map (λ d. d.now) l.met.items) true;
 }

@@ -13,5 +13,5 @@ returns c =
     let new = refs c.walk_set.new.met.items in
     let complete = c.in_ok-complete.complete in
     meets_whole set new complete
-    (subst (λ (old : List (Node Directive)). MeetsDefers 500 0 (selections_of set) old new complete) (ap refs c.new-applications.ensures.items)
+    (subst (λ (old : List (Node Directive)). MeetsDefers 500 0 1 (selections_of set) old new complete) (ap refs c.new-applications.ensures.items)
     (meets_at 500 0 _ _ c.with_limit-depth.ensures.limit (c.with_limit-depth.ensures.depth ∙ c.new.ensures.depth) c.in_ok-complete.ensures.walks))

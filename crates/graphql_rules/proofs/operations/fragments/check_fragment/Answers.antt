@@ -8,7 +8,7 @@ use Rattle.graphql_documents.specs.declared.documents.executables.Fragment.{Frag
 use Rattle.graphql_operations.specs.Contexts.{schema_of, variables_of}
 use Rattle.graphql_rules.specs.SelectionSteps.{FragmentSays, by_fragment_directives}
 use Rattle.graphql_rules.proofs.AppliedLemmas.{directives_kept, directives_reported}
-use Rattle.graphql_rules.proofs.FragmentLemmas.{fragment_reported, kept_second, names_broken, names_cycle, names_said}
+use Rattle.graphql_rules.proofs.FragmentLemmas.{both_hold, fragment_reported, kept_second, names_broken, names_cycle, names_said, none_added}
 use Rattle.graphql_rules.proofs.operations.fragments.check_fragment.Goals as goal
 
 pub returns-in_err-check_each_directive-clause-checks :
@@ -71,5 +71,24 @@ returns-clause-answer c = λ other same.
     (kept_then
     (kept_wider (names_broken schema fragments variables d) (kept_by (c.in_ok-check_target.ensures fragments)))
     (kept_wider (names_cycle schema fragments variables d) (kept_within IsLimitEntry (c.in_ok-validate_fragment_cycles.ensures schema)))) same in
+    let equal : c.len.result ≡ c.len-before.result = c.len.ensures ∙ lengths ∙ sym c.len-before.ensures in
+    grind (arith, nat_tests)
+
+pub returns-clause-goes_on : goal.returns-clause-goes_on
+returns-clause-goes_on c = λ yes.
+    let schema = schema_of c.args.context.now in
+    let fragments = fragments_of c.args.document.now in
+    let equal : c.len.result ≡ c.len-before.result = grind (arith, nat_tests) in
+    let same : length (entries c.validate_fragment_cycles.new.diagnostics) ≡ length (entries c.check_each_directive.new.diagnostics) =
+    sym c.len.ensures ∙ equal ∙ c.len-before.ensures in
+    both_hold (c.in_ok-check_target.ensures fragments) (c.in_ok-validate_fragment_cycles.ensures schema) same
+
+pub returns-clause-stops : goal.returns-clause-stops
+returns-clause-stops c = λ other target no_cycle kept.
+    let schema = schema_of c.args.context.now in
+    let fragments = fragments_of c.args.document.now in
+    let lengths : length (entries c.validate_fragment_cycles.new.diagnostics) ≡ length (entries c.check_each_directive.new.diagnostics) =
+    none_added (c.in_ok-check_target.ensures fragments) (c.in_ok-validate_fragment_cycles.ensures schema)
+    (kept_by c.in_ok-check_each_directive.ensures) kept target no_cycle in
     let equal : c.len.result ≡ c.len-before.result = c.len.ensures ∙ lengths ∙ sym c.len-before.ensures in
     grind (arith, nat_tests)

@@ -1,4 +1,5 @@
 use Rattle.std.proofs.Common.{ap, sym, ◌∙◌}
+use Rattle.std.proofs.lemmas.Option.{none-some}
 use Rattle.graphql_diagnostics.specs.Diagnostics.{IsDiagnostic}
 use Rattle.graphql_documents.specs.FragmentSpreads.{InlineFragmentHolds, TargetHolds}
 use Rattle.graphql_diagnostics.specs.SelectionReports.{InlineFragmentBreaks}
@@ -7,7 +8,7 @@ use Rattle.graphql_documents.specs.declared.documents.executables.InlineFragment
 use Rattle.graphql_operations.specs.Contexts.{parent_of, schema_of, variables_of}
 use Rattle.graphql_rules.specs.SelectionSteps.{ConditionHolds, InlineFragmentSays, by_inline_directives}
 use Rattle.graphql_rules.proofs.AppliedLemmas.{directives_kept, directives_reported}
-use Rattle.graphql_rules.proofs.FragmentLemmas.{inline_decides, inline_decides_alone, inline_needs, names_condition, says_no}
+use Rattle.graphql_rules.proofs.FragmentLemmas.{inline_decides, inline_decides_alone, inline_needs, names_condition, known_target, says_no}
 use Rattle.graphql_rules.proofs.operations.fragments.check_inline_fragment.Goals as goal
 
 pub returns-in_err-check_each_directive-clause-checks :
@@ -55,3 +56,14 @@ returns-in-None-clause-checks c =
     let is = ap (λ (i : InlineFragment). i.type_condition) (sym c.deref-3.ensures) ∙ c.in-None.is in
     in_words (inline_decides_alone schema variables parent i is)
     (directives_reported (InlineFragmentSays schema variables parent i) (λ r at broken. by_inline_directives broken) same c.in_ok-check_each_directive.ensures)
+
+pub returns-in-Some-clause-goes_on : goal.returns-in-Some-clause-goes_on
+returns-in-Some-clause-goes_on c =
+    let i = c.args.inline.now in
+    let condition = c.in-Some.condition in
+    let is = ap (λ (i : InlineFragment). i.type_condition) (sym c.deref-3.ensures) ∙ c.in-Some.is in
+    known_target c.check_condition.result (schema_of c.args.context.now) i.value.value.type_condition condition is c.check_condition.ensures.goes_on
+
+pub returns-in-None-clause-goes_on : goal.returns-in-None-clause-goes_on
+returns-in-None-clause-goes_on c = λ yes condition given.
+    absurd (none-some condition (sym (ap (λ (i : InlineFragment). i.type_condition) (sym c.deref-3.ensures) ∙ c.in-None.is) ∙ given))

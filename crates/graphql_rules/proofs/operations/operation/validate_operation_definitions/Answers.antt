@@ -16,11 +16,11 @@ pub loop-operation-init : goal.loop-operation-init
 loop-operation-init c = record {
   checked = walked_none_within IsLimitEntry (λ (o : Bor (Node Operation)). OperationHolds (option_copied c.args.schema) c.args.document.now o.now.value.value)
       (OperationsTruth (option_copied c.args.schema) c.args.document.now) c.deref-operation-items.result.now (entries c.args.diagnostics.now);
-  schema = c.in_ok-context.ensures.schema;
+  schema = c.new-context.ensures.schema;
 }
 
-pub returns-in_err-context-2 : goal.returns-in_err-context-2
-returns-in_err-context-2 c = MatchResult-from_err _ _ _ c.from_residual-in_err-context-2.ensures.0 (λ y. kept_within IsLimitEntry c.loop-operation.invariant.checked)
+pub returns-in_err-variables : goal.returns-in_err-variables
+returns-in_err-variables c = MatchResult-from_err _ _ _ c.from_residual-in_err-variables.ensures.0 (λ y. kept_within IsLimitEntry c.loop-operation.invariant.checked)
 
 pub returns-in_err-check_operation : goal.returns-in_err-check_operation
 returns-in_err-check_operation c =
@@ -33,7 +33,7 @@ returns-in_err-check_operation c =
     (stands_referred xs c.loop-operation.operation-index x c.loop-operation-test.true c.operation-item.is) in
     MatchResult-from_err _ _ _ c.from_residual-in_err-check_operation.ensures.0
     (λ y. kept_then (kept_within IsLimitEntry c.loop-operation.invariant.checked)
-    (operation_kept D x.now among _ S _ _ _ (c.in_ok-context-2.ensures.schema ∙ c.loop-operation.invariant.schema) c.deref-in-loop-operation-2.ensures
+    (operation_kept D x.now among _ S _ _ _ (c.next-context.ensures.schema ∙ c.loop-operation.invariant.schema) c.deref-in-loop-operation-2.ensures
     c.in_err-check_operation.ensures.checks))
 
 pub loop-operation-preserved : goal.loop-operation-preserved
@@ -43,7 +43,7 @@ loop-operation-preserved c =
     let xs = c.deref-operation-items.result.now in
     let i = c.loop-operation.operation-index in
     let x = c.operation-item.result in
-    let schema = c.in_ok-context-2.ensures.schema ∙ c.loop-operation.invariant.schema in
+    let schema = c.next-context.ensures.schema ∙ c.loop-operation.invariant.schema in
     let among : Contains (operations_of D) x.now =
     subst (λ l. Contains l x.now) (ap (λ (l : List (Bor (Node Operation))). map (λ b. b.now) l) c.deref-operation-items.ensures.value ∙ c.in_ok-operations.ensures)
     (stands_referred xs i x c.loop-operation-test.true c.operation-item.is) in
