@@ -37,34 +37,34 @@ characters_read _ _ _ (more t middle rest part parts is are) e =
     after_more past_string_character past_shrinks t middle on ∙ characters_read middle parts rest are e
 
 -- block strings
-quotes_are : (t r : List ℕ) → quotes_at t ≡ Some r → t ≡ 34 ∷ 34 ∷ 34 ∷ r
+pub quotes_are : (t r : List ℕ) → quotes_at t ≡ Some r → t ≡ 34 ∷ 34 ∷ 34 ∷ r
 unfolding quotes_at
 quotes_are t r e =
     let (x, ex, e1) = and_then_is _ (strip 34 t) r e in
     let (y, ey, e2) = and_then_is _ (strip 34 x) r e1 in
     strip_is 34 t x ex ∙ ap (λ l. 34 ∷ l) (strip_is 34 x y ey ∙ ap (λ l. 34 ∷ l) (strip_is 34 y r e2))
 
-quotes_read : (r : List ℕ) → quotes_at (34 ∷ 34 ∷ 34 ∷ r) ≡ Some r
+pub quotes_read : (r : List ℕ) → quotes_at (34 ∷ 34 ∷ 34 ∷ r) ≡ Some r
 unfolding quotes_at strip
 quotes_read r = refl
 
-escaped_quotes_are : (t r : List ℕ) → escaped_quotes_at t ≡ Some r → t ≡ 92 ∷ 34 ∷ 34 ∷ 34 ∷ r
+pub escaped_quotes_are : (t r : List ℕ) → escaped_quotes_at t ≡ Some r → t ≡ 92 ∷ 34 ∷ 34 ∷ 34 ∷ r
 unfolding escaped_quotes_at
 escaped_quotes_are t r e =
     let (x, ex, e1) = and_then_is quotes_at (strip 92 t) r e in
     strip_is 92 t x ex ∙ ap (λ l. 92 ∷ l) (quotes_are x r e1)
 
-escaped_quotes_read : (r : List ℕ) → escaped_quotes_at (92 ∷ 34 ∷ 34 ∷ 34 ∷ r) ≡ Some r
+pub escaped_quotes_read : (r : List ℕ) → escaped_quotes_at (92 ∷ 34 ∷ 34 ∷ 34 ∷ r) ≡ Some r
 unfolding escaped_quotes_at strip
 escaped_quotes_read r = quotes_read r
 
-no_quotes : (t : List ℕ) → ((r : List ℕ) → t ≡ 34 ∷ 34 ∷ 34 ∷ r → ⊥) → quotes_at t ≡ None
+pub no_quotes : (t : List ℕ) → ((r : List ℕ) → t ≡ 34 ∷ 34 ∷ 34 ∷ r → ⊥) → quotes_at t ≡ None
 no_quotes t n = by (quotes_at t) refl where
   by : (o : Option (List ℕ)) → quotes_at t ≡ o → quotes_at t ≡ None
   by None e = e
   by (Some r) e = absurd (n r (quotes_are t r e))
 
-no_escaped_quotes : (t : List ℕ) → ((r : List ℕ) → t ≡ 92 ∷ 34 ∷ 34 ∷ 34 ∷ r → ⊥) → escaped_quotes_at t ≡ None
+pub no_escaped_quotes : (t : List ℕ) → ((r : List ℕ) → t ≡ 92 ∷ 34 ∷ 34 ∷ 34 ∷ r → ⊥) → escaped_quotes_at t ≡ None
 no_escaped_quotes t n = by (escaped_quotes_at t) refl where
   by : (o : Option (List ℕ)) → escaped_quotes_at t ≡ o → escaped_quotes_at t ≡ None
   by None e = e
@@ -127,7 +127,7 @@ blocks_read _ _ _ (strings.AreBlockCharacters.none rest) e = after_none block_ch
 blocks_read _ _ _ (strings.AreBlockCharacters.more t middle rest raw raws is are) e =
     after_more block_character_at block_shrinks t middle (block_read t raw middle is) ∙ blocks_read middle raws rest are e
 
-block_stops : (r : List ℕ) → block_character_at (34 ∷ 34 ∷ 34 ∷ r) ≡ None
+pub block_stops : (r : List ℕ) → block_character_at (34 ∷ 34 ∷ 34 ∷ r) ≡ None
 unfolding block_character_at escaped_quotes_at strip
 block_stops r = rw (quotes_read r, block_character_at) refl
 
@@ -174,7 +174,7 @@ quoted_is t p e = by (strip 34 t) refl e where
       subst (λ (q : TokenKind × List ℕ). IsToken q.0 (34 ∷ t) q.1) both (string (34 ∷ t) r all is)
   by (Some second) s e = third second (strip_is 34 t second s) (strip 34 second) refl e
 
-unquoted : (t : List ℕ) (part : StringPart) (r : List ℕ) → IsStringCharacter t part r → strip 34 t ≡ None
+pub unquoted : (t : List ℕ) (part : StringPart) (r : List ℕ) → IsStringCharacter t part r → strip 34 t ≡ None
 unfolding strip
 unquoted _ _ _ (plain c rest is) = rw (no_quote c is) refl
 unquoted _ _ _ (unicode t code rest is) = refl

@@ -102,7 +102,7 @@ scalar_bound code e = grind (arith, nat_tests)
 leading_no_scalar : (code : ℕ) → is_scalar_value code ≡ true → is_leading_surrogate code ≡ false
 leading_no_scalar code e = grind (arith, nat_tests)
 
-pair_scalar : (a b : ℕ) → is_leading_surrogate a ≡ true → is_trailing_surrogate b ≡ true → is_scalar_value (pair_value a b) ≡ true
+pub pair_scalar : (a b : ℕ) → is_leading_surrogate a ≡ true → is_trailing_surrogate b ≡ true → is_scalar_value (pair_value a b) ≡ true
 pair_scalar a b e f = grind (arith, nat_tests)
 
 braced_is : (t : List ℕ) (p : ℕ × List ℕ) → braced_at t ≡ Some p → IsEscapedUnicode (123 ∷ t) p.0 p.1

@@ -27,13 +27,19 @@ impl Class {
     }
 }
 
-pub(crate) fn is_line_byte(c: u8) -> bool
+/// Whether this is a byte of a line terminator.
+///
+/// Specification: 2.1.3 Line Terminators.
+pub fn is_line_byte(c: u8) -> bool
     ensures { result ≡ is_line_byte c }
 {
     c == b'\n' || c == b'\r'
 }
 
-pub(crate) fn is_source_byte(c: u8) -> bool
+/// Whether this is a byte of a source character.
+///
+/// Specification: 2.1.1 Source Text.
+pub fn is_source_byte(c: u8) -> bool
     ensures { result ≡ is_source_byte c }
 {
     c == b'\t' || is_line_byte(c) || 31 < c
@@ -63,7 +69,7 @@ pub(crate) fn number_goes_on(text: &[u8]) -> bool
 
 /// The text behind its first byte, where it is this one.
 #[tactic(auto, unfolding(crate::specs::Scans::strip))]
-pub(crate) fn strip(text: &[u8], byte: u8) -> Option<&[u8]>
+pub fn strip(text: &[u8], byte: u8) -> Option<&[u8]>
     ensures { Gives (λ rest. rest.now) result (strip byte text.now) }
 {
     match text {

@@ -3,12 +3,12 @@
 //! Specification: 2.1 Source Text, and Appendix B.2 Lexical Tokens.
 #![tactic(auto)]
 
-mod characters;
+pub mod characters;
 mod ignored;
 pub mod laws;
 pub mod lexer;
 mod numbers;
-mod quoted;
+pub mod quoted;
 mod scanner;
 pub mod strings;
 pub mod token;

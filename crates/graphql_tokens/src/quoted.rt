@@ -71,16 +71,18 @@ fn source_byte(text: &[u8]) -> Option<&[u8]>
     }
 }
 
+/// The text behind `\"""` at its start.
 #[tactic(auto, unfolding(crate::specs::Scans::escaped_quotes_at))]
-fn escaped_quotes(text: &[u8]) -> Option<&[u8]>
+pub fn escaped_quotes(text: &[u8]) -> Option<&[u8]>
     ensures { Gives (λ rest. rest.now) result (escaped_quotes_at text.now) }
 {
     let rest = strip(text, b'\\')?;
     quotes(rest)
 }
 
+/// The text behind three quotes at its start.
 #[tactic(auto, unfolding(crate::specs::Scans::quotes_at))]
-fn quotes(text: &[u8]) -> Option<&[u8]>
+pub fn quotes(text: &[u8]) -> Option<&[u8]>
     ensures { Gives (λ rest. rest.now) result (quotes_at text.now) }
 {
     let first = strip(text, b'"')?;

@@ -16,8 +16,11 @@ pub enum StringPart {
     Escaped(char),
 }
 
+/// The character of a string that the text begins with, and the text behind it.
+///
+/// Specification: 2.9.4 String Value.
 #[tactic(auto, unfolding(crate::specs::Scans::string_character_at))]
-pub(crate) fn string_character(text: &[u8]) -> Option<(StringPart, &[u8])>
+pub fn string_character(text: &[u8]) -> Option<(StringPart, &[u8])>
     ensures { Gives (λ found. (found.0, found.1.now)) result (string_character_at text.now) }
 {
     let [first, rest @ ..] = text else {

@@ -1,0 +1,3 @@
+pub mod BlockStrings
+pub mod Values
+pub mod Scans

@@ -1,0 +1,135 @@
+//! The values of block strings.
+
+ghost use Rattle.std.specs.Prelude.{◌≡◌, ◌∷◌, ◌++◌, map, drop, flat_map, IfOk, OnOk};
+ghost use Rattle.graphql_strings.specs.BlockStrings.{block_string_value, least_indent, common_indent, without_common_indent, without_first_blanks, without_last_blanks, join_lines};
+
+use crate::lines::{indent, is_blank, split_lines};
+use std::alloc::{AllocError, Global};
+
+/// What a block string with this raw value stands for.
+///
+/// Specification: 2.9.4 String Value, BlockStringValue().
+#[tactic(auto, unfolding(crate::specs::BlockStrings::block_string_value))]
+pub(crate) fn block_string_value(alloc: Global, raw: &[u8]) -> Result<Vec<u8>, AllocError>
+    ensures { IfOk result (λ value. value.items ≡ block_string_value raw.now) }
+{
+    let lines = split_lines(alloc, raw)?;
+    let lines = without_common_indent(alloc, lines.as_slice())?;
+    join_lines(
+        alloc,
+        without_last_blanks(without_first_blanks(lines.as_slice())),
+    )
+}
+
+/// The lines, all but the first without the indent that they have in common.
+fn without_common_indent<'a>(alloc: Global, lines: &[&'a [u8]]) -> Result<Vec<&'a [u8]>, AllocError>
+    ensures { IfOk result (λ cut. map (λ line. line.now) cut.items ≡ without_common_indent (map (λ line. line.now) lines.now)) }
+{
+    let mut cut = Vec::new(alloc);
+    let [first, rest @ ..] = lines else {
+        return Ok(cut);
+    };
+    cut.push(*first)?;
+    push_without_indent(&mut cut, rest, common_indent(rest).unwrap_or(0))?;
+    Ok(cut)
+}
+
+fn push_without_indent<'a>(
+    cut: &mut Vec<&'a [u8]>,
+    lines: &[&'a [u8]],
+    indent: usize,
+) -> Result<(), AllocError>
+    ensures { OnOk result (map (λ line. line.now) cut.new.items ≡ map (λ line. line.now) cut.old.items ++ map (drop indent) (map (λ line. line.now) lines.now)) }
+{
+    for line in lines {
+        cut.push(without_front(line, indent))?;
+    }
+    Ok(())
+}
+
+fn without_front(line: &[u8], count: usize) -> &[u8]
+    ensures { result.now ≡ drop count line.now }
+{
+    &line[count.min(line.len())..]
+}
+
+/// The least indent of the lines that are not blank.
+fn common_indent(lines: &[&[u8]]) -> Option<usize>
+    ensures { result ≡ common_indent (map (λ line. line.now) lines.now) }
+{
+    let mut common = None;
+    for line in lines {
+        common = least_indent(common, line);
+    }
+    common
+}
+
+fn least_indent(common: Option<usize>, line: &[u8]) -> Option<usize>
+    ensures { result ≡ least_indent common line.now }
+{
+    let indent = indent(line);
+    match common {
+        None => {
+            if indent < line.len() {
+                Some(indent)
+            } else {
+                None
+            }
+        }
+        Some(least) => {
+            if indent < line.len() && indent < least {
+                Some(indent)
+            } else {
+                Some(least)
+            }
+        }
+    }
+}
+
+fn without_first_blanks<'a, 'b>(lines: &'a [&'b [u8]]) -> &'a [&'b [u8]]
+    ensures { map (λ line. line.now) result.now ≡ without_first_blanks (map (λ line. line.now) lines.now) }
+{
+    let mut rest = lines;
+    while let [line, behind @ ..] = rest {
+        if !is_blank(line) {
+            break;
+        }
+        rest = behind;
+    }
+    rest
+}
+
+fn without_last_blanks<'a, 'b>(lines: &'a [&'b [u8]]) -> &'a [&'b [u8]]
+    ensures { map (λ line. line.now) result.now ≡ without_last_blanks (map (λ line. line.now) lines.now) }
+{
+    let mut rest = lines;
+    while let [before @ .., line] = rest {
+        if !is_blank(line) {
+            break;
+        }
+        rest = before;
+    }
+    rest
+}
+
+fn join_lines(alloc: Global, lines: &[&[u8]]) -> Result<Vec<u8>, AllocError>
+    ensures { IfOk result (λ joined. joined.items ≡ join_lines (map (λ line. line.now) lines.now)) }
+{
+    let mut joined = Vec::new(alloc);
+    if let [first, rest @ ..] = lines {
+        joined.extend_from_slice(first)?;
+        push_lines(&mut joined, rest)?;
+    }
+    Ok(joined)
+}
+
+/// Appends the lines, each behind a line feed.
+fn push_lines(joined: &mut Vec<u8>, lines: &[&[u8]]) -> Result<(), AllocError>
+    ensures { OnOk result (joined.new.items ≡ joined.old.items ++ flat_map (λ line. 10 ∷ line) (map (λ line. line.now) lines.now)) }
+{
+    for line in lines {
+        joined.push(b'\n')?;
+        joined.extend_from_slice(line)?;
+    }
+    Ok(())
+}
