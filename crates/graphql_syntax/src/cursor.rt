@@ -1,17 +1,37 @@
 //! A place among tokens.
 
-ghost use Rattle.std.specs.Prelude.{IsTrue};
-ghost use Rattle.graphql_syntax.specs.Inputs.{are_spelled};
+ghost use Rattle.std.specs.Prelude.{◌≡◌, ℕ, List, IsTrue, length};
+ghost use Rattle.graphql_syntax.specs.Inputs.{AreFloats, are_spelled};
+ghost use Rattle.graphql_tokens.specs.Lexical.{Lexes};
 
 use graphql_nodes::FileId;
 use graphql_tokens::Token;
 
-/// The tokens that are left, and where the last one ended.
+/// The tokens that are left, and where the last one that was read ended.
 #[derive(Clone, Copy)]
-pub(crate) struct Cursor<'a> {
-    pub(crate) file_id: FileId,
-    pub(crate) source: &'a [u8],
-    pub(crate) tokens: &'a [Token],
-    pub(crate) ended: usize,
+pub struct Cursor<'a> {
+    pub file_id: FileId,
+    pub source: &'a [u8],
+    pub tokens: &'a [Token],
+    pub ended: usize,
     ghost spelled: { IsTrue (are_spelled source.now tokens.now) },
+    ghost floats: { AreFloats source.now tokens.now },
+}
+
+impl<'a> Cursor<'a> {
+    /// Before the first of these tokens, with which the text begins.
+    pub fn new(file_id: FileId, source: &'a [u8], tokens: &'a [Token]) -> Cursor<'a>
+        requires { (rest : List ℕ) × Lexes (length source.now) source.now tokens.now rest }
+        ensures file_id { result.file_id ≡ file_id }
+        ensures source { result.source.now ≡ source.now }
+        ensures tokens { result.tokens.now ≡ tokens.now }
+        ensures ended { result.ended ≡ 0 }
+    {
+        Cursor {
+            file_id,
+            source,
+            tokens,
+            ended: 0,
+        }
+    }
 }

@@ -1,11 +1,11 @@
 //! References to types.
 
 ghost use Rattle.std.specs.Prelude.{◌≡◌};
-ghost use Rattle.graphql_syntax.specs.Inputs.{behind};
-ghost use Rattle.graphql_syntax.specs.Reading.{Reads, input, named_at, named_behind, list_behind, listed, type_behind, type_at};
+ghost use Rattle.graphql_syntax.specs.Reading.{Reads, input};
+ghost use Rattle.graphql_syntax.specs.TypeReaders.{list_type_behind, list_type_with, named_type_at, type_at};
 
 use crate::cursor::Cursor;
-use crate::errors::SyntaxError;
+use crate::refusals::Refusal;
 use graphql_tokens::TokenKind;
 use graphql_trees::TypeReference;
 use sqlite_items::Boxed;
@@ -15,63 +15,70 @@ use std::alloc::Global;
 ///
 /// Specification: 2.11 Type References.
 #[cycle(types)]
-pub(crate) fn type_reference<'a>(
+pub fn type_reference<'a>(
     alloc: Global,
     cursor: Cursor<'a>,
     depth: usize,
-) -> Result<(TypeReference, Cursor<'a>), SyntaxError>
+) -> Result<(TypeReference, Cursor<'a>), Refusal>
     ensures { Reads (λ found. (found.0, input found.1)) result (type_at depth (input cursor.entry)) }
 {
     if !cursor.sees(TokenKind::LeftBracket) {
         return named(alloc, cursor);
     }
     if depth == 0 {
-        return Err(SyntaxError::TooDeep(cursor.tokens.len()));
+        return Err(cursor.too_deep());
     }
     list(alloc, cursor, depth - 1)
 }
 
 #[cycle(types)]
+#[tactic(auto, unfolding(crate::specs::TypeReaders::list_type_with, crate::specs::Reading::starting, crate::specs::Reading::sequence))]
 fn list<'a>(
     alloc: Global,
     cursor: Cursor<'a>,
     depth: usize,
-) -> Result<(TypeReference, Cursor<'a>), SyntaxError>
-    ensures { Reads (λ found. (found.0, input found.1)) result
-        (listed (input cursor.entry) (type_at depth (behind (input cursor.entry)))) }
+) -> Result<(TypeReference, Cursor<'a>), Refusal>
+    ensures { Reads (λ found. (found.0, input found.1)) result (list_type_with (type_at depth) (input cursor.entry)) }
 {
-    let (item, end) = type_reference(alloc, cursor.behind(), depth)?;
-    list_end(alloc, cursor, item, end)
+    let inside = cursor.expect(TokenKind::LeftBracket)?;
+    let (item, end) = type_reference(alloc, inside, depth)?;
+    list_end(alloc, cursor.start(), item, end)
 }
 
 /// A list from its closing bracket on.
-#[tactic(auto, unfolding(crate::specs::Reading::type_behind, crate::specs::Reading::list_behind))]
+#[tactic(auto, unfolding(crate::specs::TypeReaders::list_type_behind, crate::specs::Reading::sequence, crate::specs::Reading::choose, crate::specs::Reading::place, crate::specs::Reading::answer))]
 fn list_end<'a>(
     alloc: Global,
-    start: Cursor<'a>,
+    start: usize,
     item: TypeReference,
     end: Cursor<'a>,
-) -> Result<(TypeReference, Cursor<'a>), SyntaxError>
-    ensures { Reads (λ found. (found.0, input found.1)) result (type_behind (input start.entry) (item, input end.entry)) }
+) -> Result<(TypeReference, Cursor<'a>), Refusal>
+    ensures { Reads (λ found. (found.0, input found.1)) result (list_type_behind start item (input end.entry)) }
 {
-    let end = end.expect(TokenKind::RightBracket)?;
+    let closed = end.expect(TokenKind::RightBracket)?;
     let item = Boxed::new(alloc, item)?;
-    if end.sees(TokenKind::ExclamationMark) {
-        let last = end.behind();
-        Ok((TypeReference::NonNullList(item, start.up_to(last)), last))
+    if closed.sees(TokenKind::ExclamationMark) {
+        let last = closed.expect(TokenKind::ExclamationMark)?;
+        Ok((
+            TypeReference::NonNullList(item, last.span_from(start)),
+            last,
+        ))
     } else {
-        Ok((TypeReference::List(item, start.up_to(end)), end))
+        Ok((TypeReference::List(item, closed.span_from(start)), closed))
     }
 }
 
-#[tactic(auto, unfolding(crate::specs::Reading::named_at, crate::specs::Reading::named_behind))]
-fn named<'a>(alloc: Global, cursor: Cursor<'a>) -> Result<(TypeReference, Cursor<'a>), SyntaxError>
-    ensures { Reads (λ found. (found.0, input found.1)) result (named_at (input cursor.entry)) }
+#[tactic(auto, unfolding(crate::specs::TypeReaders::named_type_at, crate::specs::Reading::starting, crate::specs::Reading::sequence, crate::specs::Reading::choose, crate::specs::Reading::place, crate::specs::Reading::answer))]
+fn named<'a>(alloc: Global, cursor: Cursor<'a>) -> Result<(TypeReference, Cursor<'a>), Refusal>
+    ensures { Reads (λ found. (found.0, input found.1)) result (named_type_at (input cursor.entry)) }
 {
     let (name, end) = cursor.name(alloc)?;
     if end.sees(TokenKind::ExclamationMark) {
-        let last = end.behind();
-        Ok((TypeReference::NonNullNamed(name, cursor.up_to(last)), last))
+        let last = end.expect(TokenKind::ExclamationMark)?;
+        Ok((
+            TypeReference::NonNullNamed(name, last.span_from(cursor.start())),
+            last,
+        ))
     } else {
         Ok((TypeReference::Named(name), end))
     }

@@ -1,5 +1,5 @@
-use Rattle.std.proofs.Common.{ap, sym, ◌∙◌}
-use Rattle.graphql_syntax.specs.Reading.{input, type_at}
+use Rattle.std.proofs.Common.{refl, sym, ◌∙◌}
+use Rattle.graphql_syntax.specs.Reading.{input}
 use Rattle.graphql_syntax.proofs.TypeLemmas.{type_named, type_listed, type_too_deep}
 use Rattle.graphql_syntax.proofs.types.+types.Goals as goal
 
@@ -9,7 +9,7 @@ type_reference-returns-then-not-sees t c =
 
 pub type_reference-returns-then-depth-eq0 : goal.type_reference-returns-then-depth-eq0
 type_reference-returns-then-depth-eq0 t c =
-    ap (λ d. type_at d (input c.args.cursor)) c.if-depth-eq0.true ∙ type_too_deep (input c.args.cursor) (sym c.sees.ensures ∙ c.if-not-sees.false)
+    rw (c.too_deep.ensures, type_too_deep c.args.depth (input c.args.cursor) (sym c.sees.ensures ∙ c.if-not-sees.false) c.if-depth-eq0.true) refl
 
 pub type_reference-returns : goal.type_reference-returns
 type_reference-returns t c =

@@ -1,7 +1,8 @@
 use Rattle.std.proofs.Common.{sym, ◌∙◌}
 use Rattle.graphql_syntax.specs.Inputs.{next_text}
 use Rattle.graphql_syntax.specs.Reading.{input}
-use Rattle.graphql_syntax.proofs.StepLemmas.{next_is_name, name_ascii}
+use Rattle.graphql_syntax.proofs.AsciiLemmas.{name_ascii}
+use Rattle.graphql_syntax.proofs.StepLemmas.{next_is_name}
 use Rattle.graphql_syntax.proofs.cursor.Cursor.name.Goals as goal
 
 pub ascii_text-requires : goal.ascii_text-requires

@@ -1,0 +1,6 @@
+pub mod FragmentReaders
+pub mod Fragments
+pub mod OperationReaders
+pub mod Operations
+pub mod SelectionReaders
+pub mod Selections

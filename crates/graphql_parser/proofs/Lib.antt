@@ -1,0 +1,4 @@
+pub mod BeginningLemmas
+pub mod DocumentLemmas
+pub mod ParseLemmas
+pub mod WholeLemmas

@@ -1,0 +1,4 @@
+pub mod DocumentReaders
+pub mod Documents
+pub mod Parses
+pub mod Refusals

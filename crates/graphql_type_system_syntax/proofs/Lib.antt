@@ -1,0 +1,13 @@
+pub mod Deepening
+pub mod BeginningLemmas
+pub mod BodyLemmas
+pub mod BraceLemmas
+pub mod DefinitionLemmas
+pub mod DirectiveDefinitionLemmas
+pub mod FieldLemmas
+pub mod FirstTokens
+pub mod InputValueLemmas
+pub mod SchemaLemmas
+pub mod SeparatorLemmas
+pub mod TypeDefinitionLemmas
+pub mod TypeExtensionLemmas

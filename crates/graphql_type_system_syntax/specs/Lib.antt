@@ -1,0 +1,17 @@
+pub mod Bodies
+pub mod BodyReaders
+pub mod DefinitionReaders
+pub mod Definitions
+pub mod DirectiveDefinitionReaders
+pub mod DirectiveDefinitions
+pub mod FieldReaders
+pub mod Fields
+pub mod InputValueReaders
+pub mod InputValues
+pub mod Locations
+pub mod SchemaReaders
+pub mod Schemas
+pub mod TypeDefinitionReaders
+pub mod TypeDefinitions
+pub mod TypeExtensionReaders
+pub mod TypeExtensions
