@@ -1,0 +1,62 @@
+//! Whether texts are GraphQL documents.
+
+ghost use Rattle.std.specs.Prelude.{◌≡◌, ◌↔◌, IsTrue, true, false, Ok};
+ghost use Rattle.graphql_parser.specs.Parses.{ParsesDocument};
+ghost use Rattle.graphql_trees.specs.declared.documents.Document.{Document};
+
+use crate::faults::{Fault, fault_of_output};
+use crate::sources::shown_path;
+use graphql_nodes::FileId;
+use graphql_parser::{Bounds, SyntaxError, parse_document};
+use graphql_places::Place;
+use graphql_syntax_messages::refused::refused;
+use std::alloc::Global;
+use std::io::Write;
+
+/// The number of the one file that is read at a time.
+const FILE: FileId = FileId(1);
+
+/// Prints a line if the text of the file is no document. Whether it did.
+pub fn report_syntax<O: Write>(
+    alloc: Global,
+    path: &str,
+    text: &str,
+    output: &mut O,
+) -> Result<bool, Fault>
+    ensures accepted { result ≡ Ok false → (tree : Document) × ParsesDocument Bounds.DEFAULT FILE text.now tree }
+    ensures refused { result ≡ Ok true → (tree : Document) → ParsesDocument Bounds.DEFAULT FILE text.now tree → ⊥ }
+{
+    match parse_document(alloc, FILE, text, Bounds::DEFAULT) {
+        Ok(document) => {
+            drop(document);
+            Ok(false)
+        }
+        Err(error) => {
+            if is_want_of_memory(error) {
+                return Err(Fault::OutOfMemory);
+            }
+            print_error(path, text, error, output)?;
+            Ok(true)
+        }
+    }
+}
+
+fn is_want_of_memory(error: SyntaxError) -> bool
+    ensures { IsTrue result ↔ (error ≡ SyntaxError.OutOfMemory) }
+{
+    matches!(error, SyntaxError::OutOfMemory)
+}
+
+fn print_error<O: Write>(
+    path: &str,
+    text: &str,
+    error: SyntaxError,
+    output: &mut O,
+) -> Result<(), Fault> {
+    let path = shown_path(path);
+    let place = Place::of_byte(text, error.at(text).min(text.len()));
+    let line = place.line;
+    let column = place.column;
+    let message = refused(error, text, Bounds::DEFAULT);
+    writeln!(output, "{path}:{line}:{column}: error: {message}").map_err(fault_of_output)
+}

@@ -1,0 +1,15 @@
+//! Tests of the parser: that each call can succeed, and what a peer answers.
+#![tactic(auto)]
+
+#[cfg(test)]
+mod bounds;
+#[cfg(test)]
+mod executables;
+#[cfg(test)]
+mod places;
+#[cfg(test)]
+mod texts;
+#[cfg(test)]
+mod tokens;
+#[cfg(test)]
+mod type_systems;
