@@ -12,7 +12,7 @@ use graphql_syntax::production::packed;
 use graphql_syntax::{Cursor, Expected, Keyword, More, Refusal};
 use graphql_tokens::TokenKind;
 use graphql_trees::{Field, FragmentSpread, InlineFragment, Selection, SelectionSet};
-use sqlite_items::Items;
+use sqlite_items::{Boxed, Items};
 use std::alloc::Global;
 
 /// A selection set, in which brackets and braces stand at most so deep in one another.
@@ -125,7 +125,8 @@ fn field<'a>(
     }
     let colon = behind.expect(TokenKind::Colon)?;
     let (name, end) = colon.name(alloc)?;
-    field_from(alloc, end, depth, cursor.start(), Some(first), name)
+    let alias = Boxed::new(alloc, first)?;
+    field_from(alloc, end, depth, cursor.start(), Some(alias), name)
 }
 
 /// A field from behind its name.
@@ -136,7 +137,7 @@ fn field_from<'a>(
     cursor: Cursor<'a>,
     depth: usize,
     start: usize,
-    alias: Option<Name>,
+    alias: Option<Boxed<Name>>,
     name: Name,
 ) -> Result<(Selection, Cursor<'a>), Refusal>
     ensures { Reads (λ found. (found.0, input found.1)) result
@@ -165,7 +166,7 @@ fn perhaps_set<'a>(
     alloc: Global,
     cursor: Cursor<'a>,
     depth: usize,
-) -> Result<(Option<SelectionSet>, Cursor<'a>), Refusal>
+) -> Result<(Option<Boxed<SelectionSet>>, Cursor<'a>), Refusal>
     ensures { Reads (λ found. (found.0, input found.1)) result
         (perhaps_set_with (selection_set_at depth) (input cursor.entry)) }
 {
@@ -173,7 +174,7 @@ fn perhaps_set<'a>(
         return Ok((None, cursor));
     }
     let (found, end) = selection_set(alloc, cursor, depth)?;
-    Ok((Some(found), end))
+    Ok((Some(Boxed::new(alloc, found)?), end))
 }
 
 /// What begins with `...`: a fragment spread or an inline fragment.

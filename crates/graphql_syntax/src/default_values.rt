@@ -9,6 +9,7 @@ use crate::refusals::Refusal;
 use crate::values::value;
 use graphql_tokens::TokenKind;
 use graphql_trees::Value;
+use sqlite_items::Boxed;
 use std::alloc::Global;
 
 /// A default value, which is constant; none where no `=` comes.
@@ -19,7 +20,7 @@ pub fn default_value<'a>(
     alloc: Global,
     cursor: Cursor<'a>,
     depth: usize,
-) -> Result<(Option<Value>, Cursor<'a>), Refusal>
+) -> Result<(Option<Boxed<Value>>, Cursor<'a>), Refusal>
     ensures { Reads (λ found. (found.0, input found.1)) result (default_value_at depth (input cursor.entry)) }
 {
     if !cursor.sees(TokenKind::Equals) {
@@ -27,5 +28,5 @@ pub fn default_value<'a>(
     }
     let behind = cursor.expect(TokenKind::Equals)?;
     let (found, end) = value(alloc, behind, true, depth)?;
-    Ok((Some(found), end))
+    Ok((Some(Boxed::new(alloc, found)?), end))
 }

@@ -4,7 +4,7 @@ use crate::directives::{Argument, Directive};
 use crate::types::TypeReference;
 use crate::values::{Value, Variable};
 use graphql_nodes::{Name, SourceSpan};
-use sqlite_items::Items;
+use sqlite_items::{Boxed, Items};
 
 /// The kind of an operation.
 ///
@@ -36,7 +36,7 @@ pub struct OperationDefinition {
 pub struct VariableDefinition {
     pub variable: Variable,
     pub type_reference: TypeReference,
-    pub default_value: Option<Value>,
+    pub default_value: Option<Boxed<Value>>,
     pub directives: Items<Directive>,
     pub span: SourceSpan,
 }
@@ -68,11 +68,11 @@ pub enum Selection {
 #[cycle(selections)]
 #[derive(Drop)]
 pub struct Field {
-    pub alias: Option<Name>,
+    pub alias: Option<Boxed<Name>>,
     pub name: Name,
     pub arguments: Items<Argument>,
     pub directives: Items<Directive>,
-    pub selection_set: Option<SelectionSet>,
+    pub selection_set: Option<Boxed<SelectionSet>>,
     pub span: SourceSpan,
 }
 

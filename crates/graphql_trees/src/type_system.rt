@@ -5,14 +5,14 @@ use crate::executable::OperationType;
 use crate::types::TypeReference;
 use crate::values::{StringLiteral, Value};
 use graphql_nodes::{Name, SourceSpan};
-use sqlite_items::Items;
+use sqlite_items::{Boxed, Items};
 
 /// The definition of a schema, or an extension of it.
 ///
 /// Specification: 3.3 Schema.
 #[derive(Drop)]
 pub struct SchemaDefinition {
-    pub description: Option<StringLiteral>,
+    pub description: Option<Boxed<StringLiteral>>,
     pub directives: Items<Directive>,
     pub root_operations: Items<RootOperationTypeDefinition>,
     pub span: SourceSpan,
@@ -44,7 +44,7 @@ pub enum TypeDefinition {
 /// Specification: 3.5 Scalars.
 #[derive(Drop)]
 pub struct ScalarTypeDefinition {
-    pub description: Option<StringLiteral>,
+    pub description: Option<Boxed<StringLiteral>>,
     pub name: Name,
     pub directives: Items<Directive>,
     pub span: SourceSpan,
@@ -53,7 +53,7 @@ pub struct ScalarTypeDefinition {
 /// Specification: 3.6 Objects.
 #[derive(Drop)]
 pub struct ObjectTypeDefinition {
-    pub description: Option<StringLiteral>,
+    pub description: Option<Boxed<StringLiteral>>,
     pub name: Name,
     pub interfaces: Items<Name>,
     pub directives: Items<Directive>,
@@ -64,7 +64,7 @@ pub struct ObjectTypeDefinition {
 /// Specification: 3.7 Interfaces.
 #[derive(Drop)]
 pub struct InterfaceTypeDefinition {
-    pub description: Option<StringLiteral>,
+    pub description: Option<Boxed<StringLiteral>>,
     pub name: Name,
     pub interfaces: Items<Name>,
     pub directives: Items<Directive>,
@@ -75,7 +75,7 @@ pub struct InterfaceTypeDefinition {
 /// Specification: 3.8 Unions.
 #[derive(Drop)]
 pub struct UnionTypeDefinition {
-    pub description: Option<StringLiteral>,
+    pub description: Option<Boxed<StringLiteral>>,
     pub name: Name,
     pub directives: Items<Directive>,
     pub members: Items<Name>,
@@ -85,7 +85,7 @@ pub struct UnionTypeDefinition {
 /// Specification: 3.9 Enums.
 #[derive(Drop)]
 pub struct EnumTypeDefinition {
-    pub description: Option<StringLiteral>,
+    pub description: Option<Boxed<StringLiteral>>,
     pub name: Name,
     pub directives: Items<Directive>,
     pub values: Items<EnumValueDefinition>,
@@ -95,7 +95,7 @@ pub struct EnumTypeDefinition {
 /// Specification: 3.10 Input Objects.
 #[derive(Drop)]
 pub struct InputObjectTypeDefinition {
-    pub description: Option<StringLiteral>,
+    pub description: Option<Boxed<StringLiteral>>,
     pub name: Name,
     pub directives: Items<Directive>,
     pub fields: Items<InputValueDefinition>,
@@ -107,7 +107,7 @@ pub struct InputObjectTypeDefinition {
 /// Specification: 3.6 Objects.
 #[derive(Drop)]
 pub struct FieldDefinition {
-    pub description: Option<StringLiteral>,
+    pub description: Option<Boxed<StringLiteral>>,
     pub name: Name,
     pub arguments: Items<InputValueDefinition>,
     pub type_reference: TypeReference,
@@ -120,10 +120,10 @@ pub struct FieldDefinition {
 /// Specification: 3.6.1 Field Arguments, 3.10 Input Objects.
 #[derive(Drop)]
 pub struct InputValueDefinition {
-    pub description: Option<StringLiteral>,
+    pub description: Option<Boxed<StringLiteral>>,
     pub name: Name,
     pub type_reference: TypeReference,
-    pub default_value: Option<Value>,
+    pub default_value: Option<Boxed<Value>>,
     pub directives: Items<Directive>,
     pub span: SourceSpan,
 }
@@ -131,7 +131,7 @@ pub struct InputValueDefinition {
 /// Specification: 3.9 Enums.
 #[derive(Drop)]
 pub struct EnumValueDefinition {
-    pub description: Option<StringLiteral>,
+    pub description: Option<Boxed<StringLiteral>>,
     pub name: Name,
     pub directives: Items<Directive>,
     pub span: SourceSpan,
@@ -142,7 +142,7 @@ pub struct EnumValueDefinition {
 /// Specification: 3.13 Directives.
 #[derive(Drop)]
 pub struct DirectiveDefinition {
-    pub description: Option<StringLiteral>,
+    pub description: Option<Boxed<StringLiteral>>,
     pub name: Name,
     pub arguments: Items<InputValueDefinition>,
     pub repeatable: bool,

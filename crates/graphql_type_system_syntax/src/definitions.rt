@@ -12,6 +12,7 @@ use crate::type_definitions::type_definition;
 use crate::type_extensions::type_extension;
 use graphql_syntax::{Cursor, Keyword, Refusal};
 use graphql_trees::{Definition, StringLiteral};
+use sqlite_items::Boxed;
 use std::alloc::Global;
 
 /// Whether a definition of a type can begin here, behind its description.
@@ -45,7 +46,7 @@ fn definition_behind<'a>(
     alloc: Global,
     cursor: Cursor<'a>,
     start: usize,
-    description: Option<StringLiteral>,
+    description: Option<Boxed<StringLiteral>>,
     depth: usize,
 ) -> Result<(Definition, Cursor<'a>), Refusal>
     ensures { Reads (λ found. (found.0, input found.1)) result (definition_behind depth start description (input cursor.entry)) }

@@ -11,6 +11,7 @@ use crate::parts::Part;
 use graphql_syntax::{Cursor, Expected, Keyword, Refusal};
 use graphql_tokens::TokenKind;
 use graphql_trees::{DirectiveDefinition, PlacedDirectiveLocation, StringLiteral};
+use sqlite_items::Boxed;
 use std::alloc::Global;
 
 impl Part for PlacedDirectiveLocation {
@@ -56,7 +57,7 @@ pub fn directive<'a>(
     alloc: Global,
     cursor: Cursor<'a>,
     start: usize,
-    description: Option<StringLiteral>,
+    description: Option<Boxed<StringLiteral>>,
     depth: usize,
 ) -> Result<(DirectiveDefinition, Cursor<'a>), Refusal>
     ensures { Reads (λ found. (found.0, input found.1)) result (directive_behind depth start description (input cursor.entry)) }

@@ -12,7 +12,7 @@ use graphql_syntax::values::string_literal;
 use graphql_syntax::{Cursor, Refusal};
 use graphql_tokens::TokenKind;
 use graphql_trees::{InputValueDefinition, StringLiteral};
-use sqlite_items::Items;
+use sqlite_items::{Boxed, Items};
 use std::alloc::Global;
 
 /// The description of what comes behind it; none where no string comes.
@@ -22,14 +22,14 @@ use std::alloc::Global;
 pub fn description<'a>(
     alloc: Global,
     cursor: Cursor<'a>,
-) -> Result<(Option<StringLiteral>, Cursor<'a>), Refusal>
+) -> Result<(Option<Boxed<StringLiteral>>, Cursor<'a>), Refusal>
     ensures { Reads (λ found. (found.0, input found.1)) result (description_at (input cursor.entry)) }
 {
     if !cursor.sees_string() {
         return Ok((None, cursor));
     }
     let (literal, behind) = string_literal(alloc, cursor)?;
-    Ok((Some(literal), behind))
+    Ok((Some(Boxed::new(alloc, literal)?), behind))
 }
 
 impl Part for InputValueDefinition {
