@@ -1,6 +1,8 @@
 use crate::faults::{Fault, fault_of_output, fault_of_words};
-use crate::reports::{RUNNING, report_case};
+use crate::reports::report_example;
 use crate::statuses::Status;
+use graphql_examples::Example;
+use graphql_more_examples::{find, tables};
 use std::alloc::Global;
 use std::io;
 use std::io::Write;
@@ -37,7 +39,8 @@ fn answer<O: Write>(alloc: Global, words: &[String], output: &mut O) -> Result<S
 }
 
 fn answer_row<O: Write>(alloc: Global, id: &str, output: &mut O) -> Result<Status, Fault> {
-    if report_case(alloc, id, output)? {
+    let example = find(id).ok_or(Fault::BadArguments)?;
+    if report_example(alloc, example, output)? {
         Ok(Status::Reported)
     } else {
         Ok(Status::Accepted)
@@ -45,11 +48,22 @@ fn answer_row<O: Write>(alloc: Global, id: &str, output: &mut O) -> Result<Statu
 }
 
 fn answer_rows<O: Write>(alloc: Global, output: &mut O) -> Result<Status, Fault> {
-    for id in RUNNING {
-        writeln!(output, "row {id}").map_err(fault_of_output)?;
-        report_case(alloc, id, output)?;
+    for examples in tables() {
+        report_examples(alloc, examples, output)?;
     }
     Ok(Status::Accepted)
+}
+
+fn report_examples<O: Write>(
+    alloc: Global,
+    examples: &[Example],
+    output: &mut O,
+) -> Result<(), Fault> {
+    for example in examples {
+        writeln!(output, "row {}", example.id).map_err(fault_of_output)?;
+        report_example(alloc, example, output)?;
+    }
+    Ok(())
 }
 
 #[cfg(test)]

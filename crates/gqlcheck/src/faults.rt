@@ -1,6 +1,6 @@
 use crate::statuses::Status;
-use graphql_diagnostics::ValidationError;
-use graphql_rows::RowError;
+use graphql_examples::ExampleError;
+use graphql_nodes::ValidationError;
 use std::io;
 use std::io::Write;
 use thiserror::Error;
@@ -15,7 +15,7 @@ pub enum Fault {
     #[error("a write to standard output failed")]
     OutputFailed,
     #[error("the case is wrong: {0}")]
-    WrongRow(RowError),
+    WrongRow(ExampleError),
 }
 
 impl Fault {
@@ -59,10 +59,10 @@ impl From<ValidationError> for Fault {
     }
 }
 
-impl From<RowError> for Fault {
-    fn from(error: RowError) -> Fault {
+impl From<ExampleError> for Fault {
+    fn from(error: ExampleError) -> Fault {
         match error {
-            RowError::OutOfMemory => Fault::OutOfMemory,
+            ExampleError::OutOfMemory => Fault::OutOfMemory,
             wrong => Fault::WrongRow(wrong),
         }
     }

@@ -1,4 +1,4 @@
-use graphql_documents::documents::SourceSpan;
+use graphql_nodes::SourceSpan;
 use std::fmt;
 
 /// A place as a line names it: `file:start-end`, or `-` where there is none.

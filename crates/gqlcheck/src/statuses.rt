@@ -1,14 +1,14 @@
 /// How a run ended.
 #[derive(Clone, Copy, Debug, PartialEq, Eq)]
 pub enum Status {
-    /// Nothing was reported of the one case, or all cases ran.
+    /// Nothing was reported of the one example, or all examples ran.
     Accepted = 0,
-    /// Something was reported of the one case.
+    /// Something was reported of the one example.
     Reported = 1,
     BadArguments = 2,
     OutOfMemory = 3,
     OutputFailed = 4,
-    /// A case is wrong in itself.
+    /// An example is wrong in itself.
     WrongRow = 5,
 }
 

@@ -4,13 +4,13 @@ use Rattle.std.specs.Prelude.{Result}
 use Rattle.std.proofs.lemmas.List.Elements.{All-append, All-contains, All-nil, All-weaker}
 use Rattle.std.proofs.lemmas.Option.{same_Some}
 use Rattle.graphql_built.specs.BuiltSelections.{FragmentIsBuilt, HasDefinitionOfType, HasSetOfOutputType, InlineFragmentIsBuilt, SelectionIsBuilt}
-use Rattle.graphql_documents.proofs.ContentLemmas.{equality_of_field_definitions}
+use Rattle.graphql_documents.proofs.ValueContentLemmas.{equality_of_field_definitions}
 use Rattle.graphql_documents.proofs.ListLemmas.{All-append_left, All-append_right, each_standing}
 use Rattle.graphql_documents.proofs.SelectionLemmas.{not_inline, not_spread, same_field, same_inline, spread_not_inline}
 use Rattle.graphql_documents.specs.Built.{FieldIsBuilt, IsBuilt, OperationIsBuilt, SetsAreBuilt, StandsUnderOwnNames, TypeStandsUnderItsName}
 use Rattle.graphql_documents.specs.Contents.{SameFieldDefinition}
 use Rattle.graphql_documents.specs.contracts.documents.definitions.FieldDefinitionPartialEq.TheImpl as definition_impl
-use Rattle.graphql_documents.specs.Defer.{operations_of}
+use Rattle.graphql_documents.specs.Executables.{operations_of}
 use Rattle.graphql_nodes.specs.Names.{NameText, SameName}
 use Rattle.graphql_documents.specs.Schemas.{NamesKind, is_output_type, type_definition, type_field}
 use Rattle.graphql_documents.specs.Selections.{selections_of, set_itself, set_in_field, set_in_inline_fragment}

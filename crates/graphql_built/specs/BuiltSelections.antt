@@ -37,7 +37,7 @@ pub record SelectionIsBuilt (schema : Schema) (parent : NameText) (s : Selection
   pub inline_fragment : (i : Node InlineFragment) → s ≡ kind.InlineFragment i →
       InlineFragmentIsBuilt parent i.value.value × SetsAreBuilt schema i.value.value.selection_set
 
--- a fragment stands under its own name, and the sets that are written in it are built
+-- a fragment is listed under its own name, and the sets that are written in it are built
 pub record FragmentIsBuilt (schema : Schema) (key : NameText) (d : Fragment) : Type 0 where
   pub itself : SameName key d.name
   pub sets : SetsAreBuilt schema d.selection_set

@@ -8,20 +8,20 @@ ghost use Rattle.std.specs.Prelude.{◌≡◌, ◌↔◌, All, IsTrue, option_to
 ghost use Rattle.std.specs.Option.{option_copied};
 ghost use Rattle.graphql_built.specs.BuiltSelections.{FragmentIsBuilt};
 ghost use Rattle.graphql_documents.specs.Built.{IsBuilt, OperationIsBuilt};
-ghost use Rattle.graphql_documents.specs.Defer.{operations_of};
+ghost use Rattle.graphql_documents.specs.Executables.{operations_of};
 ghost use Rattle.graphql_documents.specs.Schemas.{root_operation};
 
 use graphql_documents::documents::{
-    ComponentName, ExecutableDocument, Fragment, Name, Node, Operation, OperationType, Schema,
-    SchemaDefinition,
+    ComponentName, ExecutableDocument, Fragment, Operation, Schema, SchemaDefinition,
 };
+use graphql_nodes::{Name, Node, OperationType};
 use indexmap::IndexMap;
 use names::stands_under_own_names;
 use selections::sets_are_built;
 
 /// Whether the document was built against the schema:
-/// - every type, field, input field, enum value and directive definition of the schema, and every
-///   fragment of the document, stands under its own name;
+/// - every type, field, input field, enum value and directive definition of the schema, and every fragment of
+///   the document, is listed under its own name;
 /// - the schema names the root type of each operation;
 /// - each selection set has the type of its place: the root type, the inner named type of the field
 ///   above, the type condition, or the type of the set around an inline fragment without one;
@@ -70,7 +70,7 @@ fn named_operations_are_built(schema: &Schema, named: &IndexMap<Name, Node<Opera
         .all(|operation| operation_is_built(schema, &operation.value))
 }
 
-/// Whether an operation stands on the root type that the schema names, and is built for it.
+/// Whether an operation is on the root type that the schema names, and is built for it.
 fn operation_is_built(schema: &Schema, operation: &Operation) -> bool
     ensures { IsTrue result ↔ OperationIsBuilt schema.now operation.now }
 {
@@ -110,7 +110,7 @@ fn fragments_are_built(schema: &Schema, fragments: &IndexMap<Name, Node<Fragment
     true
 }
 
-/// Whether a fragment stands under its own name, and is built for its type condition.
+/// Whether a fragment is listed under its own name, and is built for its type condition.
 fn fragment_is_built(schema: &Schema, name: &Name, fragment: &Node<Fragment>) -> bool
     ensures { IsTrue result ↔ FragmentIsBuilt schema.now name.now fragment.now.value.value }
 {

@@ -1,5 +1,5 @@
 -- Searches for cycles put together, over any references: nothing done, one after another, a reference
--- that is gone into, and what a search from nothing shows. Each search for cycles cites these.
+-- that is visited, and what a search from nothing shows. Each search for cycles cites these.
 use Rattle.std.proofs.Common.{◌≡◌, ℕ, ◌+◌, ◌⊎◌, inl, inr, List, [], ◌∷◌, ◌++◌, Option, Some, map, reverse, refl, sym, ap, ◌∙◌, subst, IsFalse, All, append_assoc}
 use Rattle.std.specs.Prelude.{Result}
 use Rattle.std.specs.Borrow.{Bor}

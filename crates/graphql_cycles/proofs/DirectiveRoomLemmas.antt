@@ -4,7 +4,8 @@ use Rattle.std.proofs.Common.{◌≡◌, ℕ, ◌+◌, ◌-◌, ◌*◌, ◌<◌
 use Rattle.std.specs.List.{list_any}
 use Rattle.std.proofs.lemmas.List.Folds.{list_any-append, list_any_at}
 use Rattle.graphql_nodes.specs.Names.{NameText}
-use Rattle.graphql_documents.specs.SchemaReferences.{SchemaReference, by_directive, by_type, directives_of_type, references_of, type_part}
+use Rattle.graphql_specification.specs.DirectiveCycles.{SchemaReference, by_directive, by_type, references_of, type_part}
+use Rattle.graphql_documents.specs.Directives.{directives_of_type}
 use Rattle.graphql_documents.specs.declared.documents.components.Component.{Component}
 use Rattle.graphql_documents.specs.declared.documents.definitions.EnumValueDefinition.{EnumValueDefinition}
 use Rattle.graphql_documents.specs.declared.documents.directives.Directive.{Directive}

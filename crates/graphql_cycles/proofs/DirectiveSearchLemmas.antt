@@ -9,15 +9,13 @@ use Rattle.indexmap.specs.IndexMap.{get_by}
 use Rattle.std.proofs.lemmas.Bool.{false_from_ne_true}
 use Rattle.std.proofs.lemmas.Option.{none-some, same_Some}
 use Rattle.std.proofs.lemmas.List.{map-append}
-use Rattle.std.proofs.lemmas.List.Quantifiers.{all_pairs_push}
 use Rattle.std.proofs.lemmas.List.Elements.{All-weaker, Contains-append_cases, Contains-append_left, Contains-append_right}
 use Rattle.graphql_documents.proofs.ListLemmas.{more_is, only_one, stands_first, stands_mapped}
 use Rattle.graphql_nodes.proofs.NameLemmas.{not_both, same_name_back, same_name_itself, same_name_then, same_text}
 use Rattle.graphql_documents.specs.Directives.{directive_definition}
-use Rattle.graphql_diagnostics.specs.Limits.{directive_bound}
+use Rattle.graphql_specification.specs.DirectiveCycles.{AppliesBack, SchemaPart, SchemaReference, applied, by_directive, by_type, directive_part, named, part_of, references_of, type_part}
 use Rattle.graphql_nodes.specs.Names.{AreDistinct, DifferentNames, HasDifferentNames, NameText, SameName, same_name, stands_on, with_name}
 use Rattle.graphql_documents.specs.Schemas.{type_definition}
-use Rattle.graphql_documents.specs.SchemaReferences.{AppliesBack, DirectiveHasNoCycle, HasLongDirectivePath, HasLongTypePath, PartRefersBy, SchemaPart, SchemaReference, applied, by_directive, by_type, directive_part, named, part_of, references_of, type_part}
 use Rattle.graphql_documents.specs.declared.documents.definitions.DirectiveDefinition.{DirectiveDefinition}
 use Rattle.graphql_documents.specs.declared.documents.directives.Directive.{Directive}
 use Rattle.graphql_nodes.specs.declared.nodes.Node.{Node}
@@ -26,15 +24,15 @@ use Rattle.graphql_documents.specs.declared.documents.schemas.Schema.{Schema}
 use Rattle.graphql_guards.specs.Guards.{HasRoom, Refuses, path_limit, path_of}
 use Rattle.graphql_guards.specs.declared.recursion.CycleError.{CycleError}
 use Rattle.graphql_guards.specs.declared.recursion.CycleError.TheVariants.{Recursed, Limit, Memory}
-use Rattle.graphql_cycles.proofs.CycleLemmas.{closed_no_way_back, closes_below, closes_fewer, closes_nothing, closes_then, cycle_of, goes_far_before, goes_far_here, goes_far_wider, leads_back_before, leads_back_here, leads_back_wider, path_of_way, traces_more}
-use Rattle.graphql_cycles.proofs.SeenNameLemmas.{Marked, marked_grows, marked_is_seen, marked_only, names_at, nothing_seen, off_path, one_too_many, stands_deeper, stands_still, was_marked}
-use Rattle.graphql_cycles.specs.CycleSearches.{GoesOn, IsSeen, LeadsBack, StandsOn, Traces}
+use Rattle.graphql_cycles.proofs.CycleLemmas.{closes_below, closes_fewer, closes_nothing, closes_then, goes_far_before, goes_far_here, goes_far_wider, leads_back_before, leads_back_here, leads_back_wider, traces_more}
+use Rattle.graphql_cycles.proofs.SeenNameLemmas.{Marked, marked_grows, marked_is_seen, marked_only, names_at, off_path, one_too_many, stands_deeper, stands_still, was_marked}
+use Rattle.graphql_cycles.specs.CycleSearches.{GoesOn, IsSeen, StandsOn, Traces}
 use Rattle.graphql_variables.proofs.SelectionWalkLemmas.{stands_either}
 use Rattle.graphql_variables.proofs.SplitLemmas.{split_at}
 use Rattle.graphql_cycles.specs.References.{reference_of}
 use Rattle.graphql_cycles.specs.declared.schema_references.Reference.{Reference}
 use Rattle.graphql_cycles.proofs.InputObjectSearchLemmas.{one_type_found}
-use Rattle.graphql_cycles.specs.DirectiveSearches.{BeginsAt, ClosesFrom, IsBeginning, IsSeenBy, IsSeenIn, KeepsPaths, LeadsToError, PassesPaths, SchemaName, StandsSeen, StopsBy, name_in, of_directive, of_type}
+use Rattle.graphql_cycles.specs.DirectiveSearches.{BeginsAt, ClosesFrom, IsSeenBy, KeepsPaths, PassesPaths, SchemaName, StandsSeen, StopsBy, name_in, of_directive, of_type}
 use Rattle.graphql_cycles.specs.declared.directives.DirectiveSearch.{DirectiveSearch}
 use Rattle.graphql_cycles.specs.declared.directives.Progress.{Progress}
 
@@ -183,7 +181,7 @@ has_more : (count : ℕ) (xs ys : List NameText) → ((n : NameText) → Contain
 has_more count xs ys among h = (h.0, h.1, h.2, All-weaker (Contains xs) (Contains ys) among h.0 h.3)
 
 -- the same of paths that are the same
-names_on : (path now : List NameText) (limit bound : ℕ) (names : List NameText) → now ≡ path → bound ≡ limit →
+pub names_on : (path now : List NameText) (limit bound : ℕ) (names : List NameText) → now ≡ path → bound ≡ limit →
     HasDifferentNames (bound + 1) (now ++ names) → HasDifferentNames (limit + 1) (path ++ names)
 names_on path now limit bound names is_path is_limit h =
     subst (λ n. HasDifferentNames (n + 1) (path ++ names)) is_limit (subst (λ l. HasDifferentNames (bound + 1) (l ++ names)) is_path h)
@@ -194,10 +192,10 @@ stops_on schema root references old now (Recursed trace) keeps s = s
 stops_on schema root references old now Limit keeps s = record { way = s.way; is_way = s.is_way; is_long = still s.is_long } where
   still : PassesPaths now s.way → PassesPaths old s.way
   still passes = elim passes [
-    | inl met ↦
+    | inl visited ↦
         inl (names_on (path_of old.directive_path) (path_of now.directive_path) (path_limit old.directive_path) (path_limit now.directive_path)
-        (map (λ (r : Node Directive). r.value.value.name) (filter_map applied s.way)) keeps.directives keeps.directive_limit met)
-    | inr met ↦ inr (names_on (path_of old.type_path) (path_of now.type_path) (path_limit old.type_path) (path_limit now.type_path) (filter_map named s.way) keeps.types keeps.type_limit met)
+        (map (λ (r : Node Directive). r.value.value.name) (filter_map applied s.way)) keeps.directives keeps.directive_limit visited)
+    | inr visited ↦ inr (names_on (path_of old.type_path) (path_of now.type_path) (path_limit old.type_path) (path_limit now.type_path) (filter_map named s.way) keeps.types keeps.type_limit visited)
   ]
 stops_on schema root references old now Memory keeps s = tt
 
@@ -212,7 +210,7 @@ application_lengthens a before after longer limit types type_limit way passes = 
       inl (subst (HasDifferentNames (path_limit before.directive_path + 1)) (append_assoc (path_of before.directive_path) (a.value.value.name ∷ []) behind)
       (names_on (path_of before.directive_path ++ a.value.value.name ∷ []) (path_of after.directive_path) (path_limit before.directive_path) (path_limit after.directive_path)
       behind longer limit directives))
-  | inr met ↦ inr (names_on (path_of before.type_path) (path_of after.type_path) (path_limit before.type_path) (path_limit after.type_path) (filter_map named way) types type_limit met)
+  | inr visited ↦ inr (names_on (path_of before.type_path) (path_of after.type_path) (path_limit before.type_path) (path_limit after.type_path) (filter_map named way) types type_limit visited)
 ]
 
 -- the name of a type makes the path of types longer, or is on the way only
@@ -221,9 +219,9 @@ pub type_lengthens : (name : NameText) (before after : Progress) →
     path_of after.directive_path ≡ path_of before.directive_path → path_limit after.directive_path ≡ path_limit before.directive_path →
     (way : List SchemaReference) → PassesPaths after way → PassesPaths before (by_type name ∷ way)
 type_lengthens name before after longer limit directives directive_limit way passes = elim passes [
-  | inl met ↦
+  | inl visited ↦
       inl (names_on (path_of before.directive_path) (path_of after.directive_path) (path_limit before.directive_path) (path_limit after.directive_path)
-      (map (λ (r : Node Directive). r.value.value.name) (filter_map applied way)) directives directive_limit met)
+      (map (λ (r : Node Directive). r.value.value.name) (filter_map applied way)) directives directive_limit visited)
   | inr types ↦
       inr (subst (HasDifferentNames (path_limit before.type_path + 1)) (append_assoc (path_of before.type_path) (name ∷ []) (filter_map named way))
       (names_on (path_of before.type_path ++ name ∷ []) (path_of after.type_path) (path_limit before.type_path) (path_limit after.type_path) (filter_map named way) longer limit types))
@@ -231,7 +229,7 @@ type_lengthens name before after longer limit directives directive_limit way pas
 
 pub type_passes : (name : NameText) (before : Progress) (way : List SchemaReference) → PassesPaths before way → PassesPaths before (by_type name ∷ way)
 type_passes name before way passes = elim passes [
-  | inl met ↦ inl met
+  | inl visited ↦ inl visited
   | inr types ↦
       let path = path_of before.type_path in
       let behind = filter_map named way in
@@ -258,7 +256,7 @@ as_rooted root s = record { distinct = s.distinct; fits = s.fits; known = λ n o
 
 module _ {path : List NameText} {limit : ℕ} {old : List (Bor NameText)} (s : StandsSeen path limit old) (name : NameText)
     (unseen : IsFalse (stands_on (names_at old) name)) where
-  -- a name that was not seen does not stand on the path
+  -- a name that was not seen is not on the path
   pub type_off_path : IsFalse (stands_on path name)
   type_off_path = off_path (as_rooted (apart_from name) s) name unseen (differs name)
 
@@ -280,7 +278,7 @@ module _ {path : List NameText} {limit : ℕ} {old : List (Bor NameText)} (s : S
   pub type_too_many : limit ≤ length path → HasDifferentNames (limit + 1) (path ++ name ∷ [])
   type_too_many full = one_too_many (as_rooted (apart_from name) s) name unseen (differs name) full
 
--- where more was seen, the paths still stand
+-- where more was seen, the paths still are
 pub types_still : {path now : List NameText} {limit bound : ℕ} {old new : List (Bor NameText)} → now ≡ path → bound ≡ limit →
     ((k : NameText) → IsSeen old k → IsSeen new k) → StandsSeen path limit old → StandsSeen now bound new
 types_still is_path is_limit grows s = record {
@@ -479,75 +477,3 @@ pub type_stops_off_path : (schema : Schema) (root : Node DirectiveDefinition) (n
     StopsBy schema root references before e → StopsBy schema root (by_type name ∷ []) before e
 type_stops_off_path schema root name d references before e found same stops =
     stops_behind_type schema root name (type_part d) references before before e (ap (option_map type_part) (sym found)) same (type_passes name before) stops
-
-none_alike : AreDistinct []
-none_alike = λ i j d before within. absurd (let no : ⊥ = omega arith in no)
-
--- a search begins with the root alone on its path, and has seen nothing
-pub begins_at_root : (search : DirectiveSearch) (progress : Progress) → path_of progress.directive_path ≡ search.root.now.value.value.name ∷ [] →
-    path_limit progress.directive_path ≡ directive_bound → path_of progress.type_path ≡ [] → BeginsAt search progress
-begins_at_root search progress alone limit nowhere =
-    let own = search.root.now.value.value.name in
-    let none : (n : NameText) → ¬ IsTrue (stands_on [] n) = λ n on. let no : ⊥ = cc in no in
-    record {
-      directives = record {
-        distinct = subst AreDistinct (sym alone) (all_pairs_push DifferentNames [] own none_alike (λ k d within. absurd (let no : ⊥ = omega arith in no)));
-        fits = omega (arith, ap length alone, limit);
-        known = λ n on. elim (stands_either [] own n (subst (λ l. IsTrue (stands_on l n)) alone on)) [ inl before ↦ absurd (none n before) | inr same ↦ inl same ];
-      };
-      types = record {
-        distinct = subst AreDistinct (sym nowhere) none_alike;
-        fits = omega (arith, ap length nowhere);
-        known = λ n on. absurd (none n (subst (λ l. IsTrue (stands_on l n)) nowhere on));
-      };
-    }
-
-pub nothing_seen_in : (directives types : List (Bor NameText)) → directives ≡ [] → types ≡ [] → (k : SchemaName) → ¬ IsSeenIn directives types k
-nothing_seen_in directives types no_directives no_types (of_directive n) seen = nothing_seen directives no_directives n seen
-nothing_seen_in directives types no_directives no_types (of_type n) seen = nothing_seen types no_types n seen
-
--- from there, what leads back is a cycle
-pub root_leads : (schema : Schema) (d : Node DirectiveDefinition) (references : List SchemaReference) (progress : Progress) (trace : Vec (Node Directive) Global) →
-    references ≡ references_of (directive_part d) → StopsBy schema d references progress (Recursed trace) →
-    LeadsBack PartRefersBy (part_of schema) (AppliesBack (directive_part d)) (PartRefersBy (directive_part d)) (λ way. Traces trace.items (filter_map applied way))
-root_leads schema d references progress trace same stops = leads_back_wider (λ r among. subst (λ l. Contains l r) same among) stops
-
--- and a way that passes a path is long
-pub root_goes_far : (schema : Schema) (d : Node DirectiveDefinition) (references : List SchemaReference) (progress : Progress) → references ≡ references_of (directive_part d) →
-    path_of progress.directive_path ≡ d.value.value.name ∷ [] → path_limit progress.directive_path ≡ directive_bound →
-    path_of progress.type_path ≡ [] → path_limit progress.type_path ≡ directive_bound → StopsBy schema d references progress Limit →
-    HasLongDirectivePath schema d (directive_bound + 1) ⊎ HasLongTypePath schema d (directive_bound + 1)
-root_goes_far schema d references progress same alone limit nowhere type_limit stops =
-    let far = goes_far_wider {more = PartRefersBy (directive_part d)} (λ r among. subst (λ l. Contains l r) same among) stops in
-    elim far.is_long [
-      | inl met ↦
-          inl (
-            far.way,
-            path_of_way far.is_way,
-            names_on (d.value.value.name ∷ []) (path_of progress.directive_path) directive_bound (path_limit progress.directive_path)
-                (map (λ (r : Node Directive). r.value.value.name) (filter_map applied far.way)) alone limit met,
-          )
-      | inr met ↦
-          inr (
-            far.way,
-            path_of_way far.is_way,
-            names_on [] (path_of progress.type_path) directive_bound (path_limit progress.type_path) (filter_map named far.way) nowhere type_limit met,
-          )
-    ]
-
--- what a search from the arguments of a definition found, by why it stopped or by what it has seen
-pub stops_from_root : (schema : Schema) (d : Node DirectiveDefinition) (references : List SchemaReference) (old : Progress) → references ≡ references_of (directive_part d) →
-    IsBeginning d.value.value.name old → (e : CycleError Directive) → StopsBy schema d references old e → LeadsToError schema d e
-stops_from_root schema d references old same begins (Recursed trace) stops =
-    let leads = root_leads schema d references old trace same stops in
-    (leads.before ++ leads.last ∷ [], cycle_of {IsBack = AppliesBack} (directive_part d) leads, leads.shows)
-stops_from_root schema d references old same begins Limit stops =
-    root_goes_far schema d references old same begins.directives begins.directive_limit begins.types begins.type_limit stops
-stops_from_root schema d references old same begins Memory stops = stops
-
-pub closes_from_root : (schema : Schema) (d : Node DirectiveDefinition) (references : List SchemaReference) (old new : Progress) → references ≡ references_of (directive_part d) →
-    IsBeginning d.value.value.name old → ClosesFrom schema d references old new → DirectiveHasNoCycle schema d
-closes_from_root schema d references old new same begins closes =
-    closed_no_way_back {IsBack = AppliesBack} (directive_part d)
-    (nothing_seen_in old.seen_directives.keys old.seen_types.keys begins.no_directives begins.no_types)
-    (subst (λ l. ClosesFrom schema d l old new) same closes)

@@ -42,7 +42,7 @@ falls limit bound count longer most depth room same is within =
     let e : limit - count ≡ (bound - longer) + 1 = omega arith in
     rw e (omega (arith, add-mul (bound - longer) 1 (most + 1), one-mul (most + 1)))
 
--- so a fragment that is gone into leaves less
+-- so a fragment that is visited leaves less
 pub room_falls : (document : ExecutableDocument) (name : NameText) (d : Node Fragment) (held : Fragment) (before after : RecursionStack) (measure : ℕ) →
     held ≡ d.value.value → fragments_of document name ≡ Some d → HasRoom before → path_limit after ≡ path_limit before →
     path_of after ≡ path_of before ++ name ∷ [] → 2 * room document before ≡ measure →

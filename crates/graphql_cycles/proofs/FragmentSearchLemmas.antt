@@ -7,7 +7,7 @@ use Rattle.std.proofs.lemmas.List.Elements.{Contains-append_cases, Contains-appe
 use Rattle.graphql_documents.proofs.ListLemmas.{more_is, only_one, stands_first}
 use Rattle.graphql_nodes.proofs.NameLemmas.{same_name_back}
 use Rattle.graphql_documents.proofs.SelectionLemmas.{not_inline, not_spread, one_fragment_found, same_field, same_inline, same_spread, spread_not_inline}
-use Rattle.graphql_documents.specs.FragmentSpreads.{SpreadsBy, fragment_of}
+use Rattle.graphql_specification.specs.Fragments.{SpreadsBy, fragment_of}
 use Rattle.graphql_nodes.specs.Names.{NameText, SameName, stands_on, with_name}
 use Rattle.graphql_documents.specs.Selections.{SetWritten, fragments_of, selections_of, set_itself, set_in_field, set_in_inline_fragment}
 use Rattle.graphql_documents.specs.declared.documents.executables.ExecutableDocument.{ExecutableDocument}
@@ -75,7 +75,7 @@ at_spread {q = q} p is (spread_itself e) = same_spread q p (sym e ∙ is)
 at_spread p is (spread_in_field f e w) = absurd (not_spread f p (sym is ∙ e))
 at_spread p is (spread_in_inline_fragment i e w) = absurd (spread_not_inline i p (sym is ∙ e))
 
--- a selection of a list stands in it
+-- a selection of a list is in it
 stands_at : (xs : List Selection) (i : ℕ) (s : Selection) → i < length xs → s ≡ get_or xs i s → Contains xs s
 stands_at xs i s within item =
     subst (λ l. Contains l s) (sym (split_at xs i s within item))

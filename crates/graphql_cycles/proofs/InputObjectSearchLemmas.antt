@@ -13,8 +13,8 @@ use Rattle.std.proofs.lemmas.List.Elements.{Contains-append_cases}
 use Rattle.graphql_documents.proofs.ListLemmas.{only_one, stands_first, stands_mapped, stands_next}
 use Rattle.graphql_nodes.proofs.NameLemmas.{same_text}
 use Rattle.graphql_nodes.specs.Names.{DifferentNames, NameText, SameName, stands_on, with_name}
-use Rattle.graphql_documents.specs.SchemaReferences.{RequiresBy, as_input_object, input_object_named, input_object_of, required_name}
-use Rattle.graphql_documents.specs.Schemas.{type_definition}
+use Rattle.graphql_specification.specs.InputObjectCycles.{RequiresBy, input_object_of, required_name}
+use Rattle.graphql_documents.specs.Schemas.{as_input_object, input_object_named, type_definition}
 use Rattle.graphql_documents.specs.TypeReferences.{inner_named_type}
 use Rattle.graphql_documents.specs.declared.documents.components.Component.{Component}
 use Rattle.graphql_documents.specs.declared.documents.definitions.InputValueDefinition.{InputValueDefinition}

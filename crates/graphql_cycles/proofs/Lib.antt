@@ -1,6 +1,7 @@
 pub mod CycleLemmas
 pub mod DirectiveRoomLemmas
 pub mod DirectiveSearchLemmas
+pub mod DirectiveSearchRootLemmas
 pub mod FragmentRoomLemmas
 pub mod FragmentSearchLemmas
 pub mod InputObjectSearchLemmas

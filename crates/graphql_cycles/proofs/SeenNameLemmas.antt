@@ -71,7 +71,7 @@ stands_still is_path is_limit grows s = record {
 
 module _ {root : NameText} {path : List NameText} {limit : ℕ} {old : List (Bor NameText)} (s : StandsOn root path limit old)
     (name : NameText) (unseen : IsFalse (stands_on (names_at old) name)) (other : DifferentNames name root) where
-  -- a name that is not the root's, and was not seen, does not stand on the path
+  -- a name that is not the root's, and was not seen, is not on the path
   pub off_path : IsFalse (stands_on path name)
   off_path = not_true (stands_on path name) (λ h. elim (s.known name h) [
     | inl same ↦ not_both name root same other

@@ -1,9 +1,8 @@
 -- Searches for cycles of directives, for the contracts of private functions.
 use Rattle.std.specs.Prelude.{◌≡◌, ◌+◌, ◌≤◌, ◌⊎◌, ⊤, ℕ, List, [], ◌∷◌, ◌++◌, Contains, IsTrue, Result, MatchResult, filter_map, length, map}
 use Rattle.std.specs.Borrow.{Bor}
-use Rattle.graphql_diagnostics.specs.Limits.{directive_bound}
+use Rattle.graphql_specification.specs.DirectiveCycles.{directive_depth_limit, AppliesBack, HasLongDirectivePath, HasLongTypePath, IsDirectiveCycle, PartRefersBy, SchemaReference, applied, by_directive, by_type, directive_part, named, part_of}
 use Rattle.graphql_nodes.specs.Names.{AreDistinct, HasDifferentNames, NameText, stands_on}
-use Rattle.graphql_documents.specs.SchemaReferences.{AppliesBack, HasLongDirectivePath, HasLongTypePath, IsDirectiveCycle, PartRefersBy, SchemaReference, applied, by_directive, by_type, directive_part, named, part_of}
 use Rattle.graphql_documents.specs.declared.documents.definitions.DirectiveDefinition.{DirectiveDefinition}
 use Rattle.graphql_documents.specs.declared.documents.directives.Directive.{Directive}
 use Rattle.graphql_nodes.specs.declared.nodes.Node.{Node}
@@ -45,12 +44,12 @@ pub record BeginsAt (search : DirectiveSearch) (progress : Progress) : Type 0 wh
   pub directives : StandsOn search.root.now.value.value.name (path_of progress.directive_path) (path_limit progress.directive_path) progress.seen_directives.keys
   pub types : StandsSeen (path_of progress.type_path) (path_limit progress.type_path) progress.seen_types.keys
 
--- the beginning of a search: the root stands on the path of directives, and no name was seen
+-- the beginning of a search: the root is on the path of directives, and no name was seen
 pub record IsBeginning (root : NameText) (progress : Progress) : Type 0 where
   pub directives : path_of progress.directive_path ≡ root ∷ []
-  pub directive_limit : path_limit progress.directive_path ≡ directive_bound
+  pub directive_limit : path_limit progress.directive_path ≡ directive_depth_limit
   pub types : path_of progress.type_path ≡ []
-  pub type_limit : path_limit progress.type_path ≡ directive_bound
+  pub type_limit : path_limit progress.type_path ≡ directive_depth_limit
   pub no_directives : progress.seen_directives.keys ≡ []
   pub no_types : progress.seen_types.keys ≡ []
 
@@ -91,5 +90,5 @@ SearchesFor search references old new result =
 abbrev pub LeadsToError : Schema → Node DirectiveDefinition → CycleError Directive → Type 0
 LeadsToError schema d (Recursed trace) =
     (path : List SchemaReference) × IsDirectiveCycle schema d path × Traces trace.items (filter_map applied path)
-LeadsToError schema d Limit = HasLongDirectivePath schema d (directive_bound + 1) ⊎ HasLongTypePath schema d (directive_bound + 1)
+LeadsToError schema d Limit = HasLongDirectivePath schema d (directive_depth_limit + 1) ⊎ HasLongTypePath schema d (directive_depth_limit + 1)
 LeadsToError schema d Memory = ⊤

@@ -1,7 +1,7 @@
 -- Searches for cycles of fragments, for the contracts of private functions.
 use Rattle.std.specs.Prelude.{◌≡◌, List, Contains, Result}
 use Rattle.std.specs.Borrow.{Bor}
-use Rattle.graphql_documents.specs.FragmentSpreads.{SpreadsBy, fragment_of}
+use Rattle.graphql_specification.specs.Fragments.{SpreadsBy, fragment_of}
 use Rattle.graphql_nodes.specs.Names.{NameText}
 use Rattle.graphql_documents.specs.Selections.{Written, fragments_of}
 use Rattle.graphql_documents.specs.declared.documents.executables.Field.{Field}

@@ -2,7 +2,7 @@
 use Rattle.std.specs.Prelude.{List, Contains, IsSome, Result}
 use Rattle.std.specs.Borrow.{Bor}
 use Rattle.graphql_nodes.specs.Names.{NameText}
-use Rattle.graphql_documents.specs.SchemaReferences.{RequiresBy, input_object_of}
+use Rattle.graphql_specification.specs.InputObjectCycles.{RequiresBy, input_object_of}
 use Rattle.graphql_documents.specs.TypeReferences.{inner_named_type}
 use Rattle.graphql_documents.specs.declared.documents.definitions.InputValueDefinition.{InputValueDefinition}
 use Rattle.graphql_nodes.specs.declared.nodes.Node.{Node}

@@ -3,7 +3,7 @@ use Rattle.std.specs.Prelude.{Bool, false}
 use Rattle.graphql_documents.specs.Schemas.{is_built_in}
 use Rattle.graphql_documents.specs.declared.documents.schemas.ExtendedType.{ExtendedType}
 use Rattle.graphql_documents.specs.declared.documents.schemas.ExtendedType.TheVariants.{InputObject}
-use Rattle.graphql_documents.specs.SchemaReferences.{SchemaReference, by_directive, by_type}
+use Rattle.graphql_specification.specs.DirectiveCycles.{SchemaReference, by_directive, by_type}
 use Rattle.graphql_cycles.specs.declared.schema_references.Reference.{Reference}
 use Rattle.graphql_cycles.specs.declared.schema_references.Reference.TheVariants.{Directive, «Type»}
 

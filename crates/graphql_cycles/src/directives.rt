@@ -1,9 +1,7 @@
 ghost use Rattle.std.specs.Prelude.{◌≡◌, ◌+◌, ◌∷◌, ◌⊎◌, [], IfOk, List, MatchResult, OnOk, filter_map, map};
 ghost use Rattle.graphql_diagnostics.specs.Diagnostics.{IsDiagnostic};
-ghost use Rattle.graphql_diagnostics.specs.Limits.{DirectiveLimit, directive_bound};
+ghost use Rattle.graphql_specification.specs.DirectiveCycles.{DirectiveLimit, directive_depth_limit, DirectiveHasNoCycle, HasLongDirectivePath, HasLongTypePath, IsDirectiveCycle, SchemaReference, applied, by_directive, by_type, DirectiveCycleReport};
 ghost use Rattle.graphql_diagnostics.specs.Reports.{ChecksWithin};
-ghost use Rattle.graphql_documents.specs.SchemaReferences.{DirectiveHasNoCycle, HasLongDirectivePath, HasLongTypePath, IsDirectiveCycle, SchemaReference, applied, by_directive, by_type};
-ghost use Rattle.graphql_diagnostics.specs.SchemaReports.{DirectiveCycleReport};
 ghost use Rattle.graphql_nodes.specs.Spans.{recompose};
 ghost use Rattle.graphql_documents.specs.declared.documents.schemas.Schema.{Schema};
 ghost use Rattle.graphql_cycles.specs.CycleSearches.{Traces};
@@ -12,11 +10,10 @@ ghost use Rattle.graphql_cycles.specs.References.{is_off_path, reference_of};
 
 use super::schema_references::{Reference, references_of_directive, references_of_type};
 use super::steps::{mark, trace_step};
-use graphql_diagnostics::{Details, DiagnosticData, DiagnosticList, ValidationError};
-use graphql_documents::documents::{
-    Directive, DirectiveDefinition, ExtendedType, Name, NamedType, Node, Schema, SourceSpan,
-};
+use graphql_diagnostics::{Details, DiagnosticData, DiagnosticList};
+use graphql_documents::documents::{Directive, DirectiveDefinition, ExtendedType, Schema};
 use graphql_guards::{CycleError, RecursionStack};
+use graphql_nodes::{Name, NamedType, Node, SourceSpan, ValidationError};
 use indexmap::IndexSet;
 use std::alloc::Global;
 
@@ -25,7 +22,7 @@ use std::alloc::Global;
 /// to the definition's own. A definition that only reaches the cycle of another is not reported.
 ///
 /// Where a path of references goes through more than 32 directives, or more than 32 types, before a cycle is
-/// found, that is reported instead, at the head of the definition. The only error is want of memory.
+/// found, that is reported instead, at the head of the definition. The only error is a failed allocation.
 ///
 /// Specification: 3.13 Directives.
 pub fn validate_directive_cycles(
@@ -93,7 +90,7 @@ fn report_nesting(
     definition: &Node<DirectiveDefinition>,
 ) -> Result<(), ValidationError>
     ensures { (schema : Schema) →
-        HasLongDirectivePath schema definition.now (directive_bound + 1) ⊎ HasLongTypePath schema definition.now (directive_bound + 1) →
+        HasLongDirectivePath schema definition.now (directive_depth_limit + 1) ⊎ HasLongTypePath schema definition.now (directive_depth_limit + 1) →
         ChecksWithin result (DirectiveHasNoCycle schema definition.now)
         (IsDiagnostic (DirectiveCycleReport schema definition.now))
         (λ e. DirectiveLimit schema definition.now e.details e.location) diagnostics.old diagnostics.new }
@@ -109,7 +106,7 @@ fn report_nesting(
     )
 }
 
-/// Where the head of a directive definition stands: from its start to the end of its name.
+/// Where the head of a directive definition is: from its start to the end of its name.
 fn head_of(definition: &Node<DirectiveDefinition>) -> Option<SourceSpan>
     ensures { result ≡ recompose definition.now.location definition.now.value.value.name.location }
 {
@@ -124,7 +121,7 @@ struct DirectiveSearch<'schema> {
     root: &'schema Node<DirectiveDefinition>,
 }
 
-/// How far a search is: the directives and the types on its path, and the names of all that it has met.
+/// How far a search is: the directives and the types on its path, and the names of all that it has visited.
 #[derive(Drop)]
 struct Progress<'schema> {
     directive_path: RecursionStack,
@@ -134,7 +131,7 @@ struct Progress<'schema> {
 }
 
 impl Progress<'_> {
-    /// The beginning of a search: its root stands on the path of directives, and nothing was met.
+    /// The beginning of a search: its root is on the path of directives, and nothing was visited.
     fn from_root<'schema>(alloc: Global, root: &Name) -> Result<Progress<'schema>, ValidationError>
         ensures { IfOk result (IsBeginning root.now) }
     {
@@ -149,7 +146,7 @@ impl Progress<'_> {
 }
 
 impl<'schema> DirectiveSearch<'schema> {
-    /// Searches the definitions to which references lead, but none again that was met. The search ends where
+    /// Searches the definitions to which references lead, but none again that was visited. The search ends where
     /// an application leads back to the root, or a path is full.
     #[cycle(search)]
     fn search_references(
@@ -200,7 +197,7 @@ impl<'schema> DirectiveSearch<'schema> {
         if leads_back {
             return Err(trace_step(CycleError::Recursed(Vec::new(self.alloc)), application));
         }
-        // Each name on the path but the root's is marked, so what stands there is passed over too.
+        // Each name on the path but the root's is marked, so what is there is passed over too.
         if !mark(&mut progress.seen_directives, name)? {
             return Ok(());
         }

@@ -1,9 +1,7 @@
 ghost use Rattle.std.specs.Prelude.{◌≡◌, ◌+◌, List, Option, OnOk};
 ghost use Rattle.graphql_diagnostics.specs.Diagnostics.{IsDiagnostic};
-ghost use Rattle.graphql_documents.specs.FragmentSpreads.{FragmentHasNoCycle, HasLongSpreadPath, IsFragmentCycle};
-ghost use Rattle.graphql_diagnostics.specs.Limits.{FragmentLimit, fragment_bound};
+ghost use Rattle.graphql_specification.specs.Fragments.{FragmentHasNoCycle, HasLongSpreadPath, IsFragmentCycle, FragmentLimit, fragment_depth_limit, FragmentFormReport};
 ghost use Rattle.graphql_diagnostics.specs.Reports.{ChecksWithin};
-ghost use Rattle.graphql_diagnostics.specs.SelectionReports.{FragmentBreaks};
 ghost use Rattle.graphql_documents.specs.Selections.{Fragments, fragments_of};
 ghost use Rattle.graphql_nodes.specs.Spans.{recompose};
 ghost use Rattle.graphql_documents.specs.declared.documents.executables.FragmentSpread.{FragmentSpread};
@@ -14,11 +12,12 @@ ghost use Rattle.graphql_cycles.specs.CycleSearches.{Traces};
 ghost use Rattle.graphql_cycles.specs.FragmentSearches.{BeginsAt, SearchesFor, SpreadAt, SpreadIn};
 
 use super::steps::{mark, trace_step};
-use graphql_diagnostics::{Details, DiagnosticData, DiagnosticList, ValidationError};
+use graphql_diagnostics::{Details, DiagnosticData, DiagnosticList};
 use graphql_documents::documents::{
-    ExecutableDocument, Fragment, FragmentSpread, Name, Node, Selection, SelectionSet, SourceSpan,
+    ExecutableDocument, Fragment, FragmentSpread, Selection, SelectionSet,
 };
 use graphql_guards::{CycleError, RecursionStack};
+use graphql_nodes::{Name, Node, SourceSpan, ValidationError};
 use indexmap::IndexSet;
 use std::alloc::Global;
 
@@ -29,8 +28,8 @@ const FRAGMENT_LIMIT: usize = 100;
 /// spreads on the way, from the one that leads back to the fragment's own. A fragment that only reaches
 /// the cycle of another is not reported.
 ///
-/// Where a path of spreads from the fragment goes through more than 100 fragments before a cycle is
-/// found, that is reported instead, at the head of the fragment. The only error is want of memory.
+/// Where a path of spreads from the fragment goes through more than 100 fragments before a cycle is found,
+/// that is reported instead, at the head of the fragment. The only error is a failed allocation.
 ///
 /// Specification: 5.5.2.2 Fragment Spreads Must Not Form Cycles.
 pub fn validate_fragment_cycles(
@@ -39,7 +38,7 @@ pub fn validate_fragment_cycles(
     fragment: &Node<Fragment>,
 ) -> Result<(), ValidationError>
     ensures { (schema : Option Schema) → ChecksWithin result (FragmentHasNoCycle (fragments_of document.now) fragment.now)
-        (IsDiagnostic (FragmentBreaks schema (fragments_of document.now) fragment.now))
+        (IsDiagnostic (FragmentFormReport schema (fragments_of document.now) fragment.now))
         (λ e. FragmentLimit (fragments_of document.now) fragment.now e.details e.location) diagnostics.old diagnostics.new }
 {
     let alloc = diagnostics.allocator();
@@ -67,7 +66,7 @@ fn report_cycle(
 ) -> Result<(), ValidationError>
     ensures { (schema : Option Schema) (fragments : Fragments) (path : List (Node FragmentSpread)) →
         IsFragmentCycle fragments fragment.now path → Traces trace.items path →
-        ChecksWithin result (FragmentHasNoCycle fragments fragment.now) (IsDiagnostic (FragmentBreaks schema fragments fragment.now))
+        ChecksWithin result (FragmentHasNoCycle fragments fragment.now) (IsDiagnostic (FragmentFormReport schema fragments fragment.now))
         (λ e. FragmentLimit fragments fragment.now e.details e.location) diagnostics.old diagnostics.new }
 {
     let head_location = head_of(fragment);
@@ -87,8 +86,8 @@ fn report_nesting(
     diagnostics: &mut DiagnosticList,
     fragment: &Node<Fragment>,
 ) -> Result<(), ValidationError>
-    ensures { (schema : Option Schema) (fragments : Fragments) → HasLongSpreadPath fragments fragment.now (fragment_bound + 1) →
-        ChecksWithin result (FragmentHasNoCycle fragments fragment.now) (IsDiagnostic (FragmentBreaks schema fragments fragment.now))
+    ensures { (schema : Option Schema) (fragments : Fragments) → HasLongSpreadPath fragments fragment.now (fragment_depth_limit + 1) →
+        ChecksWithin result (FragmentHasNoCycle fragments fragment.now) (IsDiagnostic (FragmentFormReport schema fragments fragment.now))
         (λ e. FragmentLimit fragments fragment.now e.details e.location) diagnostics.old diagnostics.new }
 {
     let head_location = head_of(fragment);
@@ -102,7 +101,7 @@ fn report_nesting(
     )
 }
 
-/// Where the head of a fragment stands: from its start to the end of its name.
+/// Where the head of a fragment is: from its start to the end of its name.
 fn head_of(fragment: &Node<Fragment>) -> Option<SourceSpan>
     ensures { result ≡ recompose fragment.now.location fragment.now.value.value.name.location }
 {
@@ -178,7 +177,7 @@ impl<'doc> FragmentSearch<'doc> {
         if leads_back {
             return Err(trace_step(CycleError::Recursed(Vec::new(self.alloc)), spread));
         }
-        // Each name on the path but the root's is marked, so what stands there is passed over too.
+        // Each name on the path but the root's is marked, so what is there is passed over too.
         if !mark(seen, name)? {
             return Ok(());
         }

@@ -1,9 +1,7 @@
 ghost use Rattle.std.specs.Prelude.{◌≡◌, ◌+◌, ◌∷◌, [], List, OnOk, map};
 ghost use Rattle.graphql_diagnostics.specs.Diagnostics.{IsDiagnostic};
-ghost use Rattle.graphql_diagnostics.specs.Limits.{InputObjectLimit, input_object_bound};
+ghost use Rattle.graphql_specification.specs.InputObjectCycles.{InputObjectLimit, input_object_depth_limit, HasLongRequiredPath, InputObjectHasNoCycle, IsInputObjectCycle, InputObjectCycleReport};
 ghost use Rattle.graphql_diagnostics.specs.Reports.{ChecksWithin};
-ghost use Rattle.graphql_documents.specs.SchemaReferences.{HasLongRequiredPath, InputObjectHasNoCycle, IsInputObjectCycle};
-ghost use Rattle.graphql_diagnostics.specs.TypeReports.{InputObjectCycleReport};
 ghost use Rattle.graphql_documents.specs.declared.documents.definitions.InputValueDefinition.{InputValueDefinition};
 ghost use Rattle.graphql_nodes.specs.declared.nodes.Node.{Node};
 ghost use Rattle.graphql_guards.specs.Guards.{path_limit, path_of};
@@ -11,11 +9,10 @@ ghost use Rattle.graphql_cycles.specs.CycleSearches.{Traces};
 ghost use Rattle.graphql_cycles.specs.InputObjectSearches.{BeginsAt, SearchesFor};
 
 use super::steps::{mark, trace_step};
-use graphql_diagnostics::{Details, DiagnosticData, DiagnosticList, ValidationError};
-use graphql_documents::documents::{
-    InputObjectType, InputValueDefinition, Name, Node, Schema, Type,
-};
+use graphql_diagnostics::{Details, DiagnosticData, DiagnosticList};
+use graphql_documents::documents::{InputObjectType, InputValueDefinition, Schema, Type};
 use graphql_guards::{CycleError, RecursionStack};
+use graphql_nodes::{Name, Node, ValidationError};
 use indexmap::IndexSet;
 use std::alloc::Global;
 
@@ -24,7 +21,7 @@ use std::alloc::Global;
 /// that only reaches the cycle of another is not reported.
 ///
 /// Where a path of required fields goes through more than 32 input objects before a cycle is found, that is
-/// reported instead. The only error is want of memory.
+/// reported instead. The only error is a failed allocation.
 ///
 /// Specification: 3.10 Input Objects, Circular References.
 pub fn validate_input_object_cycles(
@@ -77,7 +74,7 @@ fn report_nesting(
     diagnostics: &mut DiagnosticList,
     input_object: &Node<InputObjectType>,
 ) -> Result<(), ValidationError>
-    ensures { (schema : Schema) → HasLongRequiredPath schema input_object.now (input_object_bound + 1) →
+    ensures { (schema : Schema) → HasLongRequiredPath schema input_object.now (input_object_depth_limit + 1) →
         ChecksWithin result (InputObjectHasNoCycle schema input_object.now)
         (IsDiagnostic (InputObjectCycleReport schema input_object.now))
         (λ e. InputObjectLimit schema input_object.now e.details e.location) diagnostics.old diagnostics.new }
@@ -145,7 +142,7 @@ impl<'schema> InputObjectSearch<'schema> {
         if leads_back {
             return Err(trace_step(CycleError::Recursed(Vec::new(self.alloc)), field));
         }
-        // Each name on the path but the root's is marked, so what stands there is passed over too.
+        // Each name on the path but the root's is marked, so what is there is passed over too.
         if !mark(seen, name)? {
             return Ok(());
         }

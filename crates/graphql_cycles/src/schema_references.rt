@@ -1,12 +1,12 @@
 ghost use Rattle.std.specs.Prelude.{◌≡◌, ◌++◌, ◌∷◌, [], IfOk, OnOk, flat_map, map};
-ghost use Rattle.graphql_documents.specs.SchemaReferences.{by_directive, directive_part, input_references, references_of, type_part};
+ghost use Rattle.graphql_specification.specs.DirectiveCycles.{by_directive, directive_part, input_references, references_of, type_part};
 ghost use Rattle.graphql_cycles.specs.References.{reference_of};
 
-use graphql_diagnostics::ValidationError;
 use graphql_documents::documents::{
     Component, Directive, DirectiveDefinition, EnumValueDefinition, ExtendedType,
-    InputValueDefinition, Name, NamedType, Node,
+    InputValueDefinition,
 };
+use graphql_nodes::{Name, NamedType, Node, ValidationError};
 use indexmap::IndexMap;
 use std::alloc::Global;
 
@@ -17,7 +17,8 @@ pub(super) enum Reference<'schema> {
     Type(&'schema NamedType),
 }
 
-/// The references that are written in a directive definition, in order. The only error is want of memory.
+/// The references that are written in a directive definition, in order. The only error is a failed
+/// allocation.
 ///
 /// Specification: 3.13 Directives.
 pub(super) fn references_of_directive<'schema>(

@@ -2,8 +2,8 @@ ghost use Rattle.std.specs.Prelude.{◌≡◌, IfErr, IfOk, OnOk, map, not};
 ghost use Rattle.graphql_nodes.specs.Names.{stands_on, with_name};
 ghost use Rattle.graphql_cycles.specs.CycleSearches.{GoesOn, IsMemory};
 
-use graphql_documents::documents::{Name, Node};
 use graphql_guards::CycleError;
+use graphql_nodes::{Name, Node};
 use indexmap::IndexSet;
 
 /// Adds a name to those that were seen, and answers whether it is new.

@@ -1,4 +1,3 @@
 pub mod DiagnosticLemmas
 pub mod ReportLemmas
 pub mod ReportWithinLemmas
-pub mod SelectionReportLemmas

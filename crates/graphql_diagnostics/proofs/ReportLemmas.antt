@@ -28,7 +28,7 @@ module _ {Entry : Type 0} where
     each = All-append Q a.added b.added a.each b.each;
   }
 
-  -- what checks a rule keeps the reports
+  -- what checks a rule keeps the diagnostics
   pub kept_by : {Q : Entry → Type 0} {P : Type 0} {old new : List Entry} → Reports P Q old new → KeepsReports Q old new
   kept_by r = record { added = r.added; appended = r.appended; each = r.each }
 
@@ -88,11 +88,11 @@ module _ {Entry : Type 0} where
   pub wider : {P : Type 0} {Q Q' : Entry → Type 0} {old new : List Entry} → ((e : Entry) → Q e → Q' e) → Reports P Q old new → Reports P Q' old new
   wider {Q = Q} {Q' = Q'} w r = record { added = r.added; appended = r.appended; silent = r.silent; each = All-weaker Q Q' w r.added r.each }
 
--- what `Checks` says, of the reports as lists
+-- what `Checks` says, of the diagnostics as lists
 abbrev pub ChecksList : {T E Entry : Type 0} → Result T E → Type 0 → (Entry → Type 0) → List Entry → List Entry → Type 0
 ChecksList r P Q old new = MatchResult r (λ _. Reports P Q old new) (λ _. KeepsReports Q old new)
 
--- a check that ends by pushing a report of the rule that is broken
+-- a check that ends by pushing a diagnostic of the rule that is broken
 pub checks-push : {T E Entry : Type 0} (r : Result T E) (P : Type 0) (Q : Entry → Type 0) (old new : List Entry) (e : Entry) →
     OnOk r (new ≡ old ++ e ∷ []) → OnErr r (new ≡ old) → ¬ P → Q e → ChecksList r P Q old new
 checks-push (Ok x) P Q old new e ok err n q = broken Q P old new e ok n q
@@ -103,7 +103,7 @@ pub checks-err : {T E Entry : Type 0} (r : Result T E) (P : Type 0) (Q : Entry �
     IsErr r → KeepsReports Q old new → ChecksList r P Q old new
 checks-err r P Q old new e k = MatchResult-from_err r (λ _. Reports P Q old new) (λ _. KeepsReports Q old new) e (λ y. k)
 
--- a check keeps the reports, whatever it answers
+-- a check keeps the diagnostics, whatever it answers
 pub kept_by_check : {T E Entry : Type 0} (r : Result T E) (P : Type 0) (Q : Entry → Type 0) (old new : List Entry) →
     ChecksList r P Q old new → KeepsReports Q old new
 kept_by_check (Ok x) P Q old new h = kept_by h

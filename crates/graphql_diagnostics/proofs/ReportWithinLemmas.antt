@@ -9,15 +9,15 @@ use Rattle.graphql_documents.proofs.ListLemmas.{All-append_left, All-append_righ
 use Rattle.graphql_diagnostics.specs.Reports.{KeepsReports, Reports, ReportsWithin}
 
 module _ {Entry : Type 0} (IsOfLimit : Entry → Type 0) where
-  -- a check without a bound is one whose bound is never passed
+  -- a check without a limit is one whose limit is never passed
   pub within : {P : Type 0} {Q : Entry → Type 0} {old new : List Entry} → Reports P Q old new → ReportsWithin IsOfLimit P Q old new
   within r = record { added = r.added; appended = r.appended; silent = λ _. r.silent; each = r.each }
 
-  -- what checks a rule within a bound keeps the reports
+  -- what checks a rule within a limit keeps the diagnostics
   pub kept_within : {P : Type 0} {Q : Entry → Type 0} {old new : List Entry} → ReportsWithin IsOfLimit P Q old new → KeepsReports Q old new
   kept_within r = record { added = r.added; appended = r.appended; each = r.each }
 
-  -- the bound is passed, and one report says so
+  -- the limit is passed, and one report says so
   pub passed : (P : Type 0) (Q : Entry → Type 0) (old new : List Entry) (e : Entry) → new ≡ old ++ e ∷ [] → IsOfLimit e → Q e → ReportsWithin IsOfLimit P Q old new
   passed P Q old new e is limit q = record {
     added = e ∷ [];
@@ -77,17 +77,17 @@ module _ {Entry : Type 0} (IsOfLimit : Entry → Type 0) where
         ReportsWithin IsOfLimit (All P (take i xs)) Q old new → ReportsWithin IsOfLimit (All P ys) Q old new
     walked_all_within i ys old new same past r = subst (λ l. ReportsWithin IsOfLimit (All P l) Q old new) (take_all i xs past ∙ same) r
 
-  -- what `ChecksWithin` says, of the reports as lists
+  -- what `ChecksWithin` says, of the diagnostics as lists
   abbrev pub ChecksListWithin : {T E : Type 0} → Result T E → Type 0 → (Entry → Type 0) → List Entry → List Entry → Type 0
   ChecksListWithin r P Q old new = MatchResult r (λ _. ReportsWithin IsOfLimit P Q old new) (λ _. KeepsReports Q old new)
 
-  -- a check without a bound, as one with a bound
+  -- a check without a limit, as one with a limit
   pub checks_within : {T E : Type 0} (r : Result T E) (P : Type 0) (Q Q' : Entry → Type 0) (old new : List Entry) → ((e : Entry) → Q e → Q' e) →
       MatchResult r (λ _. Reports P Q old new) (λ _. KeepsReports Q old new) → ChecksListWithin r P Q' old new
   checks_within (Ok x) P Q Q' old new w c = wider_within w (within c)
   checks_within (Err x) P Q Q' old new w c = record { added = c.added; appended = c.appended; each = All-weaker Q Q' w c.added c.each }
 
-  -- a check that ends by pushing a report of a limit
+  -- a check that ends by pushing a diagnostic of a limit
   pub checks_limit : {T E : Type 0} (r : Result T E) (P : Type 0) (Q : Entry → Type 0) (old new : List Entry) (e : Entry) →
       OnOk r (new ≡ old ++ e ∷ []) → OnErr r (new ≡ old) → IsOfLimit e → Q e → ChecksListWithin r P Q old new
   checks_limit (Ok x) P Q old new e ok err limit q = passed P Q old new e ok limit q

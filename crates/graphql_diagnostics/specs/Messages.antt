@@ -5,7 +5,7 @@ use Rattle.graphql_nodes.specs.Names.{NameText}
 use Rattle.graphql_documents.specs.TypeReferences.{type_text}
 use Rattle.graphql_coordinates.specs.Coordinates.{field_text, type_attribute_text, coordinate_text}
 use Rattle.graphql_documents.specs.Values.{value_kind_text}
-use Rattle.graphql_documents.specs.DirectiveLocations.{location_text}
+use Rattle.graphql_nodes.specs.DirectiveLocations.{location_text}
 use Rattle.graphql_diagnostics.specs.declared.names.NameOrAnon.{NameOrAnon}
 use Rattle.graphql_diagnostics.specs.declared.data.DiagnosticData.{DiagnosticData}
 use Rattle.graphql_diagnostics.specs.declared.data.DiagnosticData.TheVariants.{UniqueVariable, UniqueArgument, UniqueInputValue, UndefinedArgument, UndefinedDefinition, UndefinedDirective, UndefinedVariable, UndefinedFragment, UndefinedEnumValue, UndefinedInputValue, MissingInterfaceField, InvalidImplementationFieldType, MissingInterfaceFieldArgument, InvalidImplementationFieldArgumentType, ExtraRequiredImplementationFieldArgument, RequiredArgument, RequiredField, TransitiveImplementedInterfaces, OutputType, InputType, VariableInputType, QueryRootOperationType, UnusedVariable, RootOperationObjectType, DuplicateRootOperationType, UnionMemberObjectType, UnsupportedLocation, UnsupportedValueType, IntCoercionError, UniqueDirective, MissingSubselection, InvalidFragmentTarget, InvalidFragmentSpread, UnusedFragment, DisallowedVariableUsage, RecursiveDirectiveDefinition, RecursiveInterfaceDefinition, RecursiveInputObjectDefinition, RecursiveFragmentDefinition, DeeplyNestedType, RecursionError, EmptyFieldSet, EmptyValueSet, EmptyMemberSet, EmptyInputValueSet, ReservedName}
@@ -136,7 +136,7 @@ build_error_name (ConflictingFieldName alias original_location original conflict
 build_error_name (ConflictingFieldArgument alias original_location original original_value conflicting_location conflicting conflicting_value) = codes "ConflictingFieldArgument"
 build_error_name (ConflictingFieldType alias original_location original original_type conflicting_location conflicting conflicting_type) = codes "ConflictingFieldType"
 
--- the text of what a report is about
+-- the text of what a diagnostic is about
 abbrev pub details_text : Details → List ℕ
 details_text (Diagnostic report) = message report
 details_text (Build error) = build_error_name error

@@ -1,6 +1,6 @@
--- What a call that reports has done to a list of reports.
-use Rattle.std.specs.Prelude.{◌≡◌, ◌↔◌, ◌⊎◌, List, [], ◌++◌, All, Result, MatchResult}
-use Rattle.graphql_diagnostics.specs.Diagnostics.{IsLimitEntry, entries}
+-- What a call that reports has done to a list of diagnostics.
+use Rattle.std.specs.Prelude.{◌≡◌, ◌↔◌, List, [], ◌++◌, All, Result, MatchResult, ◌⊎◌}
+use Rattle.graphql_diagnostics.specs.Diagnostics.{entries, IsLimitEntry}
 use Rattle.graphql_diagnostics.specs.declared.lists.DiagnosticEntry.{DiagnosticEntry}
 use Rattle.graphql_diagnostics.specs.declared.lists.DiagnosticList.{DiagnosticList}
 
@@ -17,14 +17,14 @@ module _ {Entry : Type 0} where
     pub appended : new ≡ old ++ added
     pub are : Are added
 
-  -- each further report is true, and there is none exactly where the rule holds
+  -- each further diagnostic is true, and there is none exactly where the rule holds
   pub record Reports (Holds : Type 0) (IsTrueReport : Entry → Type 0) (old new : List Entry) : Type 0 where
     pub added : List Entry
     pub appended : new ≡ old ++ added
     pub silent : (added ≡ []) ↔ Holds
     pub each : All IsTrueReport added
 
-  -- the same of a rule that a walk with a bound seeks: each further report is true, and where none of
+  -- the same of a rule that a walk with a limit seeks: each further diagnostic is true, and where none of
   -- them is of a limit, there is none exactly where the rule holds
   pub record ReportsWithin (IsOfLimit : Entry → Type 0) (Holds : Type 0) (IsTrueReport : Entry → Type 0) (old new : List Entry) : Type 0 where
     pub added : List Entry
@@ -33,14 +33,14 @@ module _ {Entry : Type 0} where
     pub each : All IsTrueReport added
 
 -- a call that checks a rule: where it answers, it reports nothing exactly where the rule holds; in
--- any case the old reports stay, and each further one is true
+-- any case the old diagnostics stay, and each further one is true
 abbrev pub Checks : {T E : Type 0} → Result T E → Type 0 → (DiagnosticEntry → Type 0) → DiagnosticList → DiagnosticList → Type 0
 Checks result Holds IsTrueReport old new =
     MatchResult result
     (λ _. Reports Holds IsTrueReport (entries old) (entries new))
     (λ _. KeepsReports IsTrueReport (entries old) (entries new))
 
--- a call that checks a rule within a bound: each further report is true, of the rule or of the limit; and
+-- a call that checks a rule within a limit: each further diagnostic is true, of the rule or of the limit; and
 -- where it answers and none is of a limit, there is none exactly where the rule holds
 abbrev pub ChecksWithin : {T E : Type 0} → Result T E → Type 0 → (DiagnosticEntry → Type 0) → (DiagnosticEntry → Type 0) → DiagnosticList → DiagnosticList → Type 0
 ChecksWithin result Holds IsTrueReport IsTrueLimit old new =

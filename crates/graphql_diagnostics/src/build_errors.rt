@@ -2,10 +2,9 @@ ghost use Rattle.std.specs.Prelude.{◌≡◌, Some};
 ghost use Rattle.graphql_diagnostics.specs.Messages.{build_error_name};
 
 use graphql_coordinates::{FieldArgumentCoordinate, TypeAttributeCoordinate};
-use graphql_documents::documents::definitions::OperationType;
 use graphql_documents::documents::type_references::Type;
 use graphql_documents::documents::values::Value;
-use graphql_nodes::{Name, SourceSpan};
+use graphql_nodes::{Name, OperationType, SourceSpan};
 use std::fmt;
 
 /// A broken rule of subscriptions, of `@defer` or of merging fields.

@@ -6,7 +6,7 @@ use super::data::DiagnosticData;
 use graphql_nodes::RecursionLimitError;
 use std::fmt;
 
-/// What a report is about.
+/// What a diagnostic is about.
 #[derive(Debug, Drop, PartialEq, Eq)]
 pub enum Details {
     /// A rule of validation is broken.

@@ -1,16 +1,16 @@
 //! Reports on documents and schemas: what is wrong, where, and with which text; and the definitions that
-//! say which rule a report names.
+//! say which rule a diagnostic names.
 #![tactic(auto)]
 
 pub mod build_errors;
 pub mod data;
 pub mod details;
 pub mod lists;
+mod messages;
 pub mod names;
 
 pub use build_errors::BuildError;
 pub use data::DiagnosticData;
 pub use details::Details;
-pub use graphql_nodes::{RecursionLimitError, ValidationError};
 pub use lists::{DiagnosticEntry, DiagnosticList};
 pub use names::NameOrAnon;

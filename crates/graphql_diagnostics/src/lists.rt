@@ -38,7 +38,7 @@ impl DiagnosticList {
         *self.entries.allocator()
     }
 
-    /// Adds a report at the end. Where memory is refused the list stays as it was, and the report is
+    /// Adds a diagnostic at the end. Where memory is refused the list stays as it was, and the diagnostic is
     /// dropped. The list keeps its allocator.
     pub fn push(
         &mut self,
@@ -67,7 +67,7 @@ impl DiagnosticList {
         self.entries.is_empty()
     }
 
-    /// The reports, in the order in which they were pushed.
+    /// The diagnostics, in the order in which they were pushed.
     pub fn iter(&self) -> slice::Iter<'_, DiagnosticEntry>
         ensures { iter_rest result ≡ entries self.now }
     {

@@ -5,9 +5,9 @@ use std::fmt;
 #[derive(Clone, Copy, Debug)]
 pub struct NameOrAnon<'a, T> {
     pub name: Option<&'a T>,
-    /// What stands before a name.
+    /// What is before a name.
     pub if_some_prefix: &'a str,
-    /// What stands where there is no name.
+    /// What is where there is no name.
     pub if_none: &'a str,
 }
 

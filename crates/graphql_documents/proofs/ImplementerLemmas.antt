@@ -49,7 +49,7 @@ and_true false = refl
 pub same_swapped : (a b : NameText) → same_name a b ≡ same_name b a
 same_swapped a b = nat_list_eq_equiv.symm a.text b.text
 
--- the same names stand in a list
+-- the same names are in a list
 pub stands_same : (xs : List NameText) (a b : NameText) → SameName a b → stands_on xs a ≡ stands_on xs b
 stands_same xs a b same = ap (λ t. list_any (λ (y : NameText). bytes_eq t y.text) xs) (same_text a b same)
 
@@ -57,7 +57,7 @@ stands_push : (xs : List NameText) (x n : NameText) → stands_on (xs ++ x ∷ [
 stands_push [] x n = or_false (same_name n x)
 stands_push (y ∷ ys) x n = ap (λ b. same_name n y || b) (stands_push ys x n) ∙ sym (or_assoc (same_name n y) (stands_on ys n) (same_name n x))
 
--- what stands among names with one more
+-- what is among names with one more
 pub stands_with : (xs : List NameText) (x n : NameText) → stands_on (with_name xs x) n ≡ (stands_on xs n || same_name n x)
 stands_with xs x n = by (stands_on xs x) refl (same_name n x) refl where
   by : (b : Bool) → stands_on xs x ≡ b → (d : Bool) → same_name n x ≡ d → stands_on (with_name xs x) n ≡ (stands_on xs n || same_name n x)
@@ -65,14 +65,14 @@ stands_with xs x n = by (stands_on xs x) refl (same_name n x) refl where
   by true known false other = rw (known, other) (sym (or_false (stands_on xs n)))
   by false unknown d is = rw unknown (stands_push xs x n)
 
--- the different names of a list are those that stand in it
+-- the different names of a list are those that are in it
 pub stands_folded : (known names : List NameText) (n : NameText) → stands_on (fold with_name known names) n ≡ (stands_on known n || stands_on names n)
 stands_folded known [] n = sym (or_false (stands_on known n))
 stands_folded known (x ∷ xs) n =
     stands_folded (with_name known x) xs n ∙ ap (λ b. b || stands_on xs n) (stands_with known x n) ∙
     or_assoc (stands_on known n) (same_name n x) (stands_on xs n)
 
--- no name stands twice
+-- no name is twice
 abbrev pub Apart : List NameText → Type 0
 Apart [] = Unit {0}
 Apart (x ∷ xs) = (stands_on xs x ≡ false) × Apart xs
@@ -323,7 +323,7 @@ key_inserted keys k = by (list_any (λ b. same_name k.now b.now) keys) refl wher
   by true known = rw (known, any_mapped keys k.now ∙ known) refl
   by false unknown = rw (unknown, any_mapped keys k.now ∙ unknown) (map-append (λ (name : Bor NameText). name.now) keys (k ∷ []))
 
--- what stands under a name is looked up in the entries as names
+-- what is listed under a name is looked up in the entries as names
 pub found_as_names : (entries : List (Bor NameText × Implementers)) (n : NameText) →
     lookup (same_name n) (implementer_entries entries) ≡ option_map implementer_names (lookup (λ b. same_name n b.now) entries)
 found_as_names [] n = refl

@@ -3,4 +3,5 @@ pub mod ImplementerLemmas
 pub mod ListLemmas
 pub mod SelectionLemmas
 pub mod SubtypeLemmas
+pub mod ValueContentLemmas
 pub mod VariableUseLemmas

@@ -1,4 +1,4 @@
--- What stands in a list, in what a map makes of it, and in what a filter keeps.
+-- What is in a list, in what a map makes of it, and in what a filter keeps.
 use Rattle.std.proofs.Common.{◌≡◌, Bool, true, false, cond, ℕ, ◌+◌, ◌<◌, List, [], ◌∷◌, map, refl, sym, ◌∙◌, ap, subst, All, Contains, arith, ◌++◌, length, get_or, take}
 use Rattle.std.proofs.lemmas.List.{append_assoc, take_more}
 use Rattle.std.specs.Prelude.{Option, Some, None, filter, filter_map, flat_map}
@@ -11,7 +11,7 @@ stands_first x xs = (0, omega arith, refl)
 pub stands_behind : {X : Type 0} (y : X) (xs : List X) (x : X) → Contains xs x → Contains (y ∷ xs) x
 stands_behind y xs x in' = Contains-append_right (y ∷ []) xs x in'
 
--- nothing stands in an empty list
+-- nothing is in an empty list
 pub none_stands : {X : Type 0} (x : X) → ¬ Contains [] x
 none_stands x in' = omega (arith, in'.1)
 
@@ -19,7 +19,7 @@ none_stands x in' = omega (arith, in'.1)
 pub only_one : {X : Type 0} (x y : X) → Contains (x ∷ []) y → y ≡ x
 only_one x y in' = All-contains (λ z. z ≡ x) (x ∷ []) y (All-cons (λ z. z ≡ x) x [] refl (All-nil (λ z. z ≡ x))) in'
 
--- what is true of all that stands in a list
+-- what is true of all that is in a list
 pub each_standing : {X : Type 0} (P : X → Type 0) (xs : List X) → ((x : X) → Contains xs x → P x) → All P xs
 each_standing P xs h = All-weaker (Contains xs) P h xs (All-contains_itself xs)
 
@@ -88,7 +88,7 @@ all_mapped_by {X} {Y} h (x ∷ xs) =
     All-cons P x xs (λ y e. rw e (stands_first y (filter_map h xs)))
     (All-weaker (λ z. (y : Y) → h z ≡ Some y → Contains (filter_map h xs) y) P (λ z made y e. behind_option (h x) (filter_map h xs) y (made y e)) xs (all_mapped_by h xs))
 
--- what the map makes of an element stands in what it makes
+-- what the map makes of an element is in what it makes
 pub kept_by_map : {X Y : Type 0} (h : X → Option Y) (xs : List X) (x : X) (y : Y) → Contains xs x → h x ≡ Some y → Contains (filter_map h xs) y
 kept_by_map {X} {Y} h xs x y in' e = All-contains (λ x. (y : Y) → h x ≡ Some y → Contains (filter_map h xs) y) xs x (all_mapped_by h xs) in' y e
 
@@ -99,7 +99,7 @@ all_flat {X} {Y} f (x ∷ xs) =
     All-cons P x xs (λ y in'. Contains-append_left (f x) (flat_map f xs) y in')
     (All-weaker (λ z. (y : Y) → Contains (f z) y → Contains (flat_map f xs) y) P (λ z made y in'. Contains-append_right (f x) (flat_map f xs) y (made y in')) xs (all_flat f xs))
 
--- what is made of an element stands in what is made of all
+-- what is made of an element is in what is made of all
 pub stands_flat : {X Y : Type 0} (f : X → List Y) (xs : List X) (x : X) (y : Y) → Contains xs x → Contains (f x) y → Contains (flat_map f xs) y
 stands_flat {X} {Y} f xs x y in' made = All-contains (λ (x : X). (y : Y) → Contains (f x) y → Contains (flat_map f xs) y) xs x (all_flat f xs) in' y made
 

@@ -1,8 +1,8 @@
 -- The variables in a value, and those that an operation uses.
 use Rattle.std.proofs.Common.{◌≡◌, List, [], ◌∷◌, ◌++◌, Vec, map, refl, sym, subst}
 use Rattle.std.specs.declared.alloc.Global.{Global}
-use Rattle.graphql_nodes.specs.Names.{NameText}
-use Rattle.graphql_documents.specs.Values.{VariablesIn, in_null, in_enum, in_variable, in_string, in_float, in_int, in_boolean, in_list, in_object, VariablesInItems, no_items, next_item, VariablesInEntries, no_entries, next_entry}
+use Rattle.graphql_nodes.specs.Names.{NameText, SameName}
+use Rattle.graphql_documents.specs.Values.{VariablesIn, in_null, in_enum, in_variable, in_string, in_float, in_int, in_boolean, in_list, in_object, VariablesInItems, no_items, next_item, VariablesInEntries, no_entries, next_entry, StandsIn}
 use Rattle.graphql_nodes.specs.declared.nodes.Node.{Node}
 use Rattle.graphql_documents.specs.declared.documents.values.Value.{Value, out-Value, roll-Value}
 use Rattle.graphql_documents.specs.declared.documents.values.Value.TheFolds.{ind-Value, map-Value, claims}
@@ -10,10 +10,8 @@ use Rattle.graphql_documents.specs.declared.documents.values.Value.TheBlock.{the
 use Rattle.graphql_documents.specs.declared.documents.values.Value.TheOpen as Open
 use Rattle.graphql_documents.specs.declared.documents.values.Value.TheVariants as literal
 use denote.Hole.Holds
-use Rattle.graphql_nodes.specs.Names.{SameName}
 use Rattle.graphql_documents.specs.Selections.{Fragments, arguments_of, directives_of}
-use Rattle.graphql_documents.specs.Values.{StandsIn}
-use Rattle.graphql_documents.specs.Variables.{StandsInArguments, StandsInDirectives, UsesVariable, in_arguments, in_directives, in_fragment_definition, in_operation}
+use Rattle.graphql_documents.specs.VariableUses.{StandsInArguments, StandsInDirectives, UsesVariable, in_arguments, in_directives, in_fragment_definition, in_operation}
 use Rattle.graphql_documents.specs.declared.documents.directives.Argument.{Argument}
 use Rattle.graphql_documents.specs.declared.documents.directives.Directive.{Directive}
 use Rattle.graphql_documents.specs.declared.documents.executables.Operation.{Operation}
@@ -66,7 +64,7 @@ layer_has (Open.Object ys) = object_has _ (entries_have ys.items)
 pub each_has_variables : (v : Value) → (names : List NameText) × VariablesIn v names
 each_has_variables = ind-Value HasVariables (λ x y e. subst (λ x. HasVariables (roll-Value x)) e (layer_has y))
 
--- these variables stand in a value that opens so
+-- these variables are in a value that opens so
 abbrev VariablesOpen : Open.Value-F Value → List NameText → Type 0
 VariablesOpen (Open.Variable a) names = names ≡ a ∷ []
 VariablesOpen (Open.List items) names = VariablesInItems items.items names

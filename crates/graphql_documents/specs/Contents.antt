@@ -1,21 +1,21 @@
--- When two fields, or two definitions of fields, have the same contents: the same is written in both, in order,
--- wherever it stands. Specification: 2.5 Fields, 3.6 Objects.
-use Rattle.std.specs.Prelude.{List, [], ◌∷◌, Option, None, Some, IsTrue, ⊤}
+-- When two fields, or two definitions of fields, have the same contents: the same is written in both, in order, wherever it is. Specification: 2.5
+-- Fields, 3.6 Objects.
+use Rattle.std.specs.Prelude.{Option, None, Some, ⊤, List, IsTrue, [], ◌∷◌}
 use Rattle.std.specs.List.{AllZip}
 use Rattle.graphql_nodes.specs.Names.{SameName}
-use Rattle.graphql_documents.specs.TypeReferences.{same_type}
 use Rattle.graphql_documents.specs.Values.{IsCopy}
+use Rattle.graphql_documents.specs.TypeReferences.{same_type}
 use Rattle.graphql_nodes.specs.declared.nodes.Node.{Node}
-use Rattle.graphql_documents.specs.declared.documents.definitions.FieldDefinition.{FieldDefinition}
-use Rattle.graphql_documents.specs.declared.documents.definitions.InputValueDefinition.{InputValueDefinition}
 use Rattle.graphql_documents.specs.declared.documents.directives.Argument.{Argument}
 use Rattle.graphql_documents.specs.declared.documents.directives.Directive.{Directive}
-use Rattle.graphql_documents.specs.declared.documents.executables.Field.{Field}
+use Rattle.graphql_documents.specs.declared.documents.definitions.InputValueDefinition.{InputValueDefinition}
+use Rattle.graphql_documents.specs.declared.documents.definitions.FieldDefinition.{FieldDefinition}
 use Rattle.graphql_documents.specs.declared.documents.executables.FragmentSpread.{FragmentSpread}
+use Rattle.graphql_documents.specs.declared.documents.executables.Field.{Field}
 use Rattle.graphql_documents.specs.declared.documents.executables.InlineFragment.{InlineFragment}
 use Rattle.graphql_documents.specs.declared.documents.executables.Selection.{Selection}
-use Rattle.graphql_documents.specs.declared.documents.executables.Selection.TheVariants as kind
 use Rattle.graphql_documents.specs.declared.documents.executables.SelectionSet.{SelectionSet}
+use Rattle.graphql_documents.specs.declared.documents.executables.Selection.TheVariants as kind
 
 -- both are there and the same, or neither is there
 abbrev pub SameIfAny : {X : Type 0} → (X → X → Type 0) → Option X → Option X → Type 0

@@ -1,15 +1,19 @@
--- When applications of directives hold. Specification: 5.7 Directives.
-use Rattle.std.specs.Prelude.{◌≡◌, List, Option, Some, All, AllPairs, Contains, IsTrue}
-use Rattle.std.specs.Option.{option_and_then}
+-- Directives that are defined and applied, their arguments, and whether they may leave a selection out. Specification: 2.12 Directives,
+-- 3.13 Directives.
+use Rattle.std.specs.Prelude.{Option, List, find, ℕ, option_map, filter, Bool, false, cond, not, codes, true, ◌&&◌, ◌||◌, map}
+use Rattle.std.specs.Option.{option_and_then, option_map_or}
+use Rattle.std.specs.Str.{bytes_eq}
 use Rattle.indexmap.specs.IndexMap.{get}
-use Rattle.graphql_nodes.specs.Names.{NameText, SameName, same_name}
-use Rattle.graphql_documents.specs.Arguments.{ArgumentsHold}
+use Rattle.graphql_nodes.specs.Names.{NameText, same_name}
 use Rattle.graphql_nodes.specs.declared.nodes.Node.{Node}
-use Rattle.graphql_documents.specs.declared.documents.directives.Directive.{Directive}
 use Rattle.graphql_documents.specs.declared.documents.definitions.DirectiveDefinition.{DirectiveDefinition}
-use Rattle.graphql_documents.specs.declared.documents.definitions.DirectiveLocation.{DirectiveLocation}
-use Rattle.graphql_documents.specs.declared.documents.definitions.VariableDefinition.{VariableDefinition}
 use Rattle.graphql_documents.specs.declared.documents.schemas.Schema.{Schema}
+use Rattle.graphql_documents.specs.declared.documents.directives.Argument.{Argument}
+use Rattle.graphql_documents.specs.declared.documents.values.Value.{Value}
+use Rattle.graphql_documents.specs.declared.documents.directives.Directive.{Directive}
+use Rattle.graphql_documents.specs.declared.documents.schemas.ExtendedType.{ExtendedType}
+use Rattle.graphql_documents.specs.declared.documents.schemas.ExtendedType.TheVariants.{Scalar, Object, Interface, Union, Enum, InputObject}
+use Rattle.graphql_documents.specs.declared.documents.values.Value.TheVariants as literal
 
 -- the definition of the directive with this name. Specification: 3.13 Directives
 abbrev pub directive_definition : Schema → NameText → Option (Node DirectiveDefinition)
@@ -19,29 +23,38 @@ directive_definition schema name = get same_name schema.directive_definitions na
 abbrev pub directive_in : Option Schema → NameText → Option (Node DirectiveDefinition)
 directive_in schema name = option_and_then (λ s. directive_definition s name) schema
 
--- a directive is applied as its definition asks: in a schema that defines it, at one of its
--- locations, with arguments that hold. Specification: 5.7.1 Directives Are Defined, 5.7.2 Directives
--- Are in Valid Locations, 5.4 Arguments
-pub record ApplicationHolds (schema : Option Schema) (variables : List (Node VariableDefinition)) (location : DirectiveLocation) (d : Directive) : Type 0 where
-  pub against : Schema
-  pub definition : Node DirectiveDefinition
-  pub has_schema : schema ≡ Some against
-  pub defined : directive_definition against d.name ≡ Some definition
-  pub allowed : Contains definition.value.value.locations.items location
-  pub arguments : ArgumentsHold against variables definition.value.value.arguments.items d.arguments.items
+-- the first argument with this name
+abbrev pub argument_named : NameText → List (Node Argument) → Option (Node Argument)
+argument_named name given = find (λ a. same_name a.value.value.name name) given
 
--- the directive may be applied again at one place; an unknown directive may too
-abbrev pub IsRepeatable : Option Schema → NameText → Type 0
-IsRepeatable schema name =
-    (definition : Node DirectiveDefinition) → directive_in schema name ≡ Some definition →
-    IsTrue definition.value.value.repeatable
+-- the first argument of this name, as a value
+abbrev pub argument_value : List ℕ → Directive → Option (Node Value)
+argument_value name d = option_map (λ a. a.value.value.value) (find (λ a. bytes_eq a.value.value.name.text name) d.arguments.items)
 
--- only repeatable directives are repeated. Specification: 5.7.3 Directives Are Unique per Location
-abbrev pub RepetitionsHold : Option Schema → List (Node Directive) → Type 0
-RepetitionsHold schema directives =
-    AllPairs (λ earlier later. SameName earlier.value.value.name later.value.value.name → IsRepeatable schema later.value.value.name) directives
+-- the directives of this name
+abbrev pub applications_of : List ℕ → List (Node Directive) → List (Node Directive)
+applications_of name directives = filter (λ d. bytes_eq d.value.value.name.text name) directives
 
--- the directives applied at one place hold; without a schema there may be none
-pub record ApplicationsHold (schema : Option Schema) (variables : List (Node VariableDefinition)) (location : DirectiveLocation) (directives : List (Node Directive)) : Type 0 where
-  pub each : All (λ d. ApplicationHolds schema variables location d.value.value) directives
-  pub repetitions : RepetitionsHold schema directives
+-- the value is this truth value
+abbrev pub is_boolean : Bool → Value → Bool
+is_boolean b (literal.Boolean c) = cond b c (not c)
+is_boolean b _ = false
+
+-- the argument `if` is literally this truth value
+abbrev pub is_literally : Bool → Directive → Bool
+is_literally b d = option_map_or (λ value. is_boolean b value.value.value) (argument_value (codes "if") d) false
+
+-- `@skip` or `@include` that may leave a selection out
+abbrev pub may_exclude : Directive → Bool
+may_exclude d =
+    (bytes_eq d.name.text (codes "skip") && not (is_literally false d)) ||
+    (bytes_eq d.name.text (codes "include") && not (is_literally true d))
+
+-- the directives applied on a type definition
+abbrev pub directives_of_type : ExtendedType → List (Node Directive)
+directives_of_type (Scalar d) = map (λ c. c.node) d.value.value.directives.items
+directives_of_type (Object d) = map (λ c. c.node) d.value.value.directives.items
+directives_of_type (Interface d) = map (λ c. c.node) d.value.value.directives.items
+directives_of_type (Union d) = map (λ c. c.node) d.value.value.directives.items
+directives_of_type (Enum d) = map (λ c. c.node) d.value.value.directives.items
+directives_of_type (InputObject d) = map (λ c. c.node) d.value.value.directives.items

@@ -1,12 +1,12 @@
 -- The extensions that make up a type definition. Specification: 3.4.3 Type Extensions.
-use Rattle.std.specs.Prelude.{◌==◌, List, [], ◌∷◌, ◌++◌, map, Option, None, Some, fold, filter_map, if◌then◌else◌}
+use Rattle.std.specs.Prelude.{Option, None, Some, ◌==◌, List, [], ◌∷◌, ◌++◌, if◌then◌else◌, fold, filter_map, map}
 use Rattle.std.specs.List.{list_any}
-use Rattle.graphql_documents.specs.declared.documents.components.ComponentOrigin.TheVariants as origin
 use Rattle.graphql_documents.specs.declared.documents.components.ComponentOrigin.{ComponentOrigin}
 use Rattle.graphql_documents.specs.declared.documents.components.ExtensionId.{ExtensionId}
-use Rattle.graphql_documents.specs.declared.documents.schemas.ExtendedType.TheVariants as types
 use Rattle.graphql_documents.specs.declared.documents.schemas.ExtendedType.{ExtendedType}
 use Rattle.graphql_nodes.specs.declared.spans.SourceSpan.{SourceSpan}
+use Rattle.graphql_documents.specs.declared.documents.components.ComponentOrigin.TheVariants as origin
+use Rattle.graphql_documents.specs.declared.documents.schemas.ExtendedType.TheVariants as types
 
 -- an extension, if the part was written in one
 abbrev pub extension_in : ComponentOrigin → Option ExtensionId

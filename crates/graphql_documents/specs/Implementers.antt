@@ -1,10 +1,10 @@
 -- The map of implementers, as contracts see it, and how it is made type by type. Specification: 3.7 Interfaces
-use Rattle.std.specs.Prelude.{List, [], map, unwrap_or, if◌then◌else◌}
+use Rattle.std.specs.Prelude.{map, List, [], if◌then◌else◌, unwrap_or}
 use Rattle.std.specs.Borrow.{Bor}
 use Rattle.std.specs.Map.{lookup}
 use Rattle.indexmap.specs.IndexMap.{insert_entry}
-use Rattle.graphql_nodes.specs.Names.{NameText, same_name, with_name}
 use Rattle.graphql_documents.specs.Schemas.{ImplementerNames, interfaces_of, is_interface_type, is_object_type, own_name}
+use Rattle.graphql_nodes.specs.Names.{NameText, with_name, same_name}
 use Rattle.graphql_documents.specs.declared.documents.implementers.Implementers.{Implementers}
 use Rattle.graphql_documents.specs.declared.documents.schemas.ExtendedType.{ExtendedType}
 
@@ -27,7 +27,7 @@ Listing = NameText × ExtendedType
 abbrev pub listings_of : ExtendedType → List Listing
 listings_of d = map (λ listed. (listed.name, d)) (interfaces_of d)
 
--- what implements nothing that was met
+-- what implements nothing that was visited
 abbrev pub no_implementers : ImplementerNames
 no_implementers = record { objects = []; interfaces = [] }
 

@@ -1,11 +1,11 @@
 -- The meta-fields that every schema has. Specification: 4.1 Type Name Introspection, 4.2 Schema Introspection.
-use Rattle.std.specs.Prelude.{◌≡◌, ℕ, Bool, false, List, [], ◌∷◌, All, None, codes, length, map, is_some, sum_by}
-use Rattle.graphql_documents.specs.TypeReferences.{inner_named_type, type_text}
+use Rattle.std.specs.Prelude.{ℕ, Bool, List, is_some, ◌≡◌, length, map, sum_by, [], codes, false, ◌∷◌, None, All}
+use Rattle.graphql_documents.specs.TypeReferences.{type_text, inner_named_type}
+use Rattle.graphql_documents.specs.declared.documents.definitions.InputValueDefinition.{InputValueDefinition}
+use Rattle.graphql_documents.specs.declared.documents.definitions.FieldDefinition.{FieldDefinition}
+use Rattle.graphql_nodes.specs.declared.nodes.Node.{Node}
 use Rattle.graphql_documents.specs.declared.documents.components.Component.{Component}
 use Rattle.graphql_documents.specs.declared.documents.components.ComponentOrigin.TheVariants as origin
-use Rattle.graphql_documents.specs.declared.documents.definitions.FieldDefinition.{FieldDefinition}
-use Rattle.graphql_documents.specs.declared.documents.definitions.InputValueDefinition.{InputValueDefinition}
-use Rattle.graphql_nodes.specs.declared.nodes.Node.{Node}
 
 -- the name and the type of an argument, and whether it has a default
 abbrev pub argument_signature : InputValueDefinition → List ℕ × List ℕ × Bool

@@ -3,8 +3,8 @@ use Rattle.std.specs.Prelude.{List, ◌++◌}
 use Rattle.std.specs.Option.{option_copied}
 use Rattle.graphql_documents.specs.Schemas.{rooted}
 use Rattle.graphql_documents.specs.declared.documents.components.ComponentName.{ComponentName}
-use Rattle.graphql_documents.specs.declared.documents.definitions.OperationType.{OperationType}
-use Rattle.graphql_documents.specs.declared.documents.definitions.OperationType.TheVariants.{Query, Mutation, Subscription}
+use Rattle.graphql_nodes.specs.declared.operation_types.OperationType.{OperationType}
+use Rattle.graphql_nodes.specs.declared.operation_types.OperationType.TheVariants.{Query, Mutation, Subscription}
 use Rattle.graphql_documents.specs.declared.documents.root_operations.RootOperations.{RootOperations}
 
 -- those that were not given yet, in order

@@ -1,28 +1,28 @@
 -- Types and fields of a schema. Specification: 3 Type System.
-use Rattle.std.specs.Prelude.{◌≡◌, ℕ, Bool, true, false, ◌&&◌, List, [], ◌∷◌, ◌++◌, Option, None, Some, Result, Ok, Err, codes, is_none, if◌then◌else◌, Any, Contains, IsTrue, filter, flat_map, map}
-use Rattle.std.specs.List.{list_any}
-use Rattle.std.specs.Option.{option_and_then, option_map_or}
+use Rattle.std.specs.Prelude.{Option, Bool, true, false, ℕ, List, codes, ◌≡◌, Some, IsTrue, [], Any, None, if◌then◌else◌, Result, Ok, Err, ◌&&◌, is_none, ◌∷◌, ◌++◌, Contains, flat_map, map, filter}
+use Rattle.std.specs.Option.{option_map_or, option_and_then}
 use Rattle.std.specs.Str.{bytes_eq}
+use Rattle.std.specs.List.{list_any}
 use Rattle.indexmap.specs.IndexMap.{get}
-use Rattle.graphql_nodes.specs.Names.{NameText, SameName, same_name, is_built_in_location, different_names}
+use Rattle.graphql_nodes.specs.Names.{NameText, same_name, is_built_in_location, SameName, different_names}
 use Rattle.graphql_documents.specs.TypeReferences.{is_non_null}
-use Rattle.graphql_nodes.specs.declared.spans.SourceSpan.{SourceSpan}
-use Rattle.graphql_nodes.specs.declared.nodes.Node.{Node}
-use Rattle.graphql_documents.specs.declared.documents.components.Component.{Component}
-use Rattle.graphql_documents.specs.declared.documents.components.ComponentName.{ComponentName}
-use Rattle.graphql_documents.specs.declared.documents.definitions.OperationType.{OperationType}
-use Rattle.graphql_documents.specs.declared.documents.definitions.OperationType.TheVariants.{Query, Mutation, Subscription}
-use Rattle.graphql_documents.specs.declared.documents.schemas.ObjectType.{ObjectType}
-use Rattle.graphql_documents.specs.declared.documents.schemas.InterfaceType.{InterfaceType}
-use Rattle.graphql_documents.specs.declared.documents.schemas.InputObjectType.{InputObjectType}
-use Rattle.graphql_documents.specs.declared.documents.schemas.SchemaDefinition.{SchemaDefinition}
-use Rattle.graphql_documents.specs.declared.documents.definitions.FieldDefinition.{FieldDefinition}
-use Rattle.graphql_documents.specs.declared.documents.definitions.InputValueDefinition.{InputValueDefinition}
 use Rattle.graphql_documents.specs.declared.documents.schemas.Schema.{Schema}
 use Rattle.graphql_documents.specs.declared.documents.schemas.ExtendedType.{ExtendedType}
 use Rattle.graphql_documents.specs.declared.documents.schemas.ExtendedType.TheVariants.{Scalar, Object, Interface, Union, Enum, InputObject}
+use Rattle.graphql_nodes.specs.declared.spans.SourceSpan.{SourceSpan}
+use Rattle.graphql_documents.specs.declared.documents.components.ComponentName.{ComponentName}
+use Rattle.graphql_documents.specs.declared.documents.components.Component.{Component}
+use Rattle.graphql_documents.specs.declared.documents.definitions.FieldDefinition.{FieldDefinition}
+use Rattle.graphql_documents.specs.declared.documents.definitions.InputValueDefinition.{InputValueDefinition}
 use Rattle.graphql_documents.specs.declared.documents.schemas.FieldLookupError.{FieldLookupError}
 use Rattle.graphql_documents.specs.declared.documents.schemas.FieldLookupError.TheVariants.{NoSuchType, NoSuchField}
+use Rattle.graphql_nodes.specs.declared.nodes.Node.{Node}
+use Rattle.graphql_documents.specs.declared.documents.schemas.InterfaceType.{InterfaceType}
+use Rattle.graphql_documents.specs.declared.documents.schemas.InputObjectType.{InputObjectType}
+use Rattle.graphql_nodes.specs.declared.operation_types.OperationType.{OperationType}
+use Rattle.graphql_nodes.specs.declared.operation_types.OperationType.TheVariants.{Query, Mutation, Subscription}
+use Rattle.graphql_documents.specs.declared.documents.schemas.SchemaDefinition.{SchemaDefinition}
+use Rattle.graphql_documents.specs.declared.documents.schemas.ObjectType.{ObjectType}
 
 -- the definition of the type with this name. Specification: 3.3 Schema
 abbrev pub type_definition : Schema → NameText → Option ExtendedType
@@ -72,7 +72,7 @@ is_interface_type _ = false
 abbrev pub NamesKind : Schema → (ExtendedType → Bool) → NameText → Type 0
 NamesKind schema test name = (d : ExtendedType) × (type_definition schema name ≡ Some d) × IsTrue (test d)
 
--- where the definition stands
+-- where the definition is
 abbrev pub location_of : ExtendedType → Option SourceSpan
 location_of (Scalar d) = d.location
 location_of (Object d) = d.location
@@ -100,7 +100,7 @@ interfaces_of (Object d) = d.value.value.implements_interfaces.keys
 interfaces_of (Interface d) = d.value.value.implements_interfaces.keys
 interfaces_of _ = []
 
--- the fields of an object or interface, by the names under which they stand
+-- the fields of an object or interface, by the names under which they are
 abbrev pub fields_of : ExtendedType → List (NameText × Component FieldDefinition)
 fields_of (Object d) = d.value.value.fields.entries
 fields_of (Interface d) = d.value.value.fields.entries
@@ -249,3 +249,12 @@ implementers_map schema =
         interfaces = implementers_of_kind schema is_interface_type interface;
       },
     )) (listed_interfaces schema)
+
+-- a type definition as an input object
+abbrev pub as_input_object : ExtendedType → Option (Node InputObjectType)
+as_input_object (InputObject d) = Some d
+as_input_object _ = None
+
+-- the input object with this name, if the schema defines one
+abbrev pub input_object_named : Schema → NameText → Option (Node InputObjectType)
+input_object_named schema name = option_and_then as_input_object (type_definition schema name)

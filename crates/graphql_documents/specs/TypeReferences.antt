@@ -1,10 +1,10 @@
 -- References to types. Specification: 2.11 Type References.
-use Rattle.std.specs.Prelude.{◌≡◌, ℕ, Bool, true, false, not, List, ◌++◌, codes, Option}
+use Rattle.std.specs.Prelude.{Bool, true, false, ℕ, List, ◌++◌, codes, not, ◌≡◌, Option}
 use Rattle.graphql_nodes.specs.Names.{NameText, same_name}
-use Rattle.graphql_nodes.specs.declared.nodes.Node.{Node}
-use Rattle.graphql_nodes.specs.declared.spans.SourceSpan.{SourceSpan}
 use Rattle.graphql_documents.specs.declared.documents.type_references.Type.{«Type»}
 use Rattle.graphql_documents.specs.declared.documents.type_references.Type.TheVariants.{Named, NonNullNamed, List', NonNullList'}
+use Rattle.graphql_nodes.specs.declared.spans.SourceSpan.{SourceSpan}
+use Rattle.graphql_nodes.specs.declared.nodes.Node.{Node}
 
 -- the name inside all list and non-null wrappers
 abbrev pub inner_named_type : «Type» → NameText
@@ -49,8 +49,8 @@ nullable (NonNullNamed name) = Named name
 nullable (NonNullList' place item) = List' place item
 nullable ty = ty
 
--- what is of the first type can stand where the second is wanted: the names and the lists are the
--- same, and non-null may stand for nullable. Specification: 5.8.5 All Variable Usages Are Allowed
+-- what is of the first type can be used where the second is expected: the names and the lists are the same, and non-null may stand for nullable.
+-- Specification: 5.8.5 All Variable Usages Are Allowed
 abbrev pub is_assignable : «Type» → «Type» → Bool
 is_assignable (Named a) (Named b) = same_name a b
 is_assignable (NonNullNamed a) (Named b) = same_name a b
@@ -68,7 +68,7 @@ same_type (List' place a) (List' other b) = same_type a b
 same_type (NonNullList' place a) (NonNullList' other b) = same_type a b
 same_type _ _ = false
 
--- a type as written: its wrappers, and its name with the place where this stands
+-- a type as written: its wrappers, and its name with the place where this is
 pub data TypeText : Type 0 where
   name_text : NameText → TypeText
   non_null_name_text : NameText → TypeText
@@ -90,7 +90,7 @@ pub record TypeReference : Type 0 where
   pub ty : «Type»
   pub location : Option SourceSpan
 
--- the type of a node, where that stands
+-- the type of a node, where that is
 abbrev pub reference_of : Node «Type» → TypeReference
 reference_of node = record { ty = node.value.value; location = node.location }
 

@@ -1,9 +1,9 @@
 -- Input values: their kinds, their sameness, and the variables in them. Specification: 2.9 Input Values.
-use Rattle.std.specs.Prelude.{◌≡◌, ℕ, Bool, Option, Some, List, [], ◌∷◌, ◌++◌, Contains, Vec, String, codes, find, option_map, is_some, slice_get, string_bytes, length}
+use Rattle.std.specs.Prelude.{ℕ, List, String, codes, Option, find, option_map, ◌≡◌, Bool, Some, Vec, is_some, slice_get, string_bytes, length, [], ◌∷◌, ◌++◌, Contains}
 use Rattle.std.specs.declared.alloc.Global.{Global}
-use Rattle.graphql_nodes.specs.Names.{NameText, SameName, same_name}
-use Rattle.graphql_nodes.specs.declared.nodes.Node.{Node}
+use Rattle.graphql_nodes.specs.Names.{NameText, same_name, SameName}
 use Rattle.graphql_documents.specs.declared.documents.values.Value.{Value}
+use Rattle.graphql_nodes.specs.declared.nodes.Node.{Node}
 use Rattle.graphql_documents.specs.declared.documents.values.Value.TheVariants as literal
 
 -- what a message calls the kind of a value
@@ -64,7 +64,7 @@ mutual
     more_entry_copies : {x y : NameText × Node Value} {xs ys : List (NameText × Node Value)} →
         SameName x.0 y.0 → IsCopy x.1.value.value y.1.value.value → AreEntryCopies xs ys → AreEntryCopies (x ∷ xs) (y ∷ ys)
 
--- these variables stand in a value, in order, at any depth
+-- these variables are in a value, in order, at any depth
 mutual
   pub data VariablesIn : Value → List NameText → Type 0 where
     in_null : VariablesIn literal.Null []
@@ -89,6 +89,6 @@ mutual
     next_entry : {entry : NameText × Node Value} {entries : List (NameText × Node Value)} {names more : List NameText} →
         VariablesIn entry.1.value.value names → VariablesInEntries entries more → VariablesInEntries (entry ∷ entries) (names ++ more)
 
--- a variable of this name stands in the value
+-- a variable of this name is in the value
 abbrev pub StandsIn : NameText → Value → Type 0
 StandsIn name value = (names : List NameText) × (used : NameText) × VariablesIn value names × Contains names used × SameName used name

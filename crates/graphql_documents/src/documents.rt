@@ -13,16 +13,14 @@ pub mod values;
 
 pub use components::{Component, ComponentName, ComponentOrigin, ExtensionId};
 pub use definitions::{
-    DirectiveDefinition, DirectiveLocation, EnumValueDefinition, FieldDefinition,
-    InputValueDefinition, OperationType, VariableDefinition, definition_named, variable_named,
+    DirectiveDefinition, EnumValueDefinition, FieldDefinition, InputValueDefinition,
+    VariableDefinition, definition_named, variable_named,
 };
 pub use directives::{Argument, Directive, argument_named};
 pub use executables::{
     ExecutableDocument, Field, FieldSet, Fragment, FragmentSpread, InlineFragment, Operation,
     OperationMap, Selection, SelectionSet, Valid,
 };
-pub use graphql_nodes::{FileId, Name, NamedType, Node, SourceSpan};
-pub use graphql_numbers::{FloatValue, IntValue};
 pub use implementers::Implementers;
 pub use meta_fields::MetaFields;
 pub use root_operations::RootOperations;

@@ -9,7 +9,8 @@ use Rattle.graphql_syntax.specs.Inputs.{Input, is_keyword, sees_keyword, start_o
 use Rattle.graphql_syntax.specs.Reading.{expect_keyword}
 use Rattle.graphql_syntax.specs.DirectiveReaders.{directives_at}
 use Rattle.graphql_syntax.proofs.DirectiveLemmas.{directives_sound, directives_read, directives_less, directives_local}
-use Rattle.graphql_syntax.proofs.Locality.{Local, takes_less, local_answer, local_place, local_sequence, local_starting, local_take_one, keyword_is_plain}
+use Rattle.graphql_syntax.proofs.Locality.{Local, takes_less, local_answer, local_place, local_sequence, local_starting, keyword_is_plain}
+use Rattle.graphql_syntax.proofs.TokenLocality.{local_take_one}
 use Rattle.graphql_syntax.proofs.NextLemmas.{brace_ends, not_parenthesis, not_at}
 use Rattle.graphql_syntax.proofs.ReaderLemmas.{placed, sequence_ok, sequence_read, starting_ok, starting_read, placed_read, take_one_ok, take_one_read}
 use Rattle.graphql_executable_syntax.specs.Fragments.{IsFragmentDefinition}

@@ -5,8 +5,8 @@ use Rattle.graphql_nodes.specs.declared.spans.SourceSpan.{SourceSpan}
 use Rattle.graphql_tokens.specs.declared.token.TokenKind.TheVariants.{Name, LeftBrace, LeftParenthesis}
 use Rattle.graphql_trees.specs.declared.directives.Directive.{Directive}
 use Rattle.graphql_trees.specs.declared.executable.OperationDefinition.{OperationDefinition}
-use Rattle.graphql_trees.specs.declared.executable.OperationType.{OperationType}
-use Rattle.graphql_trees.specs.declared.executable.OperationType.TheVariants as tree
+use Rattle.graphql_nodes.specs.declared.operation_types.OperationType.{OperationType}
+use Rattle.graphql_nodes.specs.declared.operation_types.OperationType.TheVariants as tree
 use Rattle.graphql_trees.specs.declared.executable.SelectionSet.{SelectionSet}
 use Rattle.graphql_trees.specs.declared.executable.VariableDefinition.{VariableDefinition}
 use Rattle.graphql_syntax.specs.declared.keywords.Keyword.TheVariants as keyword
@@ -19,7 +19,8 @@ use Rattle.graphql_syntax.specs.OperationTypeReaders.{operation_type_at}
 use Rattle.graphql_syntax.specs.Reading.{name_at}
 use Rattle.graphql_syntax.specs.DirectiveReaders.{directives_at}
 use Rattle.graphql_syntax.proofs.DirectiveLemmas.{directives_apart, directives_sound, directives_read, directives_less, directives_local}
-use Rattle.graphql_syntax.proofs.Locality.{Local, takes_less, local_answer, local_place, local_sequence, local_choose, local_starting, local_name}
+use Rattle.graphql_syntax.proofs.Locality.{Local, takes_less, local_answer, local_place, local_sequence, local_choose, local_starting}
+use Rattle.graphql_syntax.proofs.TokenLocality.{local_name}
 use Rattle.graphql_syntax.proofs.NextLemmas.{passes_not, passes_left, passes_right, passes_or, name_no_brace, brace_no_name, brace_ends, no_name_no_keyword, other_keyword, not_parenthesis, not_at}
 use Rattle.graphql_syntax.proofs.OperationTypeLemmas.{operation_type_sound, operation_type_read, operation_type_moves, operation_type_local, operation_type_passes, operation_type_name}
 use Rattle.graphql_syntax.proofs.ReaderLemmas.{answered, placed, sequence_ok, sequence_read, choose_ok, choose_first, choose_second, starting_ok, starting_read, placed_read, answer_read, name_ok, name_read}

@@ -6,7 +6,8 @@ use Rattle.graphql_nodes.specs.Names.{NameText}
 use Rattle.std.proofs.Common.{Option}
 use Rattle.graphql_syntax.specs.declared.keywords.Keyword.TheVariants as keyword
 use Rattle.graphql_syntax.specs.Reading.{Reader}
-use Rattle.graphql_syntax.proofs.Locality.{Local, Moves, local_answer, local_place, local_refuse, local_sequence, local_choose, local_starting, local_take_one, local_name, local_too_deep, local_bracketed, kind_is_plain, keyword_is_plain}
+use Rattle.graphql_syntax.proofs.Locality.{Local, Moves, local_answer, local_place, local_refuse, local_sequence, local_choose, local_starting, kind_is_plain, keyword_is_plain}
+use Rattle.graphql_syntax.proofs.TokenLocality.{local_take_one, local_name, local_too_deep, local_bracketed}
 use Rattle.graphql_syntax.proofs.RepetitionLemmas.{local_some}
 use Rattle.graphql_executable_syntax.specs.SelectionReaders.{fragment_name_at, type_condition_at, fragment_spread_behind, inline_fragment_behind, spread_with, perhaps_set_with, field_behind, field_with, selection_with, selection_set_with, selection_set_at, selection_at}
 use Rattle.graphql_syntax.proofs.DirectiveLemmas.{arguments_local, directives_local}

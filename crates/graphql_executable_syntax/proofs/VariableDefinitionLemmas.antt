@@ -18,7 +18,8 @@ use Rattle.graphql_syntax.specs.TypeReaders.{type_at}
 use Rattle.graphql_syntax.specs.ValueReaders.{variable_at}
 use Rattle.graphql_syntax.proofs.DefaultValueLemmas.{default_value_sound, default_value_read, default_value_less, default_value_apart, default_value_local}
 use Rattle.graphql_syntax.proofs.DirectiveLemmas.{directives_apart, directives_sound, directives_read, directives_less, directives_local}
-use Rattle.graphql_syntax.proofs.Locality.{Local, Moves, takes_less, local_answer, local_place, local_sequence, local_choose, local_starting, local_take_one, kind_is_plain}
+use Rattle.graphql_syntax.proofs.Locality.{Local, Moves, takes_less, local_answer, local_place, local_sequence, local_choose, local_starting, kind_is_plain}
+use Rattle.graphql_syntax.proofs.TokenLocality.{local_take_one}
 use Rattle.graphql_syntax.proofs.NextLemmas.{closing_parenthesis_ends, closing_stops, passes_not, passes_so, Ends, not_mark, not_parenthesis, not_at, not_equals}
 use Rattle.graphql_syntax.proofs.ReaderLemmas.{answered, placed, sequence_ok, sequence_read, choose_ok, choose_first, choose_second, starting_ok, starting_read, placed_read, answer_read, take_one_ok, take_one_read}
 use Rattle.graphql_syntax.proofs.RepetitionLemmas.{Item, some_sound, some_read, some_moves, local_some}
@@ -27,7 +28,7 @@ use Rattle.graphql_syntax.proofs.ValueLemmas.{variable_sound, variable_read, var
 use Rattle.graphql_executable_syntax.specs.Operations.{IsVariableDefinition, AreVariableDefinitions}
 use Rattle.graphql_executable_syntax.specs.OperationReaders.{variable_definition_at, variable_definitions_in, variable_definitions_at}
 
--- no `!` and no `=` comes before what stands behind the type where none may follow
+-- no `!` and no `=` comes before what is behind the type where none may follow
 no_mark_before_default : (depth : ℕ) (i : Input) (x : Option Value) (j : Input) → Perhaps (IsDefaultValue depth) i x j → sees ExclamationMark j ≡ false → sees ExclamationMark i ≡ false
 unfolding same_kind
 no_mark_before_default depth i x j is s = default_value_apart depth (λ k. same_kind k ExclamationMark) refl i x j is s

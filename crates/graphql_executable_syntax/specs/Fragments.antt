@@ -1,6 +1,5 @@
--- Fragments: `IsFragmentDefinition depth i tree j` where the tokens from i up to j are the fragment, and
--- brackets and braces stand at most so deep in one another.
--- Specification: 2.8 Fragments, and Appendix B.3 Document Syntax.
+-- Fragments: `IsFragmentDefinition depth i tree j` where the tokens from i up to j are the fragment, and brackets and braces are nested at most so
+-- deep in one another. Specification: 2.8 Fragments, and Appendix B.3 Document Syntax.
 use Rattle.std.specs.Prelude.{◌≡◌, ℕ, false}
 use Rattle.graphql_trees.specs.declared.executable.FragmentDefinition.{FragmentDefinition}
 use Rattle.graphql_syntax.specs.declared.keywords.Keyword.TheVariants as keyword

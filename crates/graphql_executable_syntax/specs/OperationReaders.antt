@@ -3,7 +3,7 @@ use Rattle.std.specs.Prelude.{ℕ, true, false, List, [], Option, None, Some}
 use Rattle.graphql_nodes.specs.Names.{NameText}
 use Rattle.graphql_tokens.specs.declared.token.TokenKind.TheVariants.{Name, Colon, LeftBrace, LeftParenthesis, RightParenthesis}
 use Rattle.graphql_trees.specs.declared.executable.OperationDefinition.{OperationDefinition}
-use Rattle.graphql_trees.specs.declared.executable.OperationType.TheVariants as tree
+use Rattle.graphql_nodes.specs.declared.operation_types.OperationType.TheVariants as tree
 use Rattle.graphql_trees.specs.declared.executable.VariableDefinition.{VariableDefinition}
 use Rattle.graphql_syntax.specs.declared.production.More.TheVariants.{Until}
 use Rattle.graphql_syntax.specs.Inputs.{is_kind}

@@ -1,10 +1,9 @@
--- Operations: `IsOperationDefinition depth i tree j` where the tokens from i up to j are the operation, and
--- brackets and braces stand at most so deep in one another.
--- Specification: 2.3 Operations, 2.10 Variables, and Appendix B.3 Document Syntax.
+-- Operations: `IsOperationDefinition depth i tree j` where the tokens from i up to j are the operation, and brackets and braces are nested at most so
+-- deep in one another. Specification: 2.3 Operations, 2.10 Variables, and Appendix B.3 Document Syntax.
 use Rattle.std.specs.Prelude.{◌≡◌, ℕ, true, false, ◌||◌, List, [], None}
 use Rattle.graphql_tokens.specs.declared.token.TokenKind.TheVariants.{Colon, LeftBrace, LeftParenthesis, RightParenthesis}
 use Rattle.graphql_trees.specs.declared.executable.OperationDefinition.{OperationDefinition}
-use Rattle.graphql_trees.specs.declared.executable.OperationType.TheVariants as tree
+use Rattle.graphql_nodes.specs.declared.operation_types.OperationType.TheVariants as tree
 use Rattle.graphql_trees.specs.declared.executable.VariableDefinition.{VariableDefinition}
 use Rattle.graphql_syntax.specs.Inputs.{Input, TokenTest, is_kind, Takes, IsName, between}
 use Rattle.graphql_syntax.specs.DefaultValues.{IsDefaultValue}

@@ -1,6 +1,5 @@
--- Selection sets: `IsSelectionSet depth i tree j` where the tokens from i up to j are the selection set, and
--- brackets and braces stand at most so deep in one another, those of values among them.
--- Specification: 2.4 Selection Sets, 2.5 Fields, 2.8 Fragments, and Appendix B.3 Document Syntax.
+-- Selection sets: `IsSelectionSet depth i tree j` where the tokens from i up to j are the selection set, and brackets and braces are nested at most
+-- so deep in one another, those of values among them. Specification: 2.4 Selection Sets, 2.5 Fields, 2.8 Fragments, and Appendix B.3 Document Syntax.
 use Rattle.std.specs.Prelude.{◌≡◌, ℕ, suc, false, List, [], ◌∷◌, Option, None, Some, IsFalse}
 use Rattle.graphql_nodes.specs.Names.{NameText}
 use Rattle.graphql_tokens.specs.declared.token.TokenKind.TheVariants.{Colon, LeftBrace, RightBrace, Spread}

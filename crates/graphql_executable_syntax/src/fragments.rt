@@ -10,7 +10,7 @@ use graphql_syntax::{Cursor, Keyword, Refusal};
 use graphql_trees::FragmentDefinition;
 use std::alloc::Global;
 
-/// The definition of a fragment, in which brackets and braces stand at most so deep in one another.
+/// The definition of a fragment, in which brackets and braces are nested at most so deep in one another.
 ///
 /// Specification: 2.8 Fragments.
 #[tactic(auto, unfolding(crate::specs::FragmentReaders::fragment_definition_at, graphql_syntax::specs::Reading::starting, graphql_syntax::specs::Reading::sequence, graphql_syntax::specs::Reading::place, graphql_syntax::specs::Reading::answer))]

@@ -9,7 +9,7 @@ ghost use Rattle.graphql_executable_syntax.specs.OperationReaders.{full_operatio
 ghost use Rattle.graphql_executable_syntax.specs.Operations.{begins_operation};
 
 use crate::selections::selection_set;
-use graphql_nodes::Name;
+use graphql_nodes::{Name, OperationType};
 use graphql_syntax::default_values::default_value;
 use graphql_syntax::directives::directives;
 use graphql_syntax::operation_types::operation_type;
@@ -18,7 +18,7 @@ use graphql_syntax::types::type_reference;
 use graphql_syntax::values::variable;
 use graphql_syntax::{Cursor, Keyword, More, Refusal};
 use graphql_tokens::TokenKind;
-use graphql_trees::{OperationDefinition, OperationType, VariableDefinition};
+use graphql_trees::{OperationDefinition, VariableDefinition};
 use sqlite_items::Items;
 use std::alloc::Global;
 
@@ -35,8 +35,8 @@ pub fn begins_operation(cursor: Cursor) -> bool
         || cursor.sees_keyword(Keyword::Subscription)
 }
 
-/// An operation, in which brackets and braces stand at most so deep in one another. A selection set alone
-/// is a query.
+/// An operation, in which brackets and braces are nested at most so deep in one another. A selection set
+/// alone is a query.
 ///
 /// Specification: 2.3 Operations.
 #[tactic(auto, unfolding(crate::specs::OperationReaders::operation_definition_at, graphql_syntax::specs::Reading::choose))]

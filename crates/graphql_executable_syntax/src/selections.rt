@@ -15,7 +15,7 @@ use graphql_trees::{Field, FragmentSpread, InlineFragment, Selection, SelectionS
 use sqlite_items::{Boxed, Items};
 use std::alloc::Global;
 
-/// A selection set, in which brackets and braces stand at most so deep in one another.
+/// A selection set, in which brackets and braces are nested at most so deep in one another.
 ///
 /// Specification: 2.4 Selection Sets.
 #[cycle(selections)]

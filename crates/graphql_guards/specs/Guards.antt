@@ -1,5 +1,5 @@
 -- Paths, depths and counts of walks.
-use Rattle.std.specs.Prelude.{ℕ, ◌-◌, ◌<◌, ◌≤◌, Bool, List, length, take}
+use Rattle.std.specs.Prelude.{ℕ, ◌-◌, ◌<◌, ◌≤◌, List, length, take}
 use Rattle.graphql_nodes.specs.Names.{NameText}
 use Rattle.graphql_guards.specs.declared.limits.LimitCounter.{LimitCounter}
 use Rattle.graphql_guards.specs.declared.depth.DepthCounter.{DepthCounter}
@@ -7,7 +7,7 @@ use Rattle.graphql_guards.specs.declared.recursion.RecursionStack.{RecursionStac
 use Rattle.graphql_guards.specs.declared.recursion.CycleError.{CycleError}
 use Rattle.graphql_guards.specs.declared.recursion.CycleError.TheVariants.{Recursed, Limit, Memory}
 
--- the names of a path, from the first that was entered
+-- the names of a path, from the first that was visited
 abbrev pub path_of : RecursionStack → List NameText
 path_of stack = stack.names.keys
 
@@ -23,13 +23,13 @@ without_last path = take (length path - 1) path
 abbrev pub HasRoom : RecursionStack → Type 0
 HasRoom stack = length (path_of stack) < path_limit stack
 
--- a path refuses a name for the limit where it has no room, and for want of memory where it has
+-- a path refuses a name for the limit where it has no room, and for a failed allocation where it has
 abbrev pub Refuses : {T : Type 0} → RecursionStack → CycleError T → Type 0
 Refuses stack (Recursed trace) = ⊥
 Refuses stack Limit = path_limit stack ≤ length (path_of stack)
 Refuses stack Memory = HasRoom stack
 
--- how deep a walk stands
+-- how deep a walk is
 abbrev pub depth_of : DepthCounter → ℕ
 depth_of counter = counter.depth
 

@@ -2,7 +2,7 @@ use crate::DEFAULT_RECURSION_LIMIT;
 use graphql_nodes::RecursionLimitError;
 use std::ops::{Deref, DerefMut};
 
-/// How deep a walk stands, and how deep it may go.
+/// How deep a walk is, and how deep it may go.
 #[derive(Debug, Drop)]
 pub struct DepthCounter {
     depth: usize,

@@ -30,7 +30,7 @@ impl LimitCounter {
 
     /// Counts one more, unless the limit is reached: then the answer is true, and the count stays.
     pub fn check_and_increment(&mut self) -> bool
-        ensures reached { IsTrue result ↔ (count_of self.old ≡ count_limit self.old) }
+        ensures reachable { IsTrue result ↔ (count_of self.old ≡ count_limit self.old) }
         ensures count { count_of self.new ≡ (if result then count_of self.old else count_of self.old + 1) }
         ensures high { highest_of self.new ≡ (if result then count_limit self.old + 1 else max (highest_of self.old) (count_of self.new)) }
         ensures limit { count_limit self.new ≡ count_limit self.old }

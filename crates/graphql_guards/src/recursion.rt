@@ -1,11 +1,10 @@
 use crate::DEFAULT_RECURSION_LIMIT;
-use graphql_documents::documents::{Name, Node};
-use graphql_nodes::ValidationError;
+use graphql_nodes::{Name, Node, ValidationError};
 use indexmap::IndexSet;
 use std::alloc::Global;
 use std::ops::{Deref, DerefMut};
 
-/// The names that a walk has entered and not left, in order, from the root where there is one. They
+/// The names that a walk has visited and not left, in order, from the root where there is one. They
 /// are looked up by their hashes, and compared by their texts.
 #[derive(Debug, Drop)]
 pub struct RecursionStack {
@@ -71,7 +70,7 @@ impl RecursionStack {
         }
     }
 
-    /// Whether the name stands on the path.
+    /// Whether the name is on the path.
     pub fn contains(&self, name: &Name) -> bool
         ensures { result ≡ stands_on (path_of self.now) name.now }
     {
@@ -85,11 +84,11 @@ impl RecursionStack {
         self.names.first()
     }
 
-    /// Adds a name at the end of the path, on which it does not stand. The limit is answered exactly
-    /// where the path holds as many names as it may; else memory may be refused. Both leave the path.
+    /// Adds a name at the end of the path, on which it is not. The limit is answered exactly where the path
+    /// holds as many names as it may; else memory may be refused. Both leave the path.
     pub fn enter<T: Drop>(&mut self, name: &Name) -> Result<(), CycleError<T>>
         requires { stands_on (path_of self.old) name.now ≡ false }
-        ensures entered { OnOk result (path_of self.new ≡ path_of self.old ++ name.now ∷ []) }
+        ensures visited_fragments { OnOk result (path_of self.new ≡ path_of self.old ++ name.now ∷ []) }
         ensures refused { OnErr result (path_of self.new ≡ path_of self.old) }
         ensures bound { MatchResult result (λ _. HasRoom self.old) (Refuses self.old) }
         ensures limit { path_limit self.new ≡ path_limit self.old }
@@ -97,10 +96,10 @@ impl RecursionStack {
         if self.names.len() >= self.limit {
             return Err(CycleError::Limit);
         }
-        let Ok(entered) = name.clone() else {
+        let Ok(visited_fragments) = name.clone() else {
             return Err(CycleError::Memory);
         };
-        match self.names.insert(entered) {
+        match self.names.insert(visited_fragments) {
             Ok(_) => Ok(()),
             Err(_) => Err(CycleError::Memory),
         }
@@ -132,7 +131,7 @@ impl RecursionStack {
         requires { stands_on (path_of self.old) name.now ≡ false }
         ensures* rests { sem 𝓛 (StackRestsIfErr self.entry result) }
         ensures same_reference { IfOk result (λ child. child.stack.ghost_name ≡ self.entry.ghost_name) }
-        ensures entered { IfOk result (λ child. path_of child.stack.now ≡ path_of self.old ++ name.now ∷ []) }
+        ensures visited_fragments { IfOk result (λ child. path_of child.stack.now ≡ path_of self.old ++ name.now ∷ []) }
         ensures bound { MatchResult result (λ child. HasRoom self.old) (Refuses self.old) }
         ensures limit { IfOk result (λ child. path_limit child.stack.now ≡ path_limit self.old) }
         ensures pushed { IfOk result (λ child. child.pushed ≡ true) }

@@ -6,7 +6,7 @@ use Rattle.std.specs.Option.{option_and_then, option_copied, option_map}
 use Rattle.std.proofs.lemmas.List.{append-nil}
 use Rattle.std.proofs.lemmas.List.Elements.{All-contains}
 use Rattle.std.proofs.lemmas.Option.{same_Some}
-use Rattle.graphql_documents.specs.Implementations.{FieldList, FieldArgumentsImplement, FieldTypesImplement, HasInterfaceFields, ImplementsField, IsListedInterface, ListsTransitiveInterfaces, field_under}
+use Rattle.graphql_specification.specs.Implementations.{FieldList, FieldArgumentsImplement, FieldTypesImplement, HasInterfaceFields, ImplementsField, IsListedInterface, ListsTransitiveInterfaces, field_under}
 use Rattle.graphql_nodes.specs.Names.{NameText, same_name}
 use Rattle.graphql_diagnostics.specs.Reports.{Reports}
 use Rattle.graphql_documents.specs.Schemas.{IsInterface, IsListed, as_interface, interface_named, type_definition}
@@ -21,7 +21,7 @@ use Rattle.graphql_documents.specs.declared.documents.schemas.Schema.{Schema}
 use Rattle.graphql_documents.proofs.ImplementerLemmas.{same_swapped}
 use Rattle.graphql_documents.proofs.ListLemmas.{each_standing, stands_next}
 use Rattle.graphql_diagnostics.proofs.ReportLemmas.{in_words}
-use Rattle.graphql_implementations.specs.ImplementationSteps.{FieldArgumentsAgree, FieldEntry, HasFieldOf, IsInterfaceField, IsNoExtra, IsProvided, ListsAllOf, NamesInterface, OfEachField, OfInterface, OfOwnField, TypeImplements, arguments_of}
+use Rattle.graphql_implementations.specs.ImplementationSteps.{FieldArgumentsAgree, FieldEntry, HasFieldOf, IsInterfaceField, IsNoExtra, IsArgumentImplemented, ListsAllOf, NamesInterface, OfEachField, OfInterface, OfOwnField, TypeImplements, arguments_of}
 
 -- a map of fields finds the one under the name
 pub found_under : (fields : FieldList) (name : NameText) → lookup (same_name name) fields ≡ field_under name fields
@@ -38,7 +38,7 @@ pub is_missing : {X : Type 0} (o : Option X) → is_some o ≡ false → o ≡ N
 is_missing None e = refl
 is_missing (Some x) e = absurd (let no : ⊥ = cc in no)
 
--- an element of a slice stands in the list that this is
+-- an element of a slice is in the list that this is
 pub stands_at : {X : Type 0} (xs ys : List X) (i : ℕ) (x : X) → xs ≡ ys → i < length xs → x ≡ get_or xs i x → Contains ys x
 stands_at xs ys i x same within item = subst (λ l. Contains l x) same (i, within, sym item)
 
@@ -155,5 +155,5 @@ module _ (schema : Schema) (listed : ComponentName) (d : Node InterfaceType) (fo
 
 -- the arguments of two fields, those of an interface's first
 pub arguments_agree : (wanted own : Component FieldDefinition) →
-    (All (IsProvided (arguments_of own)) (arguments_of wanted) × All (IsNoExtra (arguments_of wanted)) (arguments_of own)) ↔ FieldArgumentsAgree wanted own
+    (All (IsArgumentImplemented (arguments_of own)) (arguments_of wanted) × All (IsNoExtra (arguments_of wanted)) (arguments_of own)) ↔ FieldArgumentsAgree wanted own
 arguments_agree wanted own = (λ p. record { provided = p.0; no_extra = p.1 }, λ agree. (agree.provided, agree.no_extra))

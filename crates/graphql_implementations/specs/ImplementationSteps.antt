@@ -1,8 +1,7 @@
 -- The rules of implementing as they are checked, field by field. Specification: 3.6 Objects, IsValidImplementation.
 use Rattle.std.specs.Prelude.{◌≡◌, List, Option, Some, All, Contains, IsSome, IsTrue}
-use Rattle.graphql_documents.specs.Arguments.{definition_named}
-use Rattle.graphql_diagnostics.specs.ImplementationReports.{ImplementationFieldArgumentsBreak, ImplementationFieldTypesBreak, InterfaceFieldsBreak, InterfacesBreak}
-use Rattle.graphql_documents.specs.Implementations.{ArgumentsImplement, FieldList, ImplementsField, IsListedInterface, IsValidImplementationType, field_under}
+use Rattle.graphql_documents.specs.Definitions.{definition_named}
+use Rattle.graphql_specification.specs.Implementations.{ImplementationFieldArgumentsReport, ImplementationFieldTypesReport, InterfaceFieldsReport, InterfacesReport, ArgumentsImplement, FieldList, ImplementsField, IsListedInterface, IsValidImplementationType, field_under}
 use Rattle.graphql_nodes.specs.Names.{NameText}
 use Rattle.graphql_documents.specs.Schemas.{IsInterface, IsListed, is_required}
 use Rattle.graphql_documents.specs.TypeReferences.{same_type}
@@ -15,11 +14,15 @@ use Rattle.graphql_nodes.specs.declared.nodes.Node.{Node}
 use Rattle.graphql_documents.specs.declared.documents.schemas.InterfaceType.{InterfaceType}
 use Rattle.graphql_documents.specs.declared.documents.schemas.Schema.{Schema}
 use Rattle.graphql_nodes.specs.declared.spans.SourceSpan.{SourceSpan}
+use Rattle.graphql_implementations.specs.declared.implementer.FieldRule.{FieldRule}
+use Rattle.graphql_implementations.specs.declared.implementer.FieldRule.TheVariants.{IsProvided, Implements}
 use Rattle.graphql_implementations.specs.declared.implementer.Implementer.{Implementer}
 use Rattle.graphql_implementations.specs.declared.implementer.ImplementingField.{ImplementingField}
+use Rattle.graphql_implementations.specs.declared.implementer.OwnFieldRule.{OwnFieldRule}
+use Rattle.graphql_implementations.specs.declared.implementer.OwnFieldRule.TheVariants.{OutputType, Arguments}
 use Rattle.graphql_implementations.specs.declared.names.ListedInterfaces.{ListedInterfaces}
 
--- a field as it stands in a type, under its name
+-- a field as it is in a type, under its name
 abbrev pub FieldEntry : Type 0
 FieldEntry = NameText × Component FieldDefinition
 
@@ -61,8 +64,8 @@ abbrev pub FieldArgumentsAgree : Component FieldDefinition → Component FieldDe
 FieldArgumentsAgree wanted own = ArgumentsImplement (arguments_of wanted) (arguments_of own)
 
 -- the first argument of the name is there, with an equal type
-abbrev pub IsProvided : List (Node InputValueDefinition) → Node InputValueDefinition → Type 0
-IsProvided own a =
+abbrev pub IsArgumentImplemented : List (Node InputValueDefinition) → Node InputValueDefinition → Type 0
+IsArgumentImplemented own a =
     (b : Node InputValueDefinition) × (definition_named a.value.value.name own ≡ Some b) ×
     IsTrue (same_type a.value.value.ty.value.value b.value.value.ty.value.value)
 
@@ -76,9 +79,9 @@ pub record IsInterfaceField (schema : Schema) (interfaces : List ComponentName) 
   pub is_listed : IsListedInterface schema interfaces listed interface
   pub stands : Contains interface.value.value.fields.entries entry
 
--- what a report says of the interfaces that a type lists
-abbrev pub ListingBreaks : ListedInterfaces → DiagnosticData → Option SourceSpan → Type 0
-ListingBreaks l = InterfacesBreak l.schema.now l.owner.now l.location l.names.now.keys
+-- what a diagnostic says of the interfaces that a type lists
+abbrev pub ListingReport : ListedInterfaces → DiagnosticData → Option SourceSpan → Type 0
+ListingReport l = InterfacesReport l.schema.now l.owner.now l.location l.names.now.keys
 
 -- the type lists the name
 abbrev pub Lists : Implementer → ComponentName → Type 0
@@ -94,14 +97,33 @@ IsImplementing f =
     ImplementsField f.implementer.now.schema.now f.implementer.now.fields.now.entries f.implementer.now.interfaces.now.keys
     f.listed.now f.name.now f.wanted.now f.own.now
 
--- what a report says of the fields that the type lacks
-abbrev pub FieldsBreak : Implementer → Option SourceSpan → DiagnosticData → Option SourceSpan → Type 0
-FieldsBreak i location = InterfaceFieldsBreak i.schema.now i.name.now location i.fields.now.entries i.interfaces.now.keys
+-- what a diagnostic says of the fields that the type lacks
+abbrev pub ImplementedFieldsReport : Implementer → Option SourceSpan → DiagnosticData → Option SourceSpan → Type 0
+ImplementedFieldsReport i location = InterfaceFieldsReport i.schema.now i.name.now location i.fields.now.entries i.interfaces.now.keys
 
--- what a report says of the types of its fields
-abbrev pub TypesBreak : Implementer → DiagnosticData → Option SourceSpan → Type 0
-TypesBreak i = ImplementationFieldTypesBreak i.schema.now i.name.now i.fields.now.entries i.interfaces.now.keys
+-- what a diagnostic says of the types of its fields
+abbrev pub ImplementedFieldTypesReport : Implementer → DiagnosticData → Option SourceSpan → Type 0
+ImplementedFieldTypesReport i = ImplementationFieldTypesReport i.schema.now i.name.now i.fields.now.entries i.interfaces.now.keys
 
--- what a report says of their arguments
-abbrev pub ArgumentsBreak : Implementer → DiagnosticData → Option SourceSpan → Type 0
-ArgumentsBreak i = ImplementationFieldArgumentsBreak i.schema.now i.name.now i.fields.now.entries i.interfaces.now.keys
+-- what a diagnostic says of their arguments
+abbrev pub ImplementedArgumentsReport : Implementer → DiagnosticData → Option SourceSpan → Type 0
+ImplementedArgumentsReport i = ImplementationFieldArgumentsReport i.schema.now i.name.now i.fields.now.entries i.interfaces.now.keys
+
+-- what the rule says of an interface's field and the type's own under its name
+abbrev pub OwnFieldHolds : Schema → OwnFieldRule → Component FieldDefinition → Component FieldDefinition → Type 0
+OwnFieldHolds schema OutputType = TypeImplements schema
+OwnFieldHolds schema Arguments = FieldArgumentsAgree
+
+-- what the rule says of a field of an interface
+abbrev pub FieldRuleHolds : Implementer → FieldRule → FieldEntry → Type 0
+FieldRuleHolds i (IsProvided location) entry = HasFieldOf i.fields.now.entries entry.1
+FieldRuleHolds i (Implements rule) entry = OfOwnField i.fields.now.entries (OwnFieldHolds i.schema.now rule) entry
+
+-- what a diagnostic says where the rule is broken
+abbrev pub OwnFieldReport : Implementer → OwnFieldRule → DiagnosticData → Option SourceSpan → Type 0
+OwnFieldReport i OutputType = ImplementedFieldTypesReport i
+OwnFieldReport i Arguments = ImplementedArgumentsReport i
+
+abbrev pub FieldRuleReport : Implementer → FieldRule → DiagnosticData → Option SourceSpan → Type 0
+FieldRuleReport i (IsProvided location) = ImplementedFieldsReport i location
+FieldRuleReport i (Implements rule) = OwnFieldReport i rule

@@ -5,10 +5,13 @@
 mod arguments;
 mod fields;
 mod implementer;
+mod listed_fields;
 mod names;
 mod types;
 
-pub use arguments::validate_implementation_field_arguments;
-pub use fields::validate_interface_fields;
+pub use listed_fields::{
+    validate_implementation_field_arguments, validate_implementation_field_types,
+    validate_interface_fields,
+};
 pub use names::validate_implements_interfaces;
-pub use types::{is_valid_implementation_field_type, validate_implementation_field_types};
+pub use types::is_valid_implementation_field_type;

@@ -1,18 +1,18 @@
 ghost use Rattle.std.specs.Prelude.{Contains};
 ghost use Rattle.graphql_diagnostics.specs.Diagnostics.{IsDiagnostic};
-ghost use Rattle.graphql_diagnostics.specs.ImplementationReports.{InterfacesBreak};
-ghost use Rattle.graphql_documents.specs.Implementations.{IsListedInterface, ListedInterfacesAreDefined, ListsTransitiveInterfaces};
+ghost use Rattle.graphql_specification.specs.Implementations.{InterfacesReport, IsListedInterface, ListedInterfacesAreDefined, ListsTransitiveInterfaces};
 ghost use Rattle.graphql_diagnostics.specs.Reports.{Checks};
 ghost use Rattle.graphql_documents.specs.Schemas.{IsListed};
 ghost use Rattle.graphql_nodes.specs.declared.nodes.Node.{Node};
 ghost use Rattle.graphql_documents.specs.declared.documents.schemas.InterfaceType.{InterfaceType};
-ghost use Rattle.graphql_implementations.specs.ImplementationSteps.{ListingBreaks, ListsAllOf, NamesInterface};
+ghost use Rattle.graphql_implementations.specs.ImplementationSteps.{ListingReport, ListsAllOf, NamesInterface};
 
-use graphql_diagnostics::{Details, DiagnosticData, DiagnosticList, ValidationError};
-use graphql_documents::documents::{ComponentName, Name, Schema, SourceSpan};
+use graphql_diagnostics::{Details, DiagnosticData, DiagnosticList};
+use graphql_documents::documents::{ComponentName, Schema};
+use graphql_nodes::{Name, SourceSpan, ValidationError};
 use indexmap::IndexSet;
 
-/// The interfaces that a type lists, which has this name and stands there.
+/// The interfaces that a type lists, which has this name and location.
 #[derive(Drop)]
 struct ListedInterfaces<'a> {
     schema: &'a Schema,
@@ -21,8 +21,9 @@ struct ListedInterfaces<'a> {
     names: &'a IndexSet<ComponentName>,
 }
 
-/// Validates the names of interfaces that a type lists, which has this name and stands there: first that each
-/// is that of an interface, then that what each of these lists is listed too. The only error is want of memory.
+/// Validates the names of interfaces that a type lists, which has this name and location: first that each is
+/// that of an interface, then that what each of these lists is listed too. The only error is a failed
+/// allocation.
 ///
 /// Specification: 3.6 Objects, IsValidImplementation.
 pub fn validate_implements_interfaces(
@@ -34,7 +35,7 @@ pub fn validate_implements_interfaces(
 ) -> Result<(), ValidationError>
     ensures { Checks result
         (ListedInterfacesAreDefined schema.now interfaces.now.keys × ListsTransitiveInterfaces schema.now interfaces.now.keys)
-        (IsDiagnostic (InterfacesBreak schema.now name.now location interfaces.now.keys)) diagnostics.old diagnostics.new }
+        (IsDiagnostic (InterfacesReport schema.now name.now location interfaces.now.keys)) diagnostics.old diagnostics.new }
 {
     let listed = ListedInterfaces {
         schema,
@@ -50,7 +51,7 @@ impl ListedInterfaces<'_> {
     /// Reports each name that is not that of an interface.
     fn check_defined(&self, diagnostics: &mut DiagnosticList) -> Result<(), ValidationError>
         ensures { Checks result (ListedInterfacesAreDefined self.now.schema.now self.now.names.now.keys)
-            (IsDiagnostic (ListingBreaks self.now)) diagnostics.old diagnostics.new }
+            (IsDiagnostic (ListingReport self.now)) diagnostics.old diagnostics.new }
     {
         for listed in self.names.as_slice() {
             self.check_is_interface(diagnostics, listed)?;
@@ -66,7 +67,7 @@ impl ListedInterfaces<'_> {
     ) -> Result<(), ValidationError>
         requires { Contains self.now.names.now.keys listed.now }
         ensures { Checks result (NamesInterface self.now.schema.now listed.now.name)
-            (IsDiagnostic (ListingBreaks self.now)) diagnostics.old diagnostics.new }
+            (IsDiagnostic (ListingReport self.now)) diagnostics.old diagnostics.new }
     {
         if self.schema.get_interface(&listed.name).is_some() {
             return Ok(());
@@ -81,7 +82,7 @@ impl ListedInterfaces<'_> {
     /// Reports what the interfaces list and the type does not.
     fn check_transitive(&self, diagnostics: &mut DiagnosticList) -> Result<(), ValidationError>
         ensures { Checks result (ListsTransitiveInterfaces self.now.schema.now self.now.names.now.keys)
-            (IsDiagnostic (ListingBreaks self.now)) diagnostics.old diagnostics.new }
+            (IsDiagnostic (ListingReport self.now)) diagnostics.old diagnostics.new }
     {
         for listed in self.names.as_slice() {
             self.check_lists_all_of(diagnostics, listed)?;
@@ -97,7 +98,7 @@ impl ListedInterfaces<'_> {
     ) -> Result<(), ValidationError>
         requires { Contains self.now.names.now.keys listed.now }
         ensures { Checks result (ListsAllOf self.now.schema.now self.now.names.now.keys listed.now)
-            (IsDiagnostic (ListingBreaks self.now)) diagnostics.old diagnostics.new }
+            (IsDiagnostic (ListingReport self.now)) diagnostics.old diagnostics.new }
     {
         let Some(interface) = self.schema.get_interface(&listed.name) else {
             return Ok(());
@@ -118,7 +119,7 @@ impl ListedInterfaces<'_> {
         requires { (d : Node InterfaceType) × IsListedInterface self.now.schema.now self.now.names.now.keys listed.now d ×
             Contains d.value.value.implements_interfaces.keys further.now }
         ensures { Checks result (IsListed further.now.name self.now.names.now.keys)
-            (IsDiagnostic (ListingBreaks self.now)) diagnostics.old diagnostics.new }
+            (IsDiagnostic (ListingReport self.now)) diagnostics.old diagnostics.new }
     {
         if self.names.contains(&further.name) {
             return Ok(());

@@ -6,10 +6,10 @@ use Rattle.graphql_nodes.specs.Names.{NameText, SameName, same_name}
 use Rattle.graphql_documents.specs.TypeReferences.{inner_named_type}
 use Rattle.graphql_documents.specs.Built.{SetsAreBuilt, OperationIsBuilt, IsBuilt}
 use Rattle.graphql_documents.specs.Schemas.{NamesKind, is_output_type}
-use Rattle.graphql_documents.specs.Defer.{operations_of}
+use Rattle.graphql_documents.specs.Executables.{operations_of}
 use Rattle.graphql_documents.specs.Selections.{fragments_of, Includes, includes_itself, includes_inline_fragment, includes_spread, set_itself, set_in_field, set_in_inline_fragment}
-use Rattle.graphql_documents.specs.Merging.{FieldSelection, FieldInside, ParentsMayOverlap, Merges, set_of, type_of, SameKey, SameShape, SameNameAndArguments}
-use Rattle.graphql_documents.specs.Expansion.{Pass, shape_pass, field_pass, IsGroup, MergedSet, merged_operation, merged_below}
+use Rattle.graphql_specification.specs.Merging.{FieldSelection, FieldInExpandedSet, ParentsMayOverlap, FieldsCanMerge, set_of, type_of, SameKey, SameResponseShape, SameNameAndArguments, Pass, shape_pass, field_pass}
+use Rattle.graphql_specification.specs.MergedSets.{IsGroup, MergedSet, merged_operation, merged_below}
 use Rattle.graphql_nodes.specs.declared.nodes.Node.{Node}
 use Rattle.graphql_documents.specs.declared.documents.schemas.Schema.{Schema}
 use Rattle.graphql_documents.specs.declared.documents.executables.ExecutableDocument.{ExecutableDocument}
@@ -25,15 +25,15 @@ use Rattle.graphql_laws.proofs.MergedListLaws.{merging_by_lists}
 use Rattle.graphql_laws.proofs.FirstOfGroupLaws.{merging_by_groups}
 
 pub document_merging_by_lists : (schema : Schema) (document : ExecutableDocument) (operations : List (Node Operation)) →
-    ((o : Node Operation) → Contains operations o → Merges schema (fragments_of document) o.value.value.selection_set) ↔ (
+    ((o : Node Operation) → Contains operations o → FieldsCanMerge schema (fragments_of document) o.value.value.selection_set) ↔ (
     ((fields : List FieldSelection) → MergedSet schema (fragments_of document) operations shape_pass fields → (x y : FieldSelection) → Contains fields x → Contains fields y → SameKey x y →
-    SameShape schema (type_of x) (type_of y)) ×
+    SameResponseShape schema (type_of x) (type_of y)) ×
     ((fields : List FieldSelection) → MergedSet schema (fragments_of document) operations field_pass fields → (x y : FieldSelection) → Contains fields x → Contains fields y → SameKey x y →
     ParentsMayOverlap schema x y → SameNameAndArguments x.field.value.value y.field.value.value)
     )
 document_merging_by_lists schema document operations = merging_by_lists schema (fragments_of document) (one_fragment_found document) operations (has_expansion document)
 
--- a value that is found stands in an entry
+-- a value that is found is in an entry
 entry_found : {X : Type 0} (test : NameText → Bool) (entries : List (NameText × X)) (x : X) → lookup test entries ≡ Some x →
     (e : NameText × X) × Contains entries e × (e.1 ≡ x)
 entry_found test [] x found = absurd (let no : ⊥ = cc in no)
@@ -60,7 +60,7 @@ module _ (schema : Schema) (document : ExecutableDocument) (built : IsBuilt sche
     output : NamesKind schema is_output_type (inner_named_type (type_of x))
     sets : SetsAreBuilt schema (set_of x)
 
-  built_field : (set : SelectionSet) (x : FieldSelection) → SetsAreBuilt schema set → FieldInside (fragments_of document) set x → BuiltField x
+  built_field : (set : SelectionSet) (x : FieldSelection) → SetsAreBuilt schema set → FieldInExpandedSet (fragments_of document) set x → BuiltField x
   built_field set x sets here =
       let inner = built_inside here.included sets in
       record {
@@ -75,7 +75,7 @@ module _ (schema : Schema) (document : ExecutableDocument) (built : IsBuilt sche
         let set = o.value.value.selection_set in
         let from = (lists_what_is_inside (fragments_of document) (one_fragment_found document) (set ∷ []) fields expands x).0 in_x in
         let operation = All-contains (λ (p : Node Operation). OperationIsBuilt schema p.value.value) (operations_of document) o built.operations (All-contains (Contains (operations_of document)) operations o own stands) in
-        built_field set x operation.sets (subst (λ s. FieldInside (fragments_of document) s x) (only_one set from.0 from.1) from.2)
+        built_field set x operation.sets (subst (λ s. FieldInExpandedSet (fragments_of document) s x) (only_one set from.0 from.1) from.2)
     built_merged {pass} (merged_below {fields = fields} {below = below} above step) x in_x =
         let from = (below_lists_what_is_inside (fragments_of document) (one_fragment_found document) step.group below step.expansion x).0 in_x in
         built_field (set_of from.0) x (built_merged above from.0 (in_list schema fields step.is_group from.0 from.1)).sets from.2
@@ -84,9 +84,9 @@ module _ (schema : Schema) (document : ExecutableDocument) (built : IsBuilt sche
         (x : FieldSelection) → Contains fields x → NamesKind schema is_output_type (inner_named_type (type_of x))
     built_output fields merged x in_x = (built_merged merged x in_x).output
 
-    pub document_merging_by_groups : ((o : Node Operation) → Contains operations o → Merges schema (fragments_of document) o.value.value.selection_set) ↔ (
+    pub document_merging_by_groups : ((o : Node Operation) → Contains operations o → FieldsCanMerge schema (fragments_of document) o.value.value.selection_set) ↔ (
         ((fields group : List FieldSelection) (first : FieldSelection) (rest : List FieldSelection) → MergedSet schema (fragments_of document) operations shape_pass fields →
-        IsGroup schema fields shape_pass group → group ≡ first ∷ rest → All (λ z. SameShape schema (type_of first) (type_of z)) rest) ×
+        IsGroup schema fields shape_pass group → group ≡ first ∷ rest → All (λ z. SameResponseShape schema (type_of first) (type_of z)) rest) ×
         ((fields group : List FieldSelection) (first : FieldSelection) (rest : List FieldSelection) → MergedSet schema (fragments_of document) operations field_pass fields →
         IsGroup schema fields field_pass group → group ≡ first ∷ rest → All (λ z. SameNameAndArguments first.field.value.value z.field.value.value) rest)
         )

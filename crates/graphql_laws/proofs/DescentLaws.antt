@@ -4,9 +4,8 @@ use Rattle.std.specs.Prelude.{◌≢◌, is_some, slice_get}
 use Rattle.std.proofs.lemmas.List.Elements.{All-contains, filter_passes}
 use Rattle.graphql_nodes.specs.Names.{NameText, SameName}
 use Rattle.graphql_documents.specs.Selections.{Fragments, selections_of}
-use Rattle.graphql_diagnostics.specs.Limits.{MergingDescent, merging_ends, merging_steps}
-use Rattle.graphql_documents.specs.Merging.{FieldSelection, FieldInside, Chain, chain_of_one, chain_of_more, set_of}
-use Rattle.graphql_documents.specs.Expansion.{Expansion, MergesBelow, Pass, nested_sets}
+use Rattle.graphql_specification.specs.MergedSets.{MergingDescent, merging_ends, merging_steps, Expansion, MergesBelow, nested_sets}
+use Rattle.graphql_specification.specs.Merging.{FieldSelection, FieldInExpandedSet, Chain, chain_of_one, chain_of_more, set_of, Pass}
 use Rattle.graphql_documents.specs.declared.documents.schemas.Schema.{Schema}
 use Rattle.graphql_documents.specs.declared.documents.executables.Selection.{Selection}
 use Rattle.graphql_documents.specs.declared.documents.executables.SelectionSet.{SelectionSet}
@@ -36,7 +35,7 @@ module _ (schema : Schema) (fragments : Fragments) (respects : (a b : NameText) 
   record Begins (fields : List FieldSelection) (steps : List (List FieldSelection)) : Type 0 where
     front : FieldSelection
     stands : Contains fields front
-    from : (set : SelectionSet) → FieldInside fragments set front → LongChain set steps
+    from : (set : SelectionSet) → FieldInExpandedSet fragments set front → LongChain set steps
 
   at_last : (fields below : List FieldSelection) → MergesBelow schema fragments pass fields below → Begins fields (below ∷ [])
   at_last fields below step =
@@ -84,6 +83,6 @@ module _ (schema : Schema) (fragments : Fragments) (respects : (a b : NameText) 
   descent_has_chain set fields steps expands descent some =
       let b = begins descent some in
       let here = (lists_what_is_inside fragments respects (set ∷ []) fields expands b.front).0 b.stands in
-      let c = b.from set (subst (λ s. FieldInside fragments s b.front) (only_one set here.0 here.1) here.2) in
+      let c = b.from set (subst (λ s. FieldInExpandedSet fragments s b.front) (only_one set here.0 here.1) here.2) in
       let as_long : length c.chain + 1 ≡ length steps = omega (arith, c.as_long) in
       (c.chain, c.last, c.is_chain, as_long, c.last_selects)

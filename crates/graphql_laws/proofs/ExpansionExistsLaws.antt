@@ -7,25 +7,25 @@ use Rattle.std.specs.Map.{lookup}
 use Rattle.std.proofs.lemmas.List.Sums.{sum_by-cons, sum_by-append}
 use Rattle.graphql_nodes.specs.Names.{NameText, same_name}
 use Rattle.graphql_documents.specs.Selections.{Fragments, fragments_of, selections_of}
-use Rattle.graphql_documents.specs.Merging.{FieldSelection}
-use Rattle.graphql_documents.specs.Expansion.{fields_standing, followed_by, FragmentSets, no_more, past_field, into_inline_fragment, past_spread, into_spread, ExpandsFrom, expanded, expand_next, Expansion}
+use Rattle.graphql_specification.specs.Merging.{FieldSelection}
+use Rattle.graphql_specification.specs.MergedSets.{fields_standing, followed_by, FragmentSets, no_more, past_field, into_inline_fragment, past_spread, into_spread, ExpandsFrom, expanded, expand_next, Expansion}
 use Rattle.graphql_nodes.specs.declared.nodes.Node.{Node}
 use Rattle.graphql_documents.specs.declared.documents.executables.ExecutableDocument.{ExecutableDocument}
 use Rattle.graphql_documents.specs.declared.documents.executables.Selection.{Selection}
 use Rattle.graphql_documents.specs.declared.documents.executables.Selection.TheVariants as kind
 use Rattle.graphql_documents.specs.declared.documents.executables.SelectionSet.{SelectionSet}
 use Rattle.graphql_documents.specs.declared.documents.executables.Fragment.{Fragment}
-use Rattle.graphql_laws.proofs.MetNameLemmas.{Entries, left, left_stays, left_falls}
+use Rattle.graphql_laws.proofs.VisitedNameLemmas.{Entries, left, left_stays, left_falls}
 use Rattle.graphql_laws.proofs.SizeLemmas.{size_of_set, size_of, size_of_set_is, size_of_inline, Kind, is_field, is_spread, is_inline, kind_of}
 
 module _ (fragments : Fragments) (entries : Entries) (looks_up : (name : NameText) → fragments name ≡ lookup (same_name name) entries) where
   -- the sets of the fragments among the selections: fewer names are left then, or the sets are no larger
   record Gathers (seen : List NameText) (selections : List Selection) : Type 0 where
     sets : List SelectionSet
-    met : List NameText
-    found : FragmentSets fragments seen selections sets met
-    fewer_left : left met entries ≤ left seen entries
-    progress : (left met entries < left seen entries) ⊎ (sum_by size_of_set sets ≤ sum_by size_of selections)
+    visited : List NameText
+    found : FragmentSets fragments seen selections sets visited
+    fewer_left : left visited entries ≤ left seen entries
+    progress : (left visited entries < left seen entries) ⊎ (sum_by size_of_set sets ≤ sum_by size_of selections)
 
   no_heavier : (s : Selection) (rest : List Selection) (sets : List SelectionSet) → sum_by size_of_set sets ≤ sum_by size_of rest → sum_by size_of_set sets ≤ sum_by size_of (s ∷ rest)
   no_heavier s rest sets light = omega (arith, sum_by-cons size_of s rest)
@@ -35,7 +35,7 @@ module _ (fragments : Fragments) (entries : Entries) (looks_up : (name : NameTex
       let g = more seen in
       record {
         sets = g.sets;
-        met = g.met;
+        visited = g.visited;
         found = past_field f rest g.found;
         fewer_left = g.fewer_left;
         progress = elim g.progress [ inl fell ↦ inl fell | inr light ↦ inr (no_heavier (kind.Field f) rest g.sets light) ];
@@ -45,7 +45,7 @@ module _ (fragments : Fragments) (entries : Entries) (looks_up : (name : NameTex
       let g = more seen in
       record {
         sets = own ∷ g.sets;
-        met = g.met;
+        visited = g.visited;
         found = into_inline_fragment i rest g.found;
         fewer_left = g.fewer_left;
         progress = elim g.progress [
@@ -60,7 +60,7 @@ module _ (fragments : Fragments) (entries : Entries) (looks_up : (name : NameTex
         let g = more (named ∷ seen) in
         record {
           sets = followed_by (fragments named) g.sets;
-          met = g.met;
+          visited = g.visited;
           found = into_spread p rest new g.found;
           fewer_left = omega (arith, g.fewer_left, left_stays named seen entries);
           progress = elim g.progress [
@@ -74,7 +74,7 @@ module _ (fragments : Fragments) (entries : Entries) (looks_up : (name : NameTex
         let fell : left (named ∷ seen) entries < left seen entries = left_falls named seen entries d (sym (looks_up named) ∙ is) new in
         record {
           sets = followed_by (fragments named) g.sets;
-          met = g.met;
+          visited = g.visited;
           found = into_spread p rest new g.found;
           fewer_left = omega (arith, g.fewer_left);
           progress = inl (omega (arith, g.fewer_left));
@@ -85,7 +85,7 @@ module _ (fragments : Fragments) (entries : Entries) (looks_up : (name : NameTex
         let g = more seen in
         record {
           sets = g.sets;
-          met = g.met;
+          visited = g.visited;
           found = past_spread p rest known g.found;
           fewer_left = g.fewer_left;
           progress = elim g.progress [ inl fell ↦ inl fell | inr light ↦ inr (no_heavier (kind.FragmentSpread p) rest g.sets light) ];
@@ -93,7 +93,7 @@ module _ (fragments : Fragments) (entries : Entries) (looks_up : (name : NameTex
     spread false new = new_name new (fragments p.value.value.fragment_name) refl
 
   gathers : (seen : List NameText) (selections : List Selection) → Gathers seen selections
-  gathers seen [] = record { sets = []; met = seen; found = no_more; fewer_left = omega arith; progress = inr (omega arith) }
+  gathers seen [] = record { sets = []; visited = seen; found = no_more; fewer_left = omega arith; progress = inr (omega arith) }
   gathers seen (s ∷ rest) = gathers_kind (kind_of s) seen rest (λ names. gathers names rest)
 
   abbrev Expands : List NameText → List SelectionSet → Type 0
@@ -105,9 +105,9 @@ module _ (fragments : Fragments) (entries : Entries) (looks_up : (name : NameTex
   by_weight n below zero seen (set ∷ queue) few light = absurd (let no : ⊥ = omega (arith, sum_by-cons size_of_set set queue, size_of_set_is set) in no)
   by_weight n below (suc m) seen (set ∷ queue) few light =
       let g = gathers seen (selections_of set) in
-      let rest : Expands g.met (queue ++ g.sets) = elim g.progress [
-        | inl fell ↦ below g.met (queue ++ g.sets) (omega arith)
-        | inr lighter ↦ by_weight n below m g.met (queue ++ g.sets) (omega (arith, g.fewer_left))
+      let rest : Expands g.visited (queue ++ g.sets) = elim g.progress [
+        | inl fell ↦ below g.visited (queue ++ g.sets) (omega arith)
+        | inr lighter ↦ by_weight n below m g.visited (queue ++ g.sets) (omega (arith, g.fewer_left))
             (omega (arith, sum_by-cons size_of_set set queue, size_of_set_is set, sum_by-append size_of_set queue g.sets))
       ] in
       (fields_standing set ++ rest.0, expand_next g.found rest.1)

@@ -9,12 +9,13 @@ use denote.Hole.Carrier.{Values}
 use denote.Hole.Compared.{compared_is}
 use lib.Pointwise.{pointwise}
 use Rattle.graphql_nodes.specs.Names.{NameText, SameName, same_name}
-use Rattle.graphql_documents.proofs.ContentLemmas.{equality_of_field_definitions, equality_of_fields}
+use Rattle.graphql_documents.proofs.ValueContentLemmas.{equality_of_field_definitions}
+use Rattle.graphql_documents.proofs.ContentLemmas.{equality_of_fields}
 use Rattle.graphql_documents.specs.Contents.{SameField}
 use Rattle.graphql_documents.specs.TypeReferences.{same_type}
 use Rattle.graphql_documents.specs.Selections.{Fragments, Includes, includes_itself, includes_inline_fragment, includes_spread, fragments_of, selections_of}
-use Rattle.graphql_documents.specs.Merging.{FieldInside, FieldSelection, SameFields}
-use Rattle.graphql_documents.specs.MergedFields.{AreAlike}
+use Rattle.graphql_specification.specs.Merging.{FieldInExpandedSet, FieldSelection, SameFields}
+use Rattle.graphql_specification.specs.MergedSets.{AreAlike}
 use Rattle.graphql_documents.specs.contracts.documents.directives.ArgumentPartialEq.TheImpl as argument_impl
 use Rattle.graphql_documents.specs.contracts.documents.definitions.FieldDefinitionPartialEq.TheImpl as definition_impl
 use Rattle.graphql_documents.specs.contracts.documents.executables.FieldPartialEq.TheImpl as field_impl
@@ -140,7 +141,7 @@ is_inline a y h = at (out-Selection y) refl (subst (λ x. EqualOpen x (out-Selec
   at (Open.InlineFragment b) e h = (b, sym (roll-out-Selection y) ∙ ap roll-Selection e ∙ kind.rolls-InlineFragment b, h)
   at _ e h = absurd h
 
--- what stands in the one of two equal lists has its like in the other
+-- what is in the one of two equal lists has its like in the other
 in_other : {X : Type 0} (same : X → X → Bool) (xs ys : List X) → IsTrue (pointwise same xs ys) → (x : X) → Contains xs x → (y : X) × Contains ys y × IsTrue (same x y)
 in_other same [] ys h x in_x = absurd (none_stands x in_x)
 in_other same (u ∷ us) [] h x in_x = absurd (let no : ⊥ = cc in no)
@@ -177,7 +178,7 @@ field_then a b c ab bc = is_equivalence.congr a b c ab ∙ bc
 module _ (fragments : Fragments) (respects : (a b : NameText) → SameName a b → fragments a ≡ fragments b) where
   -- a field inside the set that is equal, on a type of the same name
   abbrev HasLike : SelectionSet → NameText → Field → Type 0
-  HasLike set parent f = (y : FieldSelection) × FieldInside fragments set y × SameName parent y.parent × IsTrue (field_equality f y.field.value.value)
+  HasLike set parent f = (y : FieldSelection) × FieldInExpandedSet fragments set y × SameName parent y.parent × IsTrue (field_equality f y.field.value.value)
 
   into_set : (outer set : SelectionSet) (parent : NameText) (f : Field) → ((inner : SelectionSet) → Includes fragments set inner → Includes fragments outer inner) →
       HasLike set parent f → HasLike outer parent f

@@ -6,8 +6,8 @@ use Rattle.graphql_nodes.specs.Names.{NameText, SameName}
 use Rattle.graphql_documents.specs.TypeReferences.{inner_named_type}
 use Rattle.graphql_documents.specs.Schemas.{NamesKind, is_output_type}
 use Rattle.graphql_documents.specs.Selections.{Fragments}
-use Rattle.graphql_documents.specs.Merging.{FieldSelection, ParentsMayOverlap, Merges, type_of, SameKey, SameShape, SameNameAndArguments}
-use Rattle.graphql_documents.specs.Expansion.{Expansion, shape_pass, field_pass, IsGroup, MergedSet}
+use Rattle.graphql_specification.specs.Merging.{FieldSelection, ParentsMayOverlap, FieldsCanMerge, type_of, SameKey, SameResponseShape, SameNameAndArguments, shape_pass, field_pass}
+use Rattle.graphql_specification.specs.MergedSets.{Expansion, IsGroup, MergedSet}
 use Rattle.graphql_nodes.specs.declared.nodes.Node.{Node}
 use Rattle.graphql_documents.specs.declared.documents.schemas.Schema.{Schema}
 use Rattle.graphql_documents.specs.declared.documents.executables.SelectionSet.{SelectionSet}
@@ -42,7 +42,7 @@ module _ {X : Type 0} (R : X → X → Type 0) where
 
 -- two fields have one shape, or ask for one thing
 abbrev OneShape : Schema → FieldSelection → FieldSelection → Type 0
-OneShape schema x y = SameShape schema (type_of x) (type_of y)
+OneShape schema x y = SameResponseShape schema (type_of x) (type_of y)
 
 abbrev OneField : FieldSelection → FieldSelection → Type 0
 OneField x y = SameNameAndArguments x.field.value.value y.field.value.value
@@ -81,8 +81,8 @@ module _ (schema : Schema) (fields : List FieldSelection) where
         same_shape_then schema (type_of x) (type_of first) (type_of y) o.0 o.1 (same_shape_back schema (type_of first) (type_of x) a) b
 
     pub first_shape_decides : ((group : List FieldSelection) (first : FieldSelection) (rest : List FieldSelection) → IsGroup schema fields shape_pass group → group ≡ first ∷ rest →
-        All (λ z. SameShape schema (type_of first) (type_of z)) rest) ↔
-        ((x y : FieldSelection) → Contains fields x → Contains fields y → SameKey x y → SameShape schema (type_of x) (type_of y))
+        All (λ z. SameResponseShape schema (type_of first) (type_of z)) rest) ↔
+        ((x y : FieldSelection) → Contains fields x → Contains fields y → SameKey x y → SameResponseShape schema (type_of x) (type_of y))
     first_shape_decides = (
       λ agree x y in_x in_y key.
           let g = (shape_groups schema fields x y).1 (in_x, in_y, key) in
@@ -113,9 +113,9 @@ module _ (schema : Schema) (fields : List FieldSelection) where
 module _ (schema : Schema) (fragments : Fragments) (respects : (a b : NameText) → SameName a b → fragments a ≡ fragments b) (operations : List (Node Operation))
     (expansions : (sets : List SelectionSet) → (fields : List FieldSelection) × Expansion fragments sets fields)
     (output : (fields : List FieldSelection) → MergedSet schema fragments operations shape_pass fields → (x : FieldSelection) → Contains fields x → NamesKind schema is_output_type (inner_named_type (type_of x))) where
-  pub merging_by_groups : ((o : Node Operation) → Contains operations o → Merges schema fragments o.value.value.selection_set) ↔ (
+  pub merging_by_groups : ((o : Node Operation) → Contains operations o → FieldsCanMerge schema fragments o.value.value.selection_set) ↔ (
       ((fields group : List FieldSelection) (first : FieldSelection) (rest : List FieldSelection) → MergedSet schema fragments operations shape_pass fields →
-      IsGroup schema fields shape_pass group → group ≡ first ∷ rest → All (λ z. SameShape schema (type_of first) (type_of z)) rest) ×
+      IsGroup schema fields shape_pass group → group ≡ first ∷ rest → All (λ z. SameResponseShape schema (type_of first) (type_of z)) rest) ×
       ((fields group : List FieldSelection) (first : FieldSelection) (rest : List FieldSelection) → MergedSet schema fragments operations field_pass fields →
       IsGroup schema fields field_pass group → group ≡ first ∷ rest → All (λ z. SameNameAndArguments first.field.value.value z.field.value.value) rest)
       )

@@ -1,10 +1,10 @@
--- Which fragments stand on a cycle.
+-- Which fragments are on a cycle.
 use Rattle.std.proofs.Common.{◌≡◌, List, [], ◌∷◌, ◌++◌, Some, refl, subst, All}
 use Rattle.std.proofs.lemmas.List.Elements.{All-nil, All-cons, All-head}
 use Rattle.graphql_nodes.specs.Names.{NameText, SameName, DifferentNames}
 use Rattle.graphql_documents.specs.Selections.{Fragments, Written}
 use Rattle.graphql_documents.specs.Paths.{Path, path_of_one, path_of_more}
-use Rattle.graphql_documents.specs.FragmentSpreads.{SpreadsBy, fragment_of, IsFragmentCycle, FragmentHasNoCycle}
+use Rattle.graphql_specification.specs.Fragments.{SpreadsBy, fragment_of, IsFragmentCycle, FragmentHasNoCycle}
 use Rattle.graphql_nodes.specs.declared.nodes.Node.{Node}
 use Rattle.graphql_documents.specs.declared.documents.executables.Selection.TheVariants as kind
 use Rattle.graphql_documents.specs.declared.documents.executables.Fragment.{Fragment}

@@ -5,8 +5,8 @@ use Rattle.std.proofs.lemmas.List.Elements.{All-contains, All-filter, All-contai
 use Rattle.graphql_nodes.specs.Names.{NameText, SameName, same_name}
 use Rattle.graphql_documents.specs.Schemas.{type_definition, is_composite}
 use Rattle.graphql_documents.specs.Selections.{response_key}
-use Rattle.graphql_documents.specs.Merging.{FieldSelection, MayOverlap, ParentsMayOverlap, SameKey}
-use Rattle.graphql_documents.specs.Expansion.{with_key_of, is_abstract, is_object_named, is_object, with_parents, shape_pass, field_pass, Pass, IsGroup, group_by_key, group_by_object, group_of_abstract}
+use Rattle.graphql_specification.specs.Merging.{FieldSelection, MayOverlap, ParentsMayOverlap, SameKey, shape_pass, field_pass, Pass}
+use Rattle.graphql_specification.specs.MergedSets.{with_key_of, is_abstract, is_object_named, is_object, with_parents, IsGroup, group_by_key, group_by_object, group_of_abstract}
 use Rattle.graphql_nodes.specs.declared.nodes.Node.{Node}
 use Rattle.graphql_documents.specs.declared.documents.schemas.ObjectType.{ObjectType}
 use Rattle.graphql_documents.specs.declared.documents.schemas.Schema.{Schema}
@@ -15,7 +15,7 @@ use Rattle.graphql_documents.specs.declared.documents.schemas.ExtendedType.TheVa
 use Rattle.graphql_nodes.proofs.NameLemmas.{same_name_itself, same_name_back, same_name_then}
 use Rattle.graphql_documents.proofs.ListLemmas.{stands_first, kept_by_filter}
 
--- what a filter kept stood in the list and passed
+-- what a filter kept was in the list and passed
 kept : {X : Type 0} (test : X → Bool) (xs : List X) (x : X) → Contains (filter test xs) x → Contains xs x × (test x ≡ true)
 kept test xs x in' = (
   All-contains (Contains xs) (filter test xs) x (All-filter test (Contains xs) xs (All-contains_itself xs)) in',

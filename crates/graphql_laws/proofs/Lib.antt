@@ -10,7 +10,6 @@ pub mod GroupLaws
 pub mod MeetingLaws
 pub mod MergedListLaws
 pub mod MergingLaws
-pub mod MetNameLemmas
 pub mod OneExpansionLaws
 pub mod OrderedGroupLaws
 pub mod ReportLaws
@@ -24,4 +23,5 @@ pub mod TypeMapLaws
 pub mod ValueContentsLaws
 pub mod ValueLaws
 pub mod VariableLaws
+pub mod VisitedNameLemmas
 pub mod WalkExistsLaws

@@ -2,9 +2,8 @@
 use Rattle.std.proofs.Common.{◌↔◌, List, [], ◌∷◌, ◌++◌}
 use Rattle.std.specs.List.{AllZip}
 use Rattle.graphql_documents.specs.Selections.{Fragments}
-use Rattle.graphql_documents.specs.Merging.{FieldSelection, Chain, chain_of_one, chain_of_more, Merges, SameKey, set_of}
-use Rattle.graphql_documents.specs.MergedFields.{Agree, ArePutTogether, Meet, meet_here, meet_below, MeetingFieldsAgree}
-use Rattle.graphql_documents.specs.Expansion.{Pass, shape_pass, field_pass}
+use Rattle.graphql_specification.specs.Merging.{FieldSelection, Chain, chain_of_one, chain_of_more, FieldsCanMerge, SameKey, set_of, Pass, shape_pass, field_pass}
+use Rattle.graphql_specification.specs.MergedSets.{Agree, ArePutTogether, Meet, meet_here, meet_below, MeetingFieldsAgree}
 use Rattle.graphql_documents.specs.declared.documents.schemas.Schema.{Schema}
 use Rattle.graphql_documents.specs.declared.documents.executables.SelectionSet.{SelectionSet}
 use Rattle.graphql_laws.proofs.MergedListLaws.{ParentsIn, Throughout, after_first, begins, throughout_first, throughout_one}
@@ -68,11 +67,11 @@ module _ (schema : Schema) (fragments : Fragments) where
       meet_below u v (begins first) (begins second) (put_together pass u v keys.0 outer.0)
       (meet pass (set_of u) (set_of v) xs ys x y (after_first u xs x first) (after_first v ys y second) keys.1 outer.1)
 
-  chains_agree : (set : SelectionSet) → Merges schema fragments set → (pass : Pass) (x y : FieldSelection) → Chains pass set set x y → Agree schema pass x y
+  chains_agree : (set : SelectionSet) → FieldsCanMerge schema fragments set → (pass : Pass) (x y : FieldSelection) → Chains pass set set x y → Agree schema pass x y
   chains_agree set merges shape_pass x y c = merges.shapes c.xs c.ys x y (record { first = c.first; second = c.second; keys = c.keys })
   chains_agree set merges field_pass x y c = merges.fields c.xs c.ys x y (record { first = c.first; second = c.second; keys = c.keys }) c.overlap
 
-  pub merges_by_meeting : (set : SelectionSet) → Merges schema fragments set ↔ MeetingFieldsAgree schema fragments set
+  pub merges_by_meeting : (set : SelectionSet) → FieldsCanMerge schema fragments set ↔ MeetingFieldsAgree schema fragments set
   merges_by_meeting set = (
     λ merges pass x y m. chains_agree set merges pass x y (chains_of m),
     λ agree. record {

@@ -4,8 +4,8 @@ use Rattle.std.specs.List.{AllZip}
 use Rattle.std.proofs.lemmas.List.Elements.{AllZip-push}
 use Rattle.graphql_nodes.specs.Names.{NameText, SameName}
 use Rattle.graphql_documents.specs.Selections.{Fragments}
-use Rattle.graphql_documents.specs.Merging.{FieldSelection, FieldInside, Chain, chain_of_one, chain_of_more, ParentsMayOverlap, Together, OverlapThroughout, Merges, set_of, type_of, SameKey, SameShape, SameNameAndArguments}
-use Rattle.graphql_documents.specs.Expansion.{Expansion, Pass, shape_pass, field_pass, IsGroup, nested_sets, MergedSet, merged_operation, merged_below}
+use Rattle.graphql_specification.specs.Merging.{FieldSelection, FieldInExpandedSet, Chain, chain_of_one, chain_of_more, ParentsMayOverlap, HaveSameResponsePath, OverlapThroughout, FieldsCanMerge, set_of, type_of, SameKey, SameResponseShape, SameNameAndArguments, Pass, shape_pass, field_pass}
+use Rattle.graphql_specification.specs.MergedSets.{Expansion, IsGroup, nested_sets, MergedSet, merged_operation, merged_below}
 use Rattle.graphql_nodes.specs.declared.nodes.Node.{Node}
 use Rattle.graphql_documents.specs.declared.documents.schemas.Schema.{Schema}
 use Rattle.graphql_documents.specs.declared.documents.executables.SelectionSet.{SelectionSet}
@@ -15,7 +15,7 @@ use Rattle.graphql_laws.proofs.ExpandedListLaws.{lists_what_is_inside, below_lis
 use Rattle.graphql_laws.proofs.GroupLaws.{shape_groups, field_groups}
 
 -- a chain from its front
-pub begins : {fragments : Fragments} {set : SelectionSet} {x : FieldSelection} {xs : List FieldSelection} → Chain fragments set (x ∷ xs) → FieldInside fragments set x
+pub begins : {fragments : Fragments} {set : SelectionSet} {x : FieldSelection} {xs : List FieldSelection} → Chain fragments set (x ∷ xs) → FieldInExpandedSet fragments set x
 begins (chain_of_one here) = here
 begins (chain_of_more here more) = here
 
@@ -37,7 +37,7 @@ after_first u xs x chain = elim (goes_on chain) [
 
 -- one field more at its end
 chain_push : {fragments : Fragments} {set : SelectionSet} (xs : List FieldSelection) (u x : FieldSelection) → Chain fragments set (xs ++ u ∷ []) →
-    FieldInside fragments (set_of u) x → Chain fragments set ((xs ++ u ∷ []) ++ x ∷ [])
+    FieldInExpandedSet fragments (set_of u) x → Chain fragments set ((xs ++ u ∷ []) ++ x ∷ [])
 chain_push [] u x chain here = chain_of_more (begins chain) (chain_of_one here)
 chain_push (w ∷ ws) u x chain here = chain_of_more (begins chain) (chain_push ws u x (after_first w ws u chain) here)
 
@@ -83,10 +83,10 @@ module _ (schema : Schema) (fragments : Fragments) (respects : (a b : NameText) 
     xs : List FieldSelection
     ys : List FieldSelection
     stands : Contains operations operation
-    both : Together fragments operation.value.value.selection_set xs ys x y
+    both : HaveSameResponsePath fragments operation.value.value.selection_set xs ys x y
     overlap : Throughout schema pass (xs ++ x ∷ []) (ys ++ y ∷ [])
 
-  meet_below : (pass : Pass) (u v x y : FieldSelection) → Meet pass u v → FieldInside fragments (set_of u) x → FieldInside fragments (set_of v) y →
+  meet_below : (pass : Pass) (u v x y : FieldSelection) → Meet pass u v → FieldInExpandedSet fragments (set_of u) x → FieldInExpandedSet fragments (set_of v) y →
       SameKey x y → ParentsIn schema pass x y → Meet pass x y
   meet_below pass u v x y above in_x in_y key parents = record {
     operation = above.operation;
@@ -113,8 +113,8 @@ module _ (schema : Schema) (fragments : Fragments) (respects : (a b : NameText) 
         ys = [];
         stands = stands;
         both = record {
-          first = chain_of_one (subst (λ s. FieldInside fragments s x) (only_one set from_x.0 from_x.1) from_x.2);
-          second = chain_of_one (subst (λ s. FieldInside fragments s y) (only_one set from_y.0 from_y.1) from_y.2);
+          first = chain_of_one (subst (λ s. FieldInExpandedSet fragments s x) (only_one set from_x.0 from_x.1) from_x.2);
+          second = chain_of_one (subst (λ s. FieldInExpandedSet fragments s y) (only_one set from_y.0 from_y.1) from_y.2);
           keys = (key, tt);
         };
         overlap = throughout_one schema pass x y parents;
@@ -134,13 +134,13 @@ module _ (schema : Schema) (fragments : Fragments) (respects : (a b : NameText) 
 
   module _ (expansions : (sets : List SelectionSet) → (fields : List FieldSelection) × Expansion fragments sets fields) (pass : Pass) (x y : FieldSelection) where
     -- what is inside two sets is in the list
-    HasInside : List FieldSelection → SelectionSet → Type 0
-    HasInside fields set = (z : FieldSelection) → FieldInside fragments set z → Contains fields z
+    HasInExpandedSet : List FieldSelection → SelectionSet → Type 0
+    HasInExpandedSet fields set = (z : FieldSelection) → FieldInExpandedSet fragments set z → Contains fields z
 
     from_list : (xs ys : List FieldSelection) (s t : SelectionSet) (fields : List FieldSelection) → MergedSet schema fragments operations pass fields →
-        HasInside fields s → HasInside fields t → Chain fragments s (xs ++ x ∷ []) → Chain fragments t (ys ++ y ∷ []) →
+        HasInExpandedSet fields s → HasInExpandedSet fields t → Chain fragments s (xs ++ x ∷ []) → Chain fragments t (ys ++ y ∷ []) →
         AllZip SameKey (xs ++ x ∷ []) (ys ++ y ∷ []) → Throughout schema pass (xs ++ x ∷ []) (ys ++ y ∷ []) → InOneList pass x y
-    unfolding HasInside
+    unfolding HasInExpandedSet
     from_list [] [] s t fields merged in_s in_t first second keys parents =
         record { fields = fields; merged = merged; first = in_s x (begins first); second = in_t y (begins second) }
     from_list [] (v ∷ []) s t fields merged in_s in_t first second keys parents = absurd keys.1
@@ -152,46 +152,46 @@ module _ (schema : Schema) (fragments : Fragments) (respects : (a b : NameText) 
         let group = has_group schema pass fields u v (in_s u (begins first)) (in_t v (begins second)) keys.0 outer.0 in
         let below = expansions (nested_sets group.0) in
         let more = after_first u xs x first in
-        let lists = λ (w : FieldSelection) (in_w : Contains group.0 w) (z : FieldSelection) (here : FieldInside fragments (set_of w) z).
+        let lists = λ (w : FieldSelection) (in_w : Contains group.0 w) (z : FieldSelection) (here : FieldInExpandedSet fragments (set_of w) z).
         (below_lists_what_is_inside fragments respects group.0 below.0 below.1 z).1 (w, in_w, here) in
         let nested = λ (none : nested_sets group.0 ≡ []). nothing_nested group.0 u (next xs more) group.2 none in
         from_list xs ys (set_of u) (set_of v) below.0
         (merged_below merged (record { group = group.0; is_group = group.1; nested = nested; expansion = below.1 }))
         (lists u group.2) (lists v group.3) more (after_first v ys y second) keys.1 outer.1 where
-          next : (xs : List FieldSelection) → Chain fragments (set_of u) (xs ++ x ∷ []) → (z : FieldSelection) × FieldInside fragments (set_of u) z
+          next : (xs : List FieldSelection) → Chain fragments (set_of u) (xs ++ x ∷ []) → (z : FieldSelection) × FieldInExpandedSet fragments (set_of u) z
           next [] chain = (x, begins chain)
           next (z ∷ zs) chain = (z, begins chain)
 
-          nothing_nested : (group : List FieldSelection) (w : FieldSelection) → (z : FieldSelection) × FieldInside fragments (set_of w) z → Contains group w → nested_sets group ≡ [] → ⊥
+          nothing_nested : (group : List FieldSelection) (w : FieldSelection) → (z : FieldSelection) × FieldInExpandedSet fragments (set_of w) z → Contains group w → nested_sets group ≡ [] → ⊥
           nothing_nested group w here in_w none =
               none_stands (set_of w) (subst (λ l. Contains l (set_of w)) none (nested_of_group fragments group w here.0 in_w here.1))
 
-    in_one_list : (o : Node Operation) (xs ys : List FieldSelection) → Contains operations o → Together fragments o.value.value.selection_set xs ys x y →
+    in_one_list : (o : Node Operation) (xs ys : List FieldSelection) → Contains operations o → HaveSameResponsePath fragments o.value.value.selection_set xs ys x y →
         Throughout schema pass (xs ++ x ∷ []) (ys ++ y ∷ []) → InOneList pass x y
-    unfolding HasInside
+    unfolding HasInExpandedSet
     in_one_list o xs ys stands both parents =
         let set = o.value.value.selection_set in
         let root = expansions (set ∷ []) in
-        let lists = λ (z : FieldSelection) (here : FieldInside fragments set z).
+        let lists = λ (z : FieldSelection) (here : FieldInExpandedSet fragments set z).
         (lists_what_is_inside fragments respects (set ∷ []) root.0 root.1 z).1 (set, stands_first set [], here) in
         from_list xs ys set set root.0 (merged_operation stands root.1) lists lists both.first both.second both.keys parents
 
   pub shapes_come_together : (fields : List FieldSelection) (x y : FieldSelection) → MergedSet schema fragments operations shape_pass fields →
       Contains fields x → Contains fields y → SameKey x y →
-      (o : Node Operation) × (xs : List FieldSelection) × (ys : List FieldSelection) × Contains operations o × Together fragments o.value.value.selection_set xs ys x y
+      (o : Node Operation) × (xs : List FieldSelection) × (ys : List FieldSelection) × Contains operations o × HaveSameResponsePath fragments o.value.value.selection_set xs ys x y
   shapes_come_together fields x y merged in_x in_y key =
       let m = come_together merged x y in_x in_y key tt in (m.operation, m.xs, m.ys, m.stands, m.both)
 
   pub fields_come_together : (fields : List FieldSelection) (x y : FieldSelection) → MergedSet schema fragments operations field_pass fields →
       Contains fields x → Contains fields y → SameKey x y → ParentsMayOverlap schema x y →
-      (o : Node Operation) × (xs : List FieldSelection) × (ys : List FieldSelection) × Contains operations o × Together fragments o.value.value.selection_set xs ys x y × OverlapThroughout schema xs ys x y
+      (o : Node Operation) × (xs : List FieldSelection) × (ys : List FieldSelection) × Contains operations o × HaveSameResponsePath fragments o.value.value.selection_set xs ys x y × OverlapThroughout schema xs ys x y
   fields_come_together fields x y merged in_x in_y key parents =
       let m = come_together merged x y in_x in_y key parents in (m.operation, m.xs, m.ys, m.stands, m.both, m.overlap)
 
   module _ (expansions : (sets : List SelectionSet) → (fields : List FieldSelection) × Expansion fragments sets fields) where
-    pub merging_by_lists : ((o : Node Operation) → Contains operations o → Merges schema fragments o.value.value.selection_set) ↔ (
+    pub merging_by_lists : ((o : Node Operation) → Contains operations o → FieldsCanMerge schema fragments o.value.value.selection_set) ↔ (
         ((fields : List FieldSelection) → MergedSet schema fragments operations shape_pass fields → (x y : FieldSelection) → Contains fields x → Contains fields y → SameKey x y →
-        SameShape schema (type_of x) (type_of y)) ×
+        SameResponseShape schema (type_of x) (type_of y)) ×
         ((fields : List FieldSelection) → MergedSet schema fragments operations field_pass fields → (x y : FieldSelection) → Contains fields x → Contains fields y → SameKey x y →
         ParentsMayOverlap schema x y → SameNameAndArguments x.field.value.value y.field.value.value)
         )

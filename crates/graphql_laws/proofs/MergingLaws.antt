@@ -7,7 +7,7 @@ use Rattle.graphql_nodes.specs.Names.{NameText, SameName, DifferentNames}
 use Rattle.graphql_documents.specs.TypeReferences.{inner_named_type}
 use Rattle.graphql_documents.specs.Schemas.{type_definition, is_output_type, is_composite}
 use Rattle.graphql_documents.specs.Selections.{Fragments, selections_of, response_key, Includes, includes_itself, includes_spread, includes_inline_fragment}
-use Rattle.graphql_documents.specs.Merging.{FieldSelection, FieldInside, Chain, chain_of_one, chain_of_more, HaveOneForm, SameShape, ParentsMayOverlap, Together, OverlapThroughout, Merges, set_of, type_of, SameKey, SameNameAndArguments, MayOverlap}
+use Rattle.graphql_specification.specs.Merging.{FieldSelection, FieldInExpandedSet, Chain, chain_of_one, chain_of_more, SameLeafOrBothComposite, SameResponseShape, ParentsMayOverlap, HaveSameResponsePath, OverlapThroughout, FieldsCanMerge, set_of, type_of, SameKey, SameNameAndArguments, MayOverlap}
 use Rattle.graphql_nodes.specs.declared.nodes.Node.{Node}
 use Rattle.graphql_documents.specs.declared.documents.type_references.Type.{«Type»}
 use Rattle.graphql_documents.specs.declared.documents.type_references.Type.TheVariants.{Named, NonNullNamed, List', NonNullList'}
@@ -26,15 +26,15 @@ use Rattle.graphql_nodes.proofs.NameLemmas.{same_name_itself, same_name_back, no
 use Rattle.graphql_documents.proofs.SelectionLemmas.{includes_then, not_inline, same_inline, spread_not_inline}
 use Rattle.graphql_documents.proofs.ListLemmas.{none_stands}
 
--- a field that stands in a set, with the set's type
+-- a field that is in a set, with the set's type
 abbrev in_set : SelectionSet → Node Field → FieldSelection
 in_set set f = record { parent = set.ty; field = f }
 
 stands_inside : (fragments : Fragments) (set : SelectionSet) (f : Node Field) → Contains (selections_of set) (kind.Field f) →
-    FieldInside fragments set (in_set set f)
+    FieldInExpandedSet fragments set (in_set set f)
 stands_inside fragments set f stands = record { inner = set; included = includes_itself; stands = stands; parent_is = refl }
 
--- two fields that stand in sets of one object type have parents that overlap
+-- two fields that are in sets of one object type have parents that overlap
 one_object : (schema : Schema) (object : Node ObjectType) (a b : FieldSelection) →
     type_definition schema a.parent ≡ Some (Object object) → type_definition schema b.parent ≡ Some (Object object) →
     ParentsMayOverlap schema a b
@@ -50,11 +50,11 @@ pub different_names_clash : (schema : Schema) (fragments : Fragments) (set : Sel
     type_definition schema set.ty ≡ Some (Object object) →
     Contains (selections_of set) (kind.Field a) → Contains (selections_of set) (kind.Field b) →
     SameName (response_key a.value.value) (response_key b.value.value) → DifferentNames a.value.value.name b.value.value.name →
-    ¬ Merges schema fragments set
+    ¬ FieldsCanMerge schema fragments set
 different_names_clash schema fragments set object a b is in_a in_b key other merges =
     let x = in_set set a in
     let y = in_set set b in
-    let together : Together fragments set [] [] x y = record {
+    let together : HaveSameResponsePath fragments set [] [] x y = record {
       first = chain_of_one (stands_inside fragments set a in_a);
       second = chain_of_one (stands_inside fragments set b in_b);
       keys = (key, tt);
@@ -70,13 +70,13 @@ pub different_names_clash_below : (schema : Schema) (fragments : Fragments) (set
     Contains (selections_of p.value.value.selection_set) (kind.Field a) → Contains (selections_of q.value.value.selection_set) (kind.Field b) →
     SameName (response_key p.value.value) (response_key q.value.value) →
     SameName (response_key a.value.value) (response_key b.value.value) → DifferentNames a.value.value.name b.value.value.name →
-    ¬ Merges schema fragments set
+    ¬ FieldsCanMerge schema fragments set
 different_names_clash_below schema fragments set outer inner p q a b is is_p is_q in_p in_q in_a in_b keys key other merges =
     let u = in_set set p in
     let v = in_set set q in
     let x = in_set p.value.value.selection_set a in
     let y = in_set q.value.value.selection_set b in
-    let together : Together fragments set (u ∷ []) (v ∷ []) x y = record {
+    let together : HaveSameResponsePath fragments set (u ∷ []) (v ∷ []) x y = record {
       first = chain_of_more (stands_inside fragments set p in_p) (chain_of_one (stands_inside fragments p.value.value.selection_set a in_a));
       second = chain_of_more (stands_inside fragments set q in_q) (chain_of_one (stands_inside fragments q.value.value.selection_set b in_b));
       keys = (keys, (key, tt));
@@ -88,19 +88,19 @@ different_names_clash_below schema fragments set outer inner p q a b is is_p is_
 chain_from : (fragments : Fragments) {set inner : SelectionSet} {xs : List FieldSelection} →
     Includes fragments set inner → Chain fragments inner xs → Chain fragments set xs
 chain_from fragments {set} {inner} included (chain_of_one {x = x} here) = chain_of_one (further here) where
-  further : FieldInside fragments inner x → FieldInside fragments set x
+  further : FieldInExpandedSet fragments inner x → FieldInExpandedSet fragments set x
   further here = record { inner = here.inner; included = includes_then fragments included here.included; stands = here.stands; parent_is = here.parent_is }
 chain_from fragments {set} {inner} included (chain_of_more {x = x} here more) = chain_of_more (further here) more where
-  further : FieldInside fragments inner x → FieldInside fragments set x
+  further : FieldInExpandedSet fragments inner x → FieldInExpandedSet fragments set x
   further here = record { inner = here.inner; included = includes_then fragments included here.included; stands = here.stands; parent_is = here.parent_is }
 
 pub included_merges : (schema : Schema) (fragments : Fragments) (set inner : SelectionSet) →
-    Includes fragments set inner → Merges schema fragments set → Merges schema fragments inner
+    Includes fragments set inner → FieldsCanMerge schema fragments set → FieldsCanMerge schema fragments inner
 included_merges schema fragments set inner included merges = record {
   shapes = λ xs ys x y both. merges.shapes xs ys x y (from_outside xs ys x y both);
   fields = λ xs ys x y both. merges.fields xs ys x y (from_outside xs ys x y both);
 } where
-  from_outside : (xs ys : List FieldSelection) (x y : FieldSelection) → Together fragments inner xs ys x y → Together fragments set xs ys x y
+  from_outside : (xs ys : List FieldSelection) (x y : FieldSelection) → HaveSameResponsePath fragments inner xs ys x y → HaveSameResponsePath fragments set xs ys x y
   from_outside xs ys x y both = record {
     first = chain_from fragments included both.first;
     second = chain_from fragments included both.second;
@@ -113,7 +113,7 @@ pub cyclic_fragment_clashes : (schema : Schema) (fragments : Fragments) (set : S
     type_definition schema d.value.value.selection_set.ty ≡ Some (Object object) →
     Contains (selections_of d.value.value.selection_set) (kind.Field a) → Contains (selections_of d.value.value.selection_set) (kind.Field b) →
     SameName (response_key a.value.value) (response_key b.value.value) → DifferentNames a.value.value.name b.value.value.name →
-    ¬ Merges schema fragments set
+    ¬ FieldsCanMerge schema fragments set
 cyclic_fragment_clashes schema fragments set p q d object a b spread is back back_is object_is in_a in_b key other merges =
     different_names_clash schema fragments d.value.value.selection_set object a b object_is in_a in_b key other
     (included_merges schema fragments set d.value.value.selection_set (includes_spread spread is includes_itself) merges)
@@ -144,13 +144,13 @@ different_objects_are_apart schema xs ys x y a b ea eb other all =
     apart schema x y a b ea eb other (ends_hold (ParentsMayOverlap schema) xs ys x y all)
 
 -- the form of values, either way round and of one type
-composite_form : (x y : ExtendedType) → IsTrue (is_composite x) → IsTrue (is_composite y) → HaveOneForm x y
+composite_form : (x y : ExtendedType) → IsTrue (is_composite x) → IsTrue (is_composite y) → SameLeafOrBothComposite x y
 composite_form (Object a) y hx hy = (hx, hy)
 composite_form (Interface a) y hx hy = (hx, hy)
 composite_form (Union a) y hx hy = (hx, hy)
 composite_form _ y hx hy = absurd (let no : ⊥ = cc in no)
 
-one_form_back : (x y : ExtendedType) → HaveOneForm x y → HaveOneForm y x
+one_form_back : (x y : ExtendedType) → SameLeafOrBothComposite x y → SameLeafOrBothComposite y x
 one_form_back (Scalar a) (Scalar b) h = same_name_back a.value.value.name b.value.value.name h
 one_form_back (Enum a) (Enum b) h = same_name_back a.value.value.name b.value.value.name h
 one_form_back (Object a) y h = composite_form y (Object a) h.1 h.0
@@ -158,13 +158,13 @@ one_form_back (Interface a) y h = composite_form y (Interface a) h.1 h.0
 one_form_back (Union a) y h = composite_form y (Union a) h.1 h.0
 one_form_back _ _ h = absurd (let no : ⊥ = cc in no)
 
-one_form_itself : (x : ExtendedType) → IsTrue (is_output_type x) → HaveOneForm x x
+one_form_itself : (x : ExtendedType) → IsTrue (is_output_type x) → SameLeafOrBothComposite x x
 one_form_itself (Scalar a) h = same_name_itself a.value.value.name
 one_form_itself (Enum a) h = same_name_itself a.value.value.name
 one_form_itself (InputObject a) h = absurd (let no : ⊥ = cc in no)
 one_form_itself _ h = (refl, refl)
 
-pub same_shape_back : (schema : Schema) (a b : «Type») → SameShape schema a b → SameShape schema b a
+pub same_shape_back : (schema : Schema) (a b : «Type») → SameResponseShape schema a b → SameResponseShape schema b a
 same_shape_back schema (Named a) (Named b) h = λ x y ex ey. one_form_back y x (h y x ey ex)
 same_shape_back schema (NonNullNamed a) (NonNullNamed b) h = λ x y ex ey. one_form_back y x (h y x ey ex)
 same_shape_back schema (List' place a) (List' other b) h = same_shape_back schema a b h
@@ -172,25 +172,25 @@ same_shape_back schema (NonNullList' place a) (NonNullList' other b) h = same_sh
 same_shape_back schema _ _ h = absurd h
 
 named_itself : (schema : Schema) (name : NameText) → ((d : ExtendedType) → type_definition schema name ≡ Some d → IsTrue (is_output_type d)) →
-    (x y : ExtendedType) → type_definition schema name ≡ Some x → type_definition schema name ≡ Some y → HaveOneForm x y
+    (x y : ExtendedType) → type_definition schema name ≡ Some x → type_definition schema name ≡ Some y → SameLeafOrBothComposite x y
 named_itself schema name output x y ex ey =
-    let same : x ≡ y = cc in subst (HaveOneForm x) same (one_form_itself x (output x ex))
+    let same : x ≡ y = cc in subst (SameLeafOrBothComposite x) same (one_form_itself x (output x ex))
 
 pub same_shape_itself : (schema : Schema) (ty : «Type») →
-    ((d : ExtendedType) → type_definition schema (inner_named_type ty) ≡ Some d → IsTrue (is_output_type d)) → SameShape schema ty ty
+    ((d : ExtendedType) → type_definition schema (inner_named_type ty) ≡ Some d → IsTrue (is_output_type d)) → SameResponseShape schema ty ty
 same_shape_itself schema (Named a) output = named_itself schema a output
 same_shape_itself schema (NonNullNamed a) output = named_itself schema a output
 same_shape_itself schema (List' place a) output = same_shape_itself schema a output
 same_shape_itself schema (NonNullList' place a) output = same_shape_itself schema a output
 
 -- what has one form with a composite type is composite
-composite_end : (x y : ExtendedType) → IsTrue (is_composite x) → HaveOneForm x y → IsTrue (is_composite y)
+composite_end : (x y : ExtendedType) → IsTrue (is_composite x) → SameLeafOrBothComposite x y → IsTrue (is_composite y)
 composite_end (Object a) y hx h = h.1
 composite_end (Interface a) y hx h = h.1
 composite_end (Union a) y hx h = h.1
 composite_end _ y hx h = absurd (let no : ⊥ = cc in no)
 
-one_form_then : (x y z : ExtendedType) → HaveOneForm x y → HaveOneForm y z → HaveOneForm x z
+one_form_then : (x y z : ExtendedType) → SameLeafOrBothComposite x y → SameLeafOrBothComposite y z → SameLeafOrBothComposite x z
 one_form_then (Scalar a) (Scalar b) (Scalar c) p q = same_name_then a.value.value.name b.value.value.name c.value.value.name p q
 one_form_then (Enum a) (Enum b) (Enum c) p q = same_name_then a.value.value.name b.value.value.name c.value.value.name p q
 one_form_then (Object a) y z p q = composite_form (Object a) z p.0 (composite_end y z p.1 q)
@@ -199,7 +199,7 @@ one_form_then (Union a) y z p q = composite_form (Union a) z p.0 (composite_end 
 one_form_then _ _ _ p q = absurd (let no : ⊥ = cc in no)
 
 pub same_shape_then : (schema : Schema) (a b c : «Type») (d : ExtendedType) → type_definition schema (inner_named_type b) ≡ Some d →
-    SameShape schema a b → SameShape schema b c → SameShape schema a c
+    SameResponseShape schema a b → SameResponseShape schema b c → SameResponseShape schema a c
 same_shape_then schema (Named a) (Named b) (Named c) d is p q = λ x y ex ey. one_form_then x d y (p x d ex is) (q d y is ey)
 same_shape_then schema (NonNullNamed a) (NonNullNamed b) (NonNullNamed c) d is p q = λ x y ex ey. one_form_then x d y (p x d ex is) (q d y is ey)
 same_shape_then schema (List' place a) (List' other b) (List' third c) d is p q = same_shape_then schema a b c d is p q
@@ -210,7 +210,7 @@ same_shape_then schema (List' place a) (List' other b) _ d is p q = absurd q
 same_shape_then schema (NonNullList' place a) (NonNullList' other b) _ d is p q = absurd q
 same_shape_then schema _ _ _ d is p q = absurd p
 
--- nothing stands inside a set that has nothing
+-- nothing is inside a set that has nothing
 nothing_inside : (fragments : Fragments) {set inner : SelectionSet} (s : Selection) → Includes fragments set inner →
     selections_of set ≡ [] → ¬ Contains (selections_of inner) s
 nothing_inside fragments s includes_itself empty stands = none_stands s (subst (λ l. Contains l s) empty stands)
@@ -230,18 +230,18 @@ one_alone u x (v ∷ []) e = absurd (let no : ⊥ = cc in no)
 one_alone u x (v ∷ (w ∷ xs)) e = absurd (let no : ⊥ = cc in no)
 
 only_leaf : (fragments : Fragments) {set : SelectionSet} {us : List FieldSelection} → Chain fragments set us →
-    ((x : FieldSelection) → FieldInside fragments set x → selections_of (set_of x) ≡ []) →
-    (xs : List FieldSelection) (x : FieldSelection) → us ≡ xs ++ x ∷ [] → (xs ≡ []) × FieldInside fragments set x
+    ((x : FieldSelection) → FieldInExpandedSet fragments set x → selections_of (set_of x) ≡ []) →
+    (xs : List FieldSelection) (x : FieldSelection) → us ≡ xs ++ x ∷ [] → (xs ≡ []) × FieldInExpandedSet fragments set x
 only_leaf fragments {set} (chain_of_one {x = u} here) leaf xs x e =
-    let alone = one_alone u x xs e in (alone.0, subst (FieldInside fragments set) alone.1 here)
+    let alone = one_alone u x xs e in (alone.0, subst (FieldInExpandedSet fragments set) alone.1 here)
 only_leaf fragments (chain_of_more {x = u} here more) leaf xs x e = absurd (no_chain fragments more (leaf u here))
 
 pub leaf_fields_merge : (schema : Schema) (fragments : Fragments) (set : SelectionSet) →
-    ((x : FieldSelection) → FieldInside fragments set x → selections_of (set_of x) ≡ []) →
-    ((x y : FieldSelection) → FieldInside fragments set x → FieldInside fragments set y → SameKey x y → SameShape schema (type_of x) (type_of y)) →
-    ((x y : FieldSelection) → FieldInside fragments set x → FieldInside fragments set y → SameKey x y → ParentsMayOverlap schema x y →
+    ((x : FieldSelection) → FieldInExpandedSet fragments set x → selections_of (set_of x) ≡ []) →
+    ((x y : FieldSelection) → FieldInExpandedSet fragments set x → FieldInExpandedSet fragments set y → SameKey x y → SameResponseShape schema (type_of x) (type_of y)) →
+    ((x y : FieldSelection) → FieldInExpandedSet fragments set x → FieldInExpandedSet fragments set y → SameKey x y → ParentsMayOverlap schema x y →
     SameNameAndArguments x.field.value.value y.field.value.value) →
-    Merges schema fragments set
+    FieldsCanMerge schema fragments set
 leaf_fields_merge schema fragments set leaf shapes fields = record {
   shapes = λ xs ys x y both.
       let first = only_leaf fragments both.first leaf xs x refl in
@@ -289,8 +289,8 @@ module _ (fragments : Fragments) (together : SelectionSet) (i j : Node InlineFra
   in_one (includes_inline_fragment {inner = inner} {i = k} there more) f ones stands = begins_in k inner more (ones (kind.InlineFragment k) there)
   in_one (includes_spread {p = p} there found more) f ones stands = absurd (no_spread_is_one p (ones (kind.FragmentSpread p) there))
 
-  field_in_one : (x : FieldSelection) → FieldInside fragments together x →
-      FieldInside fragments i.value.value.selection_set x ⊎ FieldInside fragments j.value.value.selection_set x
+  field_in_one : (x : FieldSelection) → FieldInExpandedSet fragments together x →
+      FieldInExpandedSet fragments i.value.value.selection_set x ⊎ FieldInExpandedSet fragments j.value.value.selection_set x
   field_in_one x here = elim (in_one here.included x.field stands_as_one here.stands) [
     | inl included ↦ inl (record { inner = here.inner; included = included; stands = here.stands; parent_is = here.parent_is })
     | inr included ↦ inr (record { inner = here.inner; included = included; stands = here.stands; parent_is = here.parent_is })
@@ -331,13 +331,13 @@ parents_itself schema x y h = record {
 }
 
 module _ (schema : Schema) (fragments : Fragments) (set : SelectionSet) (x y : FieldSelection)
-    (in_x : FieldInside fragments set x) (in_y : FieldInside fragments set y)
+    (in_x : FieldInExpandedSet fragments set x) (in_y : FieldInExpandedSet fragments set y)
     (key : SameKey x y) (parents : ParentsMayOverlap schema x y) where
   -- one of the two fields, with a chain below it
   record Below (xs : List FieldSelection) : Type 0 where
     field' : FieldSelection
     is_one : (field' ≡ x) ⊎ (field' ≡ y)
-    inside : FieldInside fragments set field'
+    inside : FieldInExpandedSet fragments set field'
     chain : Chain fragments (set_of field') xs
 
   keys_of : (p q : FieldSelection) → (p ≡ x) ⊎ (p ≡ y) → (q ≡ x) ⊎ (q ≡ y) → SameKey p q × ParentsMayOverlap schema p q
@@ -356,13 +356,13 @@ module _ (schema : Schema) (fragments : Fragments) (set : SelectionSet) (x y : F
   pub sets_below_merge : (together : SelectionSet) (i j : Node InlineFragment) →
       selections_of together ≡ kind.InlineFragment i ∷ (kind.InlineFragment j ∷ []) →
       i.value.value.selection_set ≡ set_of x → j.value.value.selection_set ≡ set_of y →
-      Merges schema fragments set → Merges schema fragments together
+      FieldsCanMerge schema fragments set → FieldsCanMerge schema fragments together
   sets_below_merge together i j is ei ej merges = record {
     shapes = λ xs ys a b both. merges.shapes _ _ a b (higher xs ys a b both).2;
     fields = λ xs ys a b both overlap. let up = higher xs ys a b both in merges.fields _ _ a b up.2 (up.3, overlap);
   } where
-    higher : (xs ys : List FieldSelection) (a b : FieldSelection) → Together fragments together xs ys a b →
-        (p : FieldSelection) × (q : FieldSelection) × Together fragments set (p ∷ xs) (q ∷ ys) a b × ParentsMayOverlap schema p q
+    higher : (xs ys : List FieldSelection) (a b : FieldSelection) → HaveSameResponsePath fragments together xs ys a b →
+        (p : FieldSelection) × (q : FieldSelection) × HaveSameResponsePath fragments set (p ∷ xs) (q ∷ ys) a b × ParentsMayOverlap schema p q
     higher xs ys a b both =
         let p = below i j ei ej (xs ++ a ∷ []) (chain_in_one fragments together i j is (xs ++ a ∷ []) both.first) in
         let q = below i j ei ej (ys ++ b ∷ []) (chain_in_one fragments together i j is (ys ++ b ∷ []) both.second) in

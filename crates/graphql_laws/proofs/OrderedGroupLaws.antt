@@ -5,9 +5,8 @@ use Rattle.std.specs.Str.{bytes_eq}
 use Rattle.std.proofs.lemmas.List.{length-map}
 use Rattle.std.proofs.lemmas.List.Elements.{All-cons, All-contains, All-contains_itself, All-filter, All-head, All-nil, All-tail, All-weaker, Contains-append_cases, Contains-push_cases, filter_agree, filter_passes}
 use Rattle.std.proofs.lemmas.List.Sums.{sum_by-cons}
-use Rattle.graphql_documents.specs.Expansion.{IsGroup, Pass, field_pass, group_by_key, group_by_object, group_of_abstract, is_abstract, is_object, is_object_named, shape_pass, with_key_of, with_parents}
-use Rattle.graphql_diagnostics.specs.MergedGroups.{comparisons_of, groups_of, groups_on, key_of, keys_of, object_name, objects_of, on_object, under_key, unless_empty}
-use Rattle.graphql_documents.specs.Merging.{FieldSelection}
+use Rattle.graphql_specification.specs.MergedSets.{IsGroup, group_by_key, group_by_object, group_of_abstract, is_abstract, is_object, is_object_named, with_key_of, with_parents, comparisons_of, groups_of, groups_on, key_of, keys_of, object_name, objects_of, on_object, under_key, unless_empty}
+use Rattle.graphql_specification.specs.Merging.{Pass, field_pass, shape_pass, FieldSelection}
 use Rattle.graphql_nodes.specs.Names.{NameText, SameName, different_names, same_name, stands_on, with_name}
 use Rattle.graphql_documents.specs.Schemas.{type_definition}
 use Rattle.graphql_documents.specs.declared.documents.schemas.ExtendedType.TheVariants.{Object}
@@ -16,7 +15,7 @@ use Rattle.graphql_documents.specs.declared.documents.schemas.Schema.{Schema}
 use Rattle.graphql_documents.proofs.ImplementerLemmas.{Apart, apart_folded, stands_folded, stands_same}
 use Rattle.graphql_documents.proofs.ListLemmas.{all_pass, each_standing, kept_by_filter, kept_by_map, made_by, made_of, none_stands, only_one, stands_behind, stands_first, stands_flat, stands_mapped}
 use Rattle.graphql_nodes.proofs.NameLemmas.{same_name_back, same_name_itself, same_name_then, same_text}
-use Rattle.graphql_laws.proofs.MetNameLemmas.{either_true, met_behind, met_itself}
+use Rattle.graphql_laws.proofs.VisitedNameLemmas.{either_true, visited_behind, visited_itself}
 
 -- names, and the different ones among them
 named_from : (b : Bool) (known : List NameText) (x n : NameText) → Contains (cond b known (known ++ x ∷ [])) n → Contains known n ⊎ (x ≡ n)
@@ -50,7 +49,7 @@ all_stand : (names : List NameText) → All (λ n. stands_on names n ≡ true) n
 all_stand [] = All-nil (λ n. stands_on [] n ≡ true)
 all_stand (x ∷ xs) =
     let P = λ (n : NameText). stands_on (x ∷ xs) n ≡ true in
-    All-cons P x xs (met_itself x xs) (All-weaker (λ n. stands_on xs n ≡ true) P (λ n. met_behind x xs n) xs (all_stand xs))
+    All-cons P x xs (visited_itself x xs) (All-weaker (λ n. stands_on xs n ≡ true) P (λ n. visited_behind x xs n) xs (all_stand xs))
 
 -- one of the different names is the same as a name of the list
 same_in_different : (names : List NameText) (n : NameText) → Contains names n → (m : NameText) × Contains (different_names names) m × SameName n m
@@ -99,19 +98,19 @@ object_of_own : (t : Option ExtendedType) (own : NameText) → object_name t ≡
 object_of_own (Some (Object d)) own e = refl
 object_of_own _ own e = absurd (let no : ⊥ = cc in no)
 
--- what passes a filter stood in the list
+-- what passes a filter was in the list
 stood : {X : Type 0} (test : X → Bool) (xs : List X) (x : X) → Contains (filter test xs) x → Contains xs x × (test x ≡ true)
 stood test xs x in' = (
   All-contains (Contains xs) (filter test xs) x (All-filter test (Contains xs) xs (All-contains_itself xs)) in',
   All-contains (λ y. test y ≡ true) (filter test xs) x (filter_passes test xs) in',
 )
 
--- a list in which something stands is listed
+-- a list that holds something is listed
 listed_alone : (group : List FieldSelection) (x : FieldSelection) → Contains group x → Contains (unless_empty group) group
 listed_alone [] x in' = absurd (none_stands x in')
 listed_alone (y ∷ ys) x in' = stands_first (y ∷ ys) []
 
--- what is listed is the list, and something stands in it
+-- what is listed is the list, and something is in it
 alone_listed : (list group : List FieldSelection) → Contains (unless_empty list) group → (list ≡ group) × (x : FieldSelection) × Contains list x
 alone_listed [] group in' = absurd (none_stands group in')
 alone_listed (y ∷ ys) group in' = (sym (only_one (y ∷ ys) group in'), y, stands_first y ys)

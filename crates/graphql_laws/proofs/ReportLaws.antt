@@ -5,9 +5,9 @@ use Rattle.std.specs.Borrow.{Bor}
 use Rattle.std.proofs.lemmas.Option.{same_Some}
 use Rattle.graphql_nodes.specs.Names.{NameText}
 use Rattle.graphql_documents.specs.Selections.{fragments_of}
-use Rattle.graphql_diagnostics.specs.FieldReports.{FieldBreaks}
+use Rattle.graphql_specification.specs.Fields.{FieldFormReport}
 use Rattle.graphql_documents.specs.Walks.{Walk, Descent, PassesDepth}
-use Rattle.graphql_diagnostics.specs.Limits.{DocumentLimit, fragment_nests, walk_of_variables, walk_of_root, walk_of_labels, walk_of_conditions, walk_of_fragments, merging_limit}
+use Rattle.graphql_specification.specs.Documents.{DocumentLimit, fragment_nests, walk_of_variables, walk_of_root, walk_of_labels, walk_of_conditions, walk_of_fragments, merging_limit}
 use Rattle.graphql_diagnostics.specs.declared.data.DiagnosticData.TheVariants as report
 use Rattle.graphql_diagnostics.specs.declared.details.Details.{Details}
 use Rattle.graphql_diagnostics.specs.declared.details.Details.TheVariants as details
@@ -22,11 +22,11 @@ use Rattle.graphql_documents.specs.declared.documents.schemas.Schema.{Schema}
 use Rattle.graphql_nodes.specs.declared.spans.SourceSpan.{SourceSpan}
 
 module _ (document : ExecutableDocument)
-    (shallow : (walk : Walk) (set : SelectionSet) (depth : ℕ) (entered : List NameText) →
-    Descent (fragments_of document) walk set depth entered → depth ≤ 500) where
+    (shallow : (walk : Walk) (set : SelectionSet) (depth : ℕ) (visited_fragments : List NameText) →
+    Descent (fragments_of document) walk set depth visited_fragments → depth ≤ 500) where
   no_descent_passes : (walk : Walk) (set : SelectionSet) → ¬ PassesDepth (fragments_of document) walk set
   no_descent_passes walk set p =
-      let within = shallow walk set p.depth p.entered p.descent in
+      let within = shallow walk set p.depth p.visited_fragments p.descent in
       let over = p.passes in
       let f : ⊥ = omega arith in f
 
@@ -42,13 +42,13 @@ module _ (document : ExecutableDocument)
 
 pub other_place : (schema : Option Schema) (place : Option NameText) (f : Node Field)
     (owner : TypeAttributeCoordinate) (output : NameText) (describe : Bor (List ℕ)) (at : Option SourceSpan) →
-    at ≢ f.location → ¬ FieldBreaks schema place f (report.MissingSubselection owner output describe) at
+    at ≢ f.location → ¬ FieldFormReport schema place f (report.MissingSubselection owner output describe) at
 other_place schema place f owner output describe at elsewhere broken = elsewhere broken.3.at_is
 
 pub other_coordinate : (schema : Option Schema) (parent : NameText) (f : Node Field)
     (name : NameText) (owner : SchemaCoordinate) (location at : Option SourceSpan) →
     owner ≢ coordinate.TypeAttribute (record { ty = parent; attribute = f.value.value.name }) →
-    ¬ FieldBreaks schema (Some parent) f (report.UndefinedArgument name owner location) at
+    ¬ FieldFormReport schema (Some parent) f (report.UndefinedArgument name owner location) at
 other_coordinate schema parent f name owner location at other broken =
     other (broken.3.coordinate_is ∙
     ap (λ ty. coordinate.TypeAttribute (record { ty = ty; attribute = f.value.value.name })) (sym (same_Some parent broken.0 broken.2.parent_is)))

@@ -6,10 +6,13 @@ use Rattle.std.proofs.lemmas.List.Elements.{All-contains, Contains-append_left}
 use Rattle.std.specs.Str.{bytes_eq}
 use Rattle.indexmap.specs.IndexMap.{get_by}
 use Rattle.graphql_nodes.specs.Names.{NameText, SameName, IsFreeName}
-use Rattle.graphql_documents.specs.Schemas.{type_definition, IsInputObject}
+use Rattle.graphql_documents.specs.Schemas.{type_definition, IsInputObject, as_input_object}
 use Rattle.graphql_documents.specs.Paths.{Path, path_of_one, path_of_more}
-use Rattle.graphql_documents.specs.SchemaReferences.{required_name, as_input_object, input_object_of, RequiresBy, InputObjectHasNoCycle, SchemaReference, by_directive, by_type, DirectiveHasNoCycle}
-use Rattle.graphql_documents.specs.SchemaRules.{TypeHolds, SchemaHolds, DirectiveDefinitionHolds}
+use Rattle.graphql_specification.specs.InputObjectCycles.{required_name, input_object_of, RequiresBy, InputObjectHasNoCycle}
+use Rattle.graphql_specification.specs.DirectiveCycles.{SchemaReference, by_directive, by_type, DirectiveHasNoCycle}
+use Rattle.graphql_specification.specs.Types.{TypeHolds}
+use Rattle.graphql_specification.specs.Schemas.{SchemaHolds}
+use Rattle.graphql_specification.specs.DirectiveDefinitions.{DirectiveDefinitionHolds}
 use Rattle.graphql_nodes.specs.declared.nodes.Node.{Node}
 use Rattle.graphql_documents.specs.declared.documents.components.Component.{Component}
 use Rattle.graphql_documents.specs.declared.documents.type_references.Type.{«Type»}

@@ -9,10 +9,10 @@ use Rattle.graphql_documents.specs.TypeReferences.{same_type}
 use Rattle.graphql_documents.specs.Schemas.{type_definition}
 use Rattle.graphql_documents.specs.Built.{IsBuilt}
 use Rattle.graphql_documents.specs.Contents.{SameField}
-use Rattle.graphql_documents.specs.Defer.{operations_of}
+use Rattle.graphql_documents.specs.Executables.{operations_of}
 use Rattle.graphql_documents.specs.Selections.{Fragments, fragments_of, response_key}
-use Rattle.graphql_documents.specs.Merging.{FieldSelection, FieldInside, HaveOneFormNamed, Merges, SameFields, set_of, type_of, SameKey, SameShape}
-use Rattle.graphql_documents.specs.Expansion.{Pass, shape_pass, field_pass, MergedSet, merged_operation, merged_below, nested_sets}
+use Rattle.graphql_specification.specs.Merging.{FieldSelection, FieldInExpandedSet, SameLeafOrBothCompositeNamed, FieldsCanMerge, SameFields, set_of, type_of, SameKey, SameResponseShape, Pass, shape_pass, field_pass}
+use Rattle.graphql_specification.specs.MergedSets.{MergedSet, merged_operation, merged_below, nested_sets, ExpansionIsSeen, HasSeen, Agree, ListPasses}
 use Rattle.graphql_nodes.specs.declared.nodes.Node.{Node}
 use Rattle.graphql_documents.specs.declared.documents.type_references.Type.{«Type»}
 use Rattle.graphql_documents.specs.declared.documents.type_references.Type.TheVariants.{Named, NonNullNamed, List', NonNullList'}
@@ -23,7 +23,6 @@ use Rattle.graphql_documents.specs.declared.documents.executables.SelectionSet.{
 use Rattle.graphql_nodes.proofs.NameLemmas.{same_text, same_name_back, same_name_then}
 use Rattle.graphql_documents.proofs.ListLemmas.{none_stands, only_one, stands_first, stands_behind, each_standing}
 use Rattle.graphql_documents.proofs.SelectionLemmas.{one_fragment_found}
-use Rattle.graphql_documents.specs.MergedFields.{ExpansionIsSeen, HasSeen, Agree, ListPasses}
 use Rattle.graphql_laws.proofs.MergingLaws.{same_shape_back}
 use Rattle.graphql_laws.proofs.FieldContentsLaws.{alike, same_field_then}
 use Rattle.graphql_laws.proofs.ExpandedListLaws.{lists_what_is_inside, below_lists_what_is_inside, nested_of_group}
@@ -36,11 +35,11 @@ one_type : (schema : Schema) (a b : NameText) → SameName a b → type_definiti
 one_type schema a b same = ap (λ (text : List ℕ). get_by (λ (key : NameText). bytes_eq text key.text) schema.types) (same_text a b same)
 
 -- a type that is another as written has the shapes of that
-named_alike : (schema : Schema) (a b c : NameText) → SameName a b → HaveOneFormNamed schema b c → HaveOneFormNamed schema a c
+named_alike : (schema : Schema) (a b c : NameText) → SameName a b → SameLeafOrBothCompositeNamed schema b c → SameLeafOrBothCompositeNamed schema a c
 named_alike schema a b c same form x y is_x is_y = form x y (sym (one_type schema a b same) ∙ is_x) is_y
 
 abbrev InShape : Schema → «Type» → «Type» → Type 0
-InShape schema a b = (c : «Type») → SameShape schema b c → SameShape schema a c
+InShape schema a b = (c : «Type») → SameResponseShape schema b c → SameResponseShape schema a c
 
 shape_alike : (schema : Schema) (a b : «Type») → IsTrue (same_type a b) → InShape schema a b
 shape_alike schema (Named a) (Named b) same = at_named where
@@ -103,7 +102,7 @@ module _ (schema : Schema) (fragments : Fragments) (respects : (a b : NameText) 
   agree_alike shape_pass x y u v first second agree =
       let a = (alike fragments respects x.field.value.value u.field.value.value first.1).ty in
       let b = (alike fragments respects y.field.value.value v.field.value.value second.1).ty in
-      let left : SameShape schema (type_of x) (type_of v) = shape_alike schema (type_of x) (type_of u) a (type_of v) agree in
+      let left : SameResponseShape schema (type_of x) (type_of v) = shape_alike schema (type_of x) (type_of u) a (type_of v) agree in
       same_shape_back schema (type_of y) (type_of x) (shape_alike schema (type_of y) (type_of v) b (type_of x) (same_shape_back schema (type_of x) (type_of v) left))
   agree_alike field_pass x y u v first second agree =
       let a = (alike fragments respects x.field.value.value u.field.value.value first.1).name_and_arguments in
@@ -138,7 +137,7 @@ module _ (schema : Schema) (fragments : Fragments) (respects : (a b : NameText) 
           second = content_then y v b.0 second b.2;
         }
 
-    seen_below : (u v x y : FieldSelection) → SeenBoth u v → SameKey u v → ParentsIn schema pass u v → FieldInside fragments (set_of u) x → FieldInside fragments (set_of v) y → SeenBoth x y
+    seen_below : (u v x y : FieldSelection) → SeenBoth u v → SameKey u v → ParentsIn schema pass u v → FieldInExpandedSet fragments (set_of u) x → FieldInExpandedSet fragments (set_of v) y → SeenBoth x y
     seen_below u v x y above key parents in_u in_v =
         let p = above.x' in
         let q = above.y' in
@@ -182,10 +181,10 @@ module _ (schema : Schema) (fragments : Fragments) (respects : (a b : NameText) 
 pub seen_lists_decide : (schema : Schema) (document : ExecutableDocument) → IsBuilt schema document →
     (operations : List (Node Operation)) → All (Contains (operations_of document)) operations → (shapes fields : List (List FieldSelection)) →
     HasSeen schema (fragments_of document) operations shape_pass shapes → HasSeen schema (fragments_of document) operations field_pass fields →
-    ((o : Node Operation) → Contains operations o → Merges schema (fragments_of document) o.value.value.selection_set) ↔
+    ((o : Node Operation) → Contains operations o → FieldsCanMerge schema (fragments_of document) o.value.value.selection_set) ↔
     (All (ListPasses schema shape_pass) shapes × All (ListPasses schema field_pass) fields)
 seen_lists_decide schema document built operations own shapes fields seen_shapes seen_fields = (all_pass, all_merge) where
-  all_pass : ((o : Node Operation) → Contains operations o → Merges schema (fragments_of document) o.value.value.selection_set) →
+  all_pass : ((o : Node Operation) → Contains operations o → FieldsCanMerge schema (fragments_of document) o.value.value.selection_set) →
       All (ListPasses schema shape_pass) shapes × All (ListPasses schema field_pass) fields
   all_pass merges =
       let agree = (document_merging_by_groups schema document built operations own).0 merges in (
@@ -196,7 +195,7 @@ seen_lists_decide schema document built operations own shapes fields seen_shapes
       )
 
   all_merge : All (ListPasses schema shape_pass) shapes × All (ListPasses schema field_pass) fields →
-      (o : Node Operation) → Contains operations o → Merges schema (fragments_of document) o.value.value.selection_set
+      (o : Node Operation) → Contains operations o → FieldsCanMerge schema (fragments_of document) o.value.value.selection_set
   all_merge passes =
       let fragments = fragments_of document in
       let respects = one_fragment_found document in

@@ -8,9 +8,8 @@ use Rattle.std.specs.Str.{bytes_eq}
 use lib.Pointwise.{pointwise}
 use Rattle.graphql_documents.proofs.ContentLemmas.{equality_of_fields}
 use Rattle.graphql_documents.specs.Contents.{SameField}
-use Rattle.graphql_documents.specs.Expansion.{ExpandsFrom, FragmentSets, IsGroup, MergedSet, Pass, as_field, expand_next, expanded, fields_standing, followed_by, group_by_key, group_by_object, group_of_abstract, into_inline_fragment, into_spread, is_abstract, is_object, is_object_named, merged_below, merged_operation, nested_sets, no_more, past_field, past_spread, with_key_of, with_parents}
-use Rattle.graphql_documents.specs.MergedFields.{HasSeen}
-use Rattle.graphql_documents.specs.Merging.{FieldSelection, SameFields, set_of}
+use Rattle.graphql_specification.specs.MergedSets.{ExpandsFrom, FragmentSets, IsGroup, MergedSet, as_field, expand_next, expanded, fields_standing, followed_by, group_by_key, group_by_object, group_of_abstract, into_inline_fragment, into_spread, is_abstract, is_object, is_object_named, merged_below, merged_operation, nested_sets, no_more, past_field, past_spread, with_key_of, with_parents, HasSeen}
+use Rattle.graphql_specification.specs.Merging.{Pass, FieldSelection, SameFields, set_of}
 use Rattle.graphql_nodes.specs.Names.{NameText, SameName, same_name}
 use Rattle.graphql_documents.specs.Schemas.{type_definition}
 use Rattle.graphql_documents.specs.Selections.{Fragments, fragments_of, response_key, selections_of}
@@ -29,7 +28,7 @@ use Rattle.graphql_nodes.proofs.NameLemmas.{same_text}
 use Rattle.graphql_documents.proofs.SelectionLemmas.{one_fragment_found}
 use Rattle.graphql_laws.specs.Equality.{field_equality}
 use Rattle.graphql_laws.proofs.FieldContentsLaws.{EqualOpen, Opened, equal_selections, equal_sets, field_sets, fields_alike, inline_sets, is_field, is_inline, is_spread, opened, same_fields_then, set_itself_equal, set_parts, spread_names}
-use Rattle.graphql_laws.proofs.MetNameLemmas.{met_alike}
+use Rattle.graphql_laws.proofs.VisitedNameLemmas.{visited_alike}
 use Rattle.graphql_laws.proofs.OneExpansionLaws.{one_expansion}
 use Rattle.graphql_laws.proofs.SchemaLaws.{one_type_found}
 use Rattle.graphql_laws.proofs.ValueContentsLaws.{both}
@@ -133,64 +132,64 @@ module _ (document : ExecutableDocument) where
   F = fragments_of document
 
   -- the sets of the fragments among selections that are equal
-  record FragmentsAlike (seen' : List NameText) (ys : List Selection) (sets : List SelectionSet) (met : List NameText) : Type 0 where
+  record FragmentsAlike (seen' : List NameText) (ys : List Selection) (sets : List SelectionSet) (visited : List NameText) : Type 0 where
     sets' : List SelectionSet
-    met' : List NameText
-    found : FragmentSets F seen' ys sets' met'
+    visited' : List NameText
+    found : FragmentSets F seen' ys sets' visited'
     alike : AllZip AlikeSets sets sets'
-    names : AlikeNames met met'
+    names : AlikeNames visited visited'
 
   followed : (d e : Option (Node Fragment)) → d ≡ e → (sets sets' : List SelectionSet) → AllZip AlikeSets sets sets' → AllZip AlikeSets (followed_by d sets) (followed_by e sets')
   followed None e is sets sets' z = subst (λ o. AllZip AlikeSets sets (followed_by o sets')) is z
   followed (Some d) e is sets sets' z = subst (λ o. AllZip AlikeSets (d.value.value.selection_set ∷ sets) (followed_by o sets')) is (set_itself_equal d.value.value.selection_set, z)
 
-  fragments_alike : {seen met : List NameText} {xs : List Selection} {sets : List SelectionSet} → FragmentSets F seen xs sets met →
-      (ys : List Selection) → IsTrue (pointwise equal_selections xs ys) → (seen' : List NameText) → AlikeNames seen seen' → FragmentsAlike seen' ys sets met
-  fragments_alike no_more [] h seen' names = record { sets' = []; met' = seen'; found = no_more; alike = tt; names = names }
+  fragments_alike : {seen visited : List NameText} {xs : List Selection} {sets : List SelectionSet} → FragmentSets F seen xs sets visited →
+      (ys : List Selection) → IsTrue (pointwise equal_selections xs ys) → (seen' : List NameText) → AlikeNames seen seen' → FragmentsAlike seen' ys sets visited
+  fragments_alike no_more [] h seen' names = record { sets' = []; visited' = seen'; found = no_more; alike = tt; names = names }
   fragments_alike no_more (y ∷ ys) h seen' names = absurd (let no : ⊥ = cc in no)
   fragments_alike (past_field f rest more) [] h seen' names = absurd (let no : ⊥ = cc in no)
-  fragments_alike {met = met} {sets = sets} (past_field f rest more) (y ∷ ys) h seen' names =
+  fragments_alike {visited = visited} {sets = sets} (past_field f rest more) (y ∷ ys) h seen' names =
       let parts = both (equal_selections (kind.Field f) y) (pointwise equal_selections rest ys) h in
       let g = is_field f y parts.0 in
       let r = fragments_alike more ys parts.1 seen' names in
-      subst (λ s. FragmentsAlike seen' (s ∷ ys) sets met) (sym g.1)
-      (record { sets' = r.sets'; met' = r.met'; found = past_field g.0 ys r.found; alike = r.alike; names = r.names })
+      subst (λ s. FragmentsAlike seen' (s ∷ ys) sets visited) (sym g.1)
+      (record { sets' = r.sets'; visited' = r.visited'; found = past_field g.0 ys r.found; alike = r.alike; names = r.names })
   fragments_alike (into_inline_fragment i rest more) [] h seen' names = absurd (let no : ⊥ = cc in no)
-  fragments_alike {met = met} (into_inline_fragment {sets = sets} i rest more) (y ∷ ys) h seen' names =
+  fragments_alike {visited = visited} (into_inline_fragment {sets = sets} i rest more) (y ∷ ys) h seen' names =
       let parts = both (equal_selections (kind.InlineFragment i) y) (pointwise equal_selections rest ys) h in
       let j = is_inline i y parts.0 in
       let r = fragments_alike more ys parts.1 seen' names in
-      subst (λ s. FragmentsAlike seen' (s ∷ ys) (i.value.value.selection_set ∷ sets) met) (sym j.1)
+      subst (λ s. FragmentsAlike seen' (s ∷ ys) (i.value.value.selection_set ∷ sets) visited) (sym j.1)
       (record {
         sets' = j.0.value.value.selection_set ∷ r.sets';
-        met' = r.met';
+        visited' = r.visited';
         found = into_inline_fragment j.0 ys r.found;
         alike = (inline_sets i.value.value j.0.value.value j.2, r.alike);
         names = r.names;
       })
   fragments_alike (past_spread p rest there more) [] h seen' names = absurd (let no : ⊥ = cc in no)
-  fragments_alike {met = met} {sets = sets} (past_spread {seen = seen} p rest there more) (y ∷ ys) h seen' names =
+  fragments_alike {visited = visited} {sets = sets} (past_spread {seen = seen} p rest there more) (y ∷ ys) h seen' names =
       let parts = both (equal_selections (kind.FragmentSpread p) y) (pointwise equal_selections rest ys) h in
       let q = is_spread p y parts.0 in
       let r = fragments_alike more ys parts.1 seen' names in
       let a = p.value.value.fragment_name in
       let b = q.0.value.value.fragment_name in
-      let met_b : IsTrue (list_any (same_name b) seen') = sym (names b) ∙ sym (met_alike a b (spread_names p.value.value q.0.value.value q.2) seen) ∙ there in
-      subst (λ s. FragmentsAlike seen' (s ∷ ys) sets met) (sym q.1)
-      (record { sets' = r.sets'; met' = r.met'; found = past_spread q.0 ys met_b r.found; alike = r.alike; names = r.names })
+      let visited_b : IsTrue (list_any (same_name b) seen') = sym (names b) ∙ sym (visited_alike a b (spread_names p.value.value q.0.value.value q.2) seen) ∙ there in
+      subst (λ s. FragmentsAlike seen' (s ∷ ys) sets visited) (sym q.1)
+      (record { sets' = r.sets'; visited' = r.visited'; found = past_spread q.0 ys visited_b r.found; alike = r.alike; names = r.names })
   fragments_alike (into_spread p rest new more) [] h seen' names = absurd (let no : ⊥ = cc in no)
-  fragments_alike {met = met} (into_spread {seen = seen} {sets = sets} p rest new more) (y ∷ ys) h seen' names =
+  fragments_alike {visited = visited} (into_spread {seen = seen} {sets = sets} p rest new more) (y ∷ ys) h seen' names =
       let parts = both (equal_selections (kind.FragmentSpread p) y) (pointwise equal_selections rest ys) h in
       let q = is_spread p y parts.0 in
       let a = p.value.value.fragment_name in
       let b = q.0.value.value.fragment_name in
       let same = spread_names p.value.value q.0.value.value q.2 in
       let r = fragments_alike more ys parts.1 (b ∷ seen') (λ k. ap (λ v. v || list_any (same_name k) seen) (same_before k a b same) ∙ ap (λ v. same_name k b || v) (names k)) in
-      let new_b : IsFalse (list_any (same_name b) seen') = sym (names b) ∙ sym (met_alike a b same seen) ∙ new in
-      subst (λ s. FragmentsAlike seen' (s ∷ ys) (followed_by (F a) sets) met) (sym q.1)
+      let new_b : IsFalse (list_any (same_name b) seen') = sym (names b) ∙ sym (visited_alike a b same seen) ∙ new in
+      subst (λ s. FragmentsAlike seen' (s ∷ ys) (followed_by (F a) sets) visited) (sym q.1)
       (record {
         sets' = followed_by (F b) r.sets';
-        met' = r.met';
+        visited' = r.visited';
         found = into_spread q.0 ys new_b r.found;
         alike = followed (F a) (F b) (one_fragment_found document a b same) sets r.sets' r.alike;
         names = r.names;
@@ -210,7 +209,7 @@ module _ (document : ExecutableDocument) where
   expands_alike (expand_next {set = set} {queue = queue} {more = more} {fields = fields} first further) (q ∷ qs) z seen' names =
       let parts = set_parts set q z.0 in
       let f = fragments_alike first (selections_of q) parts.1 seen' names in
-      let r = expands_alike further (qs ++ f.sets') (zip_append AlikeSets queue more qs f.sets' z.1 f.alike) f.met' f.names in
+      let r = expands_alike further (qs ++ f.sets') (zip_append AlikeSets queue more qs f.sets' z.1 f.alike) f.visited' f.names in
       record {
         fields' = fields_standing q ++ r.fields';
         found = expand_next f.found r.found;

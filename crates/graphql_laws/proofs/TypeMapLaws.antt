@@ -5,7 +5,7 @@ use Rattle.std.specs.List.{AllZip}
 use Rattle.std.proofs.lemmas.List.Elements.{All-contains, filter_passes}
 use Rattle.graphql_nodes.specs.Names.{NameText}
 use Rattle.graphql_documents.specs.Schemas.{is_built_in}
-use Rattle.graphql_documents.specs.TypeMaps.{built_in_scalar_names, names_built_in_scalar, uses_type, has_type, is_unused_built_in, kept_types, missing_scalars, IsAddedScalar, IsSettled}
+use Rattle.graphql_specification.specs.BuiltInScalars.{built_in_scalar_names, names_built_in_scalar, uses_type, has_type, is_unused_built_in, kept_types, missing_scalars, IsAddedScalar, RetainsUsedBuiltInScalars}
 use Rattle.graphql_documents.specs.declared.documents.schemas.Schema.{Schema}
 use Rattle.graphql_documents.specs.declared.documents.schemas.ExtendedType.{ExtendedType}
 use Rattle.graphql_documents.proofs.ListLemmas.{kept_by_filter, all_pass, each_standing}
@@ -49,10 +49,10 @@ none_added R [] [] e all = refl
 none_added R [] (y ∷ ys) e all = absurd all
 none_added R (x ∷ xs) added e all = absurd (let no : ⊥ = cc in no)
 
-pub settled_stays : (schema : Schema) (settled : List Entry) →
+pub retained_stays : (schema : Schema) (retained : List Entry) →
     ((entry : Entry) → Contains schema.types.entries entry → IsFalse (is_unused_built_in schema entry)) →
-    missing_scalars schema ≡ [] → IsSettled schema settled → settled ≡ schema.types.entries
-settled_stays schema settled all_used none_missing (added, is, each) =
+    missing_scalars schema ≡ [] → RetainsUsedBuiltInScalars schema retained → retained ≡ schema.types.entries
+retained_stays schema retained all_used none_missing (added, is, each) =
     let none : added ≡ [] = none_added IsAddedScalar (missing_scalars schema) added none_missing each in
     let kept : kept_types schema ≡ schema.types.entries =
     all_pass (λ entry. not (is_unused_built_in schema entry)) schema.types.entries

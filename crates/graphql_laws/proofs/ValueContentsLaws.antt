@@ -11,7 +11,7 @@ use lib.Pointwise.{pointwise, pointwise_long}
 use mathlib.Core.Bool.{beq}
 use Rattle.graphql_nodes.specs.Names.{NameText, SameName, same_name}
 use Rattle.graphql_documents.specs.Values.{SameValue, entry_named}
-use Rattle.graphql_documents.specs.Merging.{SameArguments}
+use Rattle.graphql_specification.specs.Merging.{SameArguments}
 use Rattle.graphql_documents.specs.contracts.documents.directives.ArgumentPartialEq.TheImpl as argument_impl
 use Rattle.graphql_documents.specs.contracts.documents.values.Value as value_type
 use Rattle.graphql_documents.specs.contracts.documents.values.ValuePartialEq.TheImpl.Laws as value_laws

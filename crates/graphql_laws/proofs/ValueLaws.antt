@@ -5,15 +5,15 @@ use Rattle.std.specs.declared.alloc.Global.{Global}
 use Rattle.graphql_nodes.specs.Names.{NameText, SameName, same_name}
 use Rattle.graphql_documents.specs.Values.{SameValue, same_null, same_enum, same_variable, same_string, same_float, same_int, same_boolean, same_list, same_object, entry_named}
 use Rattle.graphql_documents.specs.Schemas.{type_definition}
-use Rattle.graphql_documents.specs.InputCoercion.{Accepts, AcceptsLeaf, accepts_undefined, accepts_null, accepts_variable, accepts_leaf, accepts_list, accepts_custom_object, accepts_object}
+use Rattle.graphql_specification.specs.Values.{Accepts, AcceptsLeaf, accepts_undefined, accepts_null, accepts_variable, accepts_leaf, accepts_list, accepts_custom_object, accepts_object}
 use Rattle.graphql_documents.specs.declared.documents.schemas.ExtendedType.{ExtendedType}
 use Rattle.graphql_documents.specs.declared.documents.schemas.Schema.{Schema}
 use Rattle.graphql_documents.specs.declared.documents.type_references.Type.{«Type»}
 use Rattle.graphql_documents.specs.TypeReferences.{inner_named_type, is_non_null, is_assignable, nullable}
-use Rattle.graphql_documents.specs.VariableUsage.{IsUsageAllowed, HasNonNullDefault, needs_default}
+use Rattle.graphql_specification.specs.VariableUsages.{IsUsageAllowed, HasNonNullDefault, needs_default}
 use Rattle.graphql_documents.specs.declared.documents.directives.Argument.{Argument}
-use Rattle.graphql_documents.specs.Arguments.{argument_named}
-use Rattle.graphql_documents.specs.Merging.{SameArguments}
+use Rattle.graphql_documents.specs.Directives.{argument_named}
+use Rattle.graphql_specification.specs.Merging.{SameArguments}
 use Rattle.graphql_nodes.specs.declared.nodes.Node.{Node}
 use Rattle.graphql_documents.specs.declared.documents.definitions.InputValueDefinition.{InputValueDefinition}
 use Rattle.graphql_documents.specs.declared.documents.definitions.VariableDefinition.{VariableDefinition}

@@ -7,8 +7,8 @@ use Rattle.std.proofs.lemmas.List.Elements.{All-nil, All-cons, All-head, All-tai
 use Rattle.std.proofs.lemmas.List.Folds.{Any-from_list_any}
 use Rattle.graphql_nodes.specs.Names.{NameText, SameName, same_name, with_name}
 use Rattle.graphql_documents.specs.Selections.{Fragments}
-use Rattle.graphql_diagnostics.specs.VariableReports.{AreUnusedReports, AreUsesReports, are_unused, defined_names, is_bound, no_name, unused_name, used_name}
-use Rattle.graphql_documents.specs.Variables.{UsesVariable, VariablesAreUsed}
+use Rattle.graphql_specification.specs.Variables.{AreUnusedReports, AreUsesReports, are_unused, defined_names, is_bound, no_name, unused_name, used_name, VariablesAreUsed}
+use Rattle.graphql_documents.specs.VariableUses.{UsesVariable}
 use Rattle.graphql_diagnostics.specs.declared.lists.DiagnosticEntry.{DiagnosticEntry}
 use Rattle.graphql_documents.specs.declared.documents.definitions.VariableDefinition.{VariableDefinition}
 use Rattle.graphql_documents.specs.declared.documents.executables.Operation.{Operation}

@@ -1,9 +1,9 @@
-//! Laws of `==` at values, definitions of fields and fields: that it compares contents, wherever these stand.
+//! Laws of `==` at values, definitions of fields and fields: that it compares contents, wherever these are.
 
 ghost use Rattle.std.specs.Prelude.{◌↔◌, IsTrue, List};
 ghost use Rattle.graphql_documents.specs.Contents.{SameField, SameFieldDefinition};
-ghost use Rattle.graphql_documents.specs.MergedFields.{AreAlike};
-ghost use Rattle.graphql_documents.specs.Merging.{FieldSelection, SameFields};
+ghost use Rattle.graphql_specification.specs.MergedSets.{AreAlike};
+ghost use Rattle.graphql_specification.specs.Merging.{FieldSelection, SameFields};
 ghost use Rattle.graphql_documents.specs.Selections.{fragments_of};
 ghost use Rattle.graphql_documents.specs.Values.{IsCopy, SameValue};
 ghost use Rattle.graphql_documents.specs.declared.documents.definitions.FieldDefinition.{FieldDefinition};

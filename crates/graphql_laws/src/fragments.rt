@@ -3,14 +3,14 @@
 ghost use Rattle.std.specs.Prelude.{◌≡◌, List, Some};
 ghost use Rattle.graphql_nodes.specs.Names.{NameText, SameName, DifferentNames};
 ghost use Rattle.graphql_documents.specs.Selections.{Fragments, Written, fragments_of};
-ghost use Rattle.graphql_documents.specs.FragmentSpreads.{IsFragmentCycle, FragmentHasNoCycle};
+ghost use Rattle.graphql_specification.specs.Fragments.{IsFragmentCycle, FragmentHasNoCycle};
 ghost use Rattle.graphql_documents.specs.declared.documents.executables.ExecutableDocument.{ExecutableDocument};
 ghost use Rattle.graphql_documents.specs.declared.documents.executables.Fragment.{Fragment};
 ghost use Rattle.graphql_documents.specs.declared.documents.executables.FragmentSpread.{FragmentSpread};
 ghost use Rattle.graphql_documents.specs.declared.documents.executables.Selection.TheVariants as kind;
 ghost use Rattle.graphql_nodes.specs.declared.nodes.Node.{Node};
 
-/// A fragment that spreads itself has a cycle, also where the spread stands below a field.
+/// A fragment that spreads itself has a cycle, also where the spread is below a field.
 ///
 /// Specification: 5.5.2.2 Fragment Spreads Must Not Form Cycles.
 pub fn fragment_that_spreads_itself_has_a_cycle()
@@ -44,7 +44,7 @@ pub fn fragment_without_spreads_has_no_cycle()
         FragmentHasNoCycle fragments d }
 {}
 
-/// Names of one text find one fragment in a document, wherever they stand.
+/// Names of one text find one fragment in a document, wherever they are.
 ///
 /// Specification: 5.5.2.1 Fragment Spread Target Defined.
 pub fn names_of_one_text_find_one_fragment()

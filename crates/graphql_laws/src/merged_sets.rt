@@ -6,10 +6,9 @@ ghost use Rattle.graphql_documents.specs.TypeReferences.{inner_named_type};
 ghost use Rattle.graphql_documents.specs.Selections.{Fragments, fragments_of, selections_of};
 ghost use Rattle.graphql_documents.specs.Built.{IsBuilt};
 ghost use Rattle.graphql_documents.specs.Schemas.{NamesKind, is_output_type};
-ghost use Rattle.graphql_documents.specs.Defer.{operations_of};
-ghost use Rattle.graphql_diagnostics.specs.Limits.{MergingDescent};
-ghost use Rattle.graphql_documents.specs.Merging.{FieldSelection, FieldInside, Chain, SameKey, ParentsMayOverlap, set_of, type_of, SameShape, SameNameAndArguments, Together, OverlapThroughout, Merges};
-ghost use Rattle.graphql_documents.specs.Expansion.{Expansion, Pass, IsGroup, shape_pass, field_pass, nested_sets, MergedSet};
+ghost use Rattle.graphql_documents.specs.Executables.{operations_of};
+ghost use Rattle.graphql_specification.specs.MergedSets.{MergingDescent, Expansion, IsGroup, nested_sets, MergedSet};
+ghost use Rattle.graphql_specification.specs.Merging.{FieldSelection, FieldInExpandedSet, Chain, SameKey, ParentsMayOverlap, set_of, type_of, SameResponseShape, SameNameAndArguments, HaveSameResponsePath, OverlapThroughout, FieldsCanMerge, Pass, shape_pass, field_pass};
 ghost use Rattle.graphql_documents.specs.declared.documents.executables.ExecutableDocument.{ExecutableDocument};
 ghost use Rattle.graphql_documents.specs.declared.documents.executables.Operation.{Operation};
 ghost use Rattle.graphql_documents.specs.declared.documents.executables.SelectionSet.{SelectionSet};
@@ -23,7 +22,7 @@ ghost use Rattle.graphql_documents.specs.declared.documents.schemas.Schema.{Sche
 pub fn expansion_of_sets_lists_what_is_inside_one_of_them()
     ensures { (fragments : Fragments) → ((a b : NameText) → SameName a b → fragments a ≡ fragments b) →
         (sets : List SelectionSet) (fields : List FieldSelection) → Expansion fragments sets fields → (x : FieldSelection) →
-        Contains fields x ↔ ((set : SelectionSet) × Contains sets set × FieldInside fragments set x) }
+        Contains fields x ↔ ((set : SelectionSet) × Contains sets set × FieldInExpandedSet fragments set x) }
 {}
 
 /// Each list of sets has an expansion.
@@ -49,7 +48,7 @@ pub fn no_list_of_sets_has_another_expansion()
 pub fn list_below_a_group_has_what_is_inside_the_sets_of_its_fields()
     ensures { (fragments : Fragments) → ((a b : NameText) → SameName a b → fragments a ≡ fragments b) →
         (group below : List FieldSelection) → Expansion fragments (nested_sets group) below → (x : FieldSelection) →
-        Contains below x ↔ ((outer : FieldSelection) × Contains group outer × FieldInside fragments (set_of outer) x) }
+        Contains below x ↔ ((outer : FieldSelection) × Contains group outer × FieldInExpandedSet fragments (set_of outer) x) }
 {}
 
 /// Two fields are put together for their shapes exactly where both are in the list and have one key.
@@ -80,7 +79,7 @@ pub fn fields_of_a_merged_list_come_together()
         (operations : List (Node Operation)) (fields : List FieldSelection) (x y : FieldSelection) →
         MergedSet schema fragments operations shape_pass fields → Contains fields x → Contains fields y → SameKey x y →
         (o : Node Operation) × (xs : List FieldSelection) × (ys : List FieldSelection) × Contains operations o ×
-        Together fragments o.value.value.selection_set xs ys x y }
+        HaveSameResponsePath fragments o.value.value.selection_set xs ys x y }
 {}
 
 /// Two fields of a list that is merged for names and arguments come together in an operation where the
@@ -94,7 +93,7 @@ pub fn fields_of_a_merged_list_whose_parents_may_overlap_come_together()
         MergedSet schema fragments operations field_pass fields → Contains fields x → Contains fields y → SameKey x y →
         ParentsMayOverlap schema x y →
         (o : Node Operation) × (xs : List FieldSelection) × (ys : List FieldSelection) × Contains operations o ×
-        Together fragments o.value.value.selection_set xs ys x y × OverlapThroughout schema xs ys x y }
+        HaveSameResponsePath fragments o.value.value.selection_set xs ys x y × OverlapThroughout schema xs ys x y }
 {}
 
 /// Operations merge exactly where the fields of each merged list agree: two with one key have one shape, and
@@ -103,10 +102,10 @@ pub fn fields_of_a_merged_list_whose_parents_may_overlap_come_together()
 /// Specification: 5.3.2 Field Selection Merging.
 pub fn operations_merge_where_the_fields_of_merged_lists_agree()
     ensures { (schema : Schema) (document : ExecutableDocument) (operations : List (Node Operation)) →
-        ((o : Node Operation) → Contains operations o → Merges schema (fragments_of document) o.value.value.selection_set) ↔
+        ((o : Node Operation) → Contains operations o → FieldsCanMerge schema (fragments_of document) o.value.value.selection_set) ↔
         (((fields : List FieldSelection) → MergedSet schema (fragments_of document) operations shape_pass fields →
         (x y : FieldSelection) → Contains fields x → Contains fields y → SameKey x y →
-        SameShape schema (type_of x) (type_of y)) ×
+        SameResponseShape schema (type_of x) (type_of y)) ×
         ((fields : List FieldSelection) → MergedSet schema (fragments_of document) operations field_pass fields →
         (x y : FieldSelection) → Contains fields x → Contains fields y → SameKey x y → ParentsMayOverlap schema x y →
         SameNameAndArguments x.field.value.value y.field.value.value)) }
@@ -121,9 +120,9 @@ pub fn first_of_each_group_decides_shapes()
         ((x : FieldSelection) → Contains fields x → NamesKind schema is_output_type (inner_named_type (type_of x))) →
         ((group : List FieldSelection) (first : FieldSelection) (rest : List FieldSelection) →
         IsGroup schema fields shape_pass group → group ≡ first ∷ rest →
-        All (λ z. SameShape schema (type_of first) (type_of z)) rest) ↔
+        All (λ z. SameResponseShape schema (type_of first) (type_of z)) rest) ↔
         ((x y : FieldSelection) → Contains fields x → Contains fields y → SameKey x y →
-        SameShape schema (type_of x) (type_of y)) }
+        SameResponseShape schema (type_of x) (type_of y)) }
 {}
 
 /// The fields of a list with one key whose parents may overlap are one field with the same arguments
@@ -146,11 +145,11 @@ pub fn first_of_each_group_decides_names_and_arguments()
 pub fn operations_merge_where_the_first_of_each_group_agrees_with_the_rest()
     ensures { (schema : Schema) (document : ExecutableDocument) → IsBuilt schema document →
         (operations : List (Node Operation)) → All (Contains (operations_of document)) operations →
-        ((o : Node Operation) → Contains operations o → Merges schema (fragments_of document) o.value.value.selection_set) ↔
+        ((o : Node Operation) → Contains operations o → FieldsCanMerge schema (fragments_of document) o.value.value.selection_set) ↔
         (((fields group : List FieldSelection) (first : FieldSelection) (rest : List FieldSelection) →
         MergedSet schema (fragments_of document) operations shape_pass fields →
         IsGroup schema fields shape_pass group → group ≡ first ∷ rest →
-        All (λ z. SameShape schema (type_of first) (type_of z)) rest) ×
+        All (λ z. SameResponseShape schema (type_of first) (type_of z)) rest) ×
         ((fields group : List FieldSelection) (first : FieldSelection) (rest : List FieldSelection) →
         MergedSet schema (fragments_of document) operations field_pass fields →
         IsGroup schema fields field_pass group → group ≡ first ∷ rest →

@@ -5,8 +5,8 @@ ghost use Rattle.graphql_nodes.specs.Names.{SameName, DifferentNames};
 ghost use Rattle.graphql_documents.specs.TypeReferences.{inner_named_type};
 ghost use Rattle.graphql_documents.specs.Schemas.{type_definition, is_output_type};
 ghost use Rattle.graphql_documents.specs.Selections.{Fragments, selections_of, response_key, Includes};
-ghost use Rattle.graphql_documents.specs.MergedFields.{MeetingFieldsAgree};
-ghost use Rattle.graphql_documents.specs.Merging.{FieldSelection, FieldInside, set_of, type_of, SameKey, SameShape, SameNameAndArguments, ParentsMayOverlap, OverlapThroughout, Merges};
+ghost use Rattle.graphql_specification.specs.MergedSets.{MeetingFieldsAgree};
+ghost use Rattle.graphql_specification.specs.Merging.{FieldSelection, FieldInExpandedSet, set_of, type_of, SameKey, SameResponseShape, SameNameAndArguments, ParentsMayOverlap, OverlapThroughout, FieldsCanMerge};
 ghost use Rattle.graphql_documents.specs.declared.documents.executables.Field.{Field};
 ghost use Rattle.graphql_documents.specs.declared.documents.executables.Fragment.{Fragment};
 ghost use Rattle.graphql_documents.specs.declared.documents.executables.FragmentSpread.{FragmentSpread};
@@ -29,7 +29,7 @@ pub fn different_fields_under_one_key_do_not_merge()
         Contains (selections_of set) (kind.Field a) → Contains (selections_of set) (kind.Field b) →
         SameName (response_key a.value.value) (response_key b.value.value) →
         DifferentNames a.value.value.name b.value.value.name →
-        ¬ Merges schema fragments set }
+        ¬ FieldsCanMerge schema fragments set }
 {}
 
 /// The same holds below two fields with one key.
@@ -46,7 +46,7 @@ pub fn different_fields_below_one_key_do_not_merge()
         SameName (response_key p.value.value) (response_key q.value.value) →
         SameName (response_key a.value.value) (response_key b.value.value) →
         DifferentNames a.value.value.name b.value.value.name →
-        ¬ Merges schema fragments set }
+        ¬ FieldsCanMerge schema fragments set }
 {}
 
 /// Fields on two object types with different names never come together, whatever leads to them, so they
@@ -65,7 +65,7 @@ pub fn fields_of_different_objects_need_not_be_one_field()
 /// Specification: 5.3.2 Field Selection Merging, "including visiting fragments and inline fragments".
 pub fn sets_of_fragments_merge_with_the_set()
     ensures { (schema : Schema) (fragments : Fragments) (set inner : SelectionSet) →
-        Includes fragments set inner → Merges schema fragments set → Merges schema fragments inner }
+        Includes fragments set inner → FieldsCanMerge schema fragments set → FieldsCanMerge schema fragments inner }
 {}
 
 /// Two fields in a fragment that spreads itself do not merge where it is spread, if they have one key and
@@ -82,14 +82,14 @@ pub fn cyclic_fragment_with_different_fields_does_not_merge()
         Contains (selections_of d.value.value.selection_set) (kind.Field b) →
         SameName (response_key a.value.value) (response_key b.value.value) →
         DifferentNames a.value.value.name b.value.value.name →
-        ¬ Merges schema fragments set }
+        ¬ FieldsCanMerge schema fragments set }
 {}
 
 /// Where a type has the shape of another, that has its shape.
 ///
 /// Specification: 5.3.2 Field Selection Merging, SameResponseShape.
 pub fn sameness_of_shapes_goes_both_ways()
-    ensures { (schema : Schema) (a b : «Type») → SameShape schema a b → SameShape schema b a }
+    ensures { (schema : Schema) (a b : «Type») → SameResponseShape schema a b → SameResponseShape schema b a }
 {}
 
 /// Where a type has the shape of a second, and this that of a third, the first has the shape of the
@@ -99,7 +99,7 @@ pub fn sameness_of_shapes_goes_both_ways()
 pub fn sameness_of_shapes_goes_on()
     ensures { (schema : Schema) (a b c : «Type») (d : ExtendedType) →
         type_definition schema (inner_named_type b) ≡ Some d →
-        SameShape schema a b → SameShape schema b c → SameShape schema a c }
+        SameResponseShape schema a b → SameResponseShape schema b c → SameResponseShape schema a c }
 {}
 
 /// A type has its own shape, if what it names is an output type or not defined.
@@ -108,7 +108,7 @@ pub fn sameness_of_shapes_goes_on()
 pub fn output_type_has_its_own_shape()
     ensures { (schema : Schema) (ty : «Type») →
         ((d : ExtendedType) → type_definition schema (inner_named_type ty) ≡ Some d → IsTrue (is_output_type d)) →
-        SameShape schema ty ty }
+        SameResponseShape schema ty ty }
 {}
 
 /// A set of leaf fields merges where its fields agree: two with one key have one shape, and are one field
@@ -117,12 +117,12 @@ pub fn output_type_has_its_own_shape()
 /// Specification: 5.3.2 Field Selection Merging.
 pub fn leaf_fields_that_agree_merge()
     ensures { (schema : Schema) (fragments : Fragments) (set : SelectionSet) →
-        ((x : FieldSelection) → FieldInside fragments set x → selections_of (set_of x) ≡ []) →
-        ((x y : FieldSelection) → FieldInside fragments set x → FieldInside fragments set y → SameKey x y →
-        SameShape schema (type_of x) (type_of y)) →
-        ((x y : FieldSelection) → FieldInside fragments set x → FieldInside fragments set y → SameKey x y →
+        ((x : FieldSelection) → FieldInExpandedSet fragments set x → selections_of (set_of x) ≡ []) →
+        ((x y : FieldSelection) → FieldInExpandedSet fragments set x → FieldInExpandedSet fragments set y → SameKey x y →
+        SameResponseShape schema (type_of x) (type_of y)) →
+        ((x y : FieldSelection) → FieldInExpandedSet fragments set x → FieldInExpandedSet fragments set y → SameKey x y →
         ParentsMayOverlap schema x y → SameNameAndArguments x.field.value.value y.field.value.value) →
-        Merges schema fragments set }
+        FieldsCanMerge schema fragments set }
 {}
 
 /// Where a set merges, so do the sets of two of its fields with one key, put together, if the parents of
@@ -131,11 +131,11 @@ pub fn leaf_fields_that_agree_merge()
 /// Specification: 5.3.2 Field Selection Merging, FieldsInSetCanMerge of the merged set.
 pub fn sets_of_fields_with_one_key_merge_together()
     ensures { (schema : Schema) (fragments : Fragments) (set : SelectionSet) (x y : FieldSelection) →
-        FieldInside fragments set x → FieldInside fragments set y → SameKey x y → ParentsMayOverlap schema x y →
+        FieldInExpandedSet fragments set x → FieldInExpandedSet fragments set y → SameKey x y → ParentsMayOverlap schema x y →
         (together : SelectionSet) (i j : Node InlineFragment) →
         selections_of together ≡ kind.InlineFragment i ∷ (kind.InlineFragment j ∷ []) →
         i.value.value.selection_set ≡ set_of x → j.value.value.selection_set ≡ set_of y →
-        Merges schema fragments set → Merges schema fragments together }
+        FieldsCanMerge schema fragments set → FieldsCanMerge schema fragments together }
 {}
 
 /// A set merges exactly where all fields that meet in it agree: to follow two chains from the set and to go down from
@@ -144,5 +144,5 @@ pub fn sets_of_fields_with_one_key_merge_together()
 /// Specification: 5.3.2 Field Selection Merging, FieldsInSetCanMerge.
 pub fn set_merges_where_meeting_fields_agree()
     ensures { (schema : Schema) (fragments : Fragments) (set : SelectionSet) →
-        Merges schema fragments set ↔ MeetingFieldsAgree schema fragments set }
+        FieldsCanMerge schema fragments set ↔ MeetingFieldsAgree schema fragments set }
 {}

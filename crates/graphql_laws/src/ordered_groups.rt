@@ -1,9 +1,8 @@
 //! Laws of the groups of a list of fields, in order.
 
 ghost use Rattle.std.specs.Prelude.{◌≡◌, ◌↔◌, ◌-◌, List, Contains, length, sum_by};
-ghost use Rattle.graphql_documents.specs.Expansion.{Pass, IsGroup, shape_pass};
-ghost use Rattle.graphql_diagnostics.specs.MergedGroups.{comparisons_of, groups_of};
-ghost use Rattle.graphql_documents.specs.Merging.{FieldSelection};
+ghost use Rattle.graphql_specification.specs.Merging.{Pass, shape_pass, FieldSelection};
+ghost use Rattle.graphql_specification.specs.MergedSets.{IsGroup, comparisons_of, groups_of};
 ghost use Rattle.graphql_documents.specs.declared.documents.schemas.Schema.{Schema};
 
 /// The groups of a list in order are just the groups in which its fields are put together, in both passes.

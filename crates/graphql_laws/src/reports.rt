@@ -4,8 +4,8 @@ ghost use Rattle.std.specs.Prelude.{◌≢◌, ℕ, ◌≤◌, List, Option, Non
 ghost use Rattle.std.specs.Borrow.{Bor};
 ghost use Rattle.graphql_nodes.specs.Names.{NameText};
 ghost use Rattle.graphql_documents.specs.Selections.{fragments_of};
-ghost use Rattle.graphql_diagnostics.specs.FieldReports.{FieldBreaks};
-ghost use Rattle.graphql_diagnostics.specs.Limits.{DocumentLimit};
+ghost use Rattle.graphql_specification.specs.Fields.{FieldFormReport};
+ghost use Rattle.graphql_specification.specs.Documents.{DocumentLimit};
 ghost use Rattle.graphql_documents.specs.Walks.{Descent, Walk};
 ghost use Rattle.graphql_diagnostics.specs.declared.data.DiagnosticData.TheVariants as report;
 ghost use Rattle.graphql_diagnostics.specs.declared.details.Details.TheVariants as details;
@@ -22,8 +22,8 @@ ghost use Rattle.graphql_nodes.specs.declared.spans.SourceSpan.{SourceSpan};
 /// Where no descent in a document passes 500 sets, no report of a limit of its walks is true.
 pub fn limit_of_a_shallow_document_is_not_true()
     ensures { (schema : Option Schema) (document : ExecutableDocument) →
-        ((walk : Walk) (set : SelectionSet) (depth : ℕ) (entered : List NameText) →
-        Descent (fragments_of document) walk set depth entered → depth ≤ 500) →
+        ((walk : Walk) (set : SelectionSet) (depth : ℕ) (visited_fragments : List NameText) →
+        Descent (fragments_of document) walk set depth visited_fragments → depth ≤ 500) →
         ¬ DocumentLimit schema document (details.Diagnostic report.RecursionError) None }
 {}
 
@@ -33,7 +33,7 @@ pub fn limit_of_a_shallow_document_is_not_true()
 pub fn report_at_another_place_is_not_true()
     ensures { (schema : Option Schema) (place : Option NameText) (f : Node Field)
         (owner : TypeAttributeCoordinate) (output : NameText) (describe : Bor (List ℕ)) (at : Option SourceSpan) →
-        at ≢ f.location → ¬ FieldBreaks schema place f (report.MissingSubselection owner output describe) at }
+        at ≢ f.location → ¬ FieldFormReport schema place f (report.MissingSubselection owner output describe) at }
 {}
 
 /// An argument is reported as unknown to its field on the type of the place, and to no other.
@@ -43,5 +43,5 @@ pub fn report_of_another_coordinate_is_not_true()
     ensures { (schema : Option Schema) (parent : NameText) (f : Node Field)
         (name : NameText) (owner : SchemaCoordinate) (location at : Option SourceSpan) →
         owner ≢ coordinate.TypeAttribute (record { ty = parent; attribute = f.value.value.name }) →
-        ¬ FieldBreaks schema (Some parent) f (report.UndefinedArgument name owner location) at }
+        ¬ FieldFormReport schema (Some parent) f (report.UndefinedArgument name owner location) at }
 {}

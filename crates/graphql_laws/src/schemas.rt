@@ -3,8 +3,9 @@
 ghost use Rattle.std.specs.Prelude.{◌≡◌, ◌≢◌, [], Contains};
 ghost use Rattle.graphql_nodes.specs.Names.{NameText, SameName};
 ghost use Rattle.graphql_documents.specs.Schemas.{IsInputObject, type_definition};
-ghost use Rattle.graphql_documents.specs.SchemaReferences.{InputObjectHasNoCycle, DirectiveHasNoCycle};
-ghost use Rattle.graphql_documents.specs.SchemaRules.{SchemaHolds};
+ghost use Rattle.graphql_specification.specs.InputObjectCycles.{InputObjectHasNoCycle};
+ghost use Rattle.graphql_specification.specs.DirectiveCycles.{DirectiveHasNoCycle};
+ghost use Rattle.graphql_specification.specs.Schemas.{SchemaHolds};
 ghost use Rattle.graphql_documents.specs.declared.documents.components.Component.{Component};
 ghost use Rattle.graphql_documents.specs.declared.documents.definitions.DirectiveDefinition.{DirectiveDefinition};
 ghost use Rattle.graphql_documents.specs.declared.documents.directives.Directive.{Directive};
@@ -59,7 +60,7 @@ pub fn nullable_fields_and_lists_are_no_cycle()
         InputObjectHasNoCycle schema a }
 {}
 
-/// Names of one text find one type in a schema, wherever they stand.
+/// Names of one text find one type in a schema, wherever they are.
 ///
 /// Specification: 2.1.9 Names; 3.3 Schema.
 pub fn names_of_one_text_find_one_type()

@@ -3,14 +3,13 @@
 ghost use Rattle.std.specs.Prelude.{◌↔◌, List, All, Contains};
 ghost use Rattle.graphql_documents.specs.Selections.{fragments_of};
 ghost use Rattle.graphql_documents.specs.Built.{IsBuilt};
-ghost use Rattle.graphql_documents.specs.Defer.{operations_of};
-ghost use Rattle.graphql_documents.specs.Merging.{FieldSelection, Merges, SameFields};
-ghost use Rattle.graphql_documents.specs.Expansion.{MergedSet, Pass, field_pass, shape_pass};
+ghost use Rattle.graphql_documents.specs.Executables.{operations_of};
+ghost use Rattle.graphql_specification.specs.Merging.{FieldSelection, FieldsCanMerge, SameFields, Pass, field_pass, shape_pass};
+ghost use Rattle.graphql_specification.specs.MergedSets.{MergedSet, HasSeen, ListPasses};
 ghost use Rattle.graphql_documents.specs.declared.documents.executables.ExecutableDocument.{ExecutableDocument};
 ghost use Rattle.graphql_documents.specs.declared.documents.executables.Operation.{Operation};
 ghost use Rattle.graphql_nodes.specs.declared.nodes.Node.{Node};
 ghost use Rattle.graphql_documents.specs.declared.documents.schemas.Schema.{Schema};
-ghost use Rattle.graphql_documents.specs.MergedFields.{HasSeen, ListPasses};
 
 /// Operations of a document that was built against its schema, all of them or some, merge exactly where, in
 /// each group of each list that two walks have seen, the first field agrees with the rest: one walk over the
@@ -24,7 +23,7 @@ pub fn lists_that_were_seen_decide_merging()
         (shapes fields : List (List FieldSelection)) →
         HasSeen schema (fragments_of document) operations shape_pass shapes →
         HasSeen schema (fragments_of document) operations field_pass fields →
-        ((o : Node Operation) → Contains operations o → Merges schema (fragments_of document) o.value.value.selection_set) ↔
+        ((o : Node Operation) → Contains operations o → FieldsCanMerge schema (fragments_of document) o.value.value.selection_set) ↔
         (All (ListPasses schema shape_pass) shapes × All (ListPasses schema field_pass) fields) }
 {}
 

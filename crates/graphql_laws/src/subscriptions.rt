@@ -3,7 +3,7 @@
 ghost use Rattle.std.specs.Prelude.{◌≡◌, ◌↔◌, ◌≤◌, List, [], ◌∷◌, Some, length};
 ghost use Rattle.graphql_nodes.specs.Names.{NameText, SameName};
 ghost use Rattle.graphql_documents.specs.Selections.{Fragments, fragments_of, selections_of};
-ghost use Rattle.graphql_documents.specs.Subscriptions.{WalkedFields, HasOneRootField};
+ghost use Rattle.graphql_specification.specs.Subscriptions.{WalkedFields, HasOneRootField};
 ghost use Rattle.graphql_documents.specs.declared.documents.executables.ExecutableDocument.{ExecutableDocument};
 ghost use Rattle.graphql_documents.specs.declared.documents.executables.Field.{Field};
 ghost use Rattle.graphql_documents.specs.declared.documents.executables.Fragment.{Fragment};
@@ -17,8 +17,8 @@ ghost use Rattle.graphql_nodes.specs.declared.nodes.Node.{Node};
 ///
 /// Specification: 5.2.3.1 Single Root Field.
 pub fn number_of_walked_fields_decides_one_root_field()
-    ensures { (document : ExecutableDocument) (set : SelectionSet) (walked : List (Node Field)) (met : List NameText) →
-        WalkedFields (fragments_of document) [] (selections_of set) walked met →
+    ensures { (document : ExecutableDocument) (set : SelectionSet) (walked : List (Node Field)) (visited : List NameText) →
+        WalkedFields (fragments_of document) [] (selections_of set) walked visited →
         (length walked ≤ 1) ↔ HasOneRootField (fragments_of document) set }
 {}
 
@@ -27,8 +27,8 @@ pub fn number_of_walked_fields_decides_one_root_field()
 /// Specification: 5.2.3.1 Single Root Field.
 pub fn each_set_is_walked()
     ensures { (document : ExecutableDocument) (set : SelectionSet) →
-        (walked : List (Node Field)) × (met : List NameText) ×
-        WalkedFields (fragments_of document) [] (selections_of set) walked met }
+        (walked : List (Node Field)) × (visited : List NameText) ×
+        WalkedFields (fragments_of document) [] (selections_of set) walked visited }
 {}
 
 /// A set that spreads a fragment of one field twice, and has nothing else, has one root field.

@@ -3,7 +3,7 @@
 ghost use Rattle.std.specs.Prelude.{◌≡◌, ℕ, List, [], Contains, IsTrue, IsFalse};
 ghost use Rattle.graphql_nodes.specs.Names.{NameText};
 ghost use Rattle.graphql_documents.specs.Schemas.{is_built_in};
-ghost use Rattle.graphql_documents.specs.TypeMaps.{built_in_scalar_names, names_built_in_scalar, uses_type, has_type, is_unused_built_in, kept_types, missing_scalars, IsSettled};
+ghost use Rattle.graphql_specification.specs.BuiltInScalars.{built_in_scalar_names, names_built_in_scalar, uses_type, has_type, is_unused_built_in, kept_types, missing_scalars, RetainsUsedBuiltInScalars};
 ghost use Rattle.graphql_documents.specs.declared.documents.schemas.ExtendedType.{ExtendedType};
 ghost use Rattle.graphql_documents.specs.declared.documents.schemas.Schema.{Schema};
 
@@ -44,8 +44,8 @@ pub fn built_in_scalar_that_is_used_and_lacked_is_missing()
 /// A schema that has no unused built-in scalar and lacks none is left as it is.
 ///
 /// Specification: 3.5 Scalars, Built-in Scalars.
-pub fn settled_schema_stays_as_it_is()
-    ensures { (schema : Schema) (settled : List (NameText × ExtendedType)) →
+pub fn retained_schema_stays_as_it_is()
+    ensures { (schema : Schema) (retained : List (NameText × ExtendedType)) →
         ((entry : NameText × ExtendedType) → Contains schema.types.entries entry → IsFalse (is_unused_built_in schema entry)) →
-        missing_scalars schema ≡ [] → IsSettled schema settled → settled ≡ schema.types.entries }
+        missing_scalars schema ≡ [] → RetainsUsedBuiltInScalars schema retained → retained ≡ schema.types.entries }
 {}

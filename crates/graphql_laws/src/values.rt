@@ -1,17 +1,17 @@
-//! Laws of values and of where variables may stand.
+//! Laws of values and of where variables may be.
 
 ghost use Rattle.std.specs.Prelude.{◌≡◌, ◌≢◌, List, Vec, Some, None, IsTrue, IsFalse, length};
 ghost use Rattle.std.specs.declared.alloc.Global.{Global};
 ghost use Rattle.graphql_documents.specs.Values.{SameValue, VariablesIn};
 ghost use Rattle.graphql_nodes.specs.Names.{NameText};
-ghost use Rattle.graphql_documents.specs.Merging.{SameArguments};
+ghost use Rattle.graphql_specification.specs.Merging.{SameArguments};
 ghost use Rattle.graphql_documents.specs.TypeReferences.{inner_named_type, is_non_null};
 ghost use Rattle.graphql_documents.specs.Schemas.{type_definition};
-ghost use Rattle.graphql_documents.specs.InputCoercion.{Accepts};
+ghost use Rattle.graphql_specification.specs.Values.{Accepts};
 ghost use Rattle.graphql_documents.specs.declared.documents.schemas.ExtendedType.{ExtendedType};
 ghost use Rattle.graphql_documents.specs.declared.documents.schemas.Schema.{Schema};
 ghost use Rattle.graphql_documents.specs.declared.documents.type_references.Type.{«Type»};
-ghost use Rattle.graphql_documents.specs.VariableUsage.{IsUsageAllowed};
+ghost use Rattle.graphql_specification.specs.VariableUsages.{IsUsageAllowed};
 ghost use Rattle.graphql_documents.specs.declared.documents.definitions.InputValueDefinition.{InputValueDefinition};
 ghost use Rattle.graphql_documents.specs.declared.documents.definitions.VariableDefinition.{VariableDefinition};
 ghost use Rattle.graphql_documents.specs.declared.documents.directives.Argument.{Argument};
@@ -27,8 +27,8 @@ pub fn list_of_another_length_is_another_value()
         ¬ SameValue (literal.List a) (literal.List b) }
 {}
 
-/// A default that is null is none, where a variable that may be null stands at a place that takes no
-/// null and has no default itself.
+/// A default that is null is none, where a variable that may be null is at a place that takes no null and has
+/// no default itself.
 ///
 /// Specification: 5.8.5 All Variable Usages Are Allowed.
 pub fn null_default_does_not_allow_a_variable()

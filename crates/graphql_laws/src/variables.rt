@@ -2,8 +2,7 @@
 
 ghost use Rattle.std.specs.Prelude.{◌↔◌, []};
 ghost use Rattle.graphql_documents.specs.Selections.{Fragments};
-ghost use Rattle.graphql_diagnostics.specs.VariableReports.{AreUsesReports};
-ghost use Rattle.graphql_documents.specs.Variables.{VariablesAreUsed};
+ghost use Rattle.graphql_specification.specs.Variables.{AreUsesReports, VariablesAreUsed};
 ghost use Rattle.graphql_documents.specs.declared.documents.executables.Operation.{Operation};
 
 /// The uses of an operation's variables bring no report exactly where each of them is used.

@@ -2,15 +2,15 @@
 use Rattle.std.proofs.Common.{◌≡◌, ℕ, ◌<◌, ◌+◌, Bool, true, false, not, cond, List, [], ◌∷◌, ◌++◌, Option, Some, None, ◌⊎◌, find, take, drop, length, get_or, refl, sym, ap, ◌∙◌, subst, All}
 use Rattle.std.specs.Prelude.{IsFalse, IsSome, IsTrue, is_some}
 use Rattle.std.proofs.lemmas.List.Elements.{All-cons, All-contains, All-nil, All-weaker}
-use Rattle.graphql_documents.specs.Arguments.{argument_named}
-use Rattle.graphql_documents.specs.Merging.{SameArguments}
+use Rattle.graphql_documents.specs.Directives.{argument_named}
+use Rattle.graphql_specification.specs.Merging.{SameArguments}
 use Rattle.graphql_nodes.specs.Names.{NameText, SameName}
 use Rattle.graphql_documents.specs.Values.{SameValue}
 use Rattle.graphql_documents.specs.declared.documents.directives.Argument.{Argument}
 use Rattle.graphql_nodes.specs.declared.nodes.Node.{Node}
 use Rattle.graphql_variables.proofs.SplitLemmas.{split_at}
 use Rattle.graphql_merging.proofs.FirstNamedLemmas.{each_more, each_of_none, first_alike, first_behind, first_has, first_of_name, first_stands}
-use Rattle.graphql_merging.specs.Comparisons.{AreNamedAmong, HasArgument, IsReached, StandAmong}
+use Rattle.graphql_merging.specs.Comparisons.{AreNamedAmong, HasArgument, IsReachable, StandAmong}
 
 -- the name of an argument
 abbrev name_of : Node Argument → NameText
@@ -28,10 +28,10 @@ pub more_among : (arguments : List (Node Argument)) (i : ℕ) (x : Node Argument
 more_among arguments i x others within item before here = each_more name_of (HasArgument others) (has_alike others) arguments i x within item before here
 
 -- the argument at a place, where those before it agree and none has its name
-pub reached_at : (arguments : List (Node Argument)) (i : ℕ) (x : Node Argument) (others : List (Node Argument)) →
+pub reachable_at : (arguments : List (Node Argument)) (i : ℕ) (x : Node Argument) (others : List (Node Argument)) →
     i < length arguments → x ≡ get_or arguments i x → StandAmong (take i arguments) others → argument_named x.value.value.name (take i arguments) ≡ None →
-    IsReached (λ before. StandAmong before others) arguments x
-reached_at arguments i x others within item before new = record {
+    IsReachable (λ before. StandAmong before others) arguments x
+reachable_at arguments i x others within item before new = record {
   before = take i arguments;
   after = drop (i + 1) arguments;
   stands = split_at arguments i x within item;
@@ -39,7 +39,7 @@ reached_at arguments i x others within item before new = record {
   first = first_of_name name_of arguments i x within item new;
 }
 
--- what stands before the first element that passes a test fails it
+-- what is before the first element that passes a test fails it
 parts_found : {X : Type 0} (p : X → Bool) (xs : List X) (x : X) → find p xs ≡ Some x →
     (before after : List X) × (xs ≡ before ++ x ∷ after) × All (λ y. IsFalse (p y)) before × IsTrue (p x)
 parts_found p [] x e = absurd (let no : ⊥ = cc in no)
@@ -72,11 +72,11 @@ lacked (Some x) h = absurd (let no : ⊥ = cc in no)
 lacked None h = refl
 
 -- the first argument that the others lack
-pub missing_reached : (arguments others : List (Node Argument)) (x : Node Argument) → find (lacks others) arguments ≡ Some x →
-    IsReached (λ before. AreNamedAmong before others) arguments x × (argument_named x.value.value.name others ≡ None)
-missing_reached arguments others x found = at_parts (parts_found (lacks others) arguments x found) where
+pub missing_reachable : (arguments others : List (Node Argument)) (x : Node Argument) → find (lacks others) arguments ≡ Some x →
+    IsReachable (λ before. AreNamedAmong before others) arguments x × (argument_named x.value.value.name others ≡ None)
+missing_reachable arguments others x found = at_parts (parts_found (lacks others) arguments x found) where
   at_parts : (before after : List (Node Argument)) × (arguments ≡ before ++ x ∷ after) × All (λ y. IsFalse (lacks others y)) before × IsTrue (lacks others x) →
-      IsReached (λ before. AreNamedAmong before others) arguments x × (argument_named x.value.value.name others ≡ None)
+      IsReachable (λ before. AreNamedAmong before others) arguments x × (argument_named x.value.value.name others ≡ None)
   at_parts (before, after, stands, fail, passes) = (record { before = before; after = after; stands = stands; holds = named; first = first }, none) where
     named : AreNamedAmong before others
     named = All-weaker (λ y. IsFalse (lacks others y)) (λ y. IsSome (argument_named y.value.value.name others)) (λ y. not_lacked (argument_named y.value.value.name others)) before fail

@@ -3,10 +3,8 @@ use Rattle.std.proofs.Common.{◌≡◌, List, [], ◌∷◌, ◌++◌, sym, sub
 use Rattle.std.proofs.lemmas.List.{append-nil}
 use Rattle.std.proofs.lemmas.List.Elements.{All-cons, All-contains_itself, All-head, All-nil, All-tail, All-weaker, Contains-append_left}
 use Rattle.std.specs.Prelude.{Result, Ok, Err, MatchResult}
-use Rattle.graphql_documents.specs.Expansion.{Pass}
-use Rattle.graphql_documents.specs.MergedFields.{Agree}
-use Rattle.graphql_diagnostics.specs.MergedGroups.{AreConflicts, ConflictsWith, SaysConflict, agreeing_field, conflicting_field, empty_group, next_group, no_field, no_groups}
-use Rattle.graphql_documents.specs.Merging.{FieldSelection}
+use Rattle.graphql_specification.specs.Merging.{Pass, FieldSelection}
+use Rattle.graphql_specification.specs.MergedSets.{Agree, AreConflicts, ConflictsWith, ConflictReport, agreeing_field, conflicting_field, empty_group, next_group, no_field, no_groups}
 use Rattle.graphql_diagnostics.specs.Reports.{Appends, KeepsReports}
 use Rattle.graphql_diagnostics.specs.declared.lists.DiagnosticEntry.{DiagnosticEntry}
 use Rattle.graphql_documents.specs.declared.documents.schemas.Schema.{Schema}
@@ -19,10 +17,10 @@ module _ (schema : Schema) (pass : Pass) where
   pub compared_alike : (first x : FieldSelection) (old : List DiagnosticEntry) → Agree schema pass first x → Appends (ConflictsWith schema pass first (x ∷ [])) old old
   compared_alike first x old agree = record { added = []; appended = sym (append-nil old); are = agreeing_field agree no_field }
 
-  -- a field does not, and a report says so
+  -- a field does not, and a diagnostic says so
   pub compared_apart : {T E : Type 0} (r : Result T E) (first x : FieldSelection) (old new : List DiagnosticEntry) →
       MatchResult r
-      (λ _. (entry : DiagnosticEntry) × (new ≡ old ++ entry ∷ []) × SaysConflict schema pass first x entry.details entry.location)
+      (λ _. (entry : DiagnosticEntry) × (new ≡ old ++ entry ∷ []) × ConflictReport schema pass first x entry.details entry.location)
       (λ _. new ≡ old) →
       MatchResult r (λ _. Appends (ConflictsWith schema pass first (x ∷ [])) old new) (λ _. new ≡ old)
   compared_apart (Ok v) first x old new (e, is, says) = record { added = e ∷ []; appended = is; are = conflicting_field says no_field }
@@ -58,7 +56,7 @@ module _ (schema : Schema) (pass : Pass) where
   pub empty_compared : (old : List DiagnosticEntry) → Appends (AreConflicts schema pass ([] ∷ [])) old old
   empty_compared old = record { added = []; appended = sym (append-nil old); are = empty_group no_groups }
 
-  -- each of the reports is of a conflict in the group
+  -- each of the diagnostics is of a conflict in the group
   with_first : (first : FieldSelection) (group : List FieldSelection) (groups : List (List FieldSelection)) →
       Contains groups group → Contains group first → {rest : List FieldSelection} {reports : List DiagnosticEntry} →
       All (Contains group) rest → ConflictsWith schema pass first rest reports → All (IsConflictAmong schema pass groups) reports

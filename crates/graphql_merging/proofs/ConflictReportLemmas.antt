@@ -1,19 +1,18 @@
--- What a report of two fields says.
+-- What a diagnostic of two fields says.
 use Rattle.std.proofs.Common.{◌≡◌, List, [], ◌∷◌, ◌++◌, subst}
 use Rattle.std.specs.Prelude.{Result, Ok, Err, MatchResult, OnErr, OnOk}
 use Rattle.graphql_nodes.proofs.NameLemmas.{same_name_itself}
-use Rattle.graphql_documents.specs.Expansion.{Pass}
-use Rattle.graphql_diagnostics.specs.MergedGroups.{SaysConflict}
-use Rattle.graphql_documents.specs.Merging.{FieldSelection}
+use Rattle.graphql_specification.specs.Merging.{Pass, FieldSelection}
+use Rattle.graphql_specification.specs.MergedSets.{ConflictReport}
 use Rattle.graphql_nodes.specs.Names.{NameText, SameName}
 use Rattle.graphql_diagnostics.specs.declared.lists.DiagnosticEntry.{DiagnosticEntry}
 use Rattle.graphql_documents.specs.declared.documents.schemas.Schema.{Schema}
 
--- a report was pushed that says so
+-- a diagnostic was pushed that says so
 pub conflict_pushed : {T E : Type 0} (r : Result T E) (schema : Schema) (pass : Pass) (x y : FieldSelection) (old new : List DiagnosticEntry) (e : DiagnosticEntry) →
-    OnOk r (new ≡ old ++ e ∷ []) → OnErr r (new ≡ old) → SaysConflict schema pass x y e.details e.location →
+    OnOk r (new ≡ old ++ e ∷ []) → OnErr r (new ≡ old) → ConflictReport schema pass x y e.details e.location →
     MatchResult r
-    (λ _. (entry : DiagnosticEntry) × (new ≡ old ++ entry ∷ []) × SaysConflict schema pass x y entry.details entry.location)
+    (λ _. (entry : DiagnosticEntry) × (new ≡ old ++ entry ∷ []) × ConflictReport schema pass x y entry.details entry.location)
     (λ _. new ≡ old)
 conflict_pushed (Ok v) schema pass x y old new e ok err says = (e, ok, says)
 conflict_pushed (Err v) schema pass x y old new e ok err says = err

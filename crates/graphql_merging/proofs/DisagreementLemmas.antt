@@ -5,8 +5,8 @@ use Rattle.std.proofs.lemmas.List.{append-nil}
 use Rattle.std.proofs.lemmas.List.Elements.{All-append, All-contains}
 use Rattle.std.proofs.lemmas.Option.{same_Some}
 use Rattle.graphql_documents.proofs.ListLemmas.{each_standing}
-use Rattle.graphql_diagnostics.specs.MergingReports.{AgreeOn, DisagreeFirstOn}
-use Rattle.graphql_documents.specs.Arguments.{argument_named}
+use Rattle.graphql_specification.specs.Merging.{AgreeOn, DisagreeFirstOn}
+use Rattle.graphql_documents.specs.Directives.{argument_named}
 use Rattle.graphql_documents.specs.Values.{SameValue}
 use Rattle.graphql_documents.specs.declared.documents.directives.Argument.{Argument}
 use Rattle.graphql_documents.specs.declared.documents.executables.Field.{Field}
@@ -14,7 +14,7 @@ use Rattle.graphql_nodes.specs.declared.nodes.Node.{Node}
 use Rattle.graphql_nodes.specs.Names.{NameText}
 use Rattle.graphql_nodes.proofs.NameLemmas.{same_name_itself}
 use Rattle.graphql_merging.proofs.FirstNamedLemmas.{found_before, first_is_there}
-use Rattle.graphql_merging.specs.Comparisons.{AreNamedAmong, IsReached, StandAmong}
+use Rattle.graphql_merging.specs.Comparisons.{AreNamedAmong, IsReachable, StandAmong}
 
 abbrev name_of : Node Argument → NameText
 name_of x = x.value.value.name
@@ -57,40 +57,40 @@ module _ (a b : Field) where
       let both = sym (ap (λ (o : Option (Node Argument)). is_some o) first) ∙ agree.0 ∙ ap (λ (o : Option (Node Argument)). is_some o) second in
       let no : ⊥ = cc in no
 
-  module _ (x : Node Argument) (reached : IsReached (λ before. StandAmong before b.arguments.items) a.arguments.items x) where
+  module _ (x : Node Argument) (reachable : IsReachable (λ before. StandAmong before b.arguments.items) a.arguments.items x) where
     first_of_first : ¬ AgreeOn x.value.value.name a b → DisagreeFirstOn x.value.value.name a b
     first_of_first differ = record {
-      before = reached.before;
+      before = reachable.before;
       given = x;
-      after = reached.after ++ b.arguments.items;
-      split = ap (λ l. l ++ b.arguments.items) reached.stands ∙ append_assoc reached.before (x ∷ reached.after) b.arguments.items;
+      after = reachable.after ++ b.arguments.items;
+      split = ap (λ l. l ++ b.arguments.items) reachable.stands ∙ append_assoc reachable.before (x ∷ reachable.after) b.arguments.items;
       argument_is = refl;
       differ = differ;
-      agree_before = agree_among reached.before (x ∷ reached.after) reached.stands reached.holds;
+      agree_before = agree_among reachable.before (x ∷ reachable.after) reachable.stands reachable.holds;
     }
 
     -- the second field lacks it
     pub disagree_alone : argument_named x.value.value.name b.arguments.items ≡ None → DisagreeFirstOn x.value.value.name a b
-    disagree_alone none = first_of_first (second_lacks x.value.value.name x reached.first none)
+    disagree_alone none = first_of_first (second_lacks x.value.value.name x reachable.first none)
 
     -- both have it, with other values
     pub disagree_both : (y : Node Argument) → argument_named x.value.value.name b.arguments.items ≡ Some y →
         ¬ SameValue x.value.value.value.value.value y.value.value.value.value.value → DisagreeFirstOn x.value.value.name a b
-    disagree_both y given differ = first_of_first (λ agree. differ (agree.1 x y reached.first given))
+    disagree_both y given differ = first_of_first (λ agree. differ (agree.1 x y reachable.first given))
 
   -- the first field lacks an argument of the second
   pub disagree_second : (y : Node Argument) → StandAmong a.arguments.items b.arguments.items →
-      IsReached (λ before. AreNamedAmong before a.arguments.items) b.arguments.items y → argument_named y.value.value.name a.arguments.items ≡ None →
+      IsReachable (λ before. AreNamedAmong before a.arguments.items) b.arguments.items y → argument_named y.value.value.name a.arguments.items ≡ None →
       DisagreeFirstOn y.value.value.name a b
-  disagree_second y stand reached none = record {
-    before = a.arguments.items ++ reached.before;
+  disagree_second y stand reachable none = record {
+    before = a.arguments.items ++ reachable.before;
     given = y;
-    after = reached.after;
-    split = ap (λ l. a.arguments.items ++ l) reached.stands ∙ sym (append_assoc a.arguments.items reached.before (y ∷ reached.after));
+    after = reachable.after;
+    split = ap (λ l. a.arguments.items ++ l) reachable.stands ∙ sym (append_assoc a.arguments.items reachable.before (y ∷ reachable.after));
     argument_is = refl;
-    differ = first_lacks y.value.value.name y none reached.first;
-    agree_before = All-append (λ z. AgreeOn z.value.value.name a b) a.arguments.items reached.before
-        (agree_among a.arguments.items [] (sym (append-nil a.arguments.items)) stand) (each_standing (λ z. AgreeOn z.value.value.name a b) reached.before one);
+    differ = first_lacks y.value.value.name y none reachable.first;
+    agree_before = All-append (λ z. AgreeOn z.value.value.name a b) a.arguments.items reachable.before
+        (agree_among a.arguments.items [] (sym (append-nil a.arguments.items)) stand) (each_standing (λ z. AgreeOn z.value.value.name a b) reachable.before one);
   } where
     known : (z : Node Argument) (o : Option (Node Argument)) → argument_named z.value.value.name a.arguments.items ≡ o → IsSome o → AgreeOn z.value.value.name a b
     known z (Some x) is there =
@@ -98,7 +98,7 @@ module _ (a b : Field) where
         agree_on_value z.value.value.name x w is given same
     known z None is there = absurd (let no : ⊥ = cc in no)
 
-    one : (z : Node Argument) → Contains reached.before z → AgreeOn z.value.value.name a b
+    one : (z : Node Argument) → Contains reachable.before z → AgreeOn z.value.value.name a b
     one z in' =
         known z (argument_named z.value.value.name a.arguments.items) refl
-        (All-contains (λ u. IsSome (argument_named u.value.value.name a.arguments.items)) reached.before z reached.holds in')
+        (All-contains (λ u. IsSome (argument_named u.value.value.name a.arguments.items)) reachable.before z reachable.holds in')

@@ -8,8 +8,8 @@ use Rattle.std.proofs.lemmas.List.{append-nil, map-append, reverse-append}
 use Rattle.std.proofs.lemmas.List.Elements.{filter_map-append}
 use Rattle.std.proofs.lemmas.List.Sorted.{IsPermutation-reverse, list_any-IsPermutation}
 use Rattle.indexmap.specs.IndexSet.{insert_key}
-use Rattle.graphql_documents.specs.Expansion.{Expansion, ExpandsFrom, FragmentSets, as_field, expand_next, fields_standing, followed_by, into_inline_fragment, into_spread, no_more, past_field, past_spread}
-use Rattle.graphql_documents.specs.Merging as merging
+use Rattle.graphql_specification.specs.MergedSets.{Expansion, ExpandsFrom, FragmentSets, as_field, expand_next, fields_standing, followed_by, into_inline_fragment, into_spread, no_more, past_field, past_spread}
+use Rattle.graphql_specification.specs.Merging as merging
 use Rattle.graphql_nodes.specs.Names.{NameText, same_name}
 use Rattle.graphql_documents.specs.Selections.{Fragments, selections_of}
 use Rattle.graphql_documents.specs.declared.documents.executables.Field.{Field}
@@ -23,7 +23,7 @@ use Rattle.graphql_documents.specs.declared.documents.executables.SelectionSet.{
 use Rattle.graphql_nodes.specs.declared.nodes.Node.{Node}
 use Rattle.graphql_variables.proofs.NameSetLemmas.{same_key}
 use Rattle.graphql_variables.proofs.SelectionWalkLemmas.{refs_any}
-use Rattle.graphql_merging.specs.ExpansionSteps.{Expands, fragments_in, met_names, queued}
+use Rattle.graphql_merging.specs.ExpansionSteps.{Expands, fragments_in, visited_names, queued}
 use Rattle.graphql_merging.specs.FieldSelections.{listed}
 use Rattle.graphql_merging.specs.declared.expansion.FieldExpansion.{FieldExpansion}
 
@@ -60,7 +60,7 @@ not_back true false e = sym e
 not_back false true e = sym e
 not_back false false e = refl
 
--- a name that was met goes in no more
+-- a name that was visited goes in no more
 pub known_name : (keys added : List (Bor NameText)) (k : Bor NameText) (new : Bool) →
     new ≡ not (list_any (same_key k) keys) → added ≡ insert_key same_key keys k → IsFalse new →
     IsTrue (list_any (same_name k.now) (newest keys)) × (newest added ≡ newest keys)
@@ -84,55 +84,55 @@ new_name keys added k new is_new is fresh =
 -- a field is listed
 pub field_expands : {old new : FieldExpansion} {s : Selection} (parent : NameText) (f : Node Field) → s ≡ kind.Field f →
     new.fragments.now ≡ old.fragments.now → listed new.fields.items ≡ listed old.fields.items ++ record { parent = parent; field = f } ∷ [] →
-    met_names new ≡ met_names old → queued new ≡ queued old → Expands old new parent (s ∷ [])
-field_expands {old = old} {new = new} parent f is fragments fields met queue =
+    visited_names new ≡ visited_names old → queued new ≡ queued old → Expands old new parent (s ∷ [])
+field_expands {old = old} {new = new} parent f is fragments fields visited queue =
     subst (λ t. Expands old new parent (t ∷ [])) (sym is) (record {
       fragments = fragments;
       fields = fields ∙ ap (λ l. listed old.fields.items ++ l) (sym (one_field parent f));
       sets = [];
-      found = past_field f [] (subst (FragmentSets (fragments_in old.fragments.now) (met_names old) [] []) (sym met) no_more);
+      found = past_field f [] (subst (FragmentSets (fragments_in old.fragments.now) (visited_names old) [] []) (sym visited) no_more);
       queue = queue ∙ sym (append-nil (queued old));
     })
 
 -- the set of an inline fragment goes into the queue
 pub inline_expands : {old new : FieldExpansion} {s : Selection} (parent : NameText) (i : Node InlineFragment) → s ≡ kind.InlineFragment i →
     new.fragments.now ≡ old.fragments.now → listed new.fields.items ≡ listed old.fields.items →
-    met_names new ≡ met_names old → queued new ≡ queued old ++ i.value.value.selection_set ∷ [] → Expands old new parent (s ∷ [])
-inline_expands {old = old} {new = new} parent i is fragments fields met queue =
+    visited_names new ≡ visited_names old → queued new ≡ queued old ++ i.value.value.selection_set ∷ [] → Expands old new parent (s ∷ [])
+inline_expands {old = old} {new = new} parent i is fragments fields visited queue =
     subst (λ t. Expands old new parent (t ∷ [])) (sym is) (record {
       fragments = fragments;
       fields = fields ∙ sym (append-nil (listed old.fields.items)) ∙ ap (λ l. listed old.fields.items ++ l) (sym (no_inline_field parent i));
       sets = i.value.value.selection_set ∷ [];
-      found = into_inline_fragment i [] (subst (FragmentSets (fragments_in old.fragments.now) (met_names old) [] []) (sym met) no_more);
+      found = into_inline_fragment i [] (subst (FragmentSets (fragments_in old.fragments.now) (visited_names old) [] []) (sym visited) no_more);
       queue = queue;
     })
 
--- a spread whose name was met
+-- a spread whose name was visited
 pub known_expands : {old new : FieldExpansion} (parent : NameText) (p : Node FragmentSpread) →
     new.fragments.now ≡ old.fragments.now → listed new.fields.items ≡ listed old.fields.items →
-    IsTrue (list_any (same_name p.value.value.fragment_name) (met_names old)) → met_names new ≡ met_names old →
+    IsTrue (list_any (same_name p.value.value.fragment_name) (visited_names old)) → visited_names new ≡ visited_names old →
     queued new ≡ queued old → Expands old new parent (kind.FragmentSpread p ∷ [])
-known_expands {old = old} {new = new} parent p fragments fields known met queue =
+known_expands {old = old} {new = new} parent p fragments fields known visited queue =
     record {
       fragments = fragments;
       fields = fields ∙ sym (append-nil (listed old.fields.items)) ∙ ap (λ l. listed old.fields.items ++ l) (sym (no_spread_field parent p));
       sets = [];
-      found = past_spread p [] known (subst (FragmentSets (fragments_in old.fragments.now) (met_names old) [] []) (sym met) no_more);
+      found = past_spread p [] known (subst (FragmentSets (fragments_in old.fragments.now) (visited_names old) [] []) (sym visited) no_more);
       queue = queue ∙ sym (append-nil (queued old));
     }
 
 -- a spread of another name: the set of its fragment, if that is there, goes into the queue
 pub spread_expands : {old new : FieldExpansion} (parent : NameText) (p : Node FragmentSpread) →
     new.fragments.now ≡ old.fragments.now → listed new.fields.items ≡ listed old.fields.items →
-    IsFalse (list_any (same_name p.value.value.fragment_name) (met_names old)) → met_names new ≡ p.value.value.fragment_name ∷ met_names old →
+    IsFalse (list_any (same_name p.value.value.fragment_name) (visited_names old)) → visited_names new ≡ p.value.value.fragment_name ∷ visited_names old →
     queued new ≡ queued old ++ followed_by (fragments_in old.fragments.now p.value.value.fragment_name) [] →
     Expands old new parent (kind.FragmentSpread p ∷ [])
-spread_expands {old = old} {new = new} parent p fragments fields fresh met queue =
+spread_expands {old = old} {new = new} parent p fragments fields fresh visited queue =
     record {
       fragments = fragments;
       fields = fields ∙ sym (append-nil (listed old.fields.items)) ∙ ap (λ l. listed old.fields.items ++ l) (sym (no_spread_field parent p));
       sets = followed_by (fragments_in old.fragments.now p.value.value.fragment_name) [];
-      found = into_spread p [] fresh (subst (FragmentSets (fragments_in old.fragments.now) (p.value.value.fragment_name ∷ met_names old) [] []) (sym met) no_more);
+      found = into_spread p [] fresh (subst (FragmentSets (fragments_in old.fragments.now) (p.value.value.fragment_name ∷ visited_names old) [] []) (sym visited) no_more);
       queue = queue;
     }
 
@@ -145,14 +145,14 @@ followed_then fragments name sets more = by (fragments name) where
   by (Some d) = refl
 
 sets_then : {fragments : Fragments} {seen between : List NameText} {xs : List Selection} {sets : List SelectionSet} → FragmentSets fragments seen xs sets between →
-    {met : List NameText} {ys : List Selection} {more : List SelectionSet} → FragmentSets fragments between ys more met →
-    FragmentSets fragments seen (xs ++ ys) (sets ++ more) met
+    {visited : List NameText} {ys : List Selection} {more : List SelectionSet} → FragmentSets fragments between ys more visited →
+    FragmentSets fragments seen (xs ++ ys) (sets ++ more) visited
 sets_then no_more after = after
 sets_then (past_field f rest found) {ys = ys} after = past_field f (rest ++ ys) (sets_then found after)
 sets_then (into_inline_fragment i rest found) {ys = ys} after = into_inline_fragment i (rest ++ ys) (sets_then found after)
 sets_then (past_spread p rest known found) {ys = ys} after = past_spread p (rest ++ ys) known (sets_then found after)
-sets_then {fragments = fragments} {seen = seen} (into_spread {sets = sets} p rest fresh found) {met = met} {ys = ys} {more = more} after =
-    subst (λ l. FragmentSets fragments seen (kind.FragmentSpread p ∷ (rest ++ ys)) l met) (sym (followed_then fragments p.value.value.fragment_name sets more))
+sets_then {fragments = fragments} {seen = seen} (into_spread {sets = sets} p rest fresh found) {visited = visited} {ys = ys} {more = more} after =
+    subst (λ l. FragmentSets fragments seen (kind.FragmentSpread p ∷ (rest ++ ys)) l visited) (sym (followed_then fragments p.value.value.fragment_name sets more))
     (into_spread p (rest ++ ys) fresh (sets_then found after))
 
 -- one step after another
@@ -164,7 +164,7 @@ expands_then {a = a} {b = b} {c = c} {parent = parent} {xs = xs} {ys = ys} first
           ∙ append_assoc (listed a.fields.items) (filter_map (as_field parent) xs) (filter_map (as_field parent) ys)
           ∙ ap (λ l. listed a.fields.items ++ l) (sym (filter_map-append (as_field parent) xs ys));
       sets = first.sets ++ second.sets;
-      found = sets_then first.found (subst (λ m. FragmentSets (fragments_in m) (met_names b) ys second.sets (met_names c)) first.fragments second.found);
+      found = sets_then first.found (subst (λ m. FragmentSets (fragments_in m) (visited_names b) ys second.sets (visited_names c)) first.fragments second.found);
       queue = second.queue ∙ ap (λ l. l ++ second.sets) first.queue ∙ append_assoc (queued a) first.sets second.sets;
     }
 
@@ -180,11 +180,11 @@ expands_none a parent = record {
 
 -- once the first set of a queue was listed, what is left gives the rest of the same expansion
 pub still_expands : (set : SelectionSet) (a b : FieldExpansion) (sets : List SelectionSet) → Expands a b set.ty (selections_of set) →
-    ((more : List merging.FieldSelection) → ExpandsFrom (fragments_in a.fragments.now) (met_names a) (set ∷ queued a) more →
+    ((more : List merging.FieldSelection) → ExpandsFrom (fragments_in a.fragments.now) (visited_names a) (set ∷ queued a) more →
     Expansion (fragments_in a.fragments.now) sets (listed a.fields.items ++ more)) →
-    (more : List merging.FieldSelection) → ExpandsFrom (fragments_in a.fragments.now) (met_names b) (queued b) more →
+    (more : List merging.FieldSelection) → ExpandsFrom (fragments_in a.fragments.now) (visited_names b) (queued b) more →
     Expansion (fragments_in a.fragments.now) sets (listed b.fields.items ++ more)
 still_expands set a b sets e before more rest =
     subst (Expansion (fragments_in a.fragments.now) sets)
     (sym (ap (λ l. l ++ more) e.fields ∙ append_assoc (listed a.fields.items) (fields_standing set) more))
-    (before (fields_standing set ++ more) (expand_next e.found (subst (λ q. ExpandsFrom (fragments_in a.fragments.now) (met_names b) q more) e.queue rest)))
+    (before (fields_standing set ++ more) (expand_next e.found (subst (λ q. ExpandsFrom (fragments_in a.fragments.now) (visited_names b) q more) e.queue rest)))

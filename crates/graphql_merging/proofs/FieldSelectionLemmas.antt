@@ -11,7 +11,7 @@ use Rattle.graphql_documents.proofs.ContentLemmas.{equality_of_fields}
 use Rattle.graphql_documents.proofs.ListLemmas.{made_of, stands_mapped}
 use Rattle.graphql_variables.proofs.UseLemmas.{any_has, has_any}
 use Rattle.graphql_documents.specs.Contents.{SameField}
-use Rattle.graphql_documents.specs.Merging.{SameFields}
+use Rattle.graphql_specification.specs.Merging.{SameFields}
 use Rattle.graphql_laws.specs.Equality.{field_equality}
 use Rattle.graphql_nodes.specs.Names.{same_name}
 use Rattle.graphql_merging.specs.FieldSelections.{listed, lists_of, same_selection}

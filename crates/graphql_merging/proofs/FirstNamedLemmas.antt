@@ -22,7 +22,7 @@ module _ {X : Type 0} (name_of : X → NameText) where
   pub first_has : (name : NameText) (xs : List X) (x : X) → first_named name xs ≡ Some x → SameName (name_of x) name
   first_has name xs x found = (found_at (λ x. same_name (name_of x) name) xs x found).3
 
-  -- it stands in the list
+  -- it is in the list
   pub first_stands : (name : NameText) (xs : List X) (x : X) → first_named name xs ≡ Some x → Contains xs x
   first_stands name xs x found = let at = found_at (λ x. same_name (name_of x) name) xs x found in (at.0, at.1, at.2 x)
 

@@ -11,9 +11,9 @@ use Rattle.std.proofs.lemmas.List.{append-nil, append_assoc, length-map, map-app
 use Rattle.std.proofs.lemmas.Simd.{map-map}
 use Rattle.std.proofs.lemmas.List.Elements.{filter-append, filter_map-append}
 use Rattle.indexmap.specs.IndexMap.{insert_entry}
-use Rattle.graphql_documents.specs.Expansion.{is_abstract, is_object_named, shape_pass, with_parents}
-use Rattle.graphql_diagnostics.specs.MergedGroups.{groups_of, groups_on, key_of, keys_of, object_name, objects_of, on_object, under_key}
-use Rattle.graphql_documents.specs.Merging as merging
+use Rattle.graphql_specification.specs.MergedSets.{is_abstract, is_object_named, with_parents, groups_of, groups_on, key_of, keys_of, object_name, objects_of, on_object, under_key}
+use Rattle.graphql_specification.specs.Merging.{shape_pass}
+use Rattle.graphql_specification.specs.Merging as merging
 use Rattle.graphql_nodes.specs.Names.{NameText, different_names, same_name, stands_on, with_name}
 use Rattle.graphql_documents.specs.Schemas.{type_definition}
 use Rattle.graphql_documents.specs.declared.documents.schemas.ExtendedType.TheVariants.{Object}

@@ -3,12 +3,9 @@ use Rattle.std.proofs.Common.{rules, ◌≡◌, ◌↔◌, ℕ, ◌<◌, Bool, t
 use Rattle.std.proofs.lemmas.List.{append_assoc, length-append, nil_from_length}
 use Rattle.std.proofs.lemmas.List.Sums.{sum_by-append}
 use Rattle.std.proofs.lemmas.List.Elements.{All-append, All-cons, All-contains, All-head, All-tail, All-nil, All-weaker, Contains-append_cases, Contains-append_left, Contains-append_right}
-use Rattle.std.specs.Prelude.{Err, Ok, OnOk, Result, nat_lt, ◌⊎◌, AllPairs, IsFalse, IsTrue, sum_by}
-use Rattle.graphql_documents.specs.Expansion.{MergedSet, Pass, field_pass, merged_below, merged_operation, nested_sets, shape_pass}
-use Rattle.graphql_diagnostics.specs.Limits.{MergingNestsTooDeep, MergingPasses}
-use Rattle.graphql_documents.specs.MergedFields.{Agree, ExpansionIsSeen, HasSeen, ListPasses}
-use Rattle.graphql_diagnostics.specs.MergedGroups.{AreConflicts, ConflictsWith, SaysConflict, agreeing_field, comparisons_of, conflicting_field, empty_group, groups_of, groups_of_lists, next_group, no_field, no_groups}
-use Rattle.graphql_documents.specs.Merging.{FieldSelection, Merges, SameFields}
+use Rattle.std.specs.Prelude.{Err, Ok, OnOk, Result, nat_lt, ◌⊎◌, AllPairs, IsFalse, IsTrue, sum_by, Option}
+use Rattle.graphql_specification.specs.MergedSets.{MergedSet, merged_below, merged_operation, nested_sets, MergingNestsTooDeep, MergingPasses, Agree, ExpansionIsSeen, HasSeen, ListPasses, AreConflicts, ConflictsWith, ConflictReport, agreeing_field, comparisons_of, conflicting_field, empty_group, groups_of, groups_of_lists, next_group, no_field, no_groups}
+use Rattle.graphql_specification.specs.Merging.{Pass, field_pass, shape_pass, FieldSelection, FieldsCanMerge, SameFields}
 use Rattle.graphql_nodes.specs.Names.{NameText, SameName}
 use Rattle.graphql_documents.specs.Selections.{Fragments, fragments_of}
 use Rattle.graphql_diagnostics.specs.declared.lists.DiagnosticEntry.{DiagnosticEntry}
@@ -23,7 +20,6 @@ use Rattle.graphql_diagnostics.specs.declared.build_errors.BuildError.TheVariant
 use Rattle.graphql_diagnostics.specs.declared.details.Details.TheVariants as details
 use Rattle.graphql_diagnostics.specs.declared.details.Details.{Details}
 use Rattle.graphql_nodes.specs.declared.spans.SourceSpan.{SourceSpan}
-use Rattle.std.specs.Prelude.{Option}
 use Rattle.graphql_laws.proofs.DescentLaws.{descent_has_chain}
 use Rattle.graphql_laws.proofs.OrderedGroupLaws.{groups_listed}
 use Rattle.graphql_diagnostics.specs.Reports.{Appends}
@@ -33,8 +29,7 @@ use Rattle.graphql_merging.proofs.PassLemmas.{counted_none, counted_then, new_th
 use Rattle.graphql_laws.proofs.FieldContentsLaws.{same_fields_back}
 use Rattle.graphql_laws.proofs.SeenListLaws.{seen_lists_decide}
 use Rattle.graphql_documents.specs.Built.{IsBuilt}
-use Rattle.graphql_documents.specs.Defer.{operations_of}
-use Rattle.graphql_documents.specs.declared.documents.definitions.FieldDefinition.{FieldDefinition}
+use Rattle.graphql_documents.specs.Executables.{operations_of}
 use Rattle.graphql_documents.specs.declared.documents.executables.ExecutableDocument.{ExecutableDocument}
 
 abbrev Differ : List FieldSelection → List FieldSelection → Type 0
@@ -57,8 +52,8 @@ all_differ : {known lists : List (List FieldSelection)} → AreNew known lists �
 all_differ no_new = λ i j d before within. absurd (omega (arith, before, within))
 all_differ {known} (next_new {list = list} {rest = rest} here behind) = AllPairs-cons Differ list rest (differ_behind known list behind) (all_differ behind)
 
--- what a report of a conflict says is that two fields do not agree
-disagree : (schema : Schema) (pass : Pass) (x y : FieldSelection) (said : Details) (at : Option SourceSpan) → SaysConflict schema pass x y said at → ¬ Agree schema pass x y
+-- what a diagnostic of a conflict says is that two fields do not agree
+disagree : (schema : Schema) (pass : Pass) (x y : FieldSelection) (said : Details) (at : Option SourceSpan) → ConflictReport schema pass x y said at → ¬ Agree schema pass x y
 disagree schema shape_pass x y (details.Build (build.ConflictingFieldType alias original_location original original_type conflicting_location conflicting conflicting_type)) at says agree = says.differ agree
 disagree schema field_pass x y (details.Build (build.ConflictingFieldName alias original_location original conflicting_location conflicting)) at says agree =
     let same = agree.name in let other = says.differ in (let no : ⊥ = cc in no)
@@ -175,7 +170,7 @@ module _ (schema : Schema) (fragments : Fragments) (pass : Pass) where
       ];
     }
 
-  -- the bound was passed: some chain of fields passes it, and so do the steps of this pass
+  -- the limit was passed: some chain of fields passes it, and so do the steps of this pass
   pub passes_deep : ((a b : NameText) → SameName a b → fragments a ≡ fragments b) → (set : SelectionSet) (old new : Stage) (e : ExaminesSet schema fragments pass set old new) → old.depth ≡ 0 →
       DescendsBeyond schema fragments pass (old.lists ++ e.fields ∷ []) old.depth e.fields → MergingPasses schema fragments set
   passes_deep respects set old new e top d =
@@ -369,9 +364,9 @@ longer n m xs ys is_n is_m = (
 
 -- where the document was built, and no operation nests too deep, there is no conflict exactly where all merge
 pub conflicts_decide : (schema : Schema) (document : ExecutableDocument) (m : Merging) → IsBuilt schema document → All (Contains (operations_of document)) m.operations → HasMerged schema (fragments_of document) m → IsFalse m.too_deep →
-    IsFalse m.conflicting ↔ All (λ o. Merges schema (fragments_of document) o.value.value.selection_set) m.operations
+    IsFalse m.conflicting ↔ All (λ o. FieldsCanMerge schema (fragments_of document) o.value.value.selection_set) m.operations
 conflicts_decide schema document m built own was shallow =
-    let Merging' = λ (o : Node Operation). Merges schema (fragments_of document) o.value.value.selection_set in
+    let Merging' = λ (o : Node Operation). FieldsCanMerge schema (fragments_of document) o.value.value.selection_set in
     let decide = seen_lists_decide schema document built m.operations own m.shapes m.fields (was.shapes.all shallow) (was.fields.all shallow) in (
       λ h. each_standing Merging' m.operations (λ o stands. decide.1 (was.silent.0 h) o stands),
       λ all. was.silent.1 (decide.0 (λ o stands. All-contains Merging' m.operations o all stands)),

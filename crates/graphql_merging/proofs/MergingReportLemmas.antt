@@ -1,13 +1,10 @@
--- What a report of a conflict says of an operation.
+-- What a diagnostic of a conflict says of an operation.
 use Rattle.std.proofs.Common.{◌≡◌, Bool, List, [], ◌∷◌, inr, sym, subst, All}
 use Rattle.std.proofs.lemmas.List.Elements.{All-cons, All-nil}
 use Rattle.std.specs.Prelude.{◌⊎◌, Err, IsTrue, Ok, OnErr, OnOk, Option, Result}
-use Rattle.graphql_documents.specs.Expansion.{Pass, field_pass, shape_pass}
+use Rattle.graphql_specification.specs.Merging.{Pass, field_pass, shape_pass, FieldSelection, ComeTogether, MergingReport, of_conflict}
 use Rattle.graphql_diagnostics.specs.Diagnostics.{IsLimitEntry, limit_of_depth}
-use Rattle.graphql_diagnostics.specs.Limits.{MergingLimit, MergingNestsTooDeep, merging_nests}
-use Rattle.graphql_diagnostics.specs.MergedGroups.{SaysConflict}
-use Rattle.graphql_documents.specs.Merging.{FieldSelection}
-use Rattle.graphql_diagnostics.specs.MergingReports.{ComeTogether, MergingReport, of_conflict}
+use Rattle.graphql_specification.specs.MergedSets.{MergingLimit, MergingNestsTooDeep, merging_nests, ConflictReport}
 use Rattle.graphql_nodes.specs.Names.{NameText, SameName}
 use Rattle.graphql_diagnostics.specs.Reports.{Appends, KeepsReports}
 use Rattle.graphql_documents.specs.Selections.{Fragments}
@@ -27,7 +24,7 @@ use Rattle.graphql_merging.specs.MergedOperations.{AreLimits, beyond_bound, with
 use Rattle.graphql_merging.specs.Passes.{IsConflict}
 
 report_of : (schema : Schema) (fragments : Fragments) (pass : Pass) (set : SelectionSet) (x y : FieldSelection) (said : Details) (at : Option SourceSpan) →
-    ComeTogether schema fragments pass set x y → SaysConflict schema pass x y said at → MergingReport schema fragments set said at
+    ComeTogether schema fragments pass set x y → ConflictReport schema pass x y said at → MergingReport schema fragments set said at
 report_of schema fragments pass set x y (details.Build e) at together says = of_conflict (record { pass = pass; x = x; y = y; together = together; conflict = says })
 report_of schema fragments pass set x y said at together says = absurd says
 
@@ -43,7 +40,7 @@ module _ (schema : Schema) (fragments : Fragments) (respects : (a b : NameText) 
       let t = fields_come_together schema fragments respects (o ∷ []) c.list c.conflict.x c.conflict.y c.merged has.0 has.1 has.2 has.3 in
       subst (λ p. ComeTogether schema fragments field_pass p.value.value.selection_set c.conflict.x c.conflict.y) (only_one o t.0 t.3) (t.1, t.2, t.4, t.5)
 
-  -- the reports of conflicts of an operation are true
+  -- the diagnostics of conflicts of an operation are true
   pub conflicts_reported : (pass : Pass) {old new : List DiagnosticEntry} → KeepsReports (IsConflict schema fragments (o ∷ []) pass) old new →
       KeepsReports (λ e. MergingReport schema fragments o.value.value.selection_set e.details e.location) old new
   conflicts_reported pass kept =
@@ -70,7 +67,7 @@ limit_kept (Ok x) P o too_deep mid after limits unchanged = record { added = lim
 limit_kept (Err x) P o too_deep mid after limits unchanged =
     subst (KeepsReports (λ e. P e ⊎ IsLimitEntry e) mid) (sym unchanged) (kept (λ e. P e ⊎ IsLimitEntry e) mid)
 
--- the report of the limit is true where one of the operations nests too deep
+-- the diagnostic of the limit is true where one of the operations nests too deep
 pub limit_reported : {T E : Type 0} (r : Result T E) (schema : Schema) (fragments : Fragments) (before : List (Node Operation)) (o : Node Operation) (too_deep : Bool) (mid after : List DiagnosticEntry) →
     OnOk r (Appends (AreLimits o too_deep) mid after) → OnErr r (after ≡ mid) → (IsTrue too_deep → MergingNestsTooDeep schema fragments before o o.location) →
     KeepsReports (Said schema fragments before o) mid after

@@ -5,11 +5,8 @@ use Rattle.std.proofs.lemmas.List.Elements.{All-nil, All-append, All-cons, All-h
 use Rattle.std.proofs.lemmas.Grind.{flat_map-append}
 use Rattle.std.proofs.lemmas.List.Sums.{sum_by-append, sum_by-cons}
 use Rattle.std.specs.Prelude.{◌≢◌, ◌^◌, max, sum_by}
-use Rattle.graphql_documents.specs.Expansion.{Expansion, IsGroup, MergedSet, MergesBelow, Pass, merged_below, field_pass, nested_sets, shape_pass}
-use Rattle.graphql_diagnostics.specs.Limits.{merging_bound, merging_ends, merging_steps}
-use Rattle.graphql_documents.specs.MergedFields.{ExpansionIsSeen}
-use Rattle.graphql_diagnostics.specs.MergedGroups.{AreConflicts, comparisons_of, empty_group, groups_of, next_group, no_groups}
-use Rattle.graphql_documents.specs.Merging.{FieldSelection, SameFields}
+use Rattle.graphql_specification.specs.MergedSets.{Expansion, IsGroup, MergedSet, MergesBelow, merged_below, nested_sets, merging_depth_limit, merging_ends, merging_steps, ExpansionIsSeen, AreConflicts, comparisons_of, empty_group, groups_of, next_group, no_groups}
+use Rattle.graphql_specification.specs.Merging.{Pass, field_pass, shape_pass, FieldSelection, SameFields}
 use Rattle.graphql_diagnostics.specs.Reports.{Appends}
 use Rattle.graphql_documents.specs.Selections.{Fragments}
 use Rattle.graphql_diagnostics.specs.declared.lists.DiagnosticEntry.{DiagnosticEntry}
@@ -167,8 +164,8 @@ module _ (schema : Schema) (fragments : Fragments) (pass : Pass) where
   }
 
   -- what is below the group was examined before
-  pub below_known : (group : List FieldSelection) (stage : Stage) → stage.comparisons < 2 ^ 64 → ExpansionIsSeen fragments stage.lists (nested_sets group) → GoesBelow schema fragments pass (group ∷ []) stage stage
-  below_known group stage small seen = record {
+  pub parent_known : (group : List FieldSelection) (stage : Stage) → stage.comparisons < 2 ^ 64 → ExpansionIsSeen fragments stage.lists (nested_sets group) → GoesBelow schema fragments pass (group ∷ []) stage stage
+  parent_known group stage small seen = record {
     added = [];
     more = more_none schema pass stage small;
     merged = λ operations above merged groups. All-nil (MergedSet schema fragments operations pass);
@@ -187,8 +184,8 @@ module _ (schema : Schema) (fragments : Fragments) (pass : Pass) where
 
   -- what is below the group is new, and too deep
   pub below_cut : (group below : List FieldSelection) (old new : Stage) → old.comparisons < 2 ^ 64 →
-      nested_sets group ≢ [] → Expansion fragments (nested_sets group) below → IsNew old.lists below → old.depth ≡ merging_bound →
-      new.lists ≡ old.lists → new.comparisons ≡ old.comparisons → new.depth ≡ old.depth → new.highest ≡ merging_bound + 1 → new.reports ≡ old.reports →
+      nested_sets group ≢ [] → Expansion fragments (nested_sets group) below → IsNew old.lists below → old.depth ≡ merging_depth_limit →
+      new.lists ≡ old.lists → new.comparisons ≡ old.comparisons → new.depth ≡ old.depth → new.highest ≡ merging_depth_limit + 1 → new.reports ≡ old.reports →
       GoesBelow schema fragments pass (group ∷ []) old new
   below_cut group below old new small nested expansion is_new deep lists comparisons depth highest reports = record {
     added = [];
@@ -213,7 +210,7 @@ module _ (schema : Schema) (fragments : Fragments) (pass : Pass) where
   module _ (itself : (list : List FieldSelection) → SameFields list list) where
     -- what is below the group was new, and was examined, one step deeper
     pub below_examined : (group below : List FieldSelection) (old down up new : Stage) →
-        nested_sets group ≢ [] → Expansion fragments (nested_sets group) below → old.depth < merging_bound →
+        nested_sets group ≢ [] → Expansion fragments (nested_sets group) below → old.depth < merging_depth_limit →
         down.lists ≡ old.lists → down.comparisons ≡ old.comparisons → down.depth ≡ old.depth + 1 → down.highest ≡ max old.highest down.depth → down.reports ≡ old.reports →
         Examines schema fragments pass below down up →
         new.lists ≡ up.lists → new.comparisons ≡ up.comparisons → new.depth + 1 ≡ up.depth → new.highest ≡ up.highest → new.reports ≡ up.reports →

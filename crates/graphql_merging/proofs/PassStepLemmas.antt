@@ -7,10 +7,9 @@ use Rattle.std.specs.List.{Any, list_any}
 use Rattle.std.specs.Cmp.Lexicographic.{pointwise}
 use Rattle.std.specs.Vec.{vec_len}
 use Rattle.std.specs.declared.alloc.Global.{Global}
-use Rattle.graphql_documents.specs.Expansion.{Expansion, IsGroup, MergedSet, Pass, field_pass, nested_sets, shape_pass}
-use Rattle.graphql_documents.specs.MergedFields.{ExpansionIsSeen}
-use Rattle.graphql_diagnostics.specs.MergedGroups.{comparisons_of, groups_of}
-use Rattle.graphql_documents.specs.Merging as merging
+use Rattle.graphql_specification.specs.MergedSets.{Expansion, IsGroup, MergedSet, nested_sets, ExpansionIsSeen, comparisons_of, groups_of}
+use Rattle.graphql_specification.specs.Merging.{Pass, field_pass, shape_pass}
+use Rattle.graphql_specification.specs.Merging as merging
 use Rattle.graphql_diagnostics.specs.Reports.{KeepsReports}
 use Rattle.graphql_documents.specs.Selections.{Fragments, selections_of}
 use Rattle.graphql_diagnostics.specs.declared.lists.DiagnosticEntry.{DiagnosticEntry}
@@ -42,7 +41,7 @@ module _ (schema : Schema) (pass : Pass) (list : List merging.FieldSelection) (g
   conflicts_true fragments operations merged kept =
       kept_wider (λ e conflict. record { list = list; merged = merged; conflict = subst (λ g. IsConflictAmong schema pass g e) are conflict }) kept
 
--- each group of a list stands among them
+-- each group of a list is among them
 pub group_among : (P : List merging.FieldSelection → Type 0) (groups : List (Vec FieldSelection Global)) (group : Vec FieldSelection Global) →
     All P (lists_of groups) → Contains groups group → P (listed group.items)
 group_among P groups group all stands =
@@ -92,9 +91,9 @@ count_below_limit b old new limit before highest count high is = (
   high ∙ ap (λ (x : Bool). if x then limit + 1 else max before new) is,
 )
 
-pub not_reached : (b : Bool) (count limit : ℕ) {bound : ℕ} → IsTrue b ↔ (count ≡ limit) → IsFalse b → count ≤ limit → limit ≡ bound → count < bound
-not_reached b count limit reached other within is =
-    let apart = λ (at : count ≡ limit). (let true' = reached.1 at in let no : ⊥ = cc in no) in
+pub not_reachable : (b : Bool) (count limit : ℕ) {bound : ℕ} → IsTrue b ↔ (count ≡ limit) → IsFalse b → count ≤ limit → limit ≡ bound → count < bound
+not_reachable b count limit reachable other within is =
+    let apart = λ (at : count ≡ limit). (let true' = reachable.1 at in let no : ⊥ = cc in no) in
     omega (arith, apart, within, is)
 
 -- the code's test of a new list finds no known one

@@ -2,7 +2,7 @@
 -- comparisons.
 use Rattle.std.specs.Prelude.{◌≡◌, ◌∷◌, ◌++◌, ℕ, List, None, Some, All, IsSome, find, length, slice_get}
 use Rattle.graphql_nodes.specs.Names.{DifferentNames, NameText, SameName, same_name}
-use Rattle.graphql_documents.specs.Arguments.{argument_named}
+use Rattle.graphql_documents.specs.Directives.{argument_named}
 use Rattle.graphql_documents.specs.Values.{SameValue, entry_named}
 use Rattle.graphql_documents.specs.declared.documents.directives.Argument.{Argument}
 use Rattle.graphql_documents.specs.declared.documents.executables.Field.{Field}
@@ -49,7 +49,7 @@ abbrev pub AreNamedAmong : List (Node Argument) → List (Node Argument) → Typ
 AreNamedAmong arguments others = All (λ x. IsSome (argument_named x.value.value.name others)) arguments
 
 -- the argument is the first of its name, and this holds of those before it
-pub record IsReached (Holds : List (Node Argument) → Type 0) (arguments : List (Node Argument)) (x : Node Argument) : Type 0 where
+pub record IsReachable (Holds : List (Node Argument) → Type 0) (arguments : List (Node Argument)) (x : Node Argument) : Type 0 where
   pub before : List (Node Argument)
   pub after : List (Node Argument)
   pub stands : arguments ≡ before ++ x ∷ after
@@ -67,7 +67,7 @@ ArgumentConflicts others x _ = ⊥
 -- the same of the first argument of which it is true
 pub record ArgumentsConflict (arguments others : List (Node Argument)) (conflict : FieldConflict) : Type 0 where
   pub argument : Node Argument
-  pub reached : IsReached (λ before. StandAmong before others) arguments argument
+  pub reachable : IsReachable (λ before. StandAmong before others) arguments argument
   pub conflicts : ArgumentConflicts others argument conflict
 
 -- the two fields disagree on what the conflict names, and on nothing before that
@@ -75,5 +75,5 @@ abbrev pub Conflicts : Field → Field → FieldConflict → Type 0
 Conflicts a b Names = DifferentNames a.name b.name
 Conflicts a b (SecondAlone y) =
     SameName a.name b.name × StandAmong a.arguments.items b.arguments.items ×
-    IsReached (λ before. AreNamedAmong before a.arguments.items) b.arguments.items y.now × (argument_named y.now.value.value.name a.arguments.items ≡ None)
+    IsReachable (λ before. AreNamedAmong before a.arguments.items) b.arguments.items y.now × (argument_named y.now.value.value.name a.arguments.items ≡ None)
 Conflicts a b conflict = SameName a.name b.name × ArgumentsConflict a.arguments.items b.arguments.items conflict

@@ -1,9 +1,8 @@
 -- What is reported of two fields that were put together, for the contracts of the comparisons of groups.
 use Rattle.std.specs.Prelude.{◌≡◌, [], ◌∷◌, ◌++◌, Result, MatchResult}
 use Rattle.graphql_diagnostics.specs.Diagnostics.{entries}
-use Rattle.graphql_documents.specs.Expansion.{Pass}
-use Rattle.graphql_diagnostics.specs.MergedGroups.{ConflictsWith, SaysConflict}
-use Rattle.graphql_documents.specs.Merging.{FieldSelection}
+use Rattle.graphql_specification.specs.Merging.{Pass, FieldSelection}
+use Rattle.graphql_specification.specs.MergedSets.{ConflictsWith, ConflictReport}
 use Rattle.graphql_diagnostics.specs.Reports.{Appends}
 use Rattle.graphql_diagnostics.specs.declared.lists.DiagnosticEntry.{DiagnosticEntry}
 use Rattle.graphql_diagnostics.specs.declared.lists.DiagnosticList.{DiagnosticList}
@@ -11,10 +10,10 @@ use Rattle.graphql_documents.specs.declared.documents.schemas.Schema.{Schema}
 
 -- a call that reports the conflict of two fields: where it answers there is one report more, which says so;
 -- where memory is refused there is none
-abbrev pub ReportsConflict : {T E : Type 0} → Result T E → Schema → Pass → FieldSelection → FieldSelection → DiagnosticList → DiagnosticList → Type 0
-ReportsConflict result schema pass x y old new =
+abbrev pub ConflictEntryReport : {T E : Type 0} → Result T E → Schema → Pass → FieldSelection → FieldSelection → DiagnosticList → DiagnosticList → Type 0
+ConflictEntryReport result schema pass x y old new =
     MatchResult result
-    (λ _. (entry : DiagnosticEntry) × (entries new ≡ entries old ++ entry ∷ []) × SaysConflict schema pass x y entry.details entry.location)
+    (λ _. (entry : DiagnosticEntry) × (entries new ≡ entries old ++ entry ∷ []) × ConflictReport schema pass x y entry.details entry.location)
     (λ _. entries new ≡ entries old)
 
 -- a call that compares a field with the first of its group: where it answers there is one report more if

@@ -1,7 +1,7 @@
 -- The steps of the expansion of sets, for the contracts of its private functions.
 use Rattle.std.specs.Prelude.{◌≡◌, List, ◌++◌, filter_map, map, reverse}
 use Rattle.indexmap.specs.IndexMap.{IndexMap, get}
-use Rattle.graphql_documents.specs.Expansion.{FragmentSets, as_field}
+use Rattle.graphql_specification.specs.MergedSets.{FragmentSets, as_field}
 use Rattle.graphql_nodes.specs.Names.{NameText, same_name}
 use Rattle.graphql_documents.specs.Selections.{Fragments}
 use Rattle.graphql_documents.specs.declared.documents.executables.Fragment.{Fragment}
@@ -15,9 +15,9 @@ use Rattle.graphql_merging.specs.declared.expansion.FieldExpansion.{FieldExpansi
 abbrev pub fragments_in : {S : Type 0} → IndexMap NameText (Node Fragment) S → Fragments
 fragments_in fragments name = get same_name fragments name
 
--- the names that were met, the newest first
-abbrev pub met_names : FieldExpansion → List NameText
-met_names expansion = reverse (map (λ name. name.now) expansion.met.keys)
+-- the names that were visited, the newest first
+abbrev pub visited_names : FieldExpansion → List NameText
+visited_names expansion = reverse (map (λ name. name.now) expansion.visited.keys)
 
 -- the sets that are still to be listed
 abbrev pub queued : FieldExpansion → List SelectionSet
@@ -29,5 +29,5 @@ pub record Expands (old new : FieldExpansion) (parent : NameText) (selections : 
   pub fragments : new.fragments.now ≡ old.fragments.now
   pub fields : listed new.fields.items ≡ listed old.fields.items ++ filter_map (as_field parent) selections
   pub sets : List SelectionSet
-  pub found : FragmentSets (fragments_in old.fragments.now) (met_names old) selections sets (met_names new)
+  pub found : FragmentSets (fragments_in old.fragments.now) (visited_names old) selections sets (visited_names new)
   pub queue : queued new ≡ queued old ++ sets

@@ -1,7 +1,7 @@
 -- Fields of the code, in the words of the definitions on merging.
 use Rattle.std.specs.Prelude.{Bool, List, Vec, map}
 use Rattle.std.specs.declared.alloc.Global.{Global}
-use Rattle.graphql_documents.specs.Merging as merging
+use Rattle.graphql_specification.specs.Merging as merging
 use Rattle.graphql_merging.specs.contracts.field_selections.FieldSelectionPartialEq.TheImpl as selection_impl
 use Rattle.graphql_merging.specs.declared.field_selections.FieldSelection.{FieldSelection}
 

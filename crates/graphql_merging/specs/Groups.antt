@@ -4,9 +4,9 @@ use Rattle.std.specs.Borrow.{Bor}
 use Rattle.std.specs.Map.{lookup}
 use Rattle.std.specs.declared.alloc.Global.{Global}
 use Rattle.indexmap.specs.IndexMap.{insert_entry}
-use Rattle.graphql_documents.specs.Expansion as expansion
-use Rattle.graphql_diagnostics.specs.MergedGroups.{key_of, keys_of, object_name, objects_of, under_key}
-use Rattle.graphql_documents.specs.Merging as merging
+use Rattle.graphql_specification.specs.MergedSets as merged_sets
+use Rattle.graphql_specification.specs.MergedSets.{key_of, keys_of, object_name, objects_of, under_key}
+use Rattle.graphql_specification.specs.Merging as merging
 use Rattle.graphql_nodes.specs.Names.{NameText, same_name}
 use Rattle.graphql_documents.specs.Schemas.{type_definition}
 use Rattle.graphql_documents.specs.declared.documents.schemas.Schema.{Schema}
@@ -16,9 +16,9 @@ use Rattle.graphql_merging.specs.declared.groups.Pass.{Pass}
 use Rattle.graphql_merging.specs.declared.groups.Pass.TheVariants.{Shapes, NamesAndArguments}
 
 -- the pass of the definitions
-abbrev pub pass_of : Pass → expansion.Pass
-pass_of Shapes = expansion.shape_pass
-pass_of NamesAndArguments = expansion.field_pass
+abbrev pub pass_of : Pass → merging.Pass
+pass_of Shapes = merging.shape_pass
+pass_of NamesAndArguments = merging.field_pass
 
 -- names, each with fields
 abbrev pub NamedFields : Type 0
@@ -44,12 +44,12 @@ by_keys fields = map (λ key. (key, under_key key fields)) (keys_of fields)
 -- those on object types, by the own names of these
 abbrev pub by_objects : Schema → List merging.FieldSelection → NamedFields
 by_objects schema fields =
-    map (λ name. (name, expansion.with_parents schema (expansion.is_object_named name) fields)) (objects_of schema fields)
+    map (λ name. (name, merged_sets.with_parents schema (merged_sets.is_object_named name) fields)) (objects_of schema fields)
 
 -- with the field under its response key
 abbrev pub with_keyed : NamedFields → merging.FieldSelection → NamedFields
 with_keyed known x = with_field known (key_of x) x
 
--- with the field under the object type on which it stands, if it is one
+-- with the field under the object type on which it is, if it is one
 abbrev pub with_owned : Schema → NamedFields → merging.FieldSelection → NamedFields
 with_owned schema known x = with_field_if known (object_name (type_definition schema x.parent)) x

@@ -1,10 +1,7 @@
 -- What a value that merges operations one after another holds, and what one call does.
 use Rattle.std.specs.Prelude.{◌≡◌, ◌↔◌, ℕ, Bool, List, [], ◌∷◌, ◌++◌, All, Contains, IsFalse, IsTrue, sum_by}
-use Rattle.graphql_documents.specs.Expansion.{MergedSet, Pass, field_pass, shape_pass}
-use Rattle.graphql_diagnostics.specs.Limits.{MergingPasses}
-use Rattle.graphql_documents.specs.MergedFields.{HasSeen, ListPasses}
-use Rattle.graphql_diagnostics.specs.MergedGroups.{AreConflicts, comparisons_of, groups_of_lists}
-use Rattle.graphql_documents.specs.Merging.{FieldSelection}
+use Rattle.graphql_specification.specs.MergedSets.{MergedSet, MergingPasses, HasSeen, ListPasses, AreConflicts, comparisons_of, groups_of_lists}
+use Rattle.graphql_specification.specs.Merging.{Pass, field_pass, shape_pass, FieldSelection}
 use Rattle.graphql_documents.specs.Selections.{Fragments}
 use Rattle.graphql_diagnostics.specs.declared.details.Details.TheVariants as details
 use Rattle.graphql_nodes.specs.declared.errors.RecursionLimitError.{RecursionLimitError}
@@ -32,7 +29,7 @@ pub record HasExamined (schema : Schema) (fragments : Fragments) (operations : L
   pub all : IsFalse too_deep → HasSeen schema fragments operations pass lists
 
 -- the operations were merged: each pass has examined their lists; there is no conflict exactly where in each
--- group of each list the first field agrees with the rest; the bound is passed by one of them, if it is; and
+-- group of each list the first field agrees with the rest; the limit is passed by one of them, if it is; and
 -- each field but the first under its key was compared once in each list
 pub record HasMerged (schema : Schema) (fragments : Fragments) (m : Merging) : Type 0 where
   pub shapes : HasExamined schema fragments m.operations shape_pass m.too_deep m.shapes
@@ -41,7 +38,7 @@ pub record HasMerged (schema : Schema) (fragments : Fragments) (m : Merging) : T
   pub deep : IsTrue m.too_deep → (o : Node Operation) × Contains m.operations o × MergingPasses schema fragments o.value.value.selection_set
   pub comparisons : m.comparisons ≡ counted shape_pass 0 (sum_by comparisons_of m.shapes)
 
--- the report that an operation nests too deep, if one does
+-- the diagnostic that an operation nests too deep, if one does
 pub data AreLimits (o : Node Operation) : Bool → List DiagnosticEntry → Type 0 where
   within_bound : {too_deep : Bool} → IsFalse too_deep → AreLimits o too_deep []
   beyond_bound : {too_deep : Bool} {limit : RecursionLimitError} → IsTrue too_deep →

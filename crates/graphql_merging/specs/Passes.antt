@@ -1,10 +1,7 @@
 -- The steps of a pass over lists of fields, for the contracts of its private functions.
 use Rattle.std.specs.Prelude.{◌≡◌, ◌≢◌, ◌+◌, ◌-◌, ◌<◌, ◌^◌, ◌⊎◌, ℕ, List, [], ◌∷◌, ◌++◌, All, Contains, length, min, sum_by}
-use Rattle.graphql_documents.specs.Expansion.{Expansion, IsGroup, MergedSet, Pass, field_pass, nested_sets, shape_pass}
-use Rattle.graphql_diagnostics.specs.Limits.{MergingDescent, merging_bound}
-use Rattle.graphql_documents.specs.MergedFields.{ExpansionIsSeen}
-use Rattle.graphql_diagnostics.specs.MergedGroups.{AreConflicts, SaysConflict, comparisons_of, groups_of, groups_of_lists}
-use Rattle.graphql_documents.specs.Merging.{FieldSelection, SameFields}
+use Rattle.graphql_specification.specs.MergedSets.{Expansion, IsGroup, MergedSet, nested_sets, MergingDescent, merging_depth_limit, ExpansionIsSeen, AreConflicts, ConflictReport, comparisons_of, groups_of, groups_of_lists}
+use Rattle.graphql_specification.specs.Merging.{Pass, field_pass, shape_pass, FieldSelection, SameFields}
 use Rattle.graphql_diagnostics.specs.Reports.{Appends}
 use Rattle.graphql_documents.specs.Selections.{Fragments}
 use Rattle.graphql_diagnostics.specs.declared.lists.DiagnosticEntry.{DiagnosticEntry}
@@ -13,8 +10,7 @@ use Rattle.graphql_documents.specs.declared.documents.executables.SelectionSet.{
 use Rattle.graphql_nodes.specs.declared.nodes.Node.{Node}
 use Rattle.graphql_documents.specs.declared.documents.schemas.Schema.{Schema}
 
--- where a pass stands: the lists that it has examined, how often it has compared two shapes, how deep it
--- is and was, and what was reported
+-- where a pass is: the lists that it has examined, how often it has compared two shapes, how deep it is and was, and what was reported
 pub record Stage : Type 0 where
   pub lists : List (List FieldSelection)
   pub comparisons : ℕ
@@ -22,9 +18,9 @@ pub record Stage : Type 0 where
   pub highest : ℕ
   pub reports : List DiagnosticEntry
 
--- the pass would have gone deeper than the bound
+-- the pass would have gone deeper than the limit
 abbrev pub HasPassed : Stage → Type 0
-HasPassed stage = merging_bound < stage.highest
+HasPassed stage = merging_depth_limit < stage.highest
 
 -- no known list has the same fields
 abbrev pub IsNew : List (List FieldSelection) → List FieldSelection → Type 0
@@ -50,12 +46,12 @@ abbrev pub IsClosedIn : Schema → Fragments → Pass → List (List FieldSelect
 IsClosedIn schema fragments pass known list =
     (group : List FieldSelection) → IsGroup schema list pass group → IsKnownBelow fragments known group
 
--- from the list a descent goes through new lists, by so many steps as lead from this depth beyond the bound
+-- from the list a descent goes through new lists, by so many steps as lead from this depth beyond the limit
 pub record DescendsBeyond (schema : Schema) (fragments : Fragments) (pass : Pass) (known : List (List FieldSelection)) (depth : ℕ) (list : List FieldSelection) : Type 0 where
   pub steps : List (List FieldSelection)
   pub descent : MergingDescent schema fragments pass list steps
   pub are_new : AreNew known steps
-  pub beyond : length steps + depth ≡ merging_bound + 1
+  pub beyond : length steps + depth ≡ merging_depth_limit + 1
 
 -- a pass has examined these further lists, each new, and has reported their conflicts
 pub record ExaminesMore (schema : Schema) (pass : Pass) (added : List (List FieldSelection)) (old new : Stage) : Type 0 where
@@ -98,7 +94,7 @@ pub record ExaminesSet (schema : Schema) (fragments : Fragments) (pass : Pass) (
       All (IsClosedIn schema fragments pass new.lists) added × ExpansionIsSeen fragments new.lists (set ∷ [])
   pub passes : HasPassed new → HasPassed old ⊎ DescendsBeyond schema fragments pass (old.lists ++ fields ∷ []) old.depth fields
 
--- the report is of a conflict in one of these groups
+-- the diagnostic is of a conflict in one of these groups
 pub record IsConflictAmong (schema : Schema) (pass : Pass) (groups : List (List FieldSelection)) (entry : DiagnosticEntry) : Type 0 where
   pub group : List FieldSelection
   pub x : FieldSelection
@@ -106,9 +102,9 @@ pub record IsConflictAmong (schema : Schema) (pass : Pass) (groups : List (List 
   pub stands : Contains groups group
   pub in_x : Contains group x
   pub in_y : Contains group y
-  pub says : SaysConflict schema pass x y entry.details entry.location
+  pub says : ConflictReport schema pass x y entry.details entry.location
 
--- the report is of a conflict in a group of a list that is merged for these operations
+-- the diagnostic is of a conflict in a group of a list that is merged for these operations
 pub record IsConflict (schema : Schema) (fragments : Fragments) (operations : List (Node Operation)) (pass : Pass) (entry : DiagnosticEntry) : Type 0 where
   pub list : List FieldSelection
   pub merged : MergedSet schema fragments operations pass list

@@ -1,7 +1,7 @@
--- Where the code of a pass stands.
+-- Where the code of a pass is.
 use Rattle.std.specs.Prelude.{List}
 use Rattle.graphql_diagnostics.specs.Diagnostics.{entries}
-use Rattle.graphql_documents.specs.Merging.{FieldSelection}
+use Rattle.graphql_specification.specs.Merging.{FieldSelection}
 use Rattle.graphql_diagnostics.specs.declared.lists.DiagnosticList.{DiagnosticList}
 use Rattle.graphql_guards.specs.Guards.{count_of, highest_of}
 use Rattle.graphql_guards.specs.declared.limits.LimitCounter.{LimitCounter}

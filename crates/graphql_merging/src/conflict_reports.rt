@@ -1,22 +1,21 @@
-//! The reports of two fields that were put together and do not agree. Each stands at the later field.
+//! The diagnostics of two fields that were put together and do not agree. Each is at the later field.
 
 ghost use Rattle.std.specs.Prelude.{◌≡◌, IfOk};
-ghost use Rattle.graphql_documents.specs.Expansion.{field_pass, shape_pass};
-ghost use Rattle.graphql_documents.specs.Merging.{SameShape, type_of};
-ghost use Rattle.graphql_diagnostics.specs.MergingReports.{DisagreeFirstOn, IsArgumentValue};
+ghost use Rattle.graphql_specification.specs.Merging.{field_pass, shape_pass, SameResponseShape, type_of, DisagreeFirstOn, IsArgumentValue};
 ghost use Rattle.graphql_nodes.specs.Names.{DifferentNames, SameName};
 ghost use Rattle.graphql_documents.specs.TypeReferences.{as_written};
 ghost use Rattle.graphql_documents.specs.declared.documents.schemas.Schema.{Schema};
 ghost use Rattle.graphql_merging.specs.Comparisons.{Conflicts};
-ghost use Rattle.graphql_merging.specs.Conflicts.{ReportsConflict};
+ghost use Rattle.graphql_merging.specs.Conflicts.{ConflictEntryReport};
 ghost use Rattle.graphql_merging.specs.FieldSelections.{selection_of};
 
 use super::comparisons::FieldConflict;
 use super::copies::copy_of_argument;
 use super::field_selections::FieldSelection;
 use graphql_coordinates::{FieldArgumentCoordinate, TypeAttributeCoordinate};
-use graphql_diagnostics::{BuildError, Details, DiagnosticList, ValidationError};
-use graphql_documents::documents::{Name, Type, Value};
+use graphql_diagnostics::{BuildError, Details, DiagnosticList};
+use graphql_documents::documents::{Type, Value};
+use graphql_nodes::{Name, ValidationError};
 use std::alloc::Global;
 
 /// Reports that the types of two fields have different shapes.
@@ -25,8 +24,8 @@ pub(super) fn report_types(
     first: FieldSelection,
     field: FieldSelection,
 ) -> Result<(), ValidationError>
-    ensures { (schema : Schema) → ¬ SameShape schema (type_of (selection_of first.entry)) (type_of (selection_of field.entry)) →
-        ReportsConflict result schema shape_pass (selection_of first.entry) (selection_of field.entry) diagnostics.old diagnostics.new }
+    ensures { (schema : Schema) → ¬ SameResponseShape schema (type_of (selection_of first.entry)) (type_of (selection_of field.entry)) →
+        ConflictEntryReport result schema shape_pass (selection_of first.entry) (selection_of field.entry) diagnostics.old diagnostics.new }
 {
     let alloc = diagnostics.allocator();
     let (original_coordinate, original_type) = typed_coordinate(alloc, first)?;
@@ -67,7 +66,7 @@ pub(super) fn report_conflict(
     conflict: FieldConflict,
 ) -> Result<(), ValidationError>
     ensures { (schema : Schema) → Conflicts first.entry.field.now.value.value field.entry.field.now.value.value conflict.entry →
-        ReportsConflict result schema field_pass (selection_of first.entry) (selection_of field.entry) diagnostics.old diagnostics.new }
+        ConflictEntryReport result schema field_pass (selection_of first.entry) (selection_of field.entry) diagnostics.old diagnostics.new }
 {
     match conflict {
         FieldConflict::Names => report_names(diagnostics, first, field),
@@ -90,7 +89,7 @@ fn report_names(
     field: FieldSelection,
 ) -> Result<(), ValidationError>
     ensures { (schema : Schema) → DifferentNames first.entry.field.now.value.value.name field.entry.field.now.value.value.name →
-        ReportsConflict result schema field_pass (selection_of first.entry) (selection_of field.entry) diagnostics.old diagnostics.new }
+        ConflictEntryReport result schema field_pass (selection_of first.entry) (selection_of field.entry) diagnostics.old diagnostics.new }
 {
     let alias = first.field.value.response_key().clone()?;
     let alloc = diagnostics.allocator();
@@ -118,7 +117,7 @@ fn report_argument(
     ensures { (schema : Schema) →
         SameName first.entry.field.now.value.value.name field.entry.field.now.value.value.name →
         DisagreeFirstOn argument.now first.entry.field.now.value.value field.entry.field.now.value.value →
-        ReportsConflict result schema field_pass (selection_of first.entry) (selection_of field.entry) diagnostics.old diagnostics.new }
+        ConflictEntryReport result schema field_pass (selection_of first.entry) (selection_of field.entry) diagnostics.old diagnostics.new }
 {
     let alloc = diagnostics.allocator();
     let (original_coordinate, original_value) = given_argument(alloc, first, argument)?;

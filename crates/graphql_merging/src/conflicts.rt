@@ -2,9 +2,8 @@
 
 ghost use Rattle.std.specs.Prelude.{◌≡◌, ◌↔◌, ◌-◌, ◌∷◌, [], IsTrue, OnOk, length, sum_by};
 ghost use Rattle.graphql_diagnostics.specs.Diagnostics.{entries};
-ghost use Rattle.graphql_documents.specs.Expansion.{shape_pass};
-ghost use Rattle.graphql_diagnostics.specs.MergedGroups.{AreConflicts};
-ghost use Rattle.graphql_documents.specs.Merging.{SameShape, type_of};
+ghost use Rattle.graphql_specification.specs.Merging.{shape_pass, SameResponseShape, type_of};
+ghost use Rattle.graphql_specification.specs.MergedSets.{AreConflicts};
 ghost use Rattle.graphql_diagnostics.specs.Reports.{Appends, KeepsReports};
 ghost use Rattle.graphql_merging.specs.Conflicts.{ComparesField};
 ghost use Rattle.graphql_merging.specs.FieldSelections.{listed, lists_of, selection_of};
@@ -17,8 +16,9 @@ use super::conflict_reports::{report_conflict, report_types};
 use super::examined::Examined;
 use super::field_selections::FieldSelection;
 use super::groups::Pass;
-use graphql_diagnostics::{DiagnosticList, ValidationError};
+use graphql_diagnostics::DiagnosticList;
 use graphql_documents::documents::Schema;
+use graphql_nodes::ValidationError;
 
 /// Compares the first field of each group with the rest, and reports each that does not agree with it.
 pub(crate) fn compare_groups<'doc>(
@@ -95,7 +95,7 @@ fn have_one_shape<'doc>(
     first: FieldSelection<'doc>,
     field: FieldSelection<'doc>,
 ) -> bool
-    ensures answer { IsTrue result ↔ SameShape schema.now (type_of (selection_of first.entry)) (type_of (selection_of field.entry)) }
+    ensures answer { IsTrue result ↔ SameResponseShape schema.now (type_of (selection_of first.entry)) (type_of (selection_of field.entry)) }
     ensures comparisons { examined.new.comparisons ≡ counted shape_pass examined.old.comparisons 1 }
     ensures lists { examined_lists examined.new ≡ examined_lists examined.old }
 {

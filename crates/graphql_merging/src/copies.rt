@@ -1,11 +1,12 @@
 //! Copies of values, for reports.
 
 ghost use Rattle.std.specs.Prelude.{◌≡◌, IfOk};
-ghost use Rattle.graphql_diagnostics.specs.MergingReports.{IsArgumentValue};
+ghost use Rattle.graphql_specification.specs.Merging.{IsArgumentValue};
 ghost use Rattle.graphql_documents.specs.Values.{IsCopy};
 
-use graphql_diagnostics::ValidationError;
-use graphql_documents::documents::{Field, FloatValue, IntValue, Name, Value, argument_named};
+use graphql_documents::documents::{Field, Value, argument_named};
+use graphql_nodes::{Name, ValidationError};
+use graphql_numbers::{FloatValue, IntValue};
 use std::alloc::Global;
 
 /// A copy of the value of the first argument with this name, if the field has one.

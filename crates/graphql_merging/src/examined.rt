@@ -1,7 +1,7 @@
 ghost use Rattle.std.specs.Prelude.{◌<◌, ◌^◌};
 
 use super::field_selections::FieldSelection;
-use graphql_diagnostics::ValidationError;
+use graphql_nodes::ValidationError;
 use indexmap::IndexSet;
 use std::alloc::Global;
 
@@ -16,7 +16,7 @@ pub(crate) struct Examined<'doc> {
 impl<'doc> Examined<'doc> {
     ghost use Rattle.std.specs.Prelude.{◌≡◌, ◌↔◌, ◌++◌, ◌∷◌, [], IsTrue, OnOk};
     ghost use Rattle.std.specs.List.{Any};
-    ghost use Rattle.graphql_documents.specs.Merging.{SameFields};
+    ghost use Rattle.graphql_specification.specs.Merging.{SameFields};
     ghost use Rattle.graphql_merging.specs.FieldSelections.{listed};
     ghost use Rattle.graphql_merging.specs.Passes.{IsNew};
     ghost use Rattle.graphql_merging.specs.Stages.{examined_lists};

@@ -1,7 +1,7 @@
 //! The fields of sets, with those of the fragments in them.
 
 ghost use Rattle.std.specs.Prelude.{◌∷◌, [], IfOk, OnOk, map};
-ghost use Rattle.graphql_documents.specs.Expansion.{Expansion};
+ghost use Rattle.graphql_specification.specs.MergedSets.{Expansion};
 ghost use Rattle.graphql_nodes.specs.Names.{NameText};
 ghost use Rattle.graphql_documents.specs.Selections.{selections_of};
 ghost use Rattle.graphql_documents.specs.declared.documents.executables.Selection.TheVariants as kind;
@@ -9,18 +9,16 @@ ghost use Rattle.graphql_merging.specs.ExpansionSteps.{Expands, fragments_in};
 ghost use Rattle.graphql_merging.specs.FieldSelections.{listed};
 
 use super::field_selections::FieldSelection;
-use graphql_diagnostics::ValidationError;
-use graphql_documents::documents::{
-    Fragment, FragmentSpread, Name, NamedType, Node, Selection, SelectionSet,
-};
+use graphql_documents::documents::{Fragment, FragmentSpread, Selection, SelectionSet};
+use graphql_nodes::{Name, NamedType, Node, ValidationError};
 use indexmap::{IndexMap, IndexSet};
 use std::alloc::Global;
 use std::collections::VecDeque;
 
-/// Lists the fields of these sets, and those of the fragments in them, each with the type of the set in
-/// which it stands. The fields of one set stand together, in order; the sets of its fragments come behind
-/// the sets that are still to be listed. Each named fragment is gone into once, and an undefined one gives
-/// nothing. The only error is want of memory.
+/// Lists the fields of these sets, and those of the fragments in them, each with the type of the set in which
+/// it is. The fields of one set are together, in order; the sets of its fragments come behind the sets that
+/// are still to be listed. Each named fragment is visited once, and an undefined one gives nothing. The only
+/// error is a failed allocation.
 ///
 /// Specification: 5.3.2 Field Selection Merging, "including visiting fragments and inline fragments".
 pub fn expand_selections<'doc>(
@@ -34,7 +32,7 @@ pub fn expand_selections<'doc>(
     let mut expansion = FieldExpansion {
         fragments,
         fields: Vec::new(alloc),
-        met: IndexSet::new(alloc),
+        visited: IndexSet::new(alloc),
         queue: VecDeque::from(sets),
     };
     while let Some(set) = expansion.queue.pop_front() {
@@ -43,13 +41,13 @@ pub fn expand_selections<'doc>(
     Ok(expansion.fields)
 }
 
-/// What was found so far: the fields, the names of the fragments that were met, and the sets whose fields
+/// What was found so far: the fields, the names of the fragments that were visited, and the sets whose fields
 /// are still to be listed.
 #[derive(Drop)]
 struct FieldExpansion<'doc> {
     fragments: &'doc IndexMap<Name, Node<Fragment>>,
     fields: Vec<FieldSelection<'doc>>,
-    met: IndexSet<&'doc Name>,
+    visited: IndexSet<&'doc Name>,
     queue: VecDeque<&'doc SelectionSet>,
 }
 
@@ -86,7 +84,7 @@ impl<'doc> FieldExpansion<'doc> {
         ensures { OnOk result ((parent : NameText) → Expands self.old self.new parent (kind.FragmentSpread spread.now ∷ [])) }
     {
         let name = &spread.value.fragment_name;
-        if self.met.insert(name)? {
+        if self.visited.insert(name)? {
             if let Some(fragment) = self.fragments.get(name) {
                 self.queue.push_back(&fragment.value.selection_set)?;
             }

@@ -1,14 +1,14 @@
-//! Fields, each with the type of the set in which it stands.
+//! Fields, each with the type of the set in which it is.
 
 ghost use Rattle.std.specs.Prelude.{◌≡◌, IfOk};
 
 use graphql_coordinates::TypeAttributeCoordinate;
-use graphql_diagnostics::ValidationError;
-use graphql_documents::documents::{Field, NamedType, Node};
+use graphql_documents::documents::Field;
+use graphql_nodes::{NamedType, Node, ValidationError};
 use std::alloc::Global;
 
-/// A field, with the type of the set in which it stands. Two are compared and hashed by the text of the
-/// type and by what the fields hold, wherever these stand.
+/// A field, with the type of the set in which it is. Two are compared and hashed by the text of the type and
+/// by what the fields hold, wherever these are.
 ///
 /// Specification: 5.3.2 Field Selection Merging.
 #[derive(Clone, Copy, Debug, PartialEq, Eq, Hash)]

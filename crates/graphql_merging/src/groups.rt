@@ -1,18 +1,17 @@
 //! The groups in which the fields of a list are put together.
 
 ghost use Rattle.std.specs.Prelude.{◌≡◌, ◌++◌, ◌∷◌, [], IfOk, OnOk, flat_map, map};
-ghost use Rattle.graphql_documents.specs.Expansion.{is_abstract, with_parents};
-ghost use Rattle.graphql_diagnostics.specs.MergedGroups.{groups_of, groups_on, objects_of, unless_empty};
+ghost use Rattle.graphql_specification.specs.MergedSets.{is_abstract, with_parents, groups_of, groups_on, objects_of, unless_empty};
 ghost use Rattle.graphql_merging.specs.FieldSelections.{listed, lists_of, selection_of};
 ghost use Rattle.graphql_merging.specs.Groups.{by_keys, by_objects, named_fields, pass_of, with_field, with_owned};
 
 use crate::field_selections::FieldSelection;
-use graphql_diagnostics::ValidationError;
-use graphql_documents::documents::{ExtendedType, Name, Schema};
+use graphql_documents::documents::{ExtendedType, Schema};
+use graphql_nodes::{Name, ValidationError};
 use indexmap::IndexMap;
 use std::alloc::Global;
 
-/// Which fields of a list are put together, and what is asked of them.
+/// Which fields of a list are put together, and what must hold of them.
 ///
 /// Specification: 5.3.2 Field Selection Merging.
 #[derive(Clone, Copy, Debug, PartialEq, Eq)]
@@ -24,8 +23,8 @@ pub(crate) enum Pass {
     NamesAndArguments,
 }
 
-/// The groups of a list of fields, in order of first field. Fields that stand on no object, interface or
-/// union are in no group for names and arguments. The only error is want of memory.
+/// The groups of a list of fields, in order of first field. Fields that are on no object, interface or union
+/// are in no group for names and arguments. The only error is a failed allocation.
 ///
 /// Specification: 5.3.2 Field Selection Merging.
 pub(crate) fn groups_of<'doc>(
@@ -59,8 +58,8 @@ fn groups_by_types<'doc>(
     Ok(groups)
 }
 
-/// The fields of a list by their response keys, these in order of first field. The only error is want of
-/// memory.
+/// The fields of a list by their response keys, these in order of first field. The only error is a failed
+/// allocation.
 ///
 /// Specification: 5.3.2 Field Selection Merging; 6.3.2 Field Collection.
 pub fn fields_by_key<'doc>(
@@ -165,8 +164,8 @@ fn push_with<'doc>(
     Ok(())
 }
 
-/// Fields by the types on which they stand: those on each object type, by its own name, and those on
-/// interfaces and unions.
+/// Fields by the types on which they are: those on each object type, by its own name, and those on interfaces
+/// and unions.
 #[derive(Drop)]
 struct FieldsOnTypes<'schema, 'doc> {
     on_objects: IndexMap<&'schema Name, Vec<FieldSelection<'doc>>>,

@@ -2,8 +2,8 @@
 
 ghost use Rattle.std.specs.Prelude.{◌↔◌, All, Contains, IsFalse};
 ghost use Rattle.graphql_documents.specs.Built.{IsBuilt};
-ghost use Rattle.graphql_documents.specs.Defer.{operations_of};
-ghost use Rattle.graphql_documents.specs.Merging.{Merges};
+ghost use Rattle.graphql_documents.specs.Executables.{operations_of};
+ghost use Rattle.graphql_specification.specs.Merging.{FieldsCanMerge};
 ghost use Rattle.graphql_documents.specs.Selections.{fragments_of};
 ghost use Rattle.graphql_merging.specs.Mergers.{IsSound, document_of, has_refused, merging_of, schema_of};
 ghost use Rattle.graphql_merging.specs.declared.merging.FieldsInSetCanMerge.{FieldsInSetCanMerge};
@@ -18,5 +18,5 @@ pub fn conflicts_decide_whether_operations_merge()
         All (Contains (operations_of (document_of m))) (merging_of m).operations →
         IsSound m → IsFalse (has_refused m) → IsFalse (merging_of m).too_deep →
         IsFalse (merging_of m).conflicting ↔
-        All (λ o. Merges (schema_of m) (fragments_of (document_of m)) o.value.value.selection_set) (merging_of m).operations }
+        All (λ o. FieldsCanMerge (schema_of m) (fragments_of (document_of m)) o.value.value.selection_set) (merging_of m).operations }
 {}

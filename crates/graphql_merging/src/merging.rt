@@ -1,9 +1,10 @@
 use super::examined::Examined;
 use super::groups::Pass;
 use super::passes::MergingPass;
-use graphql_diagnostics::{Details, DiagnosticList, RecursionLimitError, ValidationError};
-use graphql_documents::documents::{ExecutableDocument, Node, Operation, Schema};
+use graphql_diagnostics::{Details, DiagnosticList};
+use graphql_documents::documents::{ExecutableDocument, Operation, Schema};
 use graphql_guards::LimitCounter;
+use graphql_nodes::{Node, RecursionLimitError, ValidationError};
 use std::alloc::Global;
 
 /// How deep fields may be merged.
@@ -29,10 +30,8 @@ pub struct FieldsInSetCanMerge<'s, 'doc> {
 impl<'s, 'doc> FieldsInSetCanMerge<'s, 'doc> {
     ghost use Rattle.std.specs.Prelude.{◌≡◌, ◌⊎◌, ◌++◌, ◌∷◌, [], IfOk, IsErr, IsFalse, IsTrue, OnErr, OnOk, is_err, sum_by};
     ghost use Rattle.graphql_diagnostics.specs.Diagnostics.{IsLimitEntry, entries};
-    ghost use Rattle.graphql_documents.specs.Expansion.{shape_pass};
-    ghost use Rattle.graphql_diagnostics.specs.Limits.{MergingLimit};
-    ghost use Rattle.graphql_diagnostics.specs.MergedGroups.{comparisons_of};
-    ghost use Rattle.graphql_diagnostics.specs.MergingReports.{MergingReport};
+    ghost use Rattle.graphql_specification.specs.Merging.{shape_pass, MergingReport};
+    ghost use Rattle.graphql_specification.specs.MergedSets.{MergingLimit, comparisons_of};
     ghost use Rattle.graphql_diagnostics.specs.Reports.{Appends, KeepsReports};
     ghost use Rattle.graphql_documents.specs.Selections.{fragments_of};
     ghost use Rattle.graphql_merging.specs.MergedOperations.{AreLimits, ExaminesInBoth, HasMerged, MergesOneMore};
@@ -74,7 +73,7 @@ impl<'s, 'doc> FieldsInSetCanMerge<'s, 'doc> {
     /// too deep. Lists of fields that were examined for an earlier operation are not examined again.
     ///
     /// The only error is that memory is refused. After it each later call answers the same and reports nothing.
-    /// In any case the old reports stay, and each further one is true of two chains of fields of the operation,
+    /// In any case the old diagnostics stay, and each further one is true of two chains of fields of the operation,
     /// or is one of the limit; that one is true too of a value that is sound, as all are that `new` and these
     /// calls make.
     ///

@@ -1,8 +1,7 @@
 ghost use Rattle.std.specs.Prelude.{◌≡◌, ◌≤◌, ◌+◌, ◌*◌, ◌-◌, ◌∷◌, [], IfOk, List, OnOk, filter, map};
 ghost use Rattle.graphql_diagnostics.specs.Diagnostics.{entries};
-ghost use Rattle.graphql_documents.specs.Expansion.{Expansion, IsGroup, MergedSet, nested_sets};
-ghost use Rattle.graphql_diagnostics.specs.Limits.{merging_bound};
-ghost use Rattle.graphql_documents.specs.Merging as merging;
+ghost use Rattle.graphql_specification.specs.MergedSets.{Expansion, IsGroup, MergedSet, nested_sets, merging_depth_limit};
+ghost use Rattle.graphql_specification.specs.Merging as merging;
 ghost use Rattle.graphql_diagnostics.specs.Reports.{KeepsReports};
 ghost use Rattle.graphql_documents.specs.Selections.{fragments_of};
 ghost use Rattle.graphql_documents.specs.declared.documents.executables.Operation.{Operation};
@@ -18,9 +17,10 @@ use super::examined::Examined;
 use super::expansion::expand_selections;
 use super::field_selections::FieldSelection;
 use super::groups::{Pass, groups_of};
-use graphql_diagnostics::{DiagnosticList, ValidationError};
+use graphql_diagnostics::DiagnosticList;
 use graphql_documents::documents::{ExecutableDocument, Schema, SelectionSet};
 use graphql_guards::LimitCounter;
+use graphql_nodes::ValidationError;
 use std::alloc::Global;
 
 /// A pass over the fields of operations.
@@ -41,7 +41,7 @@ impl<'s, 'doc> MergingPass<'s, 'doc> {
         depth: &mut LimitCounter,
         set: &'doc SelectionSet,
     ) -> Result<(), ValidationError>
-        requires { count_limit depth.old ≡ merging_bound }
+        requires { count_limit depth.old ≡ merging_depth_limit }
         ensures examines { OnOk result (ExaminesSet self.now.schema.now (fragments_of self.now.document.now) (pass_of self.now.pass) set.now
             (stage_of examined.old depth.old diagnostics.old) (stage_of examined.new depth.new diagnostics.new)) }
         ensures truth { (operations : List (Node Operation)) →
@@ -67,7 +67,7 @@ impl<'s, 'doc> MergingPass<'s, 'doc> {
         depth: &mut LimitCounter,
         fields: Vec<FieldSelection<'doc>>,
     ) -> Result<(), ValidationError>
-        requires limit { count_limit depth.old ≡ merging_bound }
+        requires limit { count_limit depth.old ≡ merging_depth_limit }
         requires is_new { IsNew (examined_lists examined.old) (listed fields.items) }
         ensures examines { OnOk result (Examines self.now.schema.now (fragments_of self.now.document.now) (pass_of self.now.pass) (listed fields.entry.items)
             (stage_of examined.old depth.old diagnostics.old) (stage_of examined.new depth.new diagnostics.new)) }
@@ -95,7 +95,7 @@ impl<'s, 'doc> MergingPass<'s, 'doc> {
         depth: &mut LimitCounter,
         group: &[FieldSelection<'doc>],
     ) -> Result<(), ValidationError>
-        requires { count_limit depth.old ≡ merging_bound }
+        requires { count_limit depth.old ≡ merging_depth_limit }
         ensures examines { OnOk result (GoesBelow self.now.schema.now (fragments_of self.now.document.now) (pass_of self.now.pass) (listed group.now ∷ [])
             (stage_of examined.old depth.old diagnostics.old) (stage_of examined.new depth.new diagnostics.new)) }
         ensures truth { (operations : List (Node Operation)) (above : List merging.FieldSelection) →

@@ -5,7 +5,7 @@ use Rattle.std.specs.Char.{is_ascii_alphabetic, is_ascii_alphanumeric}
 use Rattle.std.specs.Str.{bytes_eq}
 use Rattle.graphql_nodes.specs.declared.spans.SourceSpan.{SourceSpan}
 
--- what a contract sees of a name: its text, and where it stands
+-- what a contract sees of a name: its text, and where it is
 pub record NameText : Type 0 where
   pub text : List ℕ
   pub location : Option SourceSpan
@@ -23,7 +23,7 @@ abbrev pub is_name : List ℕ → Bool
 is_name [] = false
 is_name (c ∷ cs) = starts_name c && list_all continues_name cs
 
--- two names are the same where their texts are, wherever they stand
+-- two names are the same where their texts are, wherever they are
 abbrev pub same_name : NameText → NameText → Bool
 same_name a b = bytes_eq a.text b.text
 
@@ -47,7 +47,7 @@ stands_on names name = list_any (same_name name) names
 abbrev pub with_name : List NameText → NameText → List NameText
 with_name known name = if stands_on known name then known else known ++ name ∷ []
 
--- the different names of a list, each where it first stands
+-- the different names of a list, each where it first is
 abbrev pub different_names : List NameText → List NameText
 different_names names = fold with_name [] names
 

@@ -2,8 +2,7 @@
 use Rattle.std.specs.Prelude.{Option, None, Some, nat_lt, ◌==◌, if◌then◌else◌}
 use Rattle.graphql_nodes.specs.declared.spans.SourceSpan.{SourceSpan}
 
--- from the start of a to the end of b; b where the two stand in different files, and a where b ends
--- before a starts
+-- from the start of a to the end of b; b where the two are in different files, and a where b ends before a starts
 abbrev pub joined : SourceSpan → SourceSpan → SourceSpan
 joined a b =
     if a.file_id.0 == b.file_id.0

@@ -11,7 +11,7 @@ use std::fmt;
 use std::hash::{Hash, Hasher};
 use std::marker::Model;
 
-/// A GraphQL name, and where it stands. Names are compared by their text alone.
+/// A GraphQL name, and where it is. Names are compared by their text alone.
 ///
 /// Specification: 2.1.9 Names.
 #[derive(Debug, Drop)]
@@ -67,7 +67,7 @@ impl Name {
         self.text.as_str()
     }
 
-    /// Where the name stands.
+    /// Where the name is.
     pub fn location(&self) -> Option<SourceSpan>
         ensures { result ≡ self.now.location }
     {

@@ -7,7 +7,7 @@ use std::alloc::{AllocError, Global};
 use std::hash::{Hash, Hasher};
 use std::rc::Rc;
 
-/// A shared value, and where it stands. Nodes are compared and hashed by their values alone.
+/// A shared value, and where it is. Nodes are compared and hashed by their values alone.
 #[derive(Drop)]
 #[derive_where(Debug; T)]
 pub struct Node<T> {

@@ -19,9 +19,9 @@ impl SourceSpan {
     ghost use Rattle.std.specs.Prelude.{◌≡◌};
     ghost use Rattle.graphql_nodes.specs.Spans.{joined, recompose};
 
-    /// One part made of two that may be missing: the one that is there; with both, from the start of
-    /// the left to the end of the right. Where they stand in two files it is the right one, and where
-    /// the right one ends before the left one starts, the left one.
+    /// One part made of two that may be missing: the one that is there; with both, from the start of the left
+    /// to the end of the right. Where they are in two files it is the right one, and where the right one ends
+    /// before the left one starts, the left one.
     pub fn recompose(left: Option<SourceSpan>, right: Option<SourceSpan>) -> Option<SourceSpan>
         ensures { result ≡ recompose left right }
     {

@@ -17,7 +17,7 @@ use Rattle.graphql_numbers.specs.Numbers.{is_whole_number, is_integer, integer_v
 decimal : IsNumeralModel (λ ds. list_all is_ascii_digit ds ≡ true) (digits_value 10)
 decimal = numerals_by_value _ (search rules)
 
--- a test that passes, whatever stood before it
+-- a test that passes, whatever was before it
 or_true : (a : Bool) → (a || true) ≡ true
 or_true true = refl
 or_true false = refl
@@ -90,7 +90,7 @@ module _ (test : ℕ → Bool) where
   abbrev NonePasses : List ℕ → Type 0
   NonePasses xs = list_all (λ x. not (test x)) xs ≡ true
 
-  -- the first element that passes stands where the second part begins
+  -- the first element that passes is where the second part begins
   seam : (xs ys : List ℕ) → NonePasses xs → BeginsWith ys → position_or_len test (xs ++ ys) ≡ length xs
   seam [] [] h b = refl
   seam [] (y ∷ ys) h b = rw b refl
@@ -185,7 +185,7 @@ module _ (fraction exponent : List ℕ) (goes_on : is_fraction_or_exponent fract
 
 -- a text is a float exactly where the parts that begin at the first marks are those of one
 module _ (text : List ℕ) (i j : ℕ) (ends : i ≡ position_or_len ends_integer text) (starts : j ≡ position_or_len begins_exponent (drop i text)) where
-  -- the parts of a float stand there
+  -- the parts of a float are there
   only_parts : (f : IsFloat text) → (take i text ≡ f.whole) × (take j (drop i text) ≡ f.fraction) × (drop j (drop i text) ≡ f.exponent)
   only_parts f =
       let outer = split ends_integer text f.whole (f.fraction ++ f.exponent) i f.written ends (integer_stays f.whole f.begins) (rest_begins f.fraction f.exponent f.goes_on) in

@@ -60,14 +60,14 @@ fn is_float_text(text: &[u8]) -> bool
     is_integer_text(whole) && is_fraction_or_exponent_text(fraction, exponent)
 }
 
-/// Where the first `.`, `e` or `E` stands.
+/// Where the first `.`, `e` or `E` is.
 fn end_of_integer(text: &[u8]) -> Option<usize>
     ensures { result ≡ position ends_integer text.now }
 {
     text.iter().position(|c| is_end_of_integer(*c))
 }
 
-/// Where the first `e` or `E` stands.
+/// Where the first `e` or `E` is.
 fn start_of_exponent(text: &[u8]) -> Option<usize>
     ensures { result ≡ position begins_exponent text.now }
 {

@@ -1,7 +1,8 @@
 -- What is said of `@defer` in an operation, as said of the document; and its rules together.
 use Rattle.std.proofs.Common.{◌≡◌, ◌↔◌, List, All, Contains, sym}
 use mathlib.Core.Logic.{◌⊎◌}
-use Rattle.graphql_documents.specs.Defer.{DeferHolds, LabelsHold, OperationDeferHolds, operations_of}
+use Rattle.graphql_specification.specs.Defer.{DeferHolds, LabelsHold, OperationDeferHolds}
+use Rattle.graphql_documents.specs.Executables.{operations_of}
 use Rattle.graphql_diagnostics.specs.Diagnostics.{IsLimitEntry}
 use Rattle.graphql_diagnostics.specs.Reports.{KeepsReports, ReportsWithin}
 use Rattle.graphql_documents.specs.Selections.{fragments_of}
@@ -11,7 +12,7 @@ use Rattle.graphql_documents.specs.declared.documents.executables.Operation.{Ope
 use Rattle.graphql_nodes.specs.declared.nodes.Node.{Node}
 use Rattle.graphql_diagnostics.proofs.ReportLemmas.{kept_wider}
 use Rattle.graphql_diagnostics.proofs.ReportWithinLemmas.{wider_within}
-use Rattle.graphql_operations.specs.DeferLabels.{DeferTruth}
+use Rattle.graphql_operations.specs.DeferLabels.{DeferEntryReport}
 use Rattle.graphql_operations.specs.OperationDefers.{OperationDeferLimit, OperationDeferReport}
 use Rattle.graphql_operations.proofs.OperationDeferLemmas.{of_an_operations_defer}
 
@@ -20,12 +21,12 @@ module _ (document : ExecutableDocument) (o : Node Operation) (in' : Contains (o
   pub operation_checked : (part : Operation) (old new : List DiagnosticEntry) → part ≡ o.value.value →
       ReportsWithin IsLimitEntry (OperationDeferHolds (fragments_of document) part)
       (λ e. OperationDeferReport (fragments_of document) part e.details e.location ⊎ OperationDeferLimit (fragments_of document) part e.details e.location) old new →
-      ReportsWithin IsLimitEntry (OperationDeferHolds (fragments_of document) o.value.value) (DeferTruth document) old new
+      ReportsWithin IsLimitEntry (OperationDeferHolds (fragments_of document) o.value.value) (DeferEntryReport document) old new
   operation_checked part old new same r = wider_within IsLimitEntry (of_an_operations_defer document o in') (rw (sym same) r)
 
   pub operation_kept : (part : Operation) (old new : List DiagnosticEntry) → part ≡ o.value.value →
       KeepsReports (λ e. OperationDeferReport (fragments_of document) part e.details e.location ⊎ OperationDeferLimit (fragments_of document) part e.details e.location) old new →
-      KeepsReports (DeferTruth document) old new
+      KeepsReports (DeferEntryReport document) old new
   operation_kept part old new same r = kept_wider (of_an_operations_defer document o in') (rw (sym same) r)
 
 -- `@defer` in a document holds where its labels do, and where it holds in each operation

@@ -3,15 +3,14 @@ use Rattle.std.proofs.Common.{ℕ, ◌<◌, length, get_or, ◌≡◌, ◌↔◌
 use Rattle.std.specs.Prelude.{◌≢◌, Err, Ok, OnErr, OnOk, Option, Result, filter}
 use Rattle.std.specs.Borrow.{Bor}
 use Rattle.std.proofs.lemmas.List.Elements.{All-append, All-cons, All-contains, All-filter, All-head, All-nil, filter_passes}
-use Rattle.graphql_documents.specs.Defer.{DefersCanBeDisabled, HasNoDeferAtRoot, OperationDeferHolds, defers, operations_of}
-use Rattle.graphql_diagnostics.specs.DeferReports.{DeferReport, of_defer}
-use Rattle.graphql_diagnostics.specs.Limits.{DeferLimit, condition_walk_passes, defer_root_walk_passes}
-use Rattle.graphql_documents.specs.Selections.{Fragments, Inside, directives_of, fragments_of}
+use Rattle.graphql_specification.specs.Defer.{DefersCanBeDisabled, HasNoDeferAtRoot, OperationDeferHolds, defers, DeferReport, of_defer, DeferLimit, condition_walk_passes, defer_root_walk_passes}
+use Rattle.graphql_documents.specs.Executables.{operations_of}
+use Rattle.graphql_documents.specs.Selections.{Fragments, InExpandedSet, directives_of, fragments_of}
 use Rattle.graphql_documents.specs.Walks.{HasListed}
 use Rattle.graphql_diagnostics.specs.declared.details.Details.{Details}
 use Rattle.graphql_diagnostics.specs.declared.lists.DiagnosticEntry.{DiagnosticEntry}
-use Rattle.graphql_documents.specs.declared.documents.definitions.OperationType.TheVariants as operation_type
-use Rattle.graphql_documents.specs.declared.documents.definitions.OperationType.{OperationType}
+use Rattle.graphql_nodes.specs.declared.operation_types.OperationType.TheVariants as operation_type
+use Rattle.graphql_nodes.specs.declared.operation_types.OperationType.{OperationType}
 use Rattle.graphql_documents.specs.declared.documents.directives.Directive.{Directive}
 use Rattle.graphql_documents.specs.declared.documents.executables.ExecutableDocument.{ExecutableDocument}
 use Rattle.graphql_documents.specs.declared.documents.executables.Field.{Field}
@@ -30,7 +29,7 @@ use Rattle.graphql_diagnostics.proofs.ReportLemmas.{appended_then}
 use Rattle.graphql_diagnostics.proofs.ReportWithinLemmas.{ChecksListWithin}
 use Rattle.graphql_laws.proofs.SizeLemmas.{Kind, is_field, is_inline, is_spread, kind_of}
 use Rattle.graphql_variables.proofs.ReferenceLemmas.{all_referred}
-use Rattle.graphql_operations.specs.OperationDefers.{BreaksAny, HoldsAt, IsMet, Meets, MeetsIfDeferred, OperationDeferLimit, OperationDeferReport, RuleBreaks, RuleHolds, RuleLimit, is_defer, is_fixed, is_no_field, open_walk_passes, root_walk_passes, stands_at_root}
+use Rattle.graphql_operations.specs.OperationDefers.{SelectionsDeferReport, HoldsAt, IsVisited, Meets, MeetsIfDeferred, OperationDeferLimit, OperationDeferReport, DeferRuleReport, RuleHolds, RuleLimit, is_defer, is_fixed, is_no_field, open_walk_passes, root_walk_passes, stands_at_root}
 use Rattle.graphql_operations.specs.declared.defer.rules.DeferRule.TheVariants as rule
 use Rattle.graphql_operations.specs.declared.defer.rules.DeferRule.{DeferRule}
 
@@ -43,14 +42,14 @@ passing p P xs = (
   λ all. each_standing (λ x. IsTrue (p x) → P x) xs (λ x in' is. All-contains P (filter p xs) x all (kept_by_filter p xs x in' is)),
 )
 
--- an element stands where it is found
+-- an element is where it is found
 pub item_stands : {X : Type 0} (xs : List X) (i : ℕ) (x : X) → i < length xs → x ≡ get_or xs i x → Contains xs x
 item_stands xs i x within is = (i, within, sym is)
 
 pub not_false : (b : Bool) → IsTrue b → b ≡ false → ⊥
 not_false b is is_not = let no : ⊥ = cc in no
 
--- a check that ends by pushing a report of a limit behind its others
+-- a check that ends by pushing a diagnostic of a limit behind its others
 pub checks_to_limit : {Entry T E : Type 0} (IsOfLimit : Entry → Type 0) (r : Result T E) (P : Type 0) (Q : Entry → Type 0) (old mid new : List Entry) (e : Entry) →
     KeepsReports Q old mid → OnOk r (new ≡ mid ++ e ∷ []) → OnErr r (new ≡ mid) → IsOfLimit e → Q e → ChecksListWithin IsOfLimit r P Q old new
 checks_to_limit IsOfLimit (Ok x) P Q old mid new e k ok err limit q = record {
@@ -109,7 +108,7 @@ not_field s is f e = field_no_more f (subst (λ t. IsTrue (is_no_field t)) e is)
 
 -- the rules in their own words
 module _ (fragments : Fragments) (set : SelectionSet) (t : OperationType) where
-  holds_at : HasNoDeferAtRoot fragments set → {s : Selection} → Kind s → Inside fragments set s → HoldsAt (rule.NotAtRoot t) s
+  holds_at : HasNoDeferAtRoot fragments set → {s : Selection} → Kind s → InExpandedSet fragments set s → HoldsAt (rule.NotAtRoot t) s
   holds_at holds (is_field f) inside concerned = absurd (field_no_more f concerned)
   holds_at holds (is_spread p) inside concerned =
       subst (λ l. All (Meets (rule.NotAtRoot t)) (defers l)) (sym (spread_directives p)) ((none_at_all (defers p.value.value.directives.items)).1 (holds.1 p inside))
@@ -132,7 +131,7 @@ module _ (fragments : Fragments) (set : SelectionSet) (t : OperationType) where
 
   pub condition_rule_where : t ≡ operation_type.Subscription →
       RuleHolds rule.CanBeDisabled fragments set ↔ (t ≡ operation_type.Subscription → DefersCanBeDisabled fragments set)
-  condition_rule_where is = (λ all asked s met. all s met refl, λ holds s met concerned. holds is s met)
+  condition_rule_where is = (λ all asked s visited. all s visited refl, λ holds s visited concerned. holds is s visited)
 
 pub no_query : (t : OperationType) → (t ≡ operation_type.Mutation) ⊎ (t ≡ operation_type.Subscription) → t ≢ operation_type.Query
 no_query t (inl is) other = let no : operation_type.Mutation ≡ operation_type.Query = sym is ∙ other in let none : ⊥ = cc in none
@@ -146,25 +145,25 @@ operation_holds fragments o = (λ p. record { root = p.0; conditions = p.1 }, λ
 
 -- a walk over what a rule is asked of decides it, and what is reported there is true
 module _ (r : DeferRule) (fragments : Fragments) (set : SelectionSet) {Passes : Type 0} {complete : Bool} (xs : List (Bor Selection))
-    (h : HasListed (IsMet r fragments set) Passes (map (λ s. s.now) xs) complete) where
+    (h : HasListed (IsVisited r fragments set) Passes (map (λ s. s.now) xs) complete) where
   pub rule_decided : IsTrue complete → All (λ s. HoldsAt r s.now) xs ↔ RuleHolds r fragments set
   rule_decided done = (
-    λ all s met. All-contains (HoldsAt r) (map (λ b. b.now) xs) s ((all_referred (HoldsAt r) xs).0 all) (h.all done s met),
+    λ all s visited. All-contains (HoldsAt r) (map (λ b. b.now) xs) s ((all_referred (HoldsAt r) xs).0 all) (h.all done s visited),
     λ holds. (all_referred (HoldsAt r) xs).1
-        (each_standing (HoldsAt r) (map (λ b. b.now) xs) (λ s in'. holds s (All-contains (IsMet r fragments set) (map (λ b. b.now) xs) s h.each in'))),
+        (each_standing (HoldsAt r) (map (λ b. b.now) xs) (λ s in'. holds s (All-contains (IsVisited r fragments set) (map (λ b. b.now) xs) s h.each in'))),
   )
 
-  pub rule_broken : (e : DiagnosticEntry) → BreaksAny r xs e → RuleBreaks r fragments set e
+  pub rule_broken : (e : DiagnosticEntry) → SelectionsDeferReport r xs e → DeferRuleReport r fragments set e
   rule_broken e b =
-      (b.0.now, All-contains (IsMet r fragments set) (map (λ b. b.now) xs) b.0.now h.each (stands_mapped (λ (b : Bor Selection). b.now) xs b.0 b.1), b.2)
+      (b.0.now, All-contains (IsVisited r fragments set) (map (λ b. b.now) xs) b.0.now h.each (stands_mapped (λ (b : Bor Selection). b.now) xs b.0 b.1), b.2)
 
--- the reports and limits of the rules, as those of an operation
+-- the diagnostics and limits of the rules, as those of an operation
 module _ (fragments : Fragments) (o : Operation) (e : DiagnosticEntry) where
-  abbrev Truth : Type 0
-  Truth = OperationDeferReport fragments o e.details e.location ⊎ OperationDeferLimit fragments o e.details e.location
+  abbrev CheckedEntryReport : Type 0
+  CheckedEntryReport = OperationDeferReport fragments o e.details e.location ⊎ OperationDeferLimit fragments o e.details e.location
 
   pub root_said : o.operation_type ≢ operation_type.Query →
-      RuleBreaks (rule.NotAtRoot o.operation_type) fragments o.selection_set e ⊎ RuleLimit (rule.NotAtRoot o.operation_type) fragments o.selection_set e → Truth
+      DeferRuleReport (rule.NotAtRoot o.operation_type) fragments o.selection_set e ⊎ RuleLimit (rule.NotAtRoot o.operation_type) fragments o.selection_set e → CheckedEntryReport
   root_said other (inl b) =
       let breaks = b.2.1 in
       inl (rw (breaks.details_are, breaks.at_is) (stands_at_root (record {
@@ -180,7 +179,7 @@ module _ (fragments : Fragments) (o : Operation) (e : DiagnosticEntry) where
   root_said other (inr l) = inr (rw (l.details_are, l.at_is) (root_walk_passes other l.passes))
 
   pub condition_said : o.operation_type ≡ operation_type.Subscription →
-      RuleBreaks rule.CanBeDisabled fragments o.selection_set e ⊎ RuleLimit rule.CanBeDisabled fragments o.selection_set e → Truth
+      DeferRuleReport rule.CanBeDisabled fragments o.selection_set e ⊎ RuleLimit rule.CanBeDisabled fragments o.selection_set e → CheckedEntryReport
   condition_said is (inl b) =
       let breaks = b.2.1 in
       inl (rw (breaks.details_are, breaks.at_is) (is_fixed (record {
@@ -194,7 +193,7 @@ module _ (fragments : Fragments) (o : Operation) (e : DiagnosticEntry) where
       })))
   condition_said is (inr l) = inr (rw (l.details_are, l.at_is) (open_walk_passes is l.passes))
 
--- the reports and limits of an operation, as those of its document
+-- the diagnostics and limits of an operation, as those of its document
 module _ (document : ExecutableDocument) (o : Node Operation) (in' : Contains (operations_of document) o) where
   of_the_report : {said : Details} {at : Option SourceSpan} → OperationDeferReport (fragments_of document) o.value.value said at → DeferReport document said at
   of_the_report (stands_at_root h) = of_defer (o, in', h)
@@ -204,7 +203,7 @@ module _ (document : ExecutableDocument) (o : Node Operation) (in' : Contains (o
   of_the_limit (root_walk_passes other p) = defer_root_walk_passes in' other p
   of_the_limit (open_walk_passes is p) = condition_walk_passes in' is p
 
-  pub of_an_operations_defer : (e : DiagnosticEntry) → Truth (fragments_of document) o.value.value e →
+  pub of_an_operations_defer : (e : DiagnosticEntry) → CheckedEntryReport (fragments_of document) o.value.value e →
       DeferReport document e.details e.location ⊎ DeferLimit document e.details e.location
   of_an_operations_defer e (inl r) = inl (of_the_report r)
   of_an_operations_defer e (inr l) = inr (of_the_limit l)

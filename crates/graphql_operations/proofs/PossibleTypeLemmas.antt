@@ -10,7 +10,7 @@ use Rattle.std.specs.Str.{bytes_eq}
 use Rattle.std.proofs.lemmas.List.Elements.{All-contains, All-contains_itself, All-filter, filter_passes}
 use Rattle.std.proofs.lemmas.Option.{same_Some}
 use Rattle.std.proofs.lemmas.List.Folds.{Any-from_list_any, list_any-from_Any}
-use Rattle.graphql_documents.specs.FragmentSpreads.{HaveCommonObject, IsPossibleAt}
+use Rattle.graphql_specification.specs.Fragments.{HaveCommonObject, IsPossibleAt}
 use Rattle.graphql_documents.specs.Implementers.{implementer_entries, implementer_names}
 use Rattle.graphql_nodes.specs.Names.{NameText, SameName, different_names, same_name, stands_on}
 use Rattle.graphql_documents.specs.Schemas.{ImplementerNames, IsImplementedBy, IsListed, IsPossibleType, implementers_map, implementers_of_kind, interfaces_of, is_interface_type, is_object_type, listed_interfaces, lists_interface, own_name, type_definition}
@@ -24,14 +24,14 @@ use Rattle.graphql_documents.proofs.ListLemmas.{kept_by_filter, made_of, stands_
 use Rattle.graphql_nodes.proofs.NameLemmas.{same_name_back, same_name_itself, same_text}
 use Rattle.graphql_variables.proofs.UseLemmas.{any_has, has_any}
 
--- what stands among names is the same as one of them
+-- what is among names is the same as one of them
 pub stands_among : (names : List NameText) (n : NameText) → stands_on names n ≡ true → (x : NameText) × Contains names x × (same_name n x ≡ true)
 stands_among names n e = any_has (λ x. same_name n x ≡ true) names (Any-from_list_any (same_name n) names e)
 
 pub among_stands : (names : List NameText) (n x : NameText) → Contains names x → SameName n x → stands_on names n ≡ true
 among_stands names n x in' same = list_any-from_Any (same_name n) names (has_any (λ x. same_name n x ≡ true) names x in' same)
 
--- what stands among the names of some things
+-- what is among the names of some things
 pub any_named : {X : Type 0} (f : X → NameText) (xs : List X) (n : NameText) → stands_on (map f xs) n ≡ list_any (λ x. same_name n (f x)) xs
 any_named f [] n = refl
 any_named f (x ∷ xs) n = ap (λ b. same_name n (f x) || b) (any_named f xs n)
@@ -41,7 +41,7 @@ pub any_tested : {X : Type 0} (f : X → NameText) (test : NameText → Bool) (x
 any_tested f test [] = refl
 any_tested f test (x ∷ xs) = ap (λ b. test (f x) || b) (any_tested f test xs)
 
--- a name stands in a list where it is one of the different ones
+-- a name is in a list where it is one of the different ones
 stands_different : (names : List NameText) (n : NameText) → stands_on (different_names names) n ≡ stands_on names n
 stands_different names n = stands_folded [] names n
 
@@ -51,7 +51,7 @@ filtered {X} p xs x in' = (
   All-contains (λ x. p x ≡ true) (filter p xs) x (filter_passes p xs) in',
 )
 
--- a name is listed where it stands among the names
+-- a name is listed where it is among the names
 pub listed_stands : (listed : List ComponentName) (name : NameText) → IsListed name listed ↔ IsTrue (stands_on (map (λ c. c.name) listed) name)
 listed_stands listed name = (
   λ any.
@@ -77,7 +77,7 @@ module _ (schema : Schema) where
   implemented_by_object interface name key (Enum d) in' passes same = absurd (let h : ⊥ = cc in h)
   implemented_by_object interface name key (InputObject d) in' passes same = absurd (let h : ⊥ = cc in h)
 
-  -- what implements an interface stands among the objects that list it
+  -- what implements an interface is among the objects that list it
   implemented_stands : (interface name : NameText) → IsImplementedBy schema interface name ↔ IsTrue (stands_on (implementers_of_kind schema is_object_type interface) name)
   implemented_stands interface name =
       let own = λ (entry : NameText × ExtendedType). own_name entry.1 in
@@ -157,7 +157,7 @@ module _ (schema : Schema) where
         let there = implemented_is_listed interface name implemented in
         let no : ⊥ = cc in no
 
-  -- two types have an object in common where a name of the one stands among those of the other
+  -- two types have an object in common where a name of the one is among those of the other
   pub common_stands : (a b : ExtendedType) (objects others : List NameText) →
       ((name : NameText) → IsPossibleType schema a name ↔ IsTrue (stands_on objects name)) →
       ((name : NameText) → IsPossibleType schema b name ↔ IsTrue (stands_on others name)) →
@@ -176,7 +176,7 @@ module _ (schema : Schema) where
   pub common_swapped : (a b : ExtendedType) → HaveCommonObject schema a b → HaveCommonObject schema b a
   common_swapped a b (name, other, is_a, is_b, same) = (other, name, is_b, is_a, same_name_back name other same)
 
--- what is selected on a condition can be met on a type, or not
+-- what is selected on a condition can be visited on a type, or not
 module _ (schema : Schema) (condition parent : NameText) where
   pub possible_without_condition : type_definition schema condition ≡ None → IsPossibleAt schema condition (Some parent)
   possible_without_condition none = λ a b of_condition of_parent. absurd (let e = sym none ∙ of_condition in let no : ⊥ = cc in no)

@@ -7,19 +7,16 @@ use Rattle.std.specs.Prelude.{Vec, Result, OnErr, OnOk}
 use Rattle.std.specs.declared.alloc.Global.{Global}
 use mathlib.Core.Logic.{inl, inr}
 use Rattle.graphql_nodes.specs.Names.{NameText}
-use Rattle.graphql_documents.specs.Selections.{Fragments, Inside, directives_of, fragments_of, selections_of}
-use Rattle.graphql_diagnostics.specs.SubscriptionReports.{SubscriptionReport, of_subscription}
-use Rattle.graphql_documents.specs.Subscriptions.{HasOneRootField, SubscriptionHolds, WalkedFields, field_of, fields_among, is_conditional, is_introspection}
+use Rattle.graphql_documents.specs.Selections.{Fragments, InExpandedSet, directives_of, fragments_of, selections_of, field_of, fields_among}
+use Rattle.graphql_specification.specs.Subscriptions.{SubscriptionReport, of_subscription, HasOneRootField, SubscriptionHolds, WalkedFields, is_conditional, is_introspection, OperationSubscriptionHolds, subscription_walk_passes}
 use Rattle.graphql_documents.specs.Walks.{HasListed, PassesDepth, root_walk}
 use Rattle.graphql_diagnostics.specs.Diagnostics.{IsLimitEntry, limit_of_walk}
-use Rattle.graphql_documents.specs.Documents.{OperationSubscriptionHolds}
-use Rattle.graphql_diagnostics.specs.Limits.{subscription_walk_passes}
 use Rattle.graphql_diagnostics.specs.Reports.{Reports, ReportsWithin}
 use Rattle.graphql_diagnostics.specs.declared.data.DiagnosticData.TheVariants as report
 use Rattle.graphql_diagnostics.specs.declared.lists.DiagnosticEntry.{DiagnosticEntry}
 use Rattle.graphql_diagnostics.specs.declared.build_errors.BuildError.TheVariants as build
 use Rattle.graphql_diagnostics.specs.declared.details.Details.TheVariants as details
-use Rattle.graphql_documents.specs.declared.documents.definitions.OperationType.TheVariants.{Subscription}
+use Rattle.graphql_nodes.specs.declared.operation_types.OperationType.TheVariants.{Subscription}
 use Rattle.graphql_documents.specs.declared.documents.directives.Directive.{Directive}
 use Rattle.graphql_documents.specs.declared.documents.executables.ExecutableDocument.{ExecutableDocument}
 use Rattle.graphql_documents.specs.declared.documents.executables.Field.{Field}
@@ -34,7 +31,7 @@ use Rattle.graphql_variables.proofs.FirstPlaceLemmas.{holds_on_ok}
 use Rattle.graphql_variables.proofs.ReferenceLemmas.{all_referred}
 use Rattle.graphql_documents.proofs.SelectionLemmas.{same_field}
 use Rattle.graphql_laws.proofs.SubscriptionLaws.{walked_fields_decide}
-use Rattle.graphql_operations.specs.Subscriptions.{IsNoIntrospection, IsUnconditional, RootSelectionHolds, SaysOfSubscription, SubscriptionTruth}
+use Rattle.graphql_operations.specs.Subscriptions.{IsNoIntrospection, IsUnconditional, RootSelectionHolds, SubscriptionRuleReport, SubscriptionEntryReport}
 
 -- whether a test finds something
 none_passes : {X : Type 0} (p : X → Bool) (xs : List X) → find p xs ≡ None → list_any p xs ≡ false
@@ -69,15 +66,15 @@ introspects s f is introspection none = true_and_false _ introspection (none f i
 pub no_introspection : (s : Selection) (f : Node Field) → s ≡ kind.Field f → IsFalse (is_introspection f.value.value.name) → IsNoIntrospection s
 no_introspection s f is other g is' = subst (λ (h : Node Field). IsFalse (is_introspection h.value.value.name)) (same_field g f (sym is ∙ is')) other
 
--- the reports at a root selection
-module _ (fragments : Fragments) (o : Node Operation) (s : Selection) (is_one : o.value.value.operation_type ≡ Subscription) (inside : Inside fragments o.value.value.selection_set s) where
+-- the diagnostics at a root selection
+module _ (fragments : Fragments) (o : Node Operation) (s : Selection) (is_one : o.value.value.operation_type ≡ Subscription) (inside : InExpandedSet fragments o.value.value.selection_set s) where
   pub says_introspection : (f : Node Field) (name : Option NameText) (field : NameText) → s ≡ kind.Field f → IsTrue (is_introspection f.value.value.name) →
       name ≡ o.value.value.name → field ≡ f.value.value.name →
       SubscriptionReport fragments o (details.Build (build.SubscriptionUsesIntrospection name field)) f.location
   says_introspection f name field is introspection named field_is =
       of_subscription is_one (record {
         f = f;
-        inside = subst (Inside fragments o.value.value.selection_set) is inside;
+        inside = subst (InExpandedSet fragments o.value.value.selection_set) is inside;
         introspects = introspection;
         name_is = named;
         field_is = field_is;
@@ -99,26 +96,26 @@ fields_more xs i x within is =
 
 -- what the walk over the root of a subscription has listed
 module _ (document : ExecutableDocument) (o : Node Operation) (xs : List (Bor Selection)) (complete : Bool)
-    (h : HasListed (Inside (fragments_of document) o.value.value.selection_set) (PassesDepth (fragments_of document) root_walk o.value.value.selection_set) (map (λ s. s.now) xs) complete) where
+    (h : HasListed (InExpandedSet (fragments_of document) o.value.value.selection_set) (PassesDepth (fragments_of document) root_walk o.value.value.selection_set) (map (λ s. s.now) xs) complete) where
   -- each is a root selection
-  pub each_inside : All (λ (s : Bor Selection). Inside (fragments_of document) o.value.value.selection_set s.now) xs
-  each_inside = (all_referred (Inside (fragments_of document) o.value.value.selection_set) xs).1 h.each
+  pub each_inside : All (λ (s : Bor Selection). InExpandedSet (fragments_of document) o.value.value.selection_set s.now) xs
+  each_inside = (all_referred (InExpandedSet (fragments_of document) o.value.value.selection_set) xs).1 h.each
 
   -- they were checked, at hand in another list
   pub roots_checked : (ys : List (Bor Selection)) → ys ≡ xs → (old new : List DiagnosticEntry) →
-      (All (λ s. Inside (fragments_of document) o.value.value.selection_set s.now) ys →
-      Reports (All (λ s. RootSelectionHolds s.now) ys) (SaysOfSubscription (fragments_of document) o) old new) →
-      Reports (All (λ s. RootSelectionHolds s.now) xs) (SaysOfSubscription (fragments_of document) o) old new
+      (All (λ s. InExpandedSet (fragments_of document) o.value.value.selection_set s.now) ys →
+      Reports (All (λ s. RootSelectionHolds s.now) ys) (SubscriptionRuleReport (fragments_of document) o) old new) →
+      Reports (All (λ s. RootSelectionHolds s.now) xs) (SubscriptionRuleReport (fragments_of document) o) old new
   roots_checked ys same old new checked =
-      subst (λ (l : List (Bor Selection)). Reports (All (λ s. RootSelectionHolds s.now) l) (SaysOfSubscription (fragments_of document) o) old new) same
-      (checked (subst (λ (l : List (Bor Selection)). All (λ s. Inside (fragments_of document) o.value.value.selection_set s.now) l) (sym same) each_inside))
+      subst (λ (l : List (Bor Selection)). Reports (All (λ s. RootSelectionHolds s.now) l) (SubscriptionRuleReport (fragments_of document) o) old new) same
+      (checked (subst (λ (l : List (Bor Selection)). All (λ s. InExpandedSet (fragments_of document) o.value.value.selection_set s.now) l) (sym same) each_inside))
 
   -- they hold where the subscription does
   listed_hold : SubscriptionHolds (fragments_of document) o.value.value.selection_set → All (λ (s : Bor Selection). RootSelectionHolds s.now) xs
   listed_hold holds =
-      All-weaker (λ (s : Bor Selection). Inside (fragments_of document) o.value.value.selection_set s.now) (λ (s : Bor Selection). RootSelectionHolds s.now)
+      All-weaker (λ (s : Bor Selection). InExpandedSet (fragments_of document) o.value.value.selection_set s.now) (λ (s : Bor Selection). RootSelectionHolds s.now)
       (λ s inside. (
-        λ f is. holds.no_introspection f (subst (Inside (fragments_of document) o.value.value.selection_set) is inside),
+        λ f is. holds.no_introspection f (subst (InExpandedSet (fragments_of document) o.value.value.selection_set) is inside),
         holds.no_condition s.now inside,
       ))
       xs each_inside
@@ -135,20 +132,20 @@ module _ (document : ExecutableDocument) (o : Node Operation) (xs : List (Bor Se
       }
 
   module _ (is_one : o.value.value.operation_type ≡ Subscription) (old mid new : List DiagnosticEntry)
-      (checked : Reports (All (λ s. RootSelectionHolds s.now) xs) (SaysOfSubscription (fragments_of document) o) old mid) where
-    first : ReportsWithin IsLimitEntry (All (λ s. RootSelectionHolds s.now) xs) (SubscriptionTruth (fragments_of document) o) old mid
+      (checked : Reports (All (λ s. RootSelectionHolds s.now) xs) (SubscriptionRuleReport (fragments_of document) o) old mid) where
+    first : ReportsWithin IsLimitEntry (All (λ s. RootSelectionHolds s.now) xs) (SubscriptionEntryReport (fragments_of document) o) old mid
     first = wider_within IsLimitEntry (λ e says. inl says) (within IsLimitEntry checked)
 
-    -- then the number of the fields is checked, or the bound is reported
+    -- then the number of the fields is checked, or the limit is reported
     pub number_checked : {T E : Type 0} (r : Result T E) → IsTrue complete →
-        ChecksList r (HasOneRootField (fragments_of document) o.value.value.selection_set) (SaysOfSubscription (fragments_of document) o) mid new →
-        ChecksListWithin IsLimitEntry r (OperationSubscriptionHolds document o.value.value) (SubscriptionTruth (fragments_of document) o) old new
+        ChecksList r (HasOneRootField (fragments_of document) o.value.value.selection_set) (SubscriptionRuleReport (fragments_of document) o) mid new →
+        ChecksListWithin IsLimitEntry r (OperationSubscriptionHolds document o.value.value) (SubscriptionEntryReport (fragments_of document) o) old new
     number_checked r done number =
         let Roots = All (λ (s : Bor Selection). RootSelectionHolds s.now) xs in
         let One = HasOneRootField (fragments_of document) o.value.value.selection_set in
-        let Q = SubscriptionTruth (fragments_of document) o in
+        let Q = SubscriptionEntryReport (fragments_of document) o in
         let both = checks_after_within IsLimitEntry r Roots One Q old mid new first
-        (checks_within IsLimitEntry r One (SaysOfSubscription (fragments_of document) o) Q mid new (λ e says. inl says) number) in
+        (checks_within IsLimitEntry r One (SubscriptionRuleReport (fragments_of document) o) Q mid new (λ e says. inl says) number) in
         let same : (Roots × One) ↔ OperationSubscriptionHolds document o.value.value = (
           λ p is. all_hold done p.0 p.1,
           λ holds. (listed_hold (holds is_one), (holds is_one).one_field),
@@ -158,34 +155,34 @@ module _ (document : ExecutableDocument) (o : Node Operation) (xs : List (Bor Se
 
     pub bound_reported : {T E : Type 0} (r : Result T E) → IsFalse complete →
         OnOk r (new ≡ mid ++ record { location = None; details = details.Diagnostic report.RecursionError } ∷ []) → OnErr r (new ≡ mid) →
-        ChecksListWithin IsLimitEntry r (OperationSubscriptionHolds document o.value.value) (SubscriptionTruth (fragments_of document) o) old new
+        ChecksListWithin IsLimitEntry r (OperationSubscriptionHolds document o.value.value) (SubscriptionEntryReport (fragments_of document) o) old new
     bound_reported r cut ok err =
         let Roots = All (λ (s : Bor Selection). RootSelectionHolds s.now) xs in
         let Holds = OperationSubscriptionHolds document o.value.value in
-        let Q = SubscriptionTruth (fragments_of document) o in
+        let Q = SubscriptionEntryReport (fragments_of document) o in
         let both = checks_after_within IsLimitEntry r Roots Holds Q old mid new first
         (checks_limit IsLimitEntry r Holds Q mid new _ ok err limit_of_walk (inr (subscription_walk_passes is_one (h.bound cut)))) in
         let same : (Roots × Holds) ↔ Holds = (λ p. p.1, λ holds. (listed_hold (holds is_one), holds)) in
         checks_words_within IsLimitEntry r (Roots × Holds) Holds Q Q old new (holds_on_ok r ((Roots × Holds) ↔ Holds) same) (λ e q. q) both
 
--- the number of the fields that a walk over the root met
-module _ (document : ExecutableDocument) (o : Node Operation) (fields : List (Node Field)) (met : List NameText)
-    (walk : WalkedFields (fragments_of document) [] (selections_of o.value.value.selection_set) fields met) (names : List NameText) (named : names ≡ map (λ f. f.value.value.name) fields) where
+-- the number of the fields that a walk over the root visited
+module _ (document : ExecutableDocument) (o : Node Operation) (fields : List (Node Field)) (visited : List NameText)
+    (walk : WalkedFields (fragments_of document) [] (selections_of o.value.value.selection_set) fields visited) (names : List NameText) (named : names ≡ map (λ f. f.value.value.name) fields) where
   number_is : length names ≡ length fields
   number_is = ap (λ (l : List NameText). length l) named ∙ length-map fields (λ (f : Node Field). f.value.value.name)
 
   pub few_fields : length names ≤ 1 → HasOneRootField (fragments_of document) o.value.value.selection_set
-  few_fields few = (walked_fields_decide document o.value.value.selection_set fields met walk).0 (omega (arith, few, number_is))
+  few_fields few = (walked_fields_decide document o.value.value.selection_set fields visited walk).0 (omega (arith, few, number_is))
 
   pub several_fields : 1 < length names → ¬ HasOneRootField (fragments_of document) o.value.value.selection_set
-  several_fields many one = let few = (walked_fields_decide document o.value.value.selection_set fields met walk).1 one in omega (arith, few, many, number_is)
+  several_fields many one = let few = (walked_fields_decide document o.value.value.selection_set fields visited walk).1 one in omega (arith, few, many, number_is)
 
   pub says_several : (list : Vec NameText Global) (name : Option NameText) → list.items ≡ names → o.value.value.operation_type ≡ Subscription → 1 < length names → name ≡ o.value.value.name →
       SubscriptionReport (fragments_of document) o (details.Build (build.SubscriptionUsesMultipleFields name list)) o.location
   says_several list name items is_one many named_so =
       of_subscription is_one (record {
         walked = fields;
-        met = met;
+        visited = visited;
         several = several_fields many;
         walk = walk;
         name_is = named_so;
@@ -217,6 +214,6 @@ module _ (xs : List (Bor Selection)) (i : ℕ) (x : Bor Selection) (within : i <
       same ∙ before ∙ ap (map (λ (f : Node Field). f.value.value.name))
       (sym (fields_more xs i x within is ∙ ap (λ o. old ++ cons_option o []) other ∙ append-nil old))
 
--- a report of a subscription is a true one
-pub says : (fragments : Fragments) (o : Node Operation) (e : DiagnosticEntry) → SaysOfSubscription fragments o e → SubscriptionTruth fragments o e
+-- a diagnostic of a subscription is a true one
+pub says : (fragments : Fragments) (o : Node Operation) (e : DiagnosticEntry) → SubscriptionRuleReport fragments o e → SubscriptionEntryReport fragments o e
 says fragments o e said = inl said

@@ -8,17 +8,15 @@ use Rattle.indexmap.specs.IndexMap.{values}
 use Rattle.indexmap.specs.IndexSet.{insert_key}
 use mathlib.Core.Logic.{inl, inr}
 use Rattle.graphql_diagnostics.specs.Diagnostics.{IsLimitEntry}
-use Rattle.graphql_diagnostics.specs.DocumentReports.{AreFragmentUseReports, AreUnusedFragmentReports, DocumentReport, FragmentUseReport, IsReportOfUnused, are_of_unused, is_of_bound, no_fragment, of_unused, of_unused_fragment, unused_fragment, used_fragment}
-use Rattle.graphql_documents.specs.Documents.{IsFragmentUsed}
-use Rattle.graphql_diagnostics.specs.Limits.{DocumentLimit, FragmentWalkLimit, fragment_walk_passes, walk_of_fragments}
+use Rattle.graphql_specification.specs.FragmentsUsed.{AreFragmentUseReports, AreUnusedFragmentReports, FragmentUseReport, UnusedFragmentReport, are_of_unused, is_of_bound, no_fragment, of_unused, unused_fragment, used_fragment, IsFragmentUsed, FragmentWalkLimit, fragment_walk_passes}
+use Rattle.graphql_specification.specs.Documents.{DocumentReport, of_unused_fragment, DocumentLimit, walk_of_fragments}
 use Rattle.graphql_nodes.specs.Names.{NameText, SameName}
 use Rattle.graphql_diagnostics.specs.Reports.{Appends, KeepsReports}
-use Rattle.graphql_documents.specs.Selections.{Reached, fragments_of}
+use Rattle.graphql_documents.specs.Selections.{Reachable, fragments_of}
 use Rattle.graphql_documents.specs.Walks.{HasListed, PassesDepth, full_walk}
 use Rattle.graphql_diagnostics.specs.declared.details.Details.{Details}
 use Rattle.graphql_diagnostics.specs.declared.lists.DiagnosticEntry.{DiagnosticEntry}
 use Rattle.graphql_documents.specs.declared.documents.executables.ExecutableDocument.{ExecutableDocument}
-use Rattle.graphql_documents.specs.declared.documents.executables.Field.{Field}
 use Rattle.graphql_documents.specs.declared.documents.executables.Fragment.{Fragment}
 use Rattle.graphql_documents.specs.declared.documents.executables.FragmentSpread.{FragmentSpread}
 use Rattle.graphql_documents.specs.declared.documents.executables.Operation.{Operation}
@@ -37,7 +35,7 @@ use Rattle.graphql_variables.proofs.UnusedLemmas.{lists_all}
 use Rattle.graphql_variables.proofs.UseLemmas.{also_in_words, also_none, any_has, has_any}
 use Rattle.graphql_operations.specs.UsedFragments.{AddsSpreads, AnyPasses, IsSpreadAmong, IsSpreadByAny, IsSpreadFrom}
 
--- the reports are ones of a document, and the limit is one of a document
+-- the diagnostics are ones of a document, and the limit is one of a document
 pub is_document_report : {schema : Option Schema} {document : ExecutableDocument} {d : Details} {at : Option SourceSpan} →
     FragmentUseReport document d at → DocumentReport schema document d at
 is_document_report (of_unused unused) = of_unused_fragment unused
@@ -82,7 +80,7 @@ spreads_among xs n = (forth, back) where
 
 -- what the walk over an operation adds
 pub adds_spreads : (document : ExecutableDocument) (o : Node Operation) (listed : List Selection) (complete : Bool) (old new : List (Bor NameText)) →
-    HasListed (Reached (fragments_of document) o.value.value.selection_set) (PassesDepth (fragments_of document) full_walk o.value.value.selection_set) listed complete →
+    HasListed (Reachable (fragments_of document) o.value.value.selection_set) (PassesDepth (fragments_of document) full_walk o.value.value.selection_set) listed complete →
     NamesAlso (IsSpreadAmong listed) old new → AddsSpreads document o old new complete
 adds_spreads document o listed complete old new walked also = record {
   all = λ ended.
@@ -124,7 +122,7 @@ spread_by_any document operations names also n = (λ there. forth ((also n).0 th
       let m = made_of (λ (b : Bor (Node Operation)). b.now) operations h.0 h.1 in
       has_any (SpreadsBelow document n) operations m.0 m.1 (subst (λ o. IsSpreadFrom document o n) (sym m.2) h.2)
 
--- the bound of one of them
+-- the limit of one of them
 pub one_passes : (document : ExecutableDocument) (operations : List (Bor (Node Operation))) (o : Bor (Node Operation)) → Contains operations o →
     PassesDepth (fragments_of document) full_walk o.now.value.value.selection_set → AnyPasses document (map (λ (b : Bor (Node Operation)). b.now) operations)
 one_passes document operations o stands passes = (o.now, stands_mapped (λ (b : Bor (Node Operation)). b.now) operations o stands, passes)
@@ -147,8 +145,8 @@ module _ (document : ExecutableDocument) where
     are = reports_then a.are b.are;
   }
 
-  -- a report of a fragment of the document that is not used is true
-  says_unused : (d : Node Fragment) (e : DiagnosticEntry) → Contains (values document.fragments) d → IsReportOfUnused document d e →
+  -- a diagnostic of a fragment of the document that is not used is true
+  says_unused : (d : Node Fragment) (e : DiagnosticEntry) → Contains (values document.fragments) d → UnusedFragmentReport document d e →
       FragmentUseReport document e.details e.location
   says_unused d e stands r =
       subst (λ (said : Details). FragmentUseReport document said e.location) (sym r.details_are)
@@ -211,7 +209,7 @@ module _ (document : ExecutableDocument) where
   fragments_exact (Ok x) old new a = record { added = a.added; appended = a.appended; are = are_of_unused a.are }
   fragments_exact (Err x) old new k = tt
 
-  -- the report of the bound
+  -- the diagnostic of the limit
   pub bound_exact : {T E : Type 0} (r : Result T E) (old new : List DiagnosticEntry) (e : DiagnosticEntry) →
       FragmentWalkLimit document e.details e.location → OnOk r (new ≡ old ++ e ∷ []) → OnOk r (Appends (AreFragmentUseReports document) old new)
   bound_exact (Ok x) old new e passes ok = record { added = e ∷ []; appended = ok; are = is_of_bound passes }

@@ -1,8 +1,9 @@
 -- The list of the `@defer` applications of a document holds exactly those that are written in it.
-use Rattle.std.proofs.Common.{◌≡◌, ◌↔◌, ◌⊎◌, inl, inr, List, [], ◌∷◌, ◌++◌, Contains, refl, sym, ◌∙◌, ap, subst}
+use Rattle.std.proofs.Common.{◌≡◌, ◌↔◌, ◌⊎◌, inl, inr, List, [], ◌∷◌, ◌++◌, Contains, refl, sym, ◌∙◌, subst}
 use Rattle.std.specs.Prelude.{flat_map}
 use Rattle.std.proofs.lemmas.List.Elements.{Contains-append_cases, Contains-append_left, Contains-append_right}
-use Rattle.graphql_documents.specs.Defer.{DefersIn, DefersOn, defers, defers_on_field, defers_on_inline_fragment, defers_on_none, defers_on_spread, sets_of}
+use Rattle.graphql_specification.specs.Defer.{DefersIn, DefersOn, defers, defers_on_field, defers_on_inline_fragment, defers_on_none, defers_on_spread}
+use Rattle.graphql_documents.specs.Executables.{sets_of}
 use Rattle.graphql_documents.specs.Selections.{SetWritten, Written, directives_of, selections_of, set_in_field, set_in_inline_fragment, set_itself}
 use Rattle.graphql_documents.specs.declared.documents.directives.Directive.{Directive}
 use Rattle.graphql_documents.specs.declared.documents.executables.ExecutableDocument.{ExecutableDocument}
@@ -24,7 +25,7 @@ first_or_behind x xs y in' = by (Contains-append_cases (x ∷ []) xs y in') wher
   by (inl one) = inl (only_one x y one)
   by (inr there) = inr there
 
--- the selection is one of these or stands below them: it is written in each set that has them
+-- the selection is one of these or is below them: it is written in each set that has them
 abbrev IsBelow : List Selection → Selection → Type 0
 IsBelow selections s = (set : SelectionSet) → ((t : Selection) → Contains selections t → Contains (selections_of set) t) → Written set s
 
@@ -44,7 +45,7 @@ in_inline_fragment i rest s below set holds =
     let w = below i.value.value.selection_set (λ t there. there) in
     (w.0, set_in_inline_fragment (holds (kind.InlineFragment i) (stands_first (kind.InlineFragment i) rest)) w.1, w.2)
 
--- each application of the list stands on one of the selections or below them
+-- each application of the list is on one of the selections or below them
 abbrev StandsBelow : List Selection → Node Directive → Type 0
 StandsBelow selections d = (s : Selection) × IsBelow selections s × Contains (defers (directives_of s)) d
 

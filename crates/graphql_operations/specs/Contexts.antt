@@ -16,9 +16,9 @@ schema_of context = option_copied context.schema
 abbrev pub variables_of : OperationValidationContext → List (Node VariableDefinition)
 variables_of context = context.variables
 
--- the names of the fragments that were gone into
-abbrev pub entered_names : OperationValidationContext → List NameText
-entered_names context = map (λ name. name.now) context.entered.keys
+-- the names of the fragments that were visited
+abbrev pub visited_fragment_names : OperationValidationContext → List NameText
+visited_fragment_names context = map (λ name. name.now) context.visited_fragments.keys
 
 -- the type against which selections are checked, if it is known
 abbrev pub parent_of : Option (Bor Schema × Bor NameText) → Option NameText
@@ -34,8 +34,8 @@ pub record SharesWith (old new : OperationValidationContext) : Type 0 where
   pub schema : schema_of new ≡ schema_of old
   pub variables : variables_of new ≡ variables_of old
 
--- and so do the fragments that were gone into
+-- and so do the fragments that were visited
 pub record StaysAsItWas (old new : OperationValidationContext) : Type 0 where
   pub schema : schema_of new ≡ schema_of old
   pub variables : variables_of new ≡ variables_of old
-  pub entered : entered_names new ≡ entered_names old
+  pub visited_fragments : visited_fragment_names new ≡ visited_fragment_names old

@@ -1,7 +1,7 @@
--- How a fragment comes to stand on a type: by a spread, or in place.
+-- How a fragment comes to be on a type: by a spread, or in place.
 use Rattle.std.specs.Prelude.{Option, None, Some}
 use Rattle.graphql_nodes.specs.Names.{NameText}
-use Rattle.graphql_diagnostics.specs.SelectionReports.{ImpossibleReport}
+use Rattle.graphql_specification.specs.Fragments.{ImpossibleReport}
 use Rattle.graphql_diagnostics.specs.declared.data.DiagnosticData.{DiagnosticData}
 use Rattle.graphql_documents.specs.declared.documents.schemas.Schema.{Schema}
 use Rattle.graphql_nodes.specs.declared.spans.SourceSpan.{SourceSpan}
@@ -23,7 +23,7 @@ abbrev pub place_of_fragment : FragmentUse → Option SourceSpan
 place_of_fragment (Spread spread fragment) = fragment.now.location
 place_of_fragment (Inline fragment) = fragment.now.location
 
--- the report says that what it selects can never be met on the type around
+-- the diagnostic says that what it selects can never be visited on the type around
 abbrev pub UseReport : Option Schema → NameText → Option NameText → FragmentUse → DiagnosticData → Option SourceSpan → Type 0
 UseReport schema condition parent used =
     ImpossibleReport schema (name_of_use used) condition parent (place_of_fragment used) (place_of_use used)

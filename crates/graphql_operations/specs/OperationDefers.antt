@@ -2,9 +2,8 @@
 use Rattle.std.specs.Prelude.{◌≡◌, ◌≢◌, Bool, true, false, List, None, Option, All, Contains, IsTrue, codes}
 use Rattle.std.specs.Borrow.{Bor}
 use Rattle.std.specs.Str.{bytes_eq}
-use Rattle.graphql_documents.specs.Defer.{CanBeDisabled, Open, defers}
-use Rattle.graphql_diagnostics.specs.DeferReports.{HasDeferAtRoot, HasFixedDefer}
-use Rattle.graphql_documents.specs.Selections.{Fragments, Inside, directives_of}
+use Rattle.graphql_specification.specs.Defer.{CanBeDisabled, Open, defers, HasDeferAtRoot, HasFixedDefer}
+use Rattle.graphql_documents.specs.Selections.{Fragments, InExpandedSet, directives_of}
 use Rattle.graphql_documents.specs.Walks.{PassesDepth, Walk, open_walk, root_walk}
 use Rattle.graphql_diagnostics.specs.declared.build_errors.BuildError.TheVariants as build
 use Rattle.graphql_diagnostics.specs.declared.build_errors.BuildError.{BuildError}
@@ -12,8 +11,8 @@ use Rattle.graphql_diagnostics.specs.declared.data.DiagnosticData.TheVariants as
 use Rattle.graphql_diagnostics.specs.declared.details.Details.TheVariants as details
 use Rattle.graphql_diagnostics.specs.declared.details.Details.{Details}
 use Rattle.graphql_diagnostics.specs.declared.lists.DiagnosticEntry.{DiagnosticEntry}
-use Rattle.graphql_documents.specs.declared.documents.definitions.OperationType.TheVariants as operation
-use Rattle.graphql_documents.specs.declared.documents.definitions.OperationType.{OperationType}
+use Rattle.graphql_nodes.specs.declared.operation_types.OperationType.TheVariants as operation
+use Rattle.graphql_nodes.specs.declared.operation_types.OperationType.{OperationType}
 use Rattle.graphql_documents.specs.declared.documents.directives.Directive.{Directive}
 use Rattle.graphql_documents.specs.declared.documents.executables.Operation.{Operation}
 use Rattle.graphql_documents.specs.declared.documents.executables.Selection.TheOpen as layer
@@ -24,14 +23,14 @@ use Rattle.graphql_nodes.specs.declared.spans.SourceSpan.{SourceSpan}
 use Rattle.graphql_operations.specs.declared.defer.rules.DeferRule.TheVariants as rule
 use Rattle.graphql_operations.specs.declared.defer.rules.DeferRule.{DeferRule}
 
--- a report of `@defer` is true of an operation
+-- a diagnostic of `@defer` is true of an operation
 pub data OperationDeferReport (fragments : Fragments) (o : Operation) : Details → Option SourceSpan → Type 0 where
   stands_at_root : {operation_type : OperationType} {at : Option SourceSpan} → HasDeferAtRoot fragments o operation_type at →
       OperationDeferReport fragments o (details.Build (build.DeferOnRootMutationOrSubscriptionField operation_type)) at
   is_fixed : {at : Option SourceSpan} → HasFixedDefer fragments o at →
       OperationDeferReport fragments o (details.Build build.DeferInSubscriptionMustBeConditional) at
 
--- and a report of a limit: one of the walks that are taken of such an operation passes its bound
+-- and a diagnostic of a limit: one of the walks that are taken of such an operation passes its limit
 pub data OperationDeferLimit (fragments : Fragments) (o : Operation) : Details → Option SourceSpan → Type 0 where
   root_walk_passes : o.operation_type ≢ operation.Query → PassesDepth fragments root_walk o.selection_set →
       OperationDeferLimit fragments o (details.Diagnostic report.RecursionError) None
@@ -43,11 +42,11 @@ abbrev pub walk_of : DeferRule → Walk
 walk_of (rule.NotAtRoot operation_type) = root_walk
 walk_of rule.CanBeDisabled = open_walk
 
-abbrev pub IsMet : DeferRule → Fragments → SelectionSet → Selection → Type 0
-IsMet (rule.NotAtRoot operation_type) = Inside
-IsMet rule.CanBeDisabled = Open
+abbrev pub IsVisited : DeferRule → Fragments → SelectionSet → Selection → Type 0
+IsVisited (rule.NotAtRoot operation_type) = InExpandedSet
+IsVisited rule.CanBeDisabled = Open
 
--- the rule is asked of the selection
+-- the rule is about the selection
 abbrev pub is_no_field : Selection → Bool
 is_no_field s = elim (out-Selection s) [
   | layer.Field f ↦ false
@@ -78,7 +77,7 @@ abbrev pub MeetsIfDeferred : DeferRule → Node Directive → Type 0
 MeetsIfDeferred r d = IsTrue (is_defer d) → Meets r d
 
 -- a `@defer` among these directives breaks the rule: reported there
-pub record BreaksAmong (r : DeferRule) (directives : List (Node Directive)) (e : DiagnosticEntry) : Type 0 where
+pub record DirectivesDeferReport (r : DeferRule) (directives : List (Node Directive)) (e : DiagnosticEntry) : Type 0 where
   pub d : Node Directive
   pub deferred : Contains (defers directives) d
   pub breaks : ¬ Meets r d
@@ -89,19 +88,19 @@ pub record BreaksAmong (r : DeferRule) (directives : List (Node Directive)) (e :
 abbrev pub HoldsAt : DeferRule → Selection → Type 0
 HoldsAt r s = IsTrue (concerns r s) → All (Meets r) (defers (directives_of s))
 
-abbrev pub BreaksAt : DeferRule → Selection → DiagnosticEntry → Type 0
-BreaksAt r s e = IsTrue (concerns r s) × BreaksAmong r (directives_of s) e
+abbrev pub SelectionDeferReport : DeferRule → Selection → DiagnosticEntry → Type 0
+SelectionDeferReport r s e = IsTrue (concerns r s) × DirectivesDeferReport r (directives_of s) e
 
 -- one of these selections breaks it
-abbrev pub BreaksAny : DeferRule → List (Bor Selection) → DiagnosticEntry → Type 0
-BreaksAny r selections e = (s : Bor Selection) × Contains selections s × BreaksAt r s.now e
+abbrev pub SelectionsDeferReport : DeferRule → List (Bor Selection) → DiagnosticEntry → Type 0
+SelectionsDeferReport r selections e = (s : Bor Selection) × Contains selections s × SelectionDeferReport r s.now e
 
--- the rule holds of what is met from a set, or is broken there, or its walk passes its bound
+-- the rule holds of what is visited from a set, or is broken there, or its walk passes its limit
 abbrev pub RuleHolds : DeferRule → Fragments → SelectionSet → Type 0
-RuleHolds r fragments set = (s : Selection) → IsMet r fragments set s → HoldsAt r s
+RuleHolds r fragments set = (s : Selection) → IsVisited r fragments set s → HoldsAt r s
 
-abbrev pub RuleBreaks : DeferRule → Fragments → SelectionSet → DiagnosticEntry → Type 0
-RuleBreaks r fragments set e = (s : Selection) × IsMet r fragments set s × BreaksAt r s e
+abbrev pub DeferRuleReport : DeferRule → Fragments → SelectionSet → DiagnosticEntry → Type 0
+DeferRuleReport r fragments set e = (s : Selection) × IsVisited r fragments set s × SelectionDeferReport r s e
 
 pub record RuleLimit (r : DeferRule) (fragments : Fragments) (set : SelectionSet) (e : DiagnosticEntry) : Type 0 where
   pub passes : PassesDepth fragments (walk_of r) set

@@ -1,9 +1,8 @@
 //! The rules of `@defer`.
 
 ghost use Rattle.std.specs.Prelude.{All};
-ghost use Rattle.graphql_documents.specs.Defer.{DeferHolds, OperationDeferHolds, operations_of};
-ghost use Rattle.graphql_diagnostics.specs.DeferReports.{DeferReport};
-ghost use Rattle.graphql_diagnostics.specs.Limits.{DeferLimit};
+ghost use Rattle.graphql_specification.specs.Defer.{DeferHolds, OperationDeferHolds, DeferReport, DeferLimit};
+ghost use Rattle.graphql_documents.specs.Executables.{operations_of};
 ghost use Rattle.graphql_diagnostics.specs.Reports.{ChecksWithin};
 ghost use Rattle.graphql_documents.specs.Selections.{fragments_of};
 
@@ -15,8 +14,9 @@ mod rules;
 mod written;
 
 use super::fragments_used::operations_of;
-use graphql_diagnostics::{DiagnosticList, ValidationError};
+use graphql_diagnostics::DiagnosticList;
 use graphql_documents::documents::ExecutableDocument;
+use graphql_nodes::ValidationError;
 use labels::validate_labels;
 use operation::check_operation_defer;
 
@@ -24,15 +24,14 @@ use operation::check_operation_defer;
 pub const DEFER_DIRECTIVE_NAME: &str = "defer";
 
 /// Validates `@defer` in a document: no label is a variable, and no two are one text, wherever they are
-/// written; none stands at the root of a mutation or subscription; and in a subscription each can be
-/// disabled.
+/// written; none is at the root of a mutation or subscription; and in a subscription each can be disabled.
 ///
-/// Reports come in this order: of the labels in the operations and then in the fragments, spread or not,
-/// at the label's value; then for each operation of what stands at its root, and of what can't be
-/// disabled, at the directive. Operations are taken in order, the one without a name first.
+/// Reports come in this order: of the labels in the operations and then in the fragments, spread or not, at
+/// the label's value; then for each operation of what is at its root, and of what can't be disabled, at the
+/// directive. Operations are taken in order, the one without a name first.
 ///
-/// Where a walk passes its bound, a limit without a location follows the reports of what it met. The only
-/// error is want of memory.
+/// Where a walk passes its limit, a limit without a location follows the diagnostics of what it visited. The
+/// only error is a failed allocation.
 ///
 /// Specification: the incremental delivery proposal, Directive Labels Are Unique, Defer And Stream
 /// Directives Are Used On Valid Root Field, and Are Used In Valid Operations.

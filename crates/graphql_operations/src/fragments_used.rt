@@ -1,30 +1,25 @@
 ghost use Rattle.indexmap.specs.IndexMap.{values};
 ghost use Rattle.std.specs.Prelude.{◌≡◌, [], ◌∷◌, All, IfOk, MatchOption, MatchResult, OnOk, map};
-ghost use Rattle.graphql_documents.specs.Defer.{operations_of};
+ghost use Rattle.graphql_documents.specs.Executables.{operations_of};
 ghost use Rattle.graphql_diagnostics.specs.Diagnostics.{entries};
-ghost use Rattle.graphql_diagnostics.specs.DocumentReports.{AreFragmentUseReports, AreUnusedFragmentReports, FragmentUseReport};
-ghost use Rattle.graphql_documents.specs.Documents.{IsFragmentUsed};
-ghost use Rattle.graphql_diagnostics.specs.Limits.{FragmentWalkLimit};
+ghost use Rattle.graphql_specification.specs.FragmentsUsed.{AreFragmentUseReports, AreUnusedFragmentReports, FragmentUseReport, IsFragmentUsed, FragmentWalkLimit};
 ghost use Rattle.graphql_diagnostics.specs.Reports.{Appends, ChecksWithin, KeepsReports};
 ghost use Rattle.graphql_operations.specs.UsedFragments.{AddsSpreads, AnyPasses, IsSpreadAmong, IsSpreadByAny};
 ghost use Rattle.graphql_variables.specs.Uses.{HasUsed, NamesAlso};
 
-use graphql_diagnostics::{
-    Details, DiagnosticData, DiagnosticList, RecursionLimitError, ValidationError,
-};
-use graphql_documents::documents::{
-    ExecutableDocument, Fragment, Name, Node, Operation, Selection,
-};
+use graphql_diagnostics::{Details, DiagnosticData, DiagnosticList};
+use graphql_documents::documents::{ExecutableDocument, Fragment, Operation, Selection};
+use graphql_nodes::{Name, Node, RecursionLimitError, ValidationError};
 use graphql_variables::walk_selections_with_deduped_fragments;
 use indexmap::IndexSet;
 use std::alloc::Global;
 
-/// Reports each fragment that is not used: no operation reaches a spread that names it. The reports
-/// stand in order of the document, each at its fragment, with the fragment's own name. A spread in an
-/// unused fragment uses nothing.
+/// Reports each fragment that is not used: no operation reaches a spread that names it. The diagnostics are
+/// in order of the document, each at its fragment, with the fragment's own name. A spread in an unused
+/// fragment uses nothing.
 ///
-/// Where the walk over an operation passes its bound, a limit without a location is reported, once, and
-/// nothing else. The only error is want of memory.
+/// Where the walk over an operation passes its limit, a limit without a location is reported, once, and
+/// nothing else. The only error is a failed allocation.
 ///
 /// Specification: 5.5.1.4 Fragments Must Be Used.
 pub fn validate_fragments_used(
@@ -46,8 +41,8 @@ pub fn validate_fragments_used(
     }
 }
 
-/// The operations of a document: the one without a name, then the others in order. The only error is want
-/// of memory.
+/// The operations of a document: the one without a name, then the others in order. The only error is a failed
+/// allocation.
 pub fn operations_of(
     alloc: Global,
     document: &ExecutableDocument,
@@ -59,7 +54,7 @@ pub fn operations_of(
     Ok(anonymous.chain(named).collect(alloc)?)
 }
 
-/// The names that these operations reach as spreads, or none where the walk over one passes its bound.
+/// The names that these operations reach as spreads, or none where the walk over one passes its limit.
 fn spread_names<'doc>(
     alloc: Global,
     document: &'doc ExecutableDocument,
@@ -71,7 +66,7 @@ fn spread_names<'doc>(
 {
     let mut names = IndexSet::new(alloc);
     for operation in operations {
-        if !add_reached_spreads(alloc, document, operation, &mut names)? {
+        if !add_reachable_spreads(alloc, document, operation, &mut names)? {
             return Ok(None);
         }
     }
@@ -79,7 +74,7 @@ fn spread_names<'doc>(
 }
 
 /// Adds the names that an operation reaches as spreads, and answers whether the walk came to its end.
-fn add_reached_spreads<'doc>(
+fn add_reachable_spreads<'doc>(
     alloc: Global,
     document: &'doc ExecutableDocument,
     operation: &'doc Node<Operation>,

@@ -3,7 +3,7 @@
 //! Each function here does nothing. Its contract is the law.
 
 ghost use Rattle.std.specs.Prelude.{◌≡◌, ◌↔◌, Contains, List};
-ghost use Rattle.graphql_documents.specs.Defer.{DefersIn};
+ghost use Rattle.graphql_specification.specs.Defer.{DefersIn};
 ghost use Rattle.graphql_documents.specs.declared.documents.directives.Directive.{Directive};
 ghost use Rattle.graphql_documents.specs.declared.documents.executables.ExecutableDocument.{ExecutableDocument};
 ghost use Rattle.graphql_nodes.specs.declared.nodes.Node.{Node};

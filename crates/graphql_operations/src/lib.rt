@@ -1,4 +1,4 @@
-//! What is asked of operations and fragments beside their selections: types that a fragment may stand on,
+//! The rules of operations and fragments, those of their selections apart: types that a fragment may be on,
 //! fragments that are used, subscriptions and `@defer`. Each call reports what breaks a rule, and its
 //! contract says what it means that nothing is reported.
 #![tactic(auto)]

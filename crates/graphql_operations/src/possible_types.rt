@@ -1,13 +1,13 @@
 ghost use Rattle.std.specs.List.{list_any};
 ghost use Rattle.std.specs.Prelude.{◌≡◌, ◌↔◌, IfOk, IsTrue, length};
-ghost use Rattle.graphql_documents.specs.FragmentSpreads.{HaveCommonObject};
+ghost use Rattle.graphql_specification.specs.Fragments.{HaveCommonObject};
 ghost use Rattle.graphql_documents.specs.Implementers.{implementer_entries};
 ghost use Rattle.graphql_nodes.specs.Names.{NameText, stands_on};
 ghost use Rattle.graphql_documents.specs.Schemas.{IsImplementedBy, IsPossibleType, implementers_map};
 ghost use Rattle.graphql_operations.specs.PossibleTypes.{object_names};
 
-use graphql_diagnostics::ValidationError;
-use graphql_documents::documents::{ComponentName, ExtendedType, Implementers, Name, Schema};
+use graphql_documents::documents::{ComponentName, ExtendedType, Implementers, Schema};
+use graphql_nodes::{Name, ValidationError};
 use indexmap::{IndexMap, IndexSet};
 use std::alloc::Global;
 
@@ -31,7 +31,7 @@ enum ObjectNames<'a> {
 }
 
 impl<'a> PossibleTypes<'a> {
-    /// The possible types of this schema. The only error is want of memory.
+    /// The possible types of this schema. The only error is a failed allocation.
     pub(crate) fn new(
         alloc: Global,
         schema: &'a Schema,

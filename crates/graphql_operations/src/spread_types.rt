@@ -1,21 +1,21 @@
 ghost use Rattle.std.specs.Option.{option_copied};
 ghost use Rattle.std.specs.Prelude.{◌≡◌, Some};
 ghost use Rattle.graphql_diagnostics.specs.Diagnostics.{IsDiagnostic};
-ghost use Rattle.graphql_documents.specs.FragmentSpreads.{IsPossibleAt};
+ghost use Rattle.graphql_specification.specs.Fragments.{IsPossibleAt};
 ghost use Rattle.graphql_diagnostics.specs.Reports.{Checks};
 ghost use Rattle.graphql_documents.specs.Schemas.{type_definition};
 ghost use Rattle.graphql_documents.specs.declared.documents.schemas.Schema.{Schema};
 ghost use Rattle.graphql_operations.specs.FragmentUses.{UseReport};
 
 use super::context::OperationValidationContext;
-use graphql_diagnostics::{Details, DiagnosticData, DiagnosticList, ValidationError};
+use graphql_diagnostics::{Details, DiagnosticData, DiagnosticList};
 use graphql_documents::documents::{
-    ExtendedType, Fragment, FragmentSpread, InlineFragment, Name, NamedType, Node, Schema,
-    SourceSpan,
+    ExtendedType, Fragment, FragmentSpread, InlineFragment, Schema,
 };
+use graphql_nodes::{Name, NamedType, Node, SourceSpan, ValidationError};
 use std::alloc::AllocError;
 
-/// How a fragment comes to stand on a type.
+/// How a fragment comes to be on a type.
 #[derive(Clone, Copy)]
 pub enum FragmentUse<'a> {
     /// By a spread, with the fragment that it names.
@@ -24,9 +24,9 @@ pub enum FragmentUse<'a> {
     Inline(&'a Node<InlineFragment>),
 }
 
-/// Reports a spread or an inline fragment, at its place, if what its condition selects can never be met
-/// on the type around it: the condition is another type, and no object is a value of both. Where one of
-/// the two is not defined nothing is reported. The only error is want of memory.
+/// Reports a spread or an inline fragment, at its place, if what its condition selects can never be visited
+/// on the type around it: the condition is another type, and no object is a value of both. Where one of the
+/// two is not defined nothing is reported. The only error is a failed allocation.
 ///
 /// Specification: 5.5.2.3 Fragment Spread Is Possible.
 pub fn validate_fragment_spread_type<'a>(
@@ -42,7 +42,7 @@ pub fn validate_fragment_spread_type<'a>(
         (IsDiagnostic (UseReport (Some schema.now) condition.now (Some parent.now) fragment_use.entry)) diagnostics.old diagnostics.new }
     ensures schema { context.new.schema ≡ context.old.schema }
     ensures variables { context.new.variables ≡ context.old.variables }
-    ensures entered { context.new.entered ≡ context.old.entered }
+    ensures visited_fragments { context.new.visited_fragments ≡ context.old.visited_fragments }
 {
     if condition == parent {
         return Ok(());
@@ -59,7 +59,7 @@ pub fn validate_fragment_spread_type<'a>(
     report_impossible(diagnostics, condition, parent, around, fragment_use)
 }
 
-/// Reports a use of a fragment that can never be met on the type around it.
+/// Reports a use of a fragment that can never be visited on the type around it.
 fn report_impossible(
     diagnostics: &mut DiagnosticList,
     condition: &NamedType,

@@ -1,19 +1,15 @@
 ghost use Rattle.std.specs.Option.{option_copied};
 ghost use Rattle.std.specs.Prelude.{◌≡◌, [], All, IfOk, List, find, map};
-ghost use Rattle.graphql_documents.specs.Documents.{OperationSubscriptionHolds};
-ghost use Rattle.graphql_diagnostics.specs.Limits.{SubscriptionLimit};
+ghost use Rattle.graphql_specification.specs.Subscriptions.{OperationSubscriptionHolds, SubscriptionLimit, SubscriptionReport, HasOneRootField, WalkedFields, is_conditional, is_introspection};
 ghost use Rattle.graphql_nodes.specs.Names.{NameText};
 ghost use Rattle.graphql_diagnostics.specs.Reports.{Checks, ChecksWithin};
-ghost use Rattle.graphql_documents.specs.Selections.{Fragments, Inside, directives_of, fragments_of, selections_of};
-ghost use Rattle.graphql_diagnostics.specs.SubscriptionReports.{SubscriptionReport};
-ghost use Rattle.graphql_documents.specs.Subscriptions.{HasOneRootField, WalkedFields, field_of, fields_among, is_conditional, is_introspection};
-ghost use Rattle.graphql_documents.specs.declared.documents.definitions.OperationType.TheVariants.{Subscription};
-ghost use Rattle.graphql_operations.specs.Subscriptions.{ChecksAtRoot, IsNoIntrospection, IsUnconditional, RootSelectionHolds, SaysOfSubscription};
+ghost use Rattle.graphql_documents.specs.Selections.{Fragments, InExpandedSet, directives_of, fragments_of, selections_of, field_of, fields_among};
+ghost use Rattle.graphql_nodes.specs.declared.operation_types.OperationType.TheVariants.{Subscription};
+ghost use Rattle.graphql_operations.specs.Subscriptions.{ChecksAtRoot, IsNoIntrospection, IsUnconditional, RootSelectionHolds, SubscriptionRuleReport};
 
-use graphql_diagnostics::{BuildError, Details, DiagnosticData, DiagnosticList, ValidationError};
-use graphql_documents::documents::{
-    Directive, ExecutableDocument, Field, Name, Node, Operation, OperationType, Selection,
-};
+use graphql_diagnostics::{BuildError, Details, DiagnosticData, DiagnosticList};
+use graphql_documents::documents::{Directive, ExecutableDocument, Field, Operation, Selection};
+use graphql_nodes::{Name, Node, OperationType, ValidationError};
 use graphql_variables::conditions::{INCLUDE_DIRECTIVE_NAME, SKIP_DIRECTIVE_NAME, directives_of};
 use graphql_variables::walk_selections;
 use std::alloc::Global;
@@ -23,12 +19,12 @@ use std::alloc::Global;
 /// of the operation and of the fragments in it, at any depth, but not below fields. Nothing is reported
 /// of another operation.
 ///
-/// Reports come in the order in which the root selections are met, at each first of introspection, at
+/// Reports come in the order in which the root selections are visited, at each first of introspection, at
 /// the field, then of a condition, at the first such directive; last that there are several fields, at
 /// the operation, with their names.
 ///
-/// Where the walk over the root passes its bound, a limit without a location follows the reports of what
-/// it met, and the fields are not counted. The only error is want of memory.
+/// Where the walk over the root passes its limit, a limit without a location follows the diagnostics of what
+/// it visited, and the fields are not counted. The only error is a failed allocation.
 ///
 /// Specification: 5.2.3.1 Single Root Field; draft, on conditions at the root.
 pub fn validate_subscription(
@@ -61,8 +57,8 @@ fn check_selections(
     diagnostics: &mut DiagnosticList,
 ) -> Result<(), ValidationError>
     ensures { (fragments : Fragments) → operation.now.value.value.operation_type ≡ Subscription →
-        All (λ s. Inside fragments operation.now.value.value.selection_set s.now) selections.now →
-        Checks result (All (λ s. RootSelectionHolds s.now) selections.now) (SaysOfSubscription fragments operation.now) diagnostics.old diagnostics.new }
+        All (λ s. InExpandedSet fragments operation.now.value.value.selection_set s.now) selections.now →
+        Checks result (All (λ s. RootSelectionHolds s.now) selections.now) (SubscriptionRuleReport fragments operation.now) diagnostics.old diagnostics.new }
 {
     for selection in selections {
         check_introspection(operation, selection, diagnostics)?;
@@ -158,17 +154,17 @@ fn is_conditional(name: &Name) -> bool
     text == SKIP_DIRECTIVE_NAME || text == INCLUDE_DIRECTIVE_NAME
 }
 
-/// Reports a subscription for which more than one field was met, among all its root selections.
+/// Reports a subscription for which more than one field was visited, among all its root selections.
 fn check_number(
     operation: &Node<Operation>,
     selections: &[&Selection],
     diagnostics: &mut DiagnosticList,
 ) -> Result<(), ValidationError>
-    ensures { (document : ExecutableDocument) (met : List NameText) → operation.now.value.value.operation_type ≡ Subscription →
+    ensures { (document : ExecutableDocument) (visited : List NameText) → operation.now.value.value.operation_type ≡ Subscription →
         WalkedFields (fragments_of document) [] (selections_of operation.now.value.value.selection_set)
-        (fields_among (map (λ s. s.now) selections.now)) met →
+        (fields_among (map (λ s. s.now) selections.now)) visited →
         Checks result (HasOneRootField (fragments_of document) operation.now.value.value.selection_set)
-        (SaysOfSubscription (fragments_of document) operation.now) diagnostics.old diagnostics.new }
+        (SubscriptionRuleReport (fragments_of document) operation.now) diagnostics.old diagnostics.new }
 {
     let fields = field_names(diagnostics.allocator(), selections)?;
     if fields.len() <= 1 {

@@ -1,14 +1,14 @@
 ghost use Rattle.std.specs.Prelude.{◌↔◌, IsTrue, Some};
 ghost use Rattle.graphql_diagnostics.specs.Diagnostics.{IsDiagnostic};
-ghost use Rattle.graphql_documents.specs.FragmentSpreads.{NamesComposite};
+ghost use Rattle.graphql_specification.specs.Fragments.{NamesComposite, InvalidTargetReport};
 ghost use Rattle.graphql_diagnostics.specs.Reports.{Checks};
-ghost use Rattle.graphql_diagnostics.specs.SelectionReports.{InvalidTargetReport};
 
-use graphql_diagnostics::{Details, DiagnosticData, DiagnosticList, ValidationError};
-use graphql_documents::documents::{Name, NamedType, Schema, SourceSpan};
+use graphql_diagnostics::{Details, DiagnosticData, DiagnosticList};
+use graphql_documents::documents::Schema;
+use graphql_nodes::{Name, NamedType, SourceSpan, ValidationError};
 
 /// Reports a fragment whose type condition names no object, interface or union of the schema, at the
-/// fragment. An inline fragment has no name. The only error is want of memory.
+/// fragment. An inline fragment has no name. The only error is a failed allocation.
 ///
 /// Specification: 5.5.1.2 Fragment Spread Type Existence; 5.5.1.3 Fragments on Composite Types.
 pub fn validate_fragment_type_condition(

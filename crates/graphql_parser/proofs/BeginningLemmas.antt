@@ -11,7 +11,7 @@ use Rattle.graphql_syntax.specs.OperationTypes.{is_operation_type}
 use Rattle.graphql_executable_syntax.specs.Operations.{begins_operation}
 use Rattle.graphql_type_system_syntax.specs.DefinitionReaders.{begins_type_system_definition}
 use Rattle.graphql_type_system_syntax.proofs.BeginningLemmas.{brace_follows, keyword_follows, query_begins_none, mutation_begins_none, subscription_begins_none, brace_begins_none}
-use Rattle.graphql_type_system_syntax.proofs.TypeDefinitionLemmas.{DefinitionEnds}
+use Rattle.graphql_type_system_syntax.proofs.MemberLemmas.{DefinitionEnds}
 
 -- a token comes
 pub some_token : (test : TokenTest) (i : Input) → next_passes test i ≡ true → next_passes (more_test UntilEnd) i ≡ true
@@ -42,7 +42,7 @@ pub operation_no_type_system : (i : Input) → next_passes begins_operation i �
 operation_no_type_system i e =
     by_beginning (next_passes begins_type_system_definition i ≡ false) i e (brace_begins_none i) (query_begins_none i) (mutation_begins_none i) (subscription_begins_none i)
 
--- and what an operation begins with may stand behind a definition
+-- and what an operation begins with may be behind a definition
 pub operation_follows : (i : Input) → next_passes begins_operation i ≡ true → DefinitionEnds i
 operation_follows i e =
     by_beginning (DefinitionEnds i) i e (brace_follows i) (keyword_follows keyword.Query i refl) (keyword_follows keyword.Mutation i refl) (keyword_follows keyword.Subscription i refl)

@@ -18,7 +18,7 @@ use Rattle.graphql_executable_syntax.proofs.FragmentLemmas.{fragment_begins, fra
 use Rattle.graphql_executable_syntax.proofs.OperationLemmas.{operation_begins, no_operation_begins, operation_sound, operation_read, operation_moves, operation_local}
 use Rattle.graphql_type_system_syntax.proofs.DefinitionLemmas as type_system
 use Rattle.graphql_type_system_syntax.proofs.BeginningLemmas.{end_follows, keyword_follows, definition_follows, extension_follows, begins_no_extend, fragment_begins_none}
-use Rattle.graphql_type_system_syntax.proofs.TypeDefinitionLemmas.{DefinitionEnds}
+use Rattle.graphql_type_system_syntax.proofs.MemberLemmas.{DefinitionEnds}
 use Rattle.graphql_parser.specs.Documents.{IsDefinition, operation, fragment, type_system, extension, IsDocument}
 use Rattle.graphql_parser.specs.DocumentReaders.{definition_at, document_at, executable_definition_at}
 use Rattle.graphql_parser.proofs.BeginningLemmas.{some_token, operation_follows, operation_no_extension, operation_no_type_system}

@@ -1,5 +1,5 @@
--- Documents: `IsDocument depth i tree j` where the tokens from i up to j are the document, and brackets and
--- braces stand at most so deep in one another. Specification: 2.2 Document, and Appendix B.3 Document Syntax.
+-- Documents: `IsDocument depth i tree j` where the tokens from i up to j are the document, and brackets and braces are nested at most so deep in one
+-- another. Specification: 2.2 Document, and Appendix B.3 Document Syntax.
 use Rattle.std.specs.Prelude.{◌≡◌, ℕ}
 use Rattle.graphql_trees.specs.declared.documents.Definition.{Definition}
 use Rattle.graphql_trees.specs.declared.documents.Definition.TheVariants as tree

@@ -161,8 +161,8 @@ const REFUSED: &[(&str, usize, Expected)] = &[
     ("scalar A = 1", 9, Expected::Definition),
 ];
 
-/// A description stands before a definition of the type system alone. graphql-core names the description
-/// here, and not the token that may not follow it.
+/// A description comes before a definition of the type system alone. graphql-core names the description here,
+/// and not the token that may not follow it.
 const DESCRIBED: &[(&str, usize, Expected)] = &[
     (r#""a" query { a }"#, 4, Expected::TypeSystemDefinition),
     (r#""a" extend type A @b"#, 4, Expected::TypeSystemDefinition),

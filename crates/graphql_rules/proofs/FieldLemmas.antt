@@ -1,20 +1,17 @@
--- A field where it stands: its arguments and its selections, in the words of its definition.
+-- A field where it is: its arguments and its selections, in the words of its definition.
 use Rattle.std.proofs.Common.{◌≡◌, ◌↔◌, ◌⊎◌, inl, inr, List, Option, None, Some, Result, IfOk, refl, sym, ap, ◌∙◌, subst, All, Contains}
 use Rattle.std.specs.Borrow.{Bor}
 use Rattle.std.specs.Result.{result_ok}
 use Rattle.std.proofs.lemmas.List.Elements.{All-weaker, All-contains, All-contains_itself}
 use Rattle.std.proofs.lemmas.Option.{none-some, same_Some}
-use Rattle.graphql_diagnostics.specs.ArgumentReports.{RepeatsArgument, RepetitionReport}
-use Rattle.graphql_documents.specs.Arguments.{ArgumentNamesHold, ArgumentValuesHold, HasDistinctNames, IsDefined, IsGivenIfRequired, ValueHoldsBy}
+use Rattle.graphql_specification.specs.Arguments.{RepeatsArgument, RepetitionReport, ArgumentNamesHold, ArgumentValuesHold, HasDistinctNames, IsDefined, RequiredArgumentIsProvided, ValueHoldsBy}
 use Rattle.graphql_diagnostics.specs.Diagnostics.{IsDiagnostic}
-use Rattle.graphql_documents.specs.Directives.{ApplicationsHold}
-use Rattle.graphql_diagnostics.specs.FieldReports.{FieldBreaks, SelectionIsMissing, is_missing}
-use Rattle.graphql_documents.specs.Fields.{AgreesWithDefinition, FieldHolds, HasNeededSelection}
+use Rattle.graphql_specification.specs.Directives.{ApplicationsHold}
+use Rattle.graphql_specification.specs.Fields.{FieldFormReport, MissingSelectionReport, is_missing, AgreesWithDefinition, FieldHolds, HasNeededSelection, FieldValuesReport, FieldReport, by_form, by_values}
 use Rattle.graphql_nodes.specs.Names.{NameText}
 use Rattle.graphql_diagnostics.specs.Reports.{Reports}
 use Rattle.graphql_documents.specs.Schemas.{type_field}
-use Rattle.graphql_diagnostics.specs.SelectionReports.{FieldValuesBreak}
-use Rattle.graphql_documents.specs.Selections.{TypeBelow, below_known, below_unknown, definition_at}
+use Rattle.graphql_documents.specs.Selections.{IsSubselectionParent, parent_known, parent_unknown, definition_at}
 use Rattle.graphql_documents.specs.TypeReferences.{inner_named_type}
 use Rattle.graphql_diagnostics.proofs.DiagnosticLemmas.{diagnostic_wider}
 use Rattle.graphql_diagnostics.proofs.ReportLemmas.{ChecksList, both, checks_after, checks_words, in_words, wider}
@@ -22,7 +19,7 @@ use Rattle.graphql_diagnostics.specs.declared.data.DiagnosticData.TheVariants as
 use Rattle.graphql_diagnostics.specs.declared.data.DiagnosticData.{DiagnosticData}
 use Rattle.graphql_diagnostics.specs.declared.lists.DiagnosticEntry.{DiagnosticEntry}
 use Rattle.graphql_documents.specs.declared.documents.components.Component.{Component}
-use Rattle.graphql_documents.specs.declared.documents.definitions.DirectiveLocation.TheVariants as at
+use Rattle.graphql_nodes.specs.declared.directive_locations.DirectiveLocation.TheVariants as at
 use Rattle.graphql_documents.specs.declared.documents.definitions.FieldDefinition.{FieldDefinition}
 use Rattle.graphql_documents.specs.declared.documents.definitions.VariableDefinition.{VariableDefinition}
 use Rattle.graphql_documents.specs.declared.documents.directives.Argument.{Argument}
@@ -33,8 +30,8 @@ use Rattle.graphql_nodes.specs.declared.spans.SourceSpan.{SourceSpan}
 use Rattle.graphql_values.specs.GivenArguments.{AreOfField, GivenArgumentHolds, GivenArgumentReport, MissingArgumentReport, of_argument_values, of_missing_argument, of_unknown_argument}
 use Rattle.graphql_values.specs.declared.argument.owners.GivenArguments.{GivenArguments}
 use Rattle.graphql_operations.specs.Contexts.{IsAgainst, parent_of}
-use Rattle.graphql_rules.specs.SelectionSteps.{DefinedFieldHolds, FieldArgumentsHold, FieldSays, IsBelow, by_form, by_values}
-use Rattle.graphql_rules.specs.declared.operations.fields.Below.{Below}
+use Rattle.graphql_rules.specs.SelectionSteps.{DefinedFieldHolds, FieldArgumentsHold, IsParentOfSubselections}
+use Rattle.graphql_rules.specs.declared.operations.fields.SubselectionParent.{SubselectionParent}
 
 -- where the type is not known no field has a definition
 nothing_at : (schema : Option Schema) (field : NameText) → definition_at schema None field ≡ None
@@ -57,47 +54,47 @@ module _ (schema : Option Schema) (against : Option (Bor Schema × Bor NameText)
   definition_against field =
       ap (λ o. definition_at o (parent_of against) field) schema_against ∙ ap (λ p. definition_at (Some s.now) p field) parent_against
 
--- where the selections of a field's set stand
+-- where the selections of a field's set are
 below_is : {schema : Option Schema} {parent below : Option NameText} {field : NameText} (d : Component FieldDefinition) →
-    TypeBelow schema parent field below → definition_at schema parent field ≡ Some d → Some (inner_named_type d.node.value.value.ty) ≡ below
-below_is {schema = schema} {field = field} d below_unknown is = absurd (none-some d (sym (nothing_at schema field) ∙ is))
-below_is d (below_known {d = other} found) is =
+    IsSubselectionParent schema parent field below → definition_at schema parent field ≡ Some d → Some (inner_named_type d.node.value.value.ty) ≡ below
+below_is {schema = schema} {field = field} d parent_unknown is = absurd (none-some d (sym (nothing_at schema field) ∙ is))
+below_is d (parent_known {d = other} found) is =
     ap (λ (x : Component FieldDefinition). Some (inner_named_type x.node.value.value.ty)) (same_Some d other (sym is ∙ found))
 
 pub stands_below : (schema : Option Schema) (parent : Option NameText) (field : NameText) (d : Component FieldDefinition) →
     definition_at schema parent field ≡ Some d → (below : Option NameText) →
-    TypeBelow schema parent field below ↔ (Some (inner_named_type d.node.value.value.ty) ≡ below)
+    IsSubselectionParent schema parent field below ↔ (Some (inner_named_type d.node.value.value.ty) ≡ below)
 stands_below schema parent field d is below =
-    (λ h. below_is d h is, λ e. subst (TypeBelow schema parent field) e (below_known is))
+    (λ h. below_is d h is, λ e. subst (IsSubselectionParent schema parent field) e (parent_known is))
 
 nowhere_below : {schema : Option Schema} {parent below : Option NameText} {field : NameText} →
-    TypeBelow schema parent field below → parent ≡ None → None ≡ below
-nowhere_below below_unknown none = refl
-nowhere_below {schema = schema} {parent = parent} {field = field} (below_known {d = d} found) none =
+    IsSubselectionParent schema parent field below → parent ≡ None → None ≡ below
+nowhere_below parent_unknown none = refl
+nowhere_below {schema = schema} {parent = parent} {field = field} (parent_known {d = d} found) none =
     absurd (none-some d (sym (undefined_at schema parent field none) ∙ found))
 
 pub unknown_below : (schema : Option Schema) (parent : Option NameText) (field : NameText) → parent ≡ None → (below : Option NameText) →
-    TypeBelow schema parent field below ↔ (None ≡ below)
+    IsSubselectionParent schema parent field below ↔ (None ≡ below)
 unknown_below schema parent field none below = (
   λ h. nowhere_below h none,
-  λ e. subst (TypeBelow schema parent field) e (subst (λ p. TypeBelow schema p field None) (sym none) below_unknown),
+  λ e. subst (IsSubselectionParent schema parent field) e (subst (λ p. IsSubselectionParent schema p field None) (sym none) parent_unknown),
 )
 
 -- below a field that its type lacks nothing has a place
 lacks_below : {schema : Option Schema} {parent below : Option NameText} {field known : NameText} →
-    TypeBelow schema parent field below → parent ≡ Some known → definition_at schema parent field ≡ None → ⊥
-lacks_below {known = known} below_unknown is none = none-some known is
-lacks_below (below_known {d = d} found) is none = none-some d (sym none ∙ found)
+    IsSubselectionParent schema parent field below → parent ≡ Some known → definition_at schema parent field ≡ None → ⊥
+lacks_below {known = known} parent_unknown is none = none-some known is
+lacks_below (parent_known {d = d} found) is none = none-some d (sym none ∙ found)
 
 pub lacks_place : (schema : Option Schema) (parent below : Option NameText) (field known : NameText) →
-    parent ≡ Some known → definition_at schema parent field ≡ None → TypeBelow schema parent field below → ⊥
+    parent ≡ Some known → definition_at schema parent field ≡ None → IsSubselectionParent schema parent field below → ⊥
 lacks_place schema parent below field known is none h = lacks_below h is none
 
 -- the same of the type against which the field is checked
-pub below_against : {E : Type 0} (result : Result Below E) (schema : Option Schema) (parent : Option NameText) (s : Schema) (p : NameText) (f : Field) →
-    schema ≡ Some s → parent ≡ Some p → IfOk result (IsBelow (Some s) (Some p) f) → IfOk result (IsBelow schema parent f)
+pub below_against : {E : Type 0} (result : Result SubselectionParent E) (schema : Option Schema) (parent : Option NameText) (s : Schema) (p : NameText) (f : Field) →
+    schema ≡ Some s → parent ≡ Some p → IfOk result (IsParentOfSubselections (Some s) (Some p) f) → IfOk result (IsParentOfSubselections schema parent f)
 below_against result schema parent s p f has is h =
-    subst (λ o. IfOk result (IsBelow o parent f)) (sym has) (subst (λ q. IfOk result (IsBelow (Some s) q f)) (sym is) h)
+    subst (λ o. IfOk result (IsParentOfSubselections o parent f)) (sym has) (subst (λ q. IfOk result (IsParentOfSubselections (Some s) q f)) (sym is) h)
 
 -- the arguments hold exactly where they agree with the definitions by name and by value
 module _ (schema : Schema) (variables : List (Node VariableDefinition)) (f : Field) (d : FieldDefinition) where
@@ -171,33 +168,33 @@ module _ (schema : Option Schema) (variables : List (Node VariableDefinition)) (
           },
         )
 
--- a report on a repeated argument of the field
+-- a diagnostic on a repeated argument of the field
 module _ (schema : Option Schema) (variables : List (Node VariableDefinition)) (parent : Option NameText) (f : Node Field) (given : List (Node Argument))
     (same : given ≡ f.value.value.arguments.items) where
-  of_repetition : (r : DiagnosticData) (at : Option SourceSpan) → RepetitionReport given r at → FieldBreaks schema parent f r at
+  of_repetition : (r : DiagnosticData) (at : Option SourceSpan) → RepetitionReport given r at → FieldFormReport schema parent f r at
   of_repetition (report.UniqueArgument name original redefined) at repeats = subst (λ l. RepeatsArgument l name original redefined at) same repeats
   of_repetition r at repeats = absurd repeats
 
-  pub names_repetition : (e : DiagnosticEntry) → IsDiagnostic (RepetitionReport given) e → IsDiagnostic (FieldSays schema variables parent f) e
-  names_repetition = diagnostic_wider (RepetitionReport given) (FieldSays schema variables parent f) (λ r at repeats. by_form (of_repetition r at repeats))
+  pub names_repetition : (e : DiagnosticEntry) → IsDiagnostic (RepetitionReport given) e → IsDiagnostic (FieldReport schema variables parent f) e
+  names_repetition = diagnostic_wider (RepetitionReport given) (FieldReport schema variables parent f) (λ r at repeats. by_form (of_repetition r at repeats))
 
   pub distinct_reported : {old new : List DiagnosticEntry} → Reports (HasDistinctNames given) (IsDiagnostic (RepetitionReport given)) old new →
-      Reports (HasDistinctNames f.value.value.arguments.items) (IsDiagnostic (FieldSays schema variables parent f)) old new
+      Reports (HasDistinctNames f.value.value.arguments.items) (IsDiagnostic (FieldReport schema variables parent f)) old new
   distinct_reported {old} {new} r =
-      subst (λ l. Reports (HasDistinctNames l) (IsDiagnostic (FieldSays schema variables parent f)) old new) same (wider names_repetition r)
+      subst (λ l. Reports (HasDistinctNames l) (IsDiagnostic (FieldReport schema variables parent f)) old new) same (wider names_repetition r)
 
--- a report on a field that is checked against the type
+-- a diagnostic on a field that is checked against the type
 pub names_against : (schema : Option Schema) (variables : List (Node VariableDefinition)) (parent : Option NameText) (s : Schema) (p : NameText) (f : Node Field) →
     schema ≡ Some s → parent ≡ Some p →
-    (e : DiagnosticEntry) → IsDiagnostic (FieldSays (Some s) variables (Some p) f) e → IsDiagnostic (FieldSays schema variables parent f) e
+    (e : DiagnosticEntry) → IsDiagnostic (FieldReport (Some s) variables (Some p) f) e → IsDiagnostic (FieldReport schema variables parent f) e
 names_against schema variables parent s p f has is e said =
-    subst (λ o. IsDiagnostic (FieldSays o variables parent f) e) (sym has) (subst (λ q. IsDiagnostic (FieldSays (Some s) variables q f) e) (sym is) said)
+    subst (λ o. IsDiagnostic (FieldReport o variables parent f) e) (sym has) (subst (λ q. IsDiagnostic (FieldReport (Some s) variables q f) e) (sym is) said)
 
 module _ (schema : Schema) (variables : List (Node VariableDefinition)) (parent : NameText) (f : Node Field) (d : Component FieldDefinition)
     (is : definition_at (Some schema) (Some parent) f.value.value.name ≡ Some d) where
   module _ (arguments : GivenArguments) (are : AreOfField parent f d arguments) where
     of_given : (r : DiagnosticData) (at : Option SourceSpan) → GivenArgumentReport schema variables arguments r at →
-        FieldBreaks (Some schema) (Some parent) f r at ⊎ FieldValuesBreak (Some schema) variables (Some parent) f r at
+        FieldFormReport (Some schema) (Some parent) f r at ⊎ FieldValuesReport (Some schema) variables (Some parent) f r at
     of_given r at (of_unknown_argument lacks) =
         inl (parent, d, record { parent_is = refl; definition_is = is }, rw (are.definitions_are, are.given_is, are.coordinate_is, are.definition_location_is) at lacks)
     of_given r at (of_argument_values breaks) =
@@ -209,62 +206,62 @@ module _ (schema : Schema) (variables : List (Node VariableDefinition)) (parent 
           broken = rw (are.definitions_are, are.given_is) at breaks;
         })
 
-    of_missing : (r : DiagnosticData) (at : Option SourceSpan) → MissingArgumentReport arguments r at → FieldBreaks (Some schema) (Some parent) f r at
+    of_missing : (r : DiagnosticData) (at : Option SourceSpan) → MissingArgumentReport arguments r at → FieldFormReport (Some schema) (Some parent) f r at
     of_missing r at (of_missing_argument misses) =
         (parent, d, record { parent_is = refl; definition_is = is }, rw (are.definitions_are, are.given_is, are.argument_coordinate_is, are.location_is) at misses)
 
     by_part : (r : DiagnosticData) (at : Option SourceSpan) →
-        FieldBreaks (Some schema) (Some parent) f r at ⊎ FieldValuesBreak (Some schema) variables (Some parent) f r at →
-        FieldSays (Some schema) variables (Some parent) f r at
+        FieldFormReport (Some schema) (Some parent) f r at ⊎ FieldValuesReport (Some schema) variables (Some parent) f r at →
+        FieldReport (Some schema) variables (Some parent) f r at
     by_part r at (inl broken) = by_form broken
     by_part r at (inr broken) = by_values broken
 
-    -- a report on a given argument, or on one that is missing
+    -- a diagnostic on a given argument, or on one that is missing
     pub names_given : (e : DiagnosticEntry) → IsDiagnostic (GivenArgumentReport schema variables arguments) e →
-        IsDiagnostic (FieldSays (Some schema) variables (Some parent) f) e
+        IsDiagnostic (FieldReport (Some schema) variables (Some parent) f) e
     names_given =
-        diagnostic_wider (GivenArgumentReport schema variables arguments) (FieldSays (Some schema) variables (Some parent) f)
+        diagnostic_wider (GivenArgumentReport schema variables arguments) (FieldReport (Some schema) variables (Some parent) f)
         (λ r at said. by_part r at (of_given r at said))
 
     pub names_missing : (e : DiagnosticEntry) → IsDiagnostic (MissingArgumentReport arguments) e →
-        IsDiagnostic (FieldSays (Some schema) variables (Some parent) f) e
+        IsDiagnostic (FieldReport (Some schema) variables (Some parent) f) e
     names_missing =
-        diagnostic_wider (MissingArgumentReport arguments) (FieldSays (Some schema) variables (Some parent) f)
+        diagnostic_wider (MissingArgumentReport arguments) (FieldReport (Some schema) variables (Some parent) f)
         (λ r at said. by_form (of_missing r at said))
 
     -- the two checks are one of the arguments of the field
     arguments_decide : (All (GivenArgumentHolds schema variables arguments.definitions.now) arguments.given.now ×
-        All (IsGivenIfRequired arguments.given.now) arguments.definitions.now) ↔ FieldArgumentsHold schema variables f.value.value d.node.value.value
+        All (RequiredArgumentIsProvided arguments.given.now) arguments.definitions.now) ↔ FieldArgumentsHold schema variables f.value.value d.node.value.value
     arguments_decide = rw (are.definitions_are, are.given_is) (λ p. record { given = p.0; required = p.1 }, λ h. (h.given, h.required))
 
     pub arguments_checked : {T E : Type 0} (r : Result T E) (old mid new : List DiagnosticEntry) →
         Reports (All (GivenArgumentHolds schema variables arguments.definitions.now) arguments.given.now) (IsDiagnostic (GivenArgumentReport schema variables arguments)) old mid →
-        ChecksList r (All (IsGivenIfRequired arguments.given.now) arguments.definitions.now) (IsDiagnostic (MissingArgumentReport arguments)) mid new →
-        ChecksList r (FieldArgumentsHold schema variables f.value.value d.node.value.value) (IsDiagnostic (FieldSays (Some schema) variables (Some parent) f)) old new
+        ChecksList r (All (RequiredArgumentIsProvided arguments.given.now) arguments.definitions.now) (IsDiagnostic (MissingArgumentReport arguments)) mid new →
+        ChecksList r (FieldArgumentsHold schema variables f.value.value d.node.value.value) (IsDiagnostic (FieldReport (Some schema) variables (Some parent) f)) old new
     arguments_checked r old mid new given missing =
-        let Q = IsDiagnostic (FieldSays (Some schema) variables (Some parent) f) in
+        let Q = IsDiagnostic (FieldReport (Some schema) variables (Some parent) f) in
         let Given = All (GivenArgumentHolds schema variables arguments.definitions.now) arguments.given.now in
-        let Required = All (IsGivenIfRequired arguments.given.now) arguments.definitions.now in
+        let Required = All (RequiredArgumentIsProvided arguments.given.now) arguments.definitions.now in
         checks_words r (Given × Required) (FieldArgumentsHold schema variables f.value.value d.node.value.value) Q Q old new arguments_decide (λ e q. q)
         (checks_after r Given Required Q old mid new (wider names_given given)
         (checks_words r Required Required (IsDiagnostic (MissingArgumentReport arguments)) Q mid new (λ x. x, λ x. x) names_missing missing))
 
-  -- a report that it selects nothing
-  of_selection : (r : DiagnosticData) (at : Option SourceSpan) → SelectionIsMissing (Some schema) parent f d.node.value.value.ty r at →
-      FieldBreaks (Some schema) (Some parent) f r at
+  -- a diagnostic that it selects nothing
+  of_selection : (r : DiagnosticData) (at : Option SourceSpan) → MissingSelectionReport (Some schema) parent f d.node.value.value.ty r at →
+      FieldFormReport (Some schema) (Some parent) f r at
   of_selection r at (is_missing misses) = (parent, d, record { parent_is = refl; definition_is = is }, misses)
 
-  pub names_selection : (e : DiagnosticEntry) → IsDiagnostic (SelectionIsMissing (Some schema) parent f d.node.value.value.ty) e →
-      IsDiagnostic (FieldSays (Some schema) variables (Some parent) f) e
+  pub names_selection : (e : DiagnosticEntry) → IsDiagnostic (MissingSelectionReport (Some schema) parent f d.node.value.value.ty) e →
+      IsDiagnostic (FieldReport (Some schema) variables (Some parent) f) e
   names_selection =
-      diagnostic_wider (SelectionIsMissing (Some schema) parent f d.node.value.value.ty) (FieldSays (Some schema) variables (Some parent) f)
+      diagnostic_wider (MissingSelectionReport (Some schema) parent f d.node.value.value.ty) (FieldReport (Some schema) variables (Some parent) f)
       (λ r at said. by_form (of_selection r at said))
 
   -- its arguments, and then what it selects
   pub defined_reported : {old mid new : List DiagnosticEntry} →
-      Reports (FieldArgumentsHold schema variables f.value.value d.node.value.value) (IsDiagnostic (FieldSays (Some schema) variables (Some parent) f)) old mid →
+      Reports (FieldArgumentsHold schema variables f.value.value d.node.value.value) (IsDiagnostic (FieldReport (Some schema) variables (Some parent) f)) old mid →
       Reports (HasNeededSelection (Some schema) f.value.value d.node.value.value.ty)
-      (IsDiagnostic (SelectionIsMissing (Some schema) parent f d.node.value.value.ty)) mid new →
-      Reports (DefinedFieldHolds schema variables f.value.value d.node.value.value) (IsDiagnostic (FieldSays (Some schema) variables (Some parent) f)) old new
+      (IsDiagnostic (MissingSelectionReport (Some schema) parent f d.node.value.value.ty)) mid new →
+      Reports (DefinedFieldHolds schema variables f.value.value d.node.value.value) (IsDiagnostic (FieldReport (Some schema) variables (Some parent) f)) old new
   defined_reported a b =
       in_words (λ p. record { arguments = p.0; selection = p.1 }, λ h. (h.arguments, h.selection)) (both a (wider names_selection b))

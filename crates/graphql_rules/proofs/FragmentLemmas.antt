@@ -5,20 +5,18 @@ use Rattle.std.proofs.lemmas.List.Elements.{All-nil}
 use Rattle.graphql_documents.proofs.ListLemmas.{All-append_right}
 use Rattle.std.proofs.lemmas.Option.{none-some, same_Some}
 use Rattle.graphql_diagnostics.specs.Diagnostics.{IsDiagnostic, IsLimitEntry}
-use Rattle.graphql_documents.specs.Directives.{ApplicationsHold}
-use Rattle.graphql_documents.specs.FragmentSpreads.{FragmentHasNoCycle, FragmentHolds, InlineFragmentHolds, IsPossibleAt, IsPossibleIn, NamesComposite, TargetHolds}
-use Rattle.graphql_diagnostics.specs.Limits.{FragmentLimit}
+use Rattle.graphql_specification.specs.Directives.{ApplicationsHold}
+use Rattle.graphql_specification.specs.Fragments.{FragmentHasNoCycle, FragmentHolds, InlineFragmentHolds, IsPossibleAt, IsPossibleIn, NamesComposite, TargetHolds, FragmentLimit, FragmentFormReport, ImpossibleReport, InlineFragmentConditionReport, InvalidTargetReport, SpreadTargetReport, FragmentReport, InlineFragmentReport, SpreadReport, by_condition, by_fragment, by_spread}
 use Rattle.graphql_nodes.specs.Names.{NameText}
 use Rattle.graphql_diagnostics.specs.Reports.{KeepsReports, Reports, ReportsWithin}
-use Rattle.graphql_diagnostics.specs.SelectionReports.{FragmentBreaks, ImpossibleReport, InlineFragmentBreaks, InvalidTargetReport, SpreadBreaks}
 use Rattle.graphql_documents.specs.Selections.{Fragments}
-use Rattle.graphql_diagnostics.proofs.SelectionReportLemmas.{fragment_target, inline_impossible, inline_target, spread_impossible}
+use Rattle.graphql_specification.proofs.FragmentReportLemmas.{fragment_target, inline_impossible, inline_target, spread_impossible}
 use Rattle.graphql_diagnostics.proofs.DiagnosticLemmas.{diagnostic_wider}
 use Rattle.graphql_diagnostics.proofs.ReportLemmas.{ChecksList, checks_words, wider}
 use Rattle.graphql_diagnostics.proofs.ReportWithinLemmas.{both_within, in_words_within, wider_within, within}
 use Rattle.graphql_diagnostics.specs.declared.data.DiagnosticData.{DiagnosticData}
 use Rattle.graphql_diagnostics.specs.declared.lists.DiagnosticEntry.{DiagnosticEntry}
-use Rattle.graphql_documents.specs.declared.documents.definitions.DirectiveLocation.TheVariants as at
+use Rattle.graphql_nodes.specs.declared.directive_locations.DirectiveLocation.TheVariants as at
 use Rattle.graphql_documents.specs.declared.documents.definitions.VariableDefinition.{VariableDefinition}
 use Rattle.graphql_documents.specs.declared.documents.executables.Fragment.{Fragment}
 use Rattle.graphql_documents.specs.declared.documents.executables.FragmentSpread.{FragmentSpread}
@@ -26,7 +24,7 @@ use Rattle.graphql_documents.specs.declared.documents.executables.InlineFragment
 use Rattle.graphql_nodes.specs.declared.nodes.Node.{Node}
 use Rattle.graphql_documents.specs.declared.documents.schemas.Schema.{Schema}
 use Rattle.graphql_nodes.specs.declared.spans.SourceSpan.{SourceSpan}
-use Rattle.graphql_rules.specs.SelectionSteps.{ConditionHolds, FragmentSays, InlineFragmentSays, IsUndefined, SpreadSays, SpreadStands, by_condition, by_fragment, by_spread, is_undefined}
+use Rattle.graphql_rules.specs.SelectionSteps.{ConditionHolds, IsUndefined, SpreadStands, is_undefined}
 
 -- a rule that holds adds nothing
 pub not_silent : {Entry P : Type 0} {Q : Entry → Type 0} {old new : List Entry} → Reports P Q old new → length old < length new → ¬ P
@@ -53,7 +51,7 @@ silent_rule {old = old} {new = new} r short =
     let all : length new ≡ length old + length r.added = ap length r.appended ∙ length-append old r.added in
     r.silent.0 (nothing_added r.added (omega (arith, all, short)))
 
--- two rules, the second within a bound: where nothing was added both hold; and where both hold and none of what was
+-- two rules, the second within a limit: where nothing was added both hold; and where both hold and none of what was
 -- added is of a limit, nothing was added
 module _ {Entry P R : Type 0} {Q Q' IsOfLimit : Entry → Type 0} {old mid new : List Entry} (a : Reports P Q old mid) (b : ReportsWithin IsOfLimit R Q' mid new) where
   pub both_hold : length new ≡ length old → P × R
@@ -119,16 +117,16 @@ module _ (schema : Option Schema) (condition : NameText) where
 -- the condition of an inline fragment
 module _ (schema : Option Schema) (parent : Option NameText) (i : Node InlineFragment) (condition : NameText) (s : Schema)
     (has : schema ≡ Some s) (is : i.value.value.type_condition ≡ Some condition) where
-  pub names_target : (e : DiagnosticEntry) → IsDiagnostic (InvalidTargetReport (Some s) None condition i.location) e → IsDiagnostic (InlineFragmentBreaks schema parent i) e
+  pub names_target : (e : DiagnosticEntry) → IsDiagnostic (InvalidTargetReport (Some s) None condition i.location) e → IsDiagnostic (InlineFragmentConditionReport schema parent i) e
   names_target e said =
-      diagnostic_wider (InvalidTargetReport schema None condition i.location) (InlineFragmentBreaks schema parent i) (inline_target parent i condition is) e
+      diagnostic_wider (InvalidTargetReport schema None condition i.location) (InlineFragmentConditionReport schema parent i) (inline_target parent i condition is) e
       (subst (λ o. IsDiagnostic (InvalidTargetReport o None condition i.location) e) (sym has) said)
 
   module _ (p : NameText) (around : parent ≡ Some p) where
     pub names_impossible : (e : DiagnosticEntry) → IsDiagnostic (ImpossibleReport (Some s) None condition (Some p) i.location i.location) e →
-        IsDiagnostic (InlineFragmentBreaks schema parent i) e
+        IsDiagnostic (InlineFragmentConditionReport schema parent i) e
     names_impossible e said =
-        diagnostic_wider (ImpossibleReport schema None condition parent i.location i.location) (InlineFragmentBreaks schema parent i) (inline_impossible parent i condition is) e
+        diagnostic_wider (ImpossibleReport schema None condition parent i.location i.location) (InlineFragmentConditionReport schema parent i) (inline_impossible parent i condition is) e
         (subst (λ o. IsDiagnostic (ImpossibleReport o None condition parent i.location i.location) e) (sym has)
         (subst (λ q. IsDiagnostic (ImpossibleReport (Some s) None condition q i.location i.location) e) (sym around) said))
 
@@ -162,8 +160,8 @@ condition_unasked schema parent condition none = record {
 
 -- an inline fragment
 module _ (schema : Option Schema) (variables : List (Node VariableDefinition)) (parent : Option NameText) (i : Node InlineFragment) where
-  pub names_condition : (e : DiagnosticEntry) → IsDiagnostic (InlineFragmentBreaks schema parent i) e → IsDiagnostic (InlineFragmentSays schema variables parent i) e
-  names_condition = diagnostic_wider (InlineFragmentBreaks schema parent i) (InlineFragmentSays schema variables parent i) (λ r at broken. by_condition broken)
+  pub names_condition : (e : DiagnosticEntry) → IsDiagnostic (InlineFragmentConditionReport schema parent i) e → IsDiagnostic (InlineFragmentReport schema variables parent i) e
+  names_condition = diagnostic_wider (InlineFragmentConditionReport schema parent i) (InlineFragmentReport schema variables parent i) (λ r at broken. by_condition broken)
 
   module _ (condition : NameText) (is : i.value.value.type_condition ≡ Some condition) where
     pub inline_decides : (ApplicationsHold schema variables at.InlineFragment i.value.value.directives.items × ConditionHolds schema parent condition) ↔
@@ -193,16 +191,16 @@ module _ (schema : Option Schema) (variables : List (Node VariableDefinition)) (
 
 -- a spread
 module _ (schema : Option Schema) (fragments : Fragments) (variables : List (Node VariableDefinition)) (parent : Option NameText) (p : Node FragmentSpread) where
-  pub names_spread : (e : DiagnosticEntry) → IsDiagnostic (SpreadBreaks schema fragments parent p) e → IsDiagnostic (SpreadSays schema fragments variables parent p) e
-  names_spread = diagnostic_wider (SpreadBreaks schema fragments parent p) (SpreadSays schema fragments variables parent p) (λ r at broken. by_spread broken)
+  pub names_spread : (e : DiagnosticEntry) → IsDiagnostic (SpreadTargetReport schema fragments parent p) e → IsDiagnostic (SpreadReport schema fragments variables parent p) e
+  names_spread = diagnostic_wider (SpreadTargetReport schema fragments parent p) (SpreadReport schema fragments variables parent p) (λ r at broken. by_spread broken)
 
   module _ (none : fragments p.value.value.fragment_name ≡ None) where
-    of_undefined : (r : DiagnosticData) (at : Option SourceSpan) → IsUndefined p r at → SpreadBreaks schema fragments parent p r at
+    of_undefined : (r : DiagnosticData) (at : Option SourceSpan) → IsUndefined p r at → SpreadTargetReport schema fragments parent p r at
     of_undefined r at is_undefined = record { undefined = none; name_is = refl; at_is = refl }
 
-    pub names_undefined : (e : DiagnosticEntry) → IsDiagnostic (IsUndefined p) e → IsDiagnostic (SpreadSays schema fragments variables parent p) e
+    pub names_undefined : (e : DiagnosticEntry) → IsDiagnostic (IsUndefined p) e → IsDiagnostic (SpreadReport schema fragments variables parent p) e
     names_undefined =
-        diagnostic_wider (IsUndefined p) (SpreadSays schema fragments variables parent p) (λ r at said. by_spread (of_undefined r at said))
+        diagnostic_wider (IsUndefined p) (SpreadReport schema fragments variables parent p) (λ r at said. by_spread (of_undefined r at said))
 
     pub undefined_decides : (ApplicationsHold schema variables at.FragmentSpread p.value.value.directives.items × ⊥) ↔
         SpreadStands schema fragments variables parent p.value.value
@@ -219,15 +217,15 @@ module _ (schema : Option Schema) (fragments : Fragments) (variables : List (Nod
       ),
     )
 
--- whether the fragment of a spread is possible where that stands
+-- whether the fragment of a spread is possible where that is
 module _ (schema : Option Schema) (fragments : Fragments) (parent : Option NameText) (p : Node FragmentSpread) (d : Node Fragment)
     (found : fragments p.value.value.fragment_name ≡ Some d) (s : Schema) (around condition : NameText)
     (has : schema ≡ Some s) (is : parent ≡ Some around) (same : condition ≡ d.value.value.selection_set.ty) where
   names_use : (e : DiagnosticEntry) → IsDiagnostic (ImpossibleReport (Some s) (Some p.value.value.fragment_name) condition (Some around) d.location p.location) e →
-      IsDiagnostic (SpreadBreaks schema fragments parent p) e
+      IsDiagnostic (SpreadTargetReport schema fragments parent p) e
   names_use e said =
       let name = Some p.value.value.fragment_name in
-      diagnostic_wider (ImpossibleReport schema name d.value.value.selection_set.ty parent d.location p.location) (SpreadBreaks schema fragments parent p) (spread_impossible fragments parent p d found) e
+      diagnostic_wider (ImpossibleReport schema name d.value.value.selection_set.ty parent d.location p.location) (SpreadTargetReport schema fragments parent p) (spread_impossible fragments parent p d found) e
       (subst (λ o. IsDiagnostic (ImpossibleReport o name d.value.value.selection_set.ty parent d.location p.location) e) (sym has)
       (subst (λ q. IsDiagnostic (ImpossibleReport (Some s) name d.value.value.selection_set.ty q d.location p.location) e) (sym is)
       (subst (λ c. IsDiagnostic (ImpossibleReport (Some s) name c (Some around) d.location p.location) e) same said)))
@@ -240,19 +238,19 @@ module _ (schema : Option Schema) (fragments : Fragments) (parent : Option NameT
   pub use_checked : {T E : Type 0} (r : Result T E) (old new : List DiagnosticEntry) →
       ChecksList r (IsPossibleAt s condition (Some around))
       (IsDiagnostic (ImpossibleReport (Some s) (Some p.value.value.fragment_name) condition (Some around) d.location p.location)) old new →
-      ChecksList r (IsPossibleIn schema d.value.value.selection_set.ty parent) (IsDiagnostic (SpreadBreaks schema fragments parent p)) old new
+      ChecksList r (IsPossibleIn schema d.value.value.selection_set.ty parent) (IsDiagnostic (SpreadTargetReport schema fragments parent p)) old new
   use_checked r old new checks =
       checks_words r (IsPossibleAt s condition (Some around)) (IsPossibleIn schema d.value.value.selection_set.ty parent)
       (IsDiagnostic (ImpossibleReport (Some s) (Some p.value.value.fragment_name) condition (Some around) d.location p.location))
-      (IsDiagnostic (SpreadBreaks schema fragments parent p)) old new use_decides names_use checks
+      (IsDiagnostic (SpreadTargetReport schema fragments parent p)) old new use_decides names_use checks
 
 -- the condition of a fragment
 module _ (schema : Option Schema) (fragments : Fragments) (d : Node Fragment) (s : Schema) (name condition : NameText) (has : schema ≡ Some s)
     (same_name : name ≡ d.value.value.name) (same : condition ≡ d.value.value.selection_set.ty) where
   names_fragment_target : (e : DiagnosticEntry) → IsDiagnostic (InvalidTargetReport (Some s) (Some name) condition d.location) e →
-      IsDiagnostic (FragmentBreaks schema fragments d) e
+      IsDiagnostic (FragmentFormReport schema fragments d) e
   names_fragment_target e said =
-      diagnostic_wider (InvalidTargetReport schema (Some d.value.value.name) d.value.value.selection_set.ty d.location) (FragmentBreaks schema fragments d) (fragment_target fragments d) e
+      diagnostic_wider (InvalidTargetReport schema (Some d.value.value.name) d.value.value.selection_set.ty d.location) (FragmentFormReport schema fragments d) (fragment_target fragments d) e
       (subst (λ o. IsDiagnostic (InvalidTargetReport o (Some d.value.value.name) d.value.value.selection_set.ty d.location) e) (sym has)
       (subst (λ n. IsDiagnostic (InvalidTargetReport (Some s) (Some n) d.value.value.selection_set.ty d.location) e) same_name
       (subst (λ c. IsDiagnostic (InvalidTargetReport (Some s) (Some name) c d.location) e) same said)))
@@ -264,28 +262,28 @@ module _ (schema : Option Schema) (fragments : Fragments) (d : Node Fragment) (s
 
   pub target_checked : {T E : Type 0} (r : Result T E) (old new : List DiagnosticEntry) →
       ChecksList r (NamesComposite s condition) (IsDiagnostic (InvalidTargetReport (Some s) (Some name) condition d.location)) old new →
-      ChecksList r (TargetHolds schema d.value.value.selection_set.ty) (IsDiagnostic (FragmentBreaks schema fragments d)) old new
+      ChecksList r (TargetHolds schema d.value.value.selection_set.ty) (IsDiagnostic (FragmentFormReport schema fragments d)) old new
   target_checked r old new checks =
       checks_words r (NamesComposite s condition) (TargetHolds schema d.value.value.selection_set.ty)
-      (IsDiagnostic (InvalidTargetReport (Some s) (Some name) condition d.location)) (IsDiagnostic (FragmentBreaks schema fragments d)) old new
+      (IsDiagnostic (InvalidTargetReport (Some s) (Some name) condition d.location)) (IsDiagnostic (FragmentFormReport schema fragments d)) old new
       fragment_target_decides names_fragment_target checks
 
 -- a fragment by itself
 module _ (schema : Option Schema) (fragments : Fragments) (variables : List (Node VariableDefinition)) (d : Node Fragment) where
-  -- a report of it, or of a limit
+  -- a diagnostic of it, or of a limit
   abbrev pub FragmentSaid : DiagnosticEntry → Type 0
-  FragmentSaid e = IsDiagnostic (FragmentSays schema fragments variables d) e ⊎ FragmentLimit fragments d e.details e.location
+  FragmentSaid e = IsDiagnostic (FragmentReport schema fragments variables d) e ⊎ FragmentLimit fragments d e.details e.location
 
-  pub names_fragment : (e : DiagnosticEntry) → IsDiagnostic (FragmentBreaks schema fragments d) e → IsDiagnostic (FragmentSays schema fragments variables d) e
-  names_fragment = diagnostic_wider (FragmentBreaks schema fragments d) (FragmentSays schema fragments variables d) (λ r at broken. by_fragment broken)
+  pub names_fragment : (e : DiagnosticEntry) → IsDiagnostic (FragmentFormReport schema fragments d) e → IsDiagnostic (FragmentReport schema fragments variables d) e
+  names_fragment = diagnostic_wider (FragmentFormReport schema fragments d) (FragmentReport schema fragments variables d) (λ r at broken. by_fragment broken)
 
-  pub names_said : (e : DiagnosticEntry) → IsDiagnostic (FragmentSays schema fragments variables d) e → FragmentSaid e
+  pub names_said : (e : DiagnosticEntry) → IsDiagnostic (FragmentReport schema fragments variables d) e → FragmentSaid e
   names_said e said = inl said
 
-  pub names_broken : (e : DiagnosticEntry) → IsDiagnostic (FragmentBreaks schema fragments d) e → FragmentSaid e
+  pub names_broken : (e : DiagnosticEntry) → IsDiagnostic (FragmentFormReport schema fragments d) e → FragmentSaid e
   names_broken e said = inl (names_fragment e said)
 
-  pub names_cycle : (e : DiagnosticEntry) → IsDiagnostic (FragmentBreaks schema fragments d) e ⊎ FragmentLimit fragments d e.details e.location → FragmentSaid e
+  pub names_cycle : (e : DiagnosticEntry) → IsDiagnostic (FragmentFormReport schema fragments d) e ⊎ FragmentLimit fragments d e.details e.location → FragmentSaid e
   names_cycle e (inl said) = inl (names_fragment e said)
   names_cycle e (inr limit) = inr limit
 
@@ -298,10 +296,10 @@ module _ (schema : Option Schema) (fragments : Fragments) (variables : List (Nod
 
   -- its directives, its condition and its spreads, one after another
   pub fragment_reported : {old directed targeted new : List DiagnosticEntry} →
-      Reports (ApplicationsHold schema variables at.FragmentDefinition d.value.value.directives.items) (IsDiagnostic (FragmentSays schema fragments variables d)) old directed →
-      Reports (TargetHolds schema d.value.value.selection_set.ty) (IsDiagnostic (FragmentBreaks schema fragments d)) directed targeted →
+      Reports (ApplicationsHold schema variables at.FragmentDefinition d.value.value.directives.items) (IsDiagnostic (FragmentReport schema fragments variables d)) old directed →
+      Reports (TargetHolds schema d.value.value.selection_set.ty) (IsDiagnostic (FragmentFormReport schema fragments d)) directed targeted →
       ReportsWithin IsLimitEntry (FragmentHasNoCycle fragments d)
-      (λ e. IsDiagnostic (FragmentBreaks schema fragments d) e ⊎ FragmentLimit fragments d e.details e.location) targeted new →
+      (λ e. IsDiagnostic (FragmentFormReport schema fragments d) e ⊎ FragmentLimit fragments d e.details e.location) targeted new →
       ReportsWithin IsLimitEntry (FragmentHolds schema fragments variables d) FragmentSaid old new
   fragment_reported a b c =
       in_words_within IsLimitEntry fragment_decides

@@ -1,8 +1,8 @@
 pub mod AppliedLemmas
-pub mod EnteredLemmas
 pub mod FieldLemmas
 pub mod FragmentLemmas
 pub mod OperationLemmas
-pub mod PlacedLemmas
+pub mod ReachableLemmas
 pub mod SelectionHoldLemmas
+pub mod VisitedLemmas
 pub mod WalkLemmas

@@ -6,13 +6,6 @@ mod operation;
 mod selections;
 
 pub use fields::validate_leaf_field_selection;
-pub use graphql_cycles::fragments::validate_fragment_cycles;
-pub use graphql_operations::{
-    DEFER_DIRECTIVE_NAME, FragmentUse, OperationValidationContext, operations_of, validate_defer,
-    validate_fragment_spread_type, validate_fragment_type_condition, validate_fragments_used,
-    validate_subscription,
-};
-pub use graphql_variables::conditions::{INCLUDE_DIRECTIVE_NAME, SKIP_DIRECTIVE_NAME};
 pub use operation::{validate_operation, validate_operation_definitions};
 pub use selections::{
     validate_field, validate_fragment_definition, validate_fragment_spread,

@@ -1,7 +1,7 @@
 -- A value that is accepted is accepted where each type that it meets stands for the same.
 use Rattle.std.proofs.Common.{◌≡◌, List, refl, subst, ◌∙◌, Contains}
 use Rattle.graphql_nodes.specs.Names.{NameText}
-use Rattle.graphql_documents.specs.InputCoercion.{Accepts, accepts_undefined, accepts_null, accepts_variable, accepts_leaf, accepts_list, accepts_custom_object, accepts_object}
+use Rattle.graphql_specification.specs.Values.{Accepts, accepts_undefined, accepts_null, accepts_variable, accepts_leaf, accepts_list, accepts_custom_object, accepts_object}
 use Rattle.graphql_documents.specs.Schemas.{IsInputObject, type_definition}
 use Rattle.graphql_documents.specs.TypeReferences.{inner_named_type, item_type}
 use Rattle.graphql_documents.specs.declared.documents.definitions.VariableDefinition.{VariableDefinition}

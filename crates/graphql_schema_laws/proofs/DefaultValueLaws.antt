@@ -1,19 +1,23 @@
--- Each argument and input field of a schema that holds is of a defined input type once the schema is settled, so each
+-- Each argument and input field of a schema that holds is of a defined input type once the schema is retained, so each
 -- default that holds there is accepted.
 use Rattle.std.proofs.Common.{◌⊎◌, inl, inr, List, [], ◌∷◌, ◌++◌, subst, Contains}
 use Rattle.std.specs.Prelude.{flat_map}
 use Rattle.std.proofs.lemmas.List.Elements.{All-contains, Contains-append_cases, Contains-append_left, Contains-append_right}
-use Rattle.graphql_diagnostics.specs.DefaultValues.{inputs_of, inputs_of_type}
-use Rattle.graphql_documents.specs.Implementations.{FieldList}
+use Rattle.graphql_specification.specs.DefaultValues.{inputs_of, inputs_of_type}
+use Rattle.graphql_specification.specs.Implementations.{FieldList}
 use Rattle.graphql_nodes.specs.Names.{NameText}
 use Rattle.graphql_documents.specs.Schemas.{NamesKind, is_input_type, is_output_type}
-use Rattle.graphql_documents.specs.SchemaRules.{ArgumentDefinitionsHold, DirectiveDefinitionHolds, FieldDefinitionHolds, FieldDefinitionsHold, InputValueDefinitionHolds, NamesType, SchemaHolds, TypeHolds}
-use Rattle.graphql_documents.specs.TypeMaps.{IsSettledSchema, argument_types, field_types, types_referred, types_referred_by}
+use Rattle.graphql_specification.specs.InputValueDefinitions.{ArgumentDefinitionsHold, InputValueDefinitionHolds, NamesType}
+use Rattle.graphql_specification.specs.DirectiveDefinitions.{DirectiveDefinitionHolds}
+use Rattle.graphql_specification.specs.FieldDefinitions.{FieldDefinitionHolds, FieldDefinitionsHold}
+use Rattle.graphql_specification.specs.Schemas.{SchemaHolds}
+use Rattle.graphql_specification.specs.Types.{TypeHolds}
+use Rattle.graphql_specification.specs.BuiltInScalars.{SchemaRetainsUsedBuiltInScalars, argument_types, field_types, types_referred, types_referred_by}
 use Rattle.graphql_documents.specs.TypeReferences.{inner_named_type}
 use Rattle.graphql_documents.specs.declared.documents.components.Component.{Component}
 use Rattle.graphql_documents.specs.declared.documents.definitions.DirectiveDefinition.{DirectiveDefinition}
-use Rattle.graphql_documents.specs.declared.documents.definitions.DirectiveLocation.{DirectiveLocation}
-use Rattle.graphql_documents.specs.declared.documents.definitions.DirectiveLocation.TheVariants as at
+use Rattle.graphql_nodes.specs.declared.directive_locations.DirectiveLocation.{DirectiveLocation}
+use Rattle.graphql_nodes.specs.declared.directive_locations.DirectiveLocation.TheVariants as at
 use Rattle.graphql_documents.specs.declared.documents.definitions.FieldDefinition.{FieldDefinition}
 use Rattle.graphql_documents.specs.declared.documents.definitions.InputValueDefinition.{InputValueDefinition}
 use Rattle.graphql_documents.specs.declared.documents.schemas.ExtendedType.{ExtendedType}
@@ -21,8 +25,8 @@ use Rattle.graphql_documents.specs.declared.documents.schemas.ExtendedType.TheVa
 use Rattle.graphql_documents.specs.declared.documents.schemas.Schema.{Schema}
 use Rattle.graphql_nodes.specs.declared.nodes.Node.{Node}
 use Rattle.graphql_documents.proofs.ListLemmas.{made_of, none_stands, stands_behind, stands_first, stands_flat, stands_mapped}
-use Rattle.graphql_schema_laws.proofs.SettledLaws.{Entry}
-use Rattle.graphql_schema_laws.proofs.SettledTypeLemmas.{IsAdded, settled_entry}
+use Rattle.graphql_schema_laws.proofs.RetainedLaws.{Entry}
+use Rattle.graphql_schema_laws.proofs.RetainedTypeLemmas.{IsAdded, retained_entry}
 use Rattle.graphql_schema_laws.proofs.TypeLemmas.{type_holds}
 use Rattle.graphql_schema_laws.proofs.UsedTypeLemmas.{still_input_type, used_from}
 
@@ -88,7 +92,7 @@ module _ (schema : Schema) (d : Node InputValueDefinition) where
       )
   of_type _ holds stands = absurd (none_stands d stands)
 
-module _ (schema settled : Schema) (holds : SchemaHolds schema) (is : IsSettledSchema schema settled) (d : Node InputValueDefinition) where
+module _ (schema retained : Schema) (holds : SchemaHolds schema) (is : SchemaRetainsUsedBuiltInScalars schema retained) (d : Node InputValueDefinition) where
   abbrev by_directives : Schema → List NameText
   by_directives s = flat_map (λ (entry : NameText × Node DirectiveDefinition). argument_types entry.1.value.value.arguments.items) s.directive_definitions.entries
 
@@ -116,19 +120,19 @@ module _ (schema settled : Schema) (holds : SchemaHolds schema) (is : IsSettledS
   of_entry entry stands (inr came) =
       absurd (none_stands d (subst (λ (t : ExtendedType). Contains (inputs_of_type t) d) came.is_added.is_scalar stands))
 
-  of_settled : Contains (inputs_of settled) d → IsInputOf schema d (types_referred schema)
-  of_settled stands =
-      by (Contains-append_cases (flat_map (λ (entry : NameText × Node DirectiveDefinition). entry.1.value.value.arguments.items) settled.directive_definitions.entries)
-      (flat_map (λ (entry : Entry). inputs_of_type entry.1) settled.types.entries) d stands) where
-        by : Contains (flat_map (λ (entry : NameText × Node DirectiveDefinition). entry.1.value.value.arguments.items) settled.directive_definitions.entries) d ⊎
-            Contains (flat_map (λ (entry : Entry). inputs_of_type entry.1) settled.types.entries) d → IsInputOf schema d (types_referred schema)
+  of_retained : Contains (inputs_of retained) d → IsInputOf schema d (types_referred schema)
+  of_retained stands =
+      by (Contains-append_cases (flat_map (λ (entry : NameText × Node DirectiveDefinition). entry.1.value.value.arguments.items) retained.directive_definitions.entries)
+      (flat_map (λ (entry : Entry). inputs_of_type entry.1) retained.types.entries) d stands) where
+        by : Contains (flat_map (λ (entry : NameText × Node DirectiveDefinition). entry.1.value.value.arguments.items) retained.directive_definitions.entries) d ⊎
+            Contains (flat_map (λ (entry : Entry). inputs_of_type entry.1) retained.types.entries) d → IsInputOf schema d (types_referred schema)
         by (inl here) =
             of_directive (subst (λ m. Contains (flat_map (λ (entry : NameText × Node DirectiveDefinition). entry.1.value.value.arguments.items) m.entries) d) is.directives here)
         by (inr there) =
-            let found = found_in (λ (entry : Entry). inputs_of_type entry.1) settled.types.entries d there in
-            of_entry found.0 found.2 (settled_entry schema settled is found.0 found.1)
+            let found = found_in (λ (entry : Entry). inputs_of_type entry.1) retained.types.entries d there in
+            of_entry found.0 found.2 (retained_entry schema retained is found.0 found.1)
 
-  pub input_of_settled : Contains (inputs_of settled) d → NamesKind settled is_input_type (inner_named_type d.value.value.ty.value.value)
-  input_of_settled stands =
-      let one = of_settled stands in
-      still_input_type schema settled is (type_of_input d) (used_from schema (type_of_input d) one.1) one.0
+  pub input_of_retained : Contains (inputs_of retained) d → NamesKind retained is_input_type (inner_named_type d.value.value.ty.value.value)
+  input_of_retained stands =
+      let one = of_retained stands in
+      still_input_type schema retained is (type_of_input d) (used_from schema (type_of_input d) one.1) one.0

@@ -1,4 +1,4 @@
--- Each type to which a schema that holds refers is defined, once its built-in scalars are settled.
+-- Each type to which a schema that holds refers is defined, once its built-in scalars are retained.
 use Rattle.std.proofs.Common.{◌≡◌, ◌⊎◌, inl, inr, Bool, true, false, List, [], ◌∷◌, Option, Some, refl, sym, subst, ◌∙◌, Contains}
 use Rattle.std.specs.Prelude.{All, IsTrue, IsSome, flat_map}
 use Rattle.std.specs.List.{list_any}
@@ -7,16 +7,20 @@ use Rattle.std.specs.Str.{bytes_eq}
 use Rattle.std.proofs.lemmas.List.Elements.{All-nil, All-cons, All-head, All-tail, All-append, All-contains, All-map, All-weaker}
 use Rattle.std.proofs.lemmas.List.Folds.{Any-from_list_any, list_any-from_Any}
 use Rattle.std.proofs.lemmas.Slice.Eq.{bytes_eq-Decides}
-use Rattle.graphql_documents.specs.Implementations.{FieldList}
+use Rattle.graphql_specification.specs.Implementations.{FieldList}
 use Rattle.graphql_nodes.specs.Names.{NameText, IsFreeName, same_name}
 use Rattle.graphql_documents.specs.Schemas.{is_input_type, is_output_type, type_definition}
-use Rattle.graphql_documents.specs.SchemaRules.{ArgumentDefinitionsHold, DirectiveDefinitionHolds, FieldDefinitionHolds, FieldDefinitionsHold, InputValueDefinitionHolds, NamesType, SchemaHolds, TypeHolds}
-use Rattle.graphql_documents.specs.TypeMaps.{IsSettledSchema, argument_types, built_in_scalar_names, field_types, names_built_in_scalar, types_referred, types_referred_by, uses_type}
+use Rattle.graphql_specification.specs.InputValueDefinitions.{ArgumentDefinitionsHold, InputValueDefinitionHolds, NamesType}
+use Rattle.graphql_specification.specs.DirectiveDefinitions.{DirectiveDefinitionHolds}
+use Rattle.graphql_specification.specs.FieldDefinitions.{FieldDefinitionHolds, FieldDefinitionsHold}
+use Rattle.graphql_specification.specs.Schemas.{SchemaHolds}
+use Rattle.graphql_specification.specs.Types.{TypeHolds}
+use Rattle.graphql_specification.specs.BuiltInScalars.{SchemaRetainsUsedBuiltInScalars, argument_types, built_in_scalar_names, field_types, names_built_in_scalar, types_referred, types_referred_by, uses_type}
 use Rattle.graphql_documents.specs.TypeReferences.{inner_named_type}
 use Rattle.graphql_documents.specs.declared.documents.components.Component.{Component}
 use Rattle.graphql_documents.specs.declared.documents.definitions.DirectiveDefinition.{DirectiveDefinition}
-use Rattle.graphql_documents.specs.declared.documents.definitions.DirectiveLocation.{DirectiveLocation}
-use Rattle.graphql_documents.specs.declared.documents.definitions.DirectiveLocation.TheVariants as at
+use Rattle.graphql_nodes.specs.declared.directive_locations.DirectiveLocation.{DirectiveLocation}
+use Rattle.graphql_nodes.specs.declared.directive_locations.DirectiveLocation.TheVariants as at
 use Rattle.graphql_documents.specs.declared.documents.definitions.FieldDefinition.{FieldDefinition}
 use Rattle.graphql_documents.specs.declared.documents.definitions.InputValueDefinition.{InputValueDefinition}
 use Rattle.graphql_nodes.specs.declared.nodes.Node.{Node}
@@ -25,8 +29,8 @@ use Rattle.graphql_documents.specs.declared.documents.schemas.ExtendedType.{Exte
 use Rattle.graphql_documents.specs.declared.documents.schemas.ExtendedType.TheVariants.{Object, Interface, InputObject}
 use Rattle.graphql_nodes.proofs.NameLemmas.{same_name_back}
 use Rattle.graphql_schema_laws.specs.BuiltInNames.{BuiltInNamesAreOfScalars}
-use Rattle.graphql_schema_laws.proofs.SettledLaws.{Entry, same_references, used_has}
-use Rattle.graphql_schema_laws.proofs.SettledTypeLemmas.{other_type}
+use Rattle.graphql_schema_laws.proofs.RetainedLaws.{Entry, same_references, used_has}
+use Rattle.graphql_schema_laws.proofs.RetainedTypeLemmas.{other_type}
 
 All-flat_map : {X Y : Type 0} (P : Y → Type 0) (f : X → List Y) (xs : List X) → All (λ x. All P (f x)) xs → All P (flat_map f xs)
 All-flat_map P f [] all = All-nil P
@@ -92,25 +96,25 @@ module _ (schema : Schema) where
       (All-weaker (λ (entry : Entry). IsFreeName entry.0 × TypeHolds schema entry.1) (λ entry. All Known (types_referred_by entry.1))
       (λ entry holds. type_known entry.1 holds.1) schema.types.entries holds.types))
 
-module _ (schema settled : Schema) (scalars : BuiltInNamesAreOfScalars schema) (is : IsSettledSchema schema settled) where
+module _ (schema retained : Schema) (scalars : BuiltInNamesAreOfScalars schema) (is : SchemaRetainsUsedBuiltInScalars schema retained) where
   -- one of the five names that the schema uses
-  named_is_defined : (name : NameText) → Contains (types_referred schema) name → names_built_in_scalar name.text ≡ true → IsSome (type_definition settled name)
+  named_is_defined : (name : NameText) → Contains (types_referred schema) name → names_built_in_scalar name.text ≡ true → IsSome (type_definition retained name)
   named_is_defined name (k, within, at) named =
       let used : uses_type schema name.text ≡ true =
       list_any-from_Any (λ (n : NameText). bytes_eq n.text name.text) (types_referred schema) (k, name, within, at, (bytes_eq-Decides name.text name.text).1 refl) in
       let (i, text, among, there, same) = Any-from_list_any (bytes_eq name.text) built_in_scalar_names named in
       let stands : Contains built_in_scalar_names name.text =
       subst (Contains built_in_scalar_names) (sym ((bytes_eq-Decides name.text text).0 same)) (i, among, there) in
-      let (j, entry, in_types, found, is_name) = Any-from_list_any (λ (entry : Entry). bytes_eq entry.0.text name.text) settled.types.entries (used_has schema settled scalars is name.text stands used) in
-      some_looked_up (same_name name) settled.types.entries
-      (list_any-from_Any (λ (entry : Entry). same_name name entry.0) settled.types.entries (j, entry, in_types, found, same_name_back entry.0 name is_name))
+      let (j, entry, in_types, found, is_name) = Any-from_list_any (λ (entry : Entry). bytes_eq entry.0.text name.text) retained.types.entries (used_has schema retained scalars is name.text stands used) in
+      some_looked_up (same_name name) retained.types.entries
+      (list_any-from_Any (λ (entry : Entry). same_name name entry.0) retained.types.entries (j, entry, in_types, found, same_name_back entry.0 name is_name))
 
-  pub referred_is_defined : SchemaHolds schema → (name : NameText) → Contains (types_referred settled) name → IsSome (type_definition settled name)
+  pub referred_is_defined : SchemaHolds schema → (name : NameText) → Contains (types_referred retained) name → IsSome (type_definition retained name)
   referred_is_defined holds name stands = by (names_built_in_scalar name.text) refl (All-contains (Known schema) (types_referred schema) name (all_known schema holds) stood) where
     stood : Contains (types_referred schema) name
-    stood = subst (λ l. Contains l name) (same_references schema settled scalars is) stands
+    stood = subst (λ l. Contains l name) (same_references schema retained scalars is) stands
 
-    by : (b : Bool) → names_built_in_scalar name.text ≡ b → Known schema name → IsSome (type_definition settled name)
+    by : (b : Bool) → names_built_in_scalar name.text ≡ b → Known schema name → IsSome (type_definition retained name)
     by true named found = named_is_defined name stood named
-    by false other (inl found) = rw (other_type schema settled is name other) found
+    by false other (inl found) = rw (other_type schema retained is name other) found
     by false other (inr named) = absurd (let no : true ≡ false = sym named ∙ other in cc)

@@ -4,15 +4,16 @@ use Rattle.std.specs.Prelude.{All, IsTrue, filter_map, is_some}
 use Rattle.std.specs.Option.{option_and_then}
 use Rattle.std.proofs.lemmas.List.Elements.{All-contains, All-weaker}
 use Rattle.graphql_documents.specs.Built.{StandsUnderOwnNames, TypeStandsUnderItsName}
-use Rattle.graphql_documents.specs.InputCoercion.{HasFiniteValue}
+use Rattle.graphql_specification.specs.Values.{HasFiniteValue}
 use Rattle.graphql_nodes.specs.Names.{NameText, SameName}
-use Rattle.graphql_documents.specs.Schemas.{IsInputObject, type_definition, is_built_in, is_input_type, own_name}
-use Rattle.graphql_documents.specs.SchemaReferences.{InputObjectHasNoCycle, RequiresBy, RequiresBack, as_input_object, input_object_of, required_name}
-use Rattle.graphql_documents.specs.SchemaRules.{SchemaHolds, InputValueDefinitionHolds, NamesType}
-use Rattle.graphql_documents.specs.TypeMaps.{BuiltInScalarsHaveTheirNames, is_scalar_type, names_built_in_scalar}
+use Rattle.graphql_documents.specs.Schemas.{IsInputObject, type_definition, is_built_in, is_input_type, own_name, as_input_object}
+use Rattle.graphql_specification.specs.InputObjectCycles.{InputObjectHasNoCycle, RequiresBy, RequiresBack, input_object_of, required_name}
+use Rattle.graphql_specification.specs.Schemas.{SchemaHolds}
+use Rattle.graphql_specification.specs.InputValueDefinitions.{InputValueDefinitionHolds, NamesType}
+use Rattle.graphql_specification.specs.BuiltInScalars.{BuiltInScalarsHaveTheirNames, is_scalar_type, names_built_in_scalar}
 use Rattle.graphql_documents.specs.TypeReferences.{inner_named_type}
 use Rattle.graphql_documents.specs.declared.documents.components.Component.{Component}
-use Rattle.graphql_documents.specs.declared.documents.definitions.DirectiveLocation.TheVariants as at
+use Rattle.graphql_nodes.specs.declared.directive_locations.DirectiveLocation.TheVariants as at
 use Rattle.graphql_documents.specs.declared.documents.definitions.InputValueDefinition.{InputValueDefinition}
 use Rattle.graphql_nodes.specs.declared.nodes.Node.{Node}
 use Rattle.graphql_documents.specs.declared.documents.type_references.Type.{«Type»}
@@ -93,7 +94,7 @@ module _ (schema : Schema) (holds : InputTypesHold schema) where
   type_has (NonNullNamed name) (inl (d, is, input)) below =
       defined_has (NonNullNamed name) d is input (λ o same. below name o refl (is ∙ ap Some same))
 
-  -- a field leads to an input object that stands in the schema, by its name
+  -- a field leads to an input object that is in the schema, by its name
   target_stands : (d : Node InputObjectType) (r : Node InputValueDefinition) → input_object_of schema r ≡ Some d → Stands d
   target_stands d r is = let (name, ty, is_d) = required_target schema r.value.value.ty.value.value d is in stands_under name d is_d
 

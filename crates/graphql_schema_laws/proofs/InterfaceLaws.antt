@@ -4,8 +4,9 @@ use Rattle.std.proofs.lemmas.List.Elements.{All-contains}
 use Rattle.graphql_documents.specs.Built.{StandsUnderOwnNames, TypeStandsUnderItsName}
 use Rattle.graphql_nodes.specs.Names.{NameText, SameName}
 use Rattle.graphql_documents.specs.Schemas.{Implements, IsInterface, IsListed, NamesKind, interfaces_of, is_interface_type, own_name}
-use Rattle.graphql_documents.specs.SchemaRules.{TypeHolds, SchemaHolds}
-use Rattle.graphql_documents.specs.Implementations.{ListedInterfacesAreDefined, ListsTransitiveInterfaces}
+use Rattle.graphql_specification.specs.Types.{TypeHolds}
+use Rattle.graphql_specification.specs.Schemas.{SchemaHolds}
+use Rattle.graphql_specification.specs.Implementations.{ListedInterfacesAreDefined, ListsTransitiveInterfaces}
 use Rattle.graphql_documents.specs.declared.documents.components.ComponentName.{ComponentName}
 use Rattle.graphql_nodes.specs.declared.nodes.Node.{Node}
 use Rattle.graphql_documents.specs.declared.documents.schemas.InterfaceType.{InterfaceType}

@@ -1,15 +1,16 @@
--- Applications of directives hold once a schema that has its built-in scalars is settled.
+-- Applications of directives hold once a schema that has its built-in scalars is retained.
 use Rattle.std.proofs.Common.{◌≡◌, Bool, true, false, List, [], ◌∷◌, Some, refl, sym, ap, subst, ◌∙◌, Contains}
 use Rattle.std.specs.Prelude.{AllPairs, IsTrue, find}
 use Rattle.std.proofs.lemmas.List.Elements.{All-weaker}
 use Rattle.indexmap.specs.IndexMap.{get}
 use Rattle.graphql_nodes.specs.Names.{NameText, SameName, same_name}
-use Rattle.graphql_documents.specs.Arguments.{ArgumentsHold, ValueHoldsBy}
-use Rattle.graphql_documents.specs.Directives.{ApplicationHolds, ApplicationsHold, directive_definition}
-use Rattle.graphql_documents.specs.TypeMaps.{IsSettledSchema, uses_type}
+use Rattle.graphql_specification.specs.Arguments.{ArgumentsHold, ValueHoldsBy}
+use Rattle.graphql_specification.specs.Directives.{ApplicationHolds, ApplicationsHold}
+use Rattle.graphql_documents.specs.Directives.{directive_definition}
+use Rattle.graphql_specification.specs.BuiltInScalars.{SchemaRetainsUsedBuiltInScalars, uses_type}
 use Rattle.graphql_documents.specs.TypeReferences.{inner_named_type}
 use Rattle.graphql_documents.specs.declared.documents.definitions.DirectiveDefinition.{DirectiveDefinition}
-use Rattle.graphql_documents.specs.declared.documents.definitions.DirectiveLocation.{DirectiveLocation}
+use Rattle.graphql_nodes.specs.declared.directive_locations.DirectiveLocation.{DirectiveLocation}
 use Rattle.graphql_documents.specs.declared.documents.definitions.InputValueDefinition.{InputValueDefinition}
 use Rattle.graphql_documents.specs.declared.documents.directives.Directive.{Directive}
 use Rattle.graphql_documents.specs.declared.documents.schemas.Schema.{Schema}
@@ -31,18 +32,18 @@ found_is_one {X} p (y ∷ ys) x found = by (p y) refl (found_is_one p ys x) wher
       subst (Contains (y ∷ ys)) same (stands_first y ys)
   by false other behind = stands_behind y ys x (behind (rw other at found))
 
-module _ (schema settled : Schema) (scalars : BuiltInNamesAreOfScalars schema) (has : HasItsScalars schema) (is : IsSettledSchema schema settled) where
-  pub same_directive : (name : NameText) → directive_definition settled name ≡ directive_definition schema name
+module _ (schema retained : Schema) (scalars : BuiltInNamesAreOfScalars schema) (has : HasItsScalars schema) (is : SchemaRetainsUsedBuiltInScalars schema retained) where
+  pub same_directive : (name : NameText) → directive_definition retained name ≡ directive_definition schema name
   same_directive name = ap (λ m. get same_name m name) is.directives
 
   -- the arguments are those of a directive of the schema
   arguments_after : (key : NameText) (definition : Node DirectiveDefinition) → Contains schema.directive_definitions.entries (key, definition) → (d : Directive) →
-      ArgumentsHold schema [] definition.value.value.arguments.items d.arguments.items → ArgumentsHold settled [] definition.value.value.arguments.items d.arguments.items
+      ArgumentsHold schema [] definition.value.value.arguments.items d.arguments.items → ArgumentsHold retained [] definition.value.value.arguments.items d.arguments.items
   arguments_after key definition stands d hold = record {
     distinct = hold.distinct;
     names = hold.names;
     values =
-        All-weaker (ValueHoldsBy schema [] definition.value.value.arguments.items) (ValueHoldsBy settled [] definition.value.value.arguments.items)
+        All-weaker (ValueHoldsBy schema [] definition.value.value.arguments.items) (ValueHoldsBy retained [] definition.value.value.arguments.items)
         (λ a holds input found.
         let one = holds input found in
         let among : Contains definition.value.value.arguments.items input =
@@ -51,18 +52,18 @@ module _ (schema settled : Schema) (scalars : BuiltInNamesAreOfScalars schema) (
         (stands_mapped (λ (d : Node InputValueDefinition). inner_named_type d.value.value.ty.value.value) definition.value.value.arguments.items input among) in
         record {
           usage = one.usage;
-          accepted = carried_value schema settled [] (λ name. uses_type schema name.text ≡ true) (used_same schema settled scalars has is) (used_goes_on schema settled scalars has is) one.accepted used;
+          accepted = carried_value schema retained [] (λ name. uses_type schema name.text ≡ true) (used_same schema retained scalars has is) (used_goes_on schema retained scalars has is) one.accepted used;
         })
         d.arguments.items hold.values;
   }
 
-  application_after : (location : DirectiveLocation) (d : Directive) → ApplicationHolds (Some schema) [] location d → ApplicationHolds (Some settled) [] location d
+  application_after : (location : DirectiveLocation) (d : Directive) → ApplicationHolds (Some schema) [] location d → ApplicationHolds (Some retained) [] location d
   application_after location d hold =
       let same : hold.against ≡ schema = let e : Some schema ≡ Some hold.against = hold.has_schema in cc in
       let defined : directive_definition schema d.name ≡ Some hold.definition = subst (λ s. directive_definition s d.name ≡ Some hold.definition) same hold.defined in
       let there = found_stands (same_name d.name) schema.directive_definitions.entries hold.definition defined in
       record {
-        against = settled;
+        against = retained;
         definition = hold.definition;
         has_schema = refl;
         defined = same_directive d.name ∙ defined;
@@ -72,10 +73,10 @@ module _ (schema settled : Schema) (scalars : BuiltInNamesAreOfScalars schema) (
       }
 
   pub applications_after : (location : DirectiveLocation) (directives : List (Node Directive)) → ApplicationsHold (Some schema) [] location directives →
-      ApplicationsHold (Some settled) [] location directives
+      ApplicationsHold (Some retained) [] location directives
   applications_after location directives hold = record {
     each =
-        All-weaker (λ (d : Node Directive). ApplicationHolds (Some schema) [] location d.value.value) (λ d. ApplicationHolds (Some settled) [] location d.value.value)
+        All-weaker (λ (d : Node Directive). ApplicationHolds (Some schema) [] location d.value.value) (λ d. ApplicationHolds (Some retained) [] location d.value.value)
         (λ d holds. application_after location d.value.value holds) directives hold.each;
     repetitions =
         subst

@@ -1,13 +1,13 @@
--- A directive definition leads back to itself once a schema that has its built-in scalars is settled only where it did before.
+-- A directive definition leads back to itself once a schema that has its built-in scalars is retained only where it did before.
 use Rattle.std.proofs.Common.{◌≡◌, ◌⊎◌, inl, inr, true, List, [], ◌∷◌, ◌++◌, Option, Some, None, map, refl, sym, ap, subst, ◌∙◌, Contains}
 use Rattle.std.specs.Prelude.{option_map}
 use Rattle.std.proofs.lemmas.List.Elements.{Contains-append_cases}
 use Rattle.graphql_nodes.specs.Names.{NameText, same_name}
-use Rattle.graphql_documents.specs.Directives.{directive_definition}
+use Rattle.graphql_documents.specs.Directives.{directive_definition, directives_of_type}
 use Rattle.graphql_documents.specs.Paths.{Path, path_of_one, path_of_more}
-use Rattle.graphql_documents.specs.SchemaReferences.{DirectiveHasNoCycle, PartRefersBy, SchemaPart, SchemaReference, by_directive, by_type, directive_part, directives_of_type, input_references, member_references, part_of, references_of, type_part}
+use Rattle.graphql_specification.specs.DirectiveCycles.{DirectiveHasNoCycle, PartRefersBy, SchemaPart, SchemaReference, by_directive, by_type, directive_part, input_references, member_references, part_of, references_of, type_part}
 use Rattle.graphql_documents.specs.Schemas.{type_definition}
-use Rattle.graphql_documents.specs.TypeMaps.{IsSettledSchema, argument_types, types_referred_by, uses_type}
+use Rattle.graphql_specification.specs.BuiltInScalars.{SchemaRetainsUsedBuiltInScalars, argument_types, types_referred_by, uses_type}
 use Rattle.graphql_documents.specs.TypeReferences.{inner_named_type}
 use Rattle.graphql_documents.specs.declared.documents.components.Component.{Component}
 use Rattle.graphql_documents.specs.declared.documents.definitions.DirectiveDefinition.{DirectiveDefinition}
@@ -61,7 +61,7 @@ member_type_named (InputObject d) name within =
     (stands_mapped (λ (entry : Field). inner_named_type entry.1.node.value.value.ty.value.value) d.value.value.fields.entries field stands)
 member_type_named _ name within = absurd (none_stands (by_type name) within)
 
-module _ (schema settled : Schema) (scalars : BuiltInNamesAreOfScalars schema) (has : HasItsScalars schema) (is : IsSettledSchema schema settled) where
+module _ (schema retained : Schema) (scalars : BuiltInNamesAreOfScalars schema) (has : HasItsScalars schema) (is : SchemaRetainsUsedBuiltInScalars schema retained) where
   -- the part is one of the schema
   abbrev PartStands : SchemaPart → Type 0
   PartStands (directive_part d) = (key : NameText) × Contains schema.directive_definitions.entries (key, d)
@@ -77,9 +77,9 @@ module _ (schema settled : Schema) (scalars : BuiltInNamesAreOfScalars schema) (
         by (inl applied) = absurd (no_type (directives_of_type t) name applied)
         by (inr member) = used_by_type schema name (stands.0, t) stands.1 (member_type_named t name member)
 
-  same_part : (part : SchemaPart) (r : SchemaReference) → PartStands part → Contains (references_of part) r → part_of settled r ≡ part_of schema r
-  same_part part (by_directive d) stands within = ap (option_map directive_part) (same_directive schema settled scalars has is d.value.value.name)
-  same_part part (by_type name) stands within = ap (option_map type_part) (used_same schema settled scalars has is name (named_is_used part name stands within))
+  same_part : (part : SchemaPart) (r : SchemaReference) → PartStands part → Contains (references_of part) r → part_of retained r ≡ part_of schema r
+  same_part part (by_directive d) stands within = ap (option_map directive_part) (same_directive schema retained scalars has is d.value.value.name)
+  same_part part (by_type name) stands within = ap (option_map type_part) (used_same schema retained scalars has is name (named_is_used part name stands within))
 
   next_directive : (d : Node Directive) (o : Option (Node DirectiveDefinition)) (next : SchemaPart) → directive_definition schema d.value.value.name ≡ o →
       option_map directive_part o ≡ Some next → PartStands next
@@ -100,12 +100,12 @@ module _ (schema settled : Schema) (scalars : BuiltInNamesAreOfScalars schema) (
   next_stands (by_directive d) next found = next_directive d (directive_definition schema d.value.value.name) next refl found
   next_stands (by_type name) next found = next_type name (type_definition schema name) next refl found
 
-  path_before : {part : SchemaPart} {path : List SchemaReference} → Path PartRefersBy (part_of settled) part path → PartStands part → Path PartRefersBy (part_of schema) part path
+  path_before : {part : SchemaPart} {path : List SchemaReference} → Path PartRefersBy (part_of retained) part path → PartStands part → Path PartRefersBy (part_of schema) part path
   path_before (path_of_one {d = part} {r = r} refers) stands = path_of_one refers
   path_before (path_of_more {d = part} {next = next} {r = r} refers found more) stands =
       let there = sym (same_part part r stands refers) ∙ found in
       path_of_more refers there (path_before more (next_stands r next there))
 
-  pub no_directive_cycle_after : (key : NameText) (d : Node DirectiveDefinition) → Contains schema.directive_definitions.entries (key, d) → DirectiveHasNoCycle schema d → DirectiveHasNoCycle settled d
+  pub no_directive_cycle_after : (key : NameText) (d : Node DirectiveDefinition) → Contains schema.directive_definitions.entries (key, d) → DirectiveHasNoCycle schema d → DirectiveHasNoCycle retained d
   no_directive_cycle_after key d stands none path cycle =
       none path (record { before = cycle.before; last = cycle.last; ends = cycle.ends; is_path = path_before cycle.is_path (key, stands); is_back = cycle.is_back })

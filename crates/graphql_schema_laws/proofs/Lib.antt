@@ -10,9 +10,9 @@ pub mod KeptImplementationLemmas
 pub mod KeptTypeLemmas
 pub mod NoCycleLemmas
 pub mod ObjectValueLemmas
-pub mod SettledInputLaws
-pub mod SettledLaws
-pub mod SettledTypeLemmas
+pub mod RetainedInputLaws
+pub mod RetainedLaws
+pub mod RetainedTypeLemmas
 pub mod TypeLemmas
 pub mod UsedTypeLemmas
 pub mod ValueLemmas

@@ -4,7 +4,7 @@ use Rattle.std.proofs.lemmas.List.{get_or_default}
 use Rattle.std.proofs.lemmas.List.Edits.{length-remove, get_or-remove_below, get_or-remove_above}
 use Rattle.graphql_documents.specs.Paths.{Path, path_of_one, path_of_more, HasNoCycle}
 
--- an element of a list stands at the place, or in the list without what stands there
+-- an element of a list is at the place, or in the list without what is there
 there_or_left : {X : Type 0} (xs : List X) (x y : X) (i : ℕ) → i < length xs → get_or xs i x ≡ x → Contains xs y → (y ≡ x) ⊎ Contains (remove xs i) y
 there_or_left {X} xs x y i within at (k, within', at') = by (before_or_not k i) where
   before_or_not : (k i : ℕ) → (k < i) ⊎ (i ≤ k)
@@ -55,14 +55,14 @@ module _ {Definition Reference : Type 0} (RefersBy : Definition → Reference �
         })
 
     -- the definitions that a path reaches from d are among these, and so is d
-    reached : (n : ℕ) (among : List Definition) → length among ≡ n → (d : Definition) → Contains among d → HasNoCycle RefersBy target IsBack d →
+    reachable : (n : ℕ) (among : List Definition) → length among ≡ n → (d : Definition) → Contains among d → HasNoCycle RefersBy target IsBack d →
         ((last : Reference) (e : Definition) → Leads d last e → Contains among e) → P d
-    reached zero among size d (i, within, at) none within_these = absurd (omega (arith, within))
-    reached (suc n) among size d (i, within, at) none within_these =
+    reachable zero among size d (i, within, at) none within_these = absurd (omega (arith, within))
+    reachable (suc n) among size d (i, within, at) none within_these =
         let left : (last : Reference) (e : Definition) → Leads d last e → Contains (remove among i) e =
         λ last e leads. other last e leads (there_or_left among d e i within at (within_these last e leads)) in
         step d (λ r e by is.
-        reached n (remove among i) (omega (arith, size, length-remove among i within)) e (left r e (leads_at_once by is)) (acyclic e r is)
+        reachable n (remove among i) (omega (arith, size, length-remove among i within)) e (left r e (leads_at_once by is)) (acyclic e r is)
         (λ last f leads. left last f (leads_on by is leads))) where
           other : (last : Reference) (e : Definition) → Leads d last e → (e ≡ d) ⊎ Contains (remove among i) e → Contains (remove among i) e
           other last e leads (inl same) = absurd (not_back d e last none leads same)
@@ -71,4 +71,4 @@ module _ {Definition Reference : Type 0} (RefersBy : Definition → Reference �
     -- where all targets are among these
     pub all_hold : (among : List Definition) → ((r : Reference) (d : Definition) → target r ≡ Some d → Contains among d) →
         (d : Definition) → Contains among d → HasNoCycle RefersBy target IsBack d → P d
-    all_hold among closed d stands none = reached (length among) among refl d stands none (λ last e leads. closed last e (leads_to_target leads))
+    all_hold among closed d stands none = reachable (length among) among refl d stands none (λ last e leads. closed last e (leads_to_target leads))

@@ -11,7 +11,7 @@ use Rattle.std.proofs.lemmas.Map.Views.{lookup-from_Contains}
 use Rattle.graphql_nodes.specs.Names.{NameText, SameName, same_name}
 use Rattle.graphql_documents.specs.TypeReferences.{inner_named_type, is_non_null}
 use Rattle.graphql_documents.specs.Values.{in_object, VariablesInEntries, no_entries, next_entry, entry_named}
-use Rattle.graphql_documents.specs.InputCoercion.{Accepts, accepts_object, IsFieldGiven, IsInputField}
+use Rattle.graphql_specification.specs.Values.{Accepts, accepts_object, IsFieldProvided, IsInputField}
 use Rattle.graphql_documents.specs.Schemas.{IsInputObject}
 use Rattle.graphql_documents.specs.declared.documents.components.Component.{Component}
 use Rattle.graphql_documents.specs.declared.documents.definitions.InputValueDefinition.{InputValueDefinition}
@@ -134,9 +134,9 @@ module _ (memory : Global) (schema : Schema) (ty : «Type») (d : Node InputObje
         All-weaker (λ entry. (field : Field) × Contains fields field × IsEntryFor schema field entry) (λ entry. IsInputField d.value.value entry.0)
         (λ entry found. rw (found.2.key, value_under found.0 found.1) refl) entries (each_for schema fields entries zip)
 
-    given : All (IsFieldGiven entries) fields
+    given : All (IsFieldProvided entries) fields
     given =
-        each_standing (IsFieldGiven entries) fields (λ field stands required.
+        each_standing (IsFieldProvided entries) fields (λ field stands required.
         let (entry, in_entries, for) = All-contains (λ field. (entry : Entry) × Contains entries entry × IsEntryFor schema field entry) fields field (each_given schema fields entries zip) stands in (
           All-contains (λ e. same_name e.0 field.0 ≡ true → IsSome (entry_named field.0 entries)) entries entry (some_found (λ e. same_name e.0 field.0) entries) in_entries
               (rw for.key (same_name_itself field.0)),

@@ -1,4 +1,4 @@
--- What stands in a schema under a name, and that it holds.
+-- What is in a schema under a name, and that it holds.
 use Rattle.std.proofs.Common.{◌≡◌, List, [], ◌∷◌, Some, refl, ap, subst, Contains, Bool, true, false}
 use Rattle.std.specs.Prelude.{IsTrue}
 use Rattle.std.proofs.lemmas.List.Elements.{All-contains}
@@ -7,7 +7,8 @@ use Rattle.std.specs.Str.{bytes_eq}
 use Rattle.indexmap.specs.IndexMap.{get_by}
 use Rattle.graphql_nodes.specs.Names.{NameText, SameName, IsFreeName, same_name}
 use Rattle.graphql_documents.specs.Schemas.{type_definition}
-use Rattle.graphql_documents.specs.SchemaRules.{TypeHolds, SchemaHolds}
+use Rattle.graphql_specification.specs.Types.{TypeHolds}
+use Rattle.graphql_specification.specs.Schemas.{SchemaHolds}
 use Rattle.graphql_documents.specs.declared.documents.schemas.Schema.{Schema}
 use Rattle.graphql_documents.specs.declared.documents.schemas.ExtendedType.{ExtendedType}
 use Rattle.graphql_nodes.proofs.NameLemmas.{same_text}
@@ -28,7 +29,7 @@ found_stands {K} {V} test (x ∷ xs) v e = by (test x.0) refl (found_stands test
       let found = behind (rw other at e) in
       (found.0, stands_behind x xs (found.0, v) found.1, found.2)
 
--- a defined type stands in the schema under the name
+-- a defined type is in the schema under the name
 pub type_stands : (schema : Schema) (name : NameText) (d : ExtendedType) → type_definition schema name ≡ Some d →
     (key : NameText) × Contains schema.types.entries (key, d) × SameName name key
 type_stands schema name d is = found_stands (same_name name) schema.types.entries d is

@@ -1,4 +1,4 @@
--- What a schema uses stands for the same once its built-in scalars are settled, or for a scalar that was added.
+-- What a schema uses stands for the same once its built-in scalars are retained, or for a scalar that was added.
 use Rattle.std.proofs.Common.{◌≡◌, inl, inr, Bool, true, false, ◌&&◌, not, List, [], ◌∷◌, ◌++◌, Option, Some, None, refl, sym, ap, subst, ◌∙◌, Contains}
 use Rattle.std.specs.Prelude.{IsSome}
 use Rattle.std.specs.Map.{lookup}
@@ -8,16 +8,16 @@ use Rattle.std.proofs.lemmas.List.Folds.{Any-from_list_any, list_any-from_Any}
 use Rattle.std.proofs.lemmas.Slice.Eq.{bytes_eq-Decides}
 use Rattle.graphql_nodes.specs.Names.{NameText, same_name}
 use Rattle.graphql_documents.specs.Schemas.{NamesKind, is_built_in, is_input_type, type_definition}
-use Rattle.graphql_documents.specs.SchemaRules.{NamesType}
-use Rattle.graphql_documents.specs.TypeMaps.{IsSettledSchema, built_in_scalar_names, has_type, is_scalar_type, is_unused_built_in, kept_types, missing_scalars, names_built_in_scalar, types_referred, uses_type}
+use Rattle.graphql_specification.specs.InputValueDefinitions.{NamesType}
+use Rattle.graphql_specification.specs.BuiltInScalars.{SchemaRetainsUsedBuiltInScalars, built_in_scalar_names, has_type, is_scalar_type, is_unused_built_in, kept_types, missing_scalars, names_built_in_scalar, types_referred, uses_type}
 use Rattle.graphql_documents.specs.declared.documents.schemas.ExtendedType.{ExtendedType}
 use Rattle.graphql_documents.specs.declared.documents.schemas.ExtendedType.TheVariants.{Scalar}
 use Rattle.graphql_documents.specs.declared.documents.schemas.Schema.{Schema}
 use Rattle.graphql_documents.proofs.ListLemmas.{each_standing, kept_by_filter}
 use Rattle.graphql_nodes.proofs.NameLemmas.{same_name_back, same_text}
 use Rattle.graphql_schema_laws.proofs.DefinedTypeLaws.{some_looked_up}
-use Rattle.graphql_schema_laws.proofs.SettledLaws.{Entry, added_for, used_stays}
-use Rattle.graphql_schema_laws.proofs.SettledTypeLemmas.{IsAdded, each_added, found_in_filter, missing_known, other_type}
+use Rattle.graphql_schema_laws.proofs.RetainedLaws.{Entry, added_for, used_stays}
+use Rattle.graphql_schema_laws.proofs.RetainedTypeLemmas.{IsAdded, each_added, found_in_filter, missing_known, other_type}
 use Rattle.graphql_schema_laws.proofs.TypeLemmas.{found_stands}
 
 pub some_is : {X : Type 0} (o : Option X) → IsSome o → (x : X) × (o ≡ Some x)
@@ -49,7 +49,7 @@ pub used_from : (schema : Schema) (name : NameText) → Contains (types_referred
 used_from schema name (k, within, at) =
     list_any-from_Any (λ (n : NameText). bytes_eq n.text name.text) (types_referred schema) (k, name, within, at, (bytes_eq-Decides name.text name.text).1 refl)
 
-module _ (schema settled : Schema) (is : IsSettledSchema schema settled) (name : NameText) (used : uses_type schema name.text ≡ true) where
+module _ (schema retained : Schema) (is : SchemaRetainsUsedBuiltInScalars schema retained) (name : NameText) (used : uses_type schema name.text ≡ true) where
   pub kept_same : lookup (same_name name) (kept_types schema) ≡ type_definition schema name
   kept_same =
       found_in_filter (same_name name) (λ entry. not (is_unused_built_in schema entry)) schema.types.entries
@@ -57,8 +57,8 @@ module _ (schema settled : Schema) (is : IsSettledSchema schema settled) (name :
       (λ e stands same. used_stays (is_built_in e.1) (names_built_in_scalar e.0.text) (uses_type schema e.0.text)
       (ap (uses_type schema) (sym (same_text name e.0 same)) ∙ used)))
 
-  -- what stood under the name still does
-  pub still_found : (d : ExtendedType) → type_definition schema name ≡ Some d → type_definition settled name ≡ Some d
+  -- what was under the name still is
+  pub still_found : (d : ExtendedType) → type_definition schema name ≡ Some d → type_definition retained name ≡ Some d
   still_found d found = ap (lookup (same_name name)) is.types.1 ∙ found_first (same_name name) (kept_types schema) is.types.0 d (kept_same ∙ found)
 
   lacks : type_definition schema name ≡ None → has_type schema name.text ≡ false
@@ -72,9 +72,9 @@ module _ (schema settled : Schema) (is : IsSettledSchema schema settled) (name :
         (list_any-from_Any (λ (entry : Entry). same_name name entry.0) schema.types.entries (k, entry, within, at, same_name_back entry.0 name same)) in
         absurd (let some = subst IsSome none there in let no : ⊥ = cc in no)
 
-  -- a scalar that the schema lacked stands there now
+  -- a scalar that the schema lacked is there now
   pub now_scalar : type_definition schema name ≡ None → names_built_in_scalar name.text ≡ true →
-      (d : ExtendedType) × (type_definition settled name ≡ Some d) × (is_scalar_type d ≡ true)
+      (d : ExtendedType) × (type_definition retained name ≡ Some d) × (is_scalar_type d ≡ true)
   now_scalar none named =
       let added = is.types.0 in
       let (i, text, among, there, same) = Any-from_list_any (bytes_eq name.text) built_in_scalar_names named in
@@ -95,12 +95,12 @@ module _ (schema settled : Schema) (is : IsSettledSchema schema settled) (name :
       )
 
   -- a used type of inputs is one afterwards, and is defined
-  pub still_input_type : NamesType schema is_input_type name → NamesKind settled is_input_type name
+  pub still_input_type : NamesType schema is_input_type name → NamesKind retained is_input_type name
   still_input_type (inl (d, found, input)) = (d, still_found d found, input)
   still_input_type (inr (none, named)) = let d = now_scalar none named in (d.0, d.1, scalar_is_input d.0 d.2)
 
-  -- what is no scalar stood there before
-  pub stood_before : (d : ExtendedType) → is_scalar_type d ≡ false → type_definition settled name ≡ Some d → type_definition schema name ≡ Some d
+  -- what is no scalar was there before
+  pub stood_before : (d : ExtendedType) → is_scalar_type d ≡ false → type_definition retained name ≡ Some d → type_definition schema name ≡ Some d
   stood_before d other found = by (type_definition schema name) refl where
     by_name : type_definition schema name ≡ None → (b : Bool) → names_built_in_scalar name.text ≡ b → type_definition schema name ≡ Some d
     by_name none true named =
@@ -108,7 +108,7 @@ module _ (schema settled : Schema) (is : IsSettledSchema schema settled) (name :
         let both : Some s.0 ≡ Some d = sym s.1 ∙ found in
         let same : s.0 ≡ d = cc in
         absurd (let no : true ≡ false = sym s.2 ∙ ap is_scalar_type same ∙ other in let never : ⊥ = cc in never)
-    by_name none false elsewhere = sym (other_type schema settled is name elsewhere) ∙ found
+    by_name none false elsewhere = sym (other_type schema retained is name elsewhere) ∙ found
 
     by : (o : Option ExtendedType) → type_definition schema name ≡ o → type_definition schema name ≡ Some d
     by (Some e) here =

@@ -10,9 +10,9 @@ use Rattle.graphql_nodes.specs.Names.{NameText, same_name}
 use Rattle.graphql_numbers.specs.Numbers.{FitsInt, integer_value}
 use Rattle.graphql_documents.specs.TypeReferences.{inner_named_type, is_list, is_non_null}
 use Rattle.graphql_documents.specs.Values.{VariablesIn, in_null, in_enum, in_string, in_int, in_boolean, in_list, no_items}
-use Rattle.graphql_documents.specs.InputCoercion.{Accepts, AcceptsLeaf, accepts_undefined, accepts_null, accepts_leaf, accepts_list, is_custom_scalar, is_built_in_scalar}
+use Rattle.graphql_specification.specs.Values.{Accepts, AcceptsLeaf, accepts_undefined, accepts_null, accepts_leaf, accepts_list, is_custom_scalar, is_built_in_scalar}
 use Rattle.graphql_documents.specs.Schemas.{type_definition, is_built_in, is_input_type}
-use Rattle.graphql_documents.specs.TypeMaps.{built_in_scalar_names, names_built_in_scalar}
+use Rattle.graphql_specification.specs.BuiltInScalars.{built_in_scalar_names, names_built_in_scalar}
 use Rattle.graphql_nodes.specs.declared.nodes.Node.{Node}
 use Rattle.graphql_documents.specs.declared.documents.type_references.Type.{«Type»}
 use Rattle.graphql_documents.specs.declared.documents.values.Value.{Value}

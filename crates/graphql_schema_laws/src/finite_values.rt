@@ -1,10 +1,11 @@
 //! Laws of the values that input types have.
 
 ghost use Rattle.graphql_documents.specs.Built.{StandsUnderOwnNames};
-ghost use Rattle.graphql_documents.specs.InputCoercion.{HasFiniteValue};
-ghost use Rattle.graphql_documents.specs.SchemaRules.{NamesType, SchemaHolds};
+ghost use Rattle.graphql_specification.specs.Values.{HasFiniteValue};
+ghost use Rattle.graphql_specification.specs.InputValueDefinitions.{NamesType};
+ghost use Rattle.graphql_specification.specs.Schemas.{SchemaHolds};
 ghost use Rattle.graphql_documents.specs.Schemas.{is_input_type};
-ghost use Rattle.graphql_documents.specs.TypeMaps.{BuiltInScalarsHaveTheirNames, IsSettledSchema};
+ghost use Rattle.graphql_specification.specs.BuiltInScalars.{BuiltInScalarsHaveTheirNames, SchemaRetainsUsedBuiltInScalars};
 ghost use Rattle.graphql_documents.specs.TypeReferences.{inner_named_type};
 ghost use Rattle.graphql_documents.specs.declared.documents.schemas.Schema.{Schema};
 ghost use Rattle.graphql_documents.specs.declared.documents.type_references.Type.{«Type»};
@@ -21,12 +22,12 @@ pub fn each_input_type_has_a_finite_value()
         NamesType schema is_input_type (inner_named_type ty) → HasFiniteValue schema ty }
 {}
 
-/// So it is once the built-in scalars of such a schema are settled, whatever stands under their names.
+/// So it is once the built-in scalars of such a schema are retained, whatever is listed under their names.
 ///
 /// Specification: 3.5 Scalars, Built-in Scalars; 3.10 Input Objects, Circular References.
-pub fn each_input_type_of_the_settled_schema_has_a_finite_value()
-    ensures { (schema settled : Schema) (ty : «Type») →
+pub fn each_input_type_of_the_retained_schema_has_a_finite_value()
+    ensures { (schema retained : Schema) (ty : «Type») →
         SchemaHolds schema → StandsUnderOwnNames schema → BuiltInScalarsHaveTheirNames schema →
-        InputObjectsHaveFieldsOfMaps schema → IsSettledSchema schema settled →
-        NamesType settled is_input_type (inner_named_type ty) → HasFiniteValue settled ty }
+        InputObjectsHaveFieldsOfMaps schema → SchemaRetainsUsedBuiltInScalars schema retained →
+        NamesType retained is_input_type (inner_named_type ty) → HasFiniteValue retained ty }
 {}

@@ -3,9 +3,9 @@
 ghost use Rattle.std.specs.Prelude.{◌↔◌, Contains};
 ghost use Rattle.graphql_documents.specs.Built.{StandsUnderOwnNames};
 ghost use Rattle.graphql_nodes.specs.Names.{NameText};
-ghost use Rattle.graphql_documents.specs.SchemaRules.{SchemaHolds};
+ghost use Rattle.graphql_specification.specs.Schemas.{SchemaHolds};
 ghost use Rattle.graphql_documents.specs.Schemas.{Implements, IsListed, NamesKind, interfaces_of, is_interface_type};
-ghost use Rattle.graphql_documents.specs.TypeMaps.{IsSettledSchema, OnlyScalarsHaveBuiltInNames};
+ghost use Rattle.graphql_specification.specs.BuiltInScalars.{SchemaRetainsUsedBuiltInScalars, OnlyScalarsHaveBuiltInNames};
 ghost use Rattle.graphql_documents.specs.declared.documents.schemas.ExtendedType.{ExtendedType};
 ghost use Rattle.graphql_documents.specs.declared.documents.schemas.Schema.{Schema};
 
@@ -52,11 +52,11 @@ pub fn each_listed_name_is_that_of_an_interface()
         NamesKind schema is_interface_type interface }
 {}
 
-/// The types of a schema implement the same interfaces once its built-in scalars are settled.
+/// The types of a schema implement the same interfaces once its built-in scalars are retained.
 ///
 /// Specification: 3.5 Scalars, Built-in Scalars; 3.7 Interfaces.
-pub fn settled_schema_has_the_same_implementations()
-    ensures { (schema settled : Schema) (name interface : NameText) →
-        OnlyScalarsHaveBuiltInNames schema → IsSettledSchema schema settled →
-        (Implements settled name interface ↔ Implements schema name interface) }
+pub fn retained_schema_has_the_same_implementations()
+    ensures { (schema retained : Schema) (name interface : NameText) →
+        OnlyScalarsHaveBuiltInNames schema → SchemaRetainsUsedBuiltInScalars schema retained →
+        (Implements retained name interface ↔ Implements schema name interface) }
 {}

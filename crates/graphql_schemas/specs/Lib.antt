@@ -1,1 +1,7 @@
+pub mod BuiltInScalarUses
+pub mod DefaultValueReports
+pub mod FieldDefinitionSteps
+pub mod RootSteps
 pub mod SchemaChecks
+pub mod TypeMapChanges
+pub mod TypeSteps

@@ -1,4 +1,4 @@
--- A string token has a value, whatever stands behind it.
+-- A string token has a value, whatever is behind it.
 use Rattle.std.proofs.Common.{◌≡◌, ℕ, ◌⊎◌, inl, inr, List, [], ◌∷◌, ◌++◌, flat_map, Option, Some, Bool, true, false, cond, ◌==◌, refl, sym, ◌∙◌, ap, append_assoc}
 use Rattle.graphql_tokens.specs.Strings.{IsEscapedUnicode, four_digits, surrogate_pair, braces, IsStringCharacter, plain, unicode, escaped, AreStringCharacters, none, more, IsString, empty, characters, IsBlockCharacter, AreBlockCharacters, IsBlockString, block}
 use Rattle.graphql_tokens.specs.Strings as strings
@@ -10,7 +10,7 @@ use Rattle.graphql_strings.specs.BlockStrings.{block_string_value}
 use Rattle.graphql_strings.specs.Values.{part_value, StandsFor}
 use Rattle.graphql_strings.specs.Values as values
 
--- what stands before the rest, as much as it is with any other rest
+-- what is before the rest, as much as it is with any other rest
 Before : (List ℕ → List ℕ → Type 0) → List ℕ → List ℕ → Type 0
 Before Is text rest = (s : List ℕ) × (text ≡ s ++ rest) × ((other : List ℕ) → Is (s ++ other) other)
 
@@ -58,7 +58,7 @@ string_before _ _ _ (characters t middle rest part parts is are) =
       characters (s ++ (u ++ 34 ∷ [])) (u ++ 34 ∷ []) [] part parts first (all (34 ∷ [])),
     )
 
--- what stands before the rest, as much as it is with any rest that begins the same
+-- what is before the rest, as much as it is with any rest that begins the same
 BlockBefore : List ℕ → List ℕ → (List ℕ → List ℕ → Type 0) → Type 0
 BlockBefore text rest Is = (s : List ℕ) × (text ≡ s ++ rest) × ((other behind : List ℕ) → rest ≡ other ++ behind → Is (s ++ other) other)
 

@@ -17,7 +17,7 @@ pub fn a_text_stands_for_one_value()
     ensures { (text value other : List ℕ) → StandsFor text value → StandsFor text other → value ≡ other }
 {}
 
-/// Each string token of a text in UTF-8 has a value, whatever stands behind it.
+/// Each string token of a text in UTF-8 has a value, whatever is behind it.
 ///
 /// Specification: 2.9.4 String Value.
 pub fn a_string_token_has_a_value()

@@ -25,7 +25,7 @@ grows_further p q r f g = record { same = λ i. by i (f.same i) (g.same i) } whe
   by i (inl e) (inl f) = inl (e ∙ f)
   by i (inl e) (inr h) = inr (h.0, e ∙ h.1)
 
--- where it goes too deep, any reader may stand in its place
+-- where it goes too deep, any reader may be in its place
 pub grows_too_deep : {A : Type 0} (q : Reader A) → Grows too_deep q
 unfolding too_deep
 grows_too_deep q = record { same = λ i. inr (length i.tokens, refl) }

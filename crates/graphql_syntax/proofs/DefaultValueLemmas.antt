@@ -10,10 +10,12 @@ use Rattle.graphql_syntax.specs.Inputs.{same_kind, Input, is_kind, next_passes, 
 use Rattle.graphql_syntax.specs.Many.{Perhaps, absent, present}
 use Rattle.graphql_syntax.specs.Reading.{expect}
 use Rattle.graphql_syntax.specs.ValueReaders.{value_at}
-use Rattle.graphql_syntax.proofs.Locality.{Local, takes_less, local_answer, local_sequence, local_choose, local_take_one, kind_is_plain}
+use Rattle.graphql_syntax.proofs.Locality.{Local, takes_less, local_answer, local_sequence, local_choose, kind_is_plain}
+use Rattle.graphql_syntax.proofs.TokenLocality.{local_take_one}
 use Rattle.graphql_syntax.proofs.NextLemmas.{by_kind, all_kinds, passes_not}
 use Rattle.graphql_syntax.proofs.ReaderLemmas.{answered, sequence_ok, sequence_read, choose_ok, choose_first, choose_second, answer_read, take_one_ok, take_one_read}
-use Rattle.graphql_syntax.proofs.ValueLemmas.{value_sound, value_read, value_moves, value_local}
+use Rattle.graphql_syntax.proofs.ValueLemmas.{value_sound}
+use Rattle.graphql_syntax.proofs.ValueReadingLemmas.{value_read, value_moves, value_local}
 
 pub default_value_sound : (depth : ℕ) (i : Input) (r : Option Value × Input) → default_value_at depth i ≡ Ok r → Perhaps (IsDefaultValue depth) i r.0 r.1
 unfolding default_value_at

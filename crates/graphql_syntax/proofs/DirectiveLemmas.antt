@@ -11,11 +11,13 @@ use Rattle.graphql_syntax.specs.Many.{nothing, more, PerhapsList, absent, presen
 use Rattle.graphql_syntax.specs.Reading.{more_test}
 use Rattle.graphql_syntax.specs.Directives.{IsArgument, AreArguments, IsDirective, AreDirectives}
 use Rattle.graphql_syntax.specs.DirectiveReaders.{argument_at, arguments_in, arguments_at, directive_at, directives_at}
-use Rattle.graphql_syntax.proofs.Locality.{Local, Moves, takes_less, local_sequence, local_choose, local_answer, local_place, local_starting, local_take_one, local_name, kind_is_plain}
+use Rattle.graphql_syntax.proofs.Locality.{Local, Moves, takes_less, local_sequence, local_choose, local_answer, local_place, local_starting, kind_is_plain}
+use Rattle.graphql_syntax.proofs.TokenLocality.{local_take_one, local_name}
 use Rattle.graphql_syntax.proofs.NextLemmas.{by_kind, all_kinds, passes_so, passes_not, closing_stops}
 use Rattle.graphql_syntax.proofs.ReaderLemmas.{sequence_ok, sequence_read, choose_ok, choose_first, choose_second, starting_ok, starting_read, placed_is, placed_read, answer_is, answer_read, take_one_ok, take_one_read, name_ok, name_read}
 use Rattle.graphql_syntax.proofs.RepetitionLemmas.{Item, Anything, many_sound, many_read, many_less, local_many, some_sound, some_read, some_moves, local_some}
-use Rattle.graphql_syntax.proofs.ValueLemmas.{value_sound, value_read, value_moves, value_local}
+use Rattle.graphql_syntax.proofs.ValueLemmas.{value_sound}
+use Rattle.graphql_syntax.proofs.ValueReadingLemmas.{value_read, value_moves, value_local}
 
 -- one argument
 pub argument_sound : (constant : Bool) (depth : ℕ) (i : Input) (r : Argument × Input) → argument_at constant depth i ≡ Ok r → IsArgument constant depth i r.0 r.1

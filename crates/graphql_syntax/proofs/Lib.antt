@@ -11,5 +11,7 @@ pub mod RepetitionLemmas
 pub mod SpelledLemmas
 pub mod StepLemmas
 pub mod TokenKinds
+pub mod TokenLocality
 pub mod TypeLemmas
 pub mod ValueLemmas
+pub mod ValueReadingLemmas

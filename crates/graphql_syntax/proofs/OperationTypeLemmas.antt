@@ -1,8 +1,8 @@
 -- The reader of the kind of an operation answers by the grammar.
 use Rattle.std.proofs.Common.{◌≡◌, ℕ, ◌<◌, true, inl, inr, length, Ok, refl, ◌∙◌, arith}
 use Rattle.graphql_tokens.specs.declared.token.TokenKind.TheVariants.{Name}
-use Rattle.graphql_trees.specs.declared.executable.OperationType.{OperationType}
-use Rattle.graphql_trees.specs.declared.executable.OperationType.TheVariants as tree
+use Rattle.graphql_nodes.specs.declared.operation_types.OperationType.{OperationType}
+use Rattle.graphql_nodes.specs.declared.operation_types.OperationType.TheVariants as tree
 use Rattle.graphql_syntax.specs.declared.keywords.Keyword.{Keyword}
 use Rattle.graphql_syntax.specs.declared.keywords.Keyword.TheVariants as keyword
 use Rattle.graphql_syntax.specs.declared.refusals.Expected.TheVariants as expected
@@ -10,7 +10,8 @@ use Rattle.graphql_syntax.specs.Inputs.{Input, is_keyword, sees, next_passes, Ta
 use Rattle.graphql_syntax.specs.OperationTypes.{IsOperationType, query, mutation, subscription, is_operation_type}
 use Rattle.graphql_syntax.specs.OperationTypeReaders.{operation_type_as, operation_type_at}
 use Rattle.graphql_syntax.specs.Reading.{expect_keyword}
-use Rattle.graphql_syntax.proofs.Locality.{Local, takes_less, local_answer, local_refuse, local_sequence, local_choose, local_take_one, keyword_is_plain}
+use Rattle.graphql_syntax.proofs.Locality.{Local, takes_less, local_answer, local_refuse, local_sequence, local_choose, keyword_is_plain}
+use Rattle.graphql_syntax.proofs.TokenLocality.{local_take_one}
 use Rattle.graphql_syntax.proofs.NextLemmas.{keyword_is_name, other_keyword, passes_left, passes_right}
 use Rattle.graphql_syntax.proofs.ReaderLemmas.{answered, sequence_ok, sequence_read, choose_ok, choose_first, choose_second, answer_read, refuse_not_ok, take_one_ok, take_one_read}
 

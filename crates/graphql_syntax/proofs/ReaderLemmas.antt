@@ -94,7 +94,7 @@ pub answer_is : {A : Type 0} (x : A) (i : Input) (r : A × Input) → answer x i
 unfolding answer
 answer_is x i r e = cc
 
--- what stands at what was answered
+-- what is at what was answered
 pub answered : {A : Type 0} (R : A → Input → Type 0) (x : A) (m : Input) (r : A × Input) → answer x m ≡ Ok r → R x m → R r.0 r.1
 answered {A} R x m r e is =
     let (same, there) = answer_ok x m r e in

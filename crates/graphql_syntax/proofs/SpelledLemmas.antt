@@ -1,4 +1,4 @@
--- The tokens of a text stand in it, each with a text of its kind.
+-- The tokens of a text are in it, each with a text of its kind.
 use Rattle.std.proofs.Common.{◌≡◌, ℕ, ◌+◌, ◌-◌, true, false, ◌==◌, cond, inl, inr, nat_le, Option, Some, None, All, List, [], ◌∷◌, ◌++◌, length, drop, refl, sym, subst, ◌∙◌, ap, arith}
 use Rattle.std.proofs.lemmas.Bool.Decides.{nat_tests}
 use Rattle.std.proofs.lemmas.List.Elements.{All-contains, All-nil, All-cons}
@@ -118,7 +118,7 @@ token_spelled _ _ _ (float t s rest written is ends) = (s, written, record { is 
 token_spelled _ _ _ (string t rest parts is) = let (front, e) = string_behind t parts rest is in (front, e, plain_text kinds.StringValue front refl refl)
 token_spelled _ _ _ (block_string t rest raw is) = let (front, e) = block_behind t raw rest is in (front, e, plain_text kinds.BlockString front refl refl)
 
--- the text of a token that stands at a place of the source
+-- the text of a token that is at a place of the source
 text_there : (source : List ℕ) (k : ℕ) (t front r : List ℕ) (kind : TokenKind) → drop k source ≡ t → k + length t ≡ length source → t ≡ front ++ r →
     text_of source (token_between (length source) kind t r) ≡ front
 text_there source k t front r kind at total written =

@@ -8,7 +8,8 @@ use Rattle.graphql_syntax.specs.Inputs.{same_kind, Input, sees, Takes, start_of,
 use Rattle.graphql_syntax.specs.Reading.{choose, too_deep}
 use Rattle.graphql_syntax.specs.Types.{IsType, named, list, non_null_named, non_null_list}
 use Rattle.graphql_syntax.specs.TypeReaders.{named_type_at, list_type_behind, list_type_with, type_at}
-use Rattle.graphql_syntax.proofs.Locality.{Local, takes_less, local_sequence, local_choose, local_answer, local_place, local_starting, local_take_one, local_name, local_too_deep, local_bracketed, kind_is_plain}
+use Rattle.graphql_syntax.proofs.Locality.{Local, takes_less, local_sequence, local_choose, local_answer, local_place, local_starting, kind_is_plain}
+use Rattle.graphql_syntax.proofs.TokenLocality.{local_take_one, local_name, local_too_deep, local_bracketed}
 use Rattle.graphql_syntax.proofs.NextLemmas.{passes_not}
 use Rattle.graphql_syntax.proofs.ReaderLemmas.{sequence_ok, sequence_read, choose_ok, choose_first, choose_second, starting_ok, starting_read, placed_ok, placed_read, answer_ok, answer_read, take_one_ok, take_one_read, name_ok, name_read, too_deep_not_ok}
 

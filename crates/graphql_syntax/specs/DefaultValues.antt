@@ -1,6 +1,5 @@
--- Default values of variables, of arguments and of fields of input objects: `IsDefaultValue depth i tree j` where the
--- tokens from i up to j are the default value, and lists and objects stand at most so deep in one another.
--- Specification: 2.10 Variables, and Appendix B.3 Document Syntax.
+-- Default values of variables, of arguments and of fields of input objects: `IsDefaultValue depth i tree j` where the tokens from i up to j are the
+-- default value, and lists and objects are nested at most so deep in one another. Specification: 2.10 Variables, and Appendix B.3 Document Syntax.
 use Rattle.std.specs.Prelude.{ℕ, true}
 use Rattle.graphql_tokens.specs.declared.token.TokenKind.TheVariants.{Equals}
 use Rattle.graphql_trees.specs.declared.values.Value.{Value}

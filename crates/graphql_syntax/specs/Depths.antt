@@ -1,4 +1,4 @@
--- How deep brackets and braces stand in one another.
+-- How deep brackets and braces are in one another.
 use Rattle.std.specs.Prelude.{◌≡◌, ℕ, ◌+◌, Bool, true, false, List, [], ◌∷◌, ◌++◌, length, IsTrue, if◌then◌else◌}
 use Rattle.graphql_tokens.specs.declared.token.Token.{Token}
 use Rattle.graphql_tokens.specs.declared.token.TokenKind.{TokenKind}

@@ -85,7 +85,7 @@ next_text i = first_text i.source i.tokens
 abbrev pub span_from : ℕ → Input → SourceSpan
 span_from start j = record { file_id = j.file_id; start = start; end = j.ended }
 
--- the place from where i stands up to where j stands
+-- the place from where i is up to where j is
 abbrev pub between : Input → Input → SourceSpan
 between i j = span_from (start_of i) j
 
@@ -114,7 +114,7 @@ spells IntValue text = is_integer text
 spells FloatValue text = list_all is_ascii text
 spells _ text = true
 
--- the token stands in the text, and its text is one of its kind
+-- the token is in the text, and its text is one of its kind
 abbrev pub is_spelled : List ℕ → Token → Bool
 is_spelled source t = (nat_le t.start t.end && nat_le t.end (length source)) && spells t.kind (text_of source t)
 

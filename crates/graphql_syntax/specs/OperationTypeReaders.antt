@@ -1,6 +1,6 @@
 -- The reader of the kind of an operation. That it answers by the grammar is proved.
-use Rattle.graphql_trees.specs.declared.executable.OperationType.{OperationType}
-use Rattle.graphql_trees.specs.declared.executable.OperationType.TheVariants as tree
+use Rattle.graphql_nodes.specs.declared.operation_types.OperationType.{OperationType}
+use Rattle.graphql_nodes.specs.declared.operation_types.OperationType.TheVariants as tree
 use Rattle.graphql_syntax.specs.declared.keywords.Keyword.{Keyword}
 use Rattle.graphql_syntax.specs.declared.keywords.Keyword.TheVariants as keyword
 use Rattle.graphql_syntax.specs.declared.refusals.Expected.TheVariants as expected

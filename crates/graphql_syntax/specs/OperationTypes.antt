@@ -1,7 +1,7 @@
 -- The kinds of operation. Specification: 2.3 Operations, and Appendix B.3 Document Syntax.
 use Rattle.std.specs.Prelude.{◌||◌}
-use Rattle.graphql_trees.specs.declared.executable.OperationType.{OperationType}
-use Rattle.graphql_trees.specs.declared.executable.OperationType.TheVariants as tree
+use Rattle.graphql_nodes.specs.declared.operation_types.OperationType.{OperationType}
+use Rattle.graphql_nodes.specs.declared.operation_types.OperationType.TheVariants as tree
 use Rattle.graphql_syntax.specs.declared.keywords.Keyword.TheVariants as keyword
 use Rattle.graphql_syntax.specs.Inputs.{Input, TokenTest, is_keyword, TakesKeyword}
 

@@ -1,5 +1,5 @@
--- Type references: `IsType depth i tree j` where the tokens from i up to j are the type, and lists stand
--- at most so deep in one another. Specification: 2.11 Type References, and Appendix B.3 Document Syntax.
+-- Type references: `IsType depth i tree j` where the tokens from i up to j are the type, and lists are nested at most so deep in one another.
+-- Specification: 2.11 Type References, and Appendix B.3 Document Syntax.
 use Rattle.std.specs.Prelude.{ℕ, suc}
 use Rattle.graphql_nodes.specs.Names.{NameText}
 use Rattle.graphql_tokens.specs.declared.token.TokenKind.TheVariants.{ExclamationMark, LeftBracket, RightBracket}

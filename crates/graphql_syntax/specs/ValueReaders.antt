@@ -109,7 +109,7 @@ object_with value = starting (λ start. do
   span ← place start
   answer (tree.Object fields span))
 
--- a value, where what stands in its brackets is read so
+-- a value, where what is in its brackets is read so
 unfoldable pub value_with : Bool → Reader Value → Reader Value → Reader Value
 value_with constant list object =
     choose (is_kind LeftBracket) list (choose (is_kind LeftBrace) object (plain_value_at constant))

@@ -1,6 +1,5 @@
--- Values: `IsValue constant depth i tree j` where the tokens from i up to j are the value, lists and objects
--- stand at most so deep in one another, and a constant value has no variable.
--- Specification: 2.9 Input Values, and Appendix B.3 Document Syntax.
+-- Values: `IsValue constant depth i tree j` where the tokens from i up to j are the value, lists and objects are nested at most so deep in one
+-- another, and a constant value has no variable. Specification: 2.9 Input Values, and Appendix B.3 Document Syntax.
 use Rattle.std.specs.Prelude.{◌≡◌, ℕ, suc, Bool, true, false, List, [], ◌∷◌, IsFalse}
 use Rattle.graphql_nodes.specs.Names.{NameText}
 use Rattle.graphql_tokens.specs.declared.token.TokenKind.TheVariants.{Dollar, Colon, LeftBracket, RightBracket, LeftBrace, RightBrace, IntValue, FloatValue}

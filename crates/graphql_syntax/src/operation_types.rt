@@ -7,7 +7,7 @@ ghost use Rattle.graphql_syntax.specs.Reading.{Reads, input};
 use crate::cursor::Cursor;
 use crate::keywords::Keyword;
 use crate::refusals::{Expected, Refusal};
-use graphql_trees::OperationType;
+use graphql_nodes::OperationType;
 
 /// The kind of an operation.
 ///

@@ -11,7 +11,7 @@ use graphql_trees::TypeReference;
 use sqlite_items::Boxed;
 use std::alloc::Global;
 
-/// A type, whose lists stand at most so deep in one another.
+/// A type, whose lists are nested at most so deep in one another.
 ///
 /// Specification: 2.11 Type References.
 #[cycle(types)]

@@ -19,7 +19,7 @@ use graphql_trees::{ObjectField, StringLiteral, Value, Variable};
 use sqlite_items::Items;
 use std::alloc::Global;
 
-/// A value, whose lists and objects stand at most so deep in one another. A constant value has no
+/// A value, whose lists and objects are nested at most so deep in one another. A constant value has no
 /// variable.
 ///
 /// Specification: 2.9 Input Values.

@@ -5,12 +5,12 @@ use graphql_coordinates::{
 };
 use graphql_diagnostics::DiagnosticList;
 use graphql_documents::documents::Schema;
-use graphql_rows::build::{arguments, inputs};
+use graphql_examples::build::{arguments, inputs};
 use graphql_values::argument::{
     ArgumentOwner, GivenArguments, validate_arguments, validate_given_arguments,
     validate_required_arguments,
 };
-use graphql_values::variable::VariablesByName;
+use graphql_variables::VariablesByName;
 use std::alloc::Global;
 use std::fmt::Write;
 use std::process::Abort;

@@ -1,10 +1,10 @@
 use super::fixtures::{is_text, name, schema_of};
 use graphql_diagnostics::DiagnosticList;
 use graphql_documents::documents::{ExecutableDocument, Schema, Selection, SelectionSet};
+use graphql_examples::build::document;
 use graphql_merging::expansion::expand_selections;
 use graphql_merging::field_selections::FieldSelection;
 use graphql_merging::groups::fields_by_key;
-use graphql_rows::build::document;
 use graphql_validation::collect::collect_fields;
 use graphql_validation::entry::validate_executable_document;
 use indexmap::IndexMap;
@@ -95,7 +95,7 @@ fn set_of<'a>(rt: &impl Abort, document: &'a ExecutableDocument, from: From) -> 
 fn shown(
     rt: &impl Abort,
     alloc: Global,
-    collected: &IndexMap<&graphql_documents::documents::Name, Vec<FieldSelection<'_>>>,
+    collected: &IndexMap<&graphql_nodes::Name, Vec<FieldSelection<'_>>>,
 ) -> String {
     let mut text = String::new(alloc);
     for (key, fields) in collected {

@@ -1,9 +1,10 @@
 use super::fixtures::{reports_in_full, schema_of};
 use graphql_diagnostics::DiagnosticList;
-use graphql_documents::documents::{FileId, Schema};
-use graphql_rows::build::document_in_file;
-use graphql_rows::rows::up_to_26::DEFER;
-use graphql_rules::operations::validate_defer;
+use graphql_documents::documents::Schema;
+use graphql_examples::build::document_in_file;
+use graphql_examples::examples::up_to_26::DEFER;
+use graphql_nodes::FileId;
+use graphql_operations::validate_defer;
 use std::alloc::Global;
 use std::process::Abort;
 
@@ -79,7 +80,7 @@ fn deep(rt: &impl Abort, alloc: Global, depth: usize) -> String {
     text
 }
 
-/// How deep the label of an operation stands, and what is reported. Operations come before fragments.
+/// How deep the label of an operation is, and what is reported. Operations come before fragments.
 const DEPTHS: &[(usize, &str)] = &[
     (
         498,
@@ -100,7 +101,7 @@ const DEPTHS: &[(usize, &str)] = &[
 ];
 
 #[test]
-fn a_label_repeats_the_first_that_was_met(rt: HostRuntime) {
+fn a_label_repeats_the_first_that_was_visited(rt: HostRuntime) {
     let alloc = rt.alloc();
     let schema = schema_of(&rt, alloc, DEFER);
     for (depth, expected) in DEPTHS {

@@ -2,22 +2,21 @@
 use super::fixtures::{is_text, name, reports, schema_of};
 use graphql_cycles::directives::validate_directive_cycles;
 use graphql_cycles::input_objects::validate_input_object_cycles;
-use graphql_definitions::default_values::validate_default_values;
-use graphql_definitions::types::validate_types;
-use graphql_diagnostics::{DiagnosticList, ValidationError};
-use graphql_documents::documents::{
-    DirectiveLocation, ExtendedType, ExtensionId, Name, ObjectType, Schema,
-};
+use graphql_diagnostics::DiagnosticList;
+use graphql_documents::documents::{ExtendedType, ExtensionId, ObjectType, Schema};
 use graphql_implementations::validate_interface_fields;
-use graphql_leaf_types::definition_directives::{
+use graphql_nodes::{DirectiveLocation, Name, ValidationError};
+use graphql_schemas::built_in_scalars::BuiltInScalars;
+use graphql_schemas::default_values::validate_default_values;
+use graphql_schemas::definition_directives::{
     validate_component_directives, validate_definition_directives,
 };
-use graphql_leaf_types::extensions::{
+use graphql_schemas::extensions::{
     enum_extensions, input_object_extensions, interface_extensions, locations_of,
     object_extensions, union_extensions,
 };
-use graphql_leaf_types::type_map::settle_types;
-use graphql_schemas::schema_rules::BuiltInScalars;
+use graphql_schemas::type_map::retain_used_built_in_scalars;
+use graphql_schemas::types::validate_types;
 use std::alloc::Global;
 use std::fmt::Write;
 use std::process::Abort;
@@ -197,12 +196,12 @@ fn extensions_are_listed_for_each_kind_of_type(rt: HostRuntime) {
 }
 
 #[test]
-fn types_are_settled_by_the_scalars_that_are_used(rt: HostRuntime) {
+fn types_are_retained_by_the_scalars_that_are_used(rt: HostRuntime) {
     let alloc = rt.alloc();
     let mut schema = schema_of(&rt, alloc, "without ID type Query { f: Int }");
     let mut used = BuiltInScalars::new();
     assert!(rt; used.record_type_ref(&schema.0, &name(&rt, alloc, "ID")));
-    drop(settle_types(&mut schema.0.types, &used).expect(&rt, "memory for types"));
+    drop(retain_used_built_in_scalars(&mut schema.0.types, &used).expect(&rt, "memory for types"));
     let mut names = String::new(alloc);
     for key in schema.0.types.keys() {
         write!(names, "{key} ").expect(&rt, "memory for a name");

@@ -1,5 +1,5 @@
-use graphql_diagnostics::{Details, DiagnosticList, RecursionLimitError};
-use graphql_documents::documents::{FileId, SourceSpan};
+use graphql_diagnostics::{Details, DiagnosticList};
+use graphql_nodes::{FileId, RecursionLimitError, SourceSpan};
 
 #[test]
 fn lists_keep_the_order_of_push(rt: HostRuntime) {

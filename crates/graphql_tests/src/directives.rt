@@ -1,9 +1,10 @@
 use super::fixtures::{query_of_itself, reports};
 use graphql_diagnostics::DiagnosticList;
-use graphql_documents::documents::{DirectiveLocation, Schema};
-use graphql_rows::build::directives;
+use graphql_documents::documents::Schema;
+use graphql_examples::build::directives;
+use graphql_nodes::DirectiveLocation;
 use graphql_values::directive::{check_directives, check_each_directive, validate_directives};
-use graphql_values::variable::VariablesByName;
+use graphql_variables::VariablesByName;
 use std::alloc::Global;
 use std::process::Abort;
 

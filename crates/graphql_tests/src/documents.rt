@@ -1,5 +1,5 @@
 use super::fixtures::{argument_definition, name, node};
-use graphql_documents::documents::{FileId, Node, SourceSpan};
+use graphql_nodes::{FileId, Node, SourceSpan};
 
 #[test]
 fn nodes_are_the_same_wherever_they_stand(rt: HostRuntime) {

@@ -1,12 +1,12 @@
-use graphql_rows::{Row, build_case};
-use graphql_rows_more::tables;
+use graphql_examples::{Example, build_example};
+use graphql_more_examples::tables;
 use indexmap::IndexSet;
 use std::alloc::Global;
 use std::process::Abort;
 
-fn is_built(rt: &impl Abort, alloc: Global, row: &Row) {
-    let built = build_case(alloc, row);
-    assert!(rt; built.is_ok(), "{}", row.id);
+fn is_built(rt: &impl Abort, alloc: Global, example: &Example) {
+    let built = build_example(alloc, example);
+    assert!(rt; built.is_ok(), "{}", example.id);
     drop(built);
 }
 
@@ -15,19 +15,19 @@ fn are_built(
     rt: &impl Abort,
     alloc: Global,
     names: &mut IndexSet<&'static str>,
-    rows: &'static [Row],
+    examples: &'static [Example],
 ) {
-    for row in rows {
-        is_built(rt, alloc, row);
-        let is_new = names.insert(row.id).expect(rt, "memory for a name");
-        assert!(rt; is_new, "{}", row.id);
+    for example in examples {
+        is_built(rt, alloc, example);
+        let is_new = names.insert(example.id).expect(rt, "memory for a name");
+        assert!(rt; is_new, "{}", example.id);
     }
 }
 
 #[test]
 fn each_example_is_built_under_its_own_name(rt: HostRuntime) {
     let mut names = IndexSet::new(rt.alloc());
-    for rows in tables() {
-        are_built(&rt, rt.alloc(), &mut names, rows);
+    for examples in tables() {
+        are_built(&rt, rt.alloc(), &mut names, examples);
     }
 }

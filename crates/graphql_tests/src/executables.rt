@@ -1,16 +1,16 @@
 use super::fixtures::reports;
 use graphql_built::built_against;
 use graphql_diagnostics::DiagnosticList;
-use graphql_rows::rows::up_to_19::SUBSCRIPTION;
-use graphql_rows::{Case, Row, Subject, Validated, build_case};
-use graphql_rows_more::find;
+use graphql_examples::examples::up_to_19::SUBSCRIPTION;
+use graphql_examples::{BuiltExample, Example, Subject, Validated, build_example};
+use graphql_more_examples::find;
 use graphql_validation::entry::{
     validate_executable_document, validate_field_set, validate_standalone_executable,
 };
 use std::alloc::Global;
 use std::process::Abort;
 
-/// The examples of field sets and of documents that stand nowhere.
+/// The examples of field sets and of documents without locations.
 const EXAMPLES: &[&str] = &[
     "1a", "1b", "1c", "1d", "3a", "3b", "4a", "4b", "5", "6", "7", "8", "9", "10a", "10b", "11",
     "12a", "12b", "15a", "15b", "17a", "17b", "17c", "17d", "17e", "18a", "18b", "18c", "19a",
@@ -21,9 +21,9 @@ const EXAMPLES: &[&str] = &[
 ];
 
 /// Validates the example by its call.
-fn validate(rt: &impl Abort, found: &mut DiagnosticList, case: &Case) {
-    let schema = &case.schema;
-    let answer = match &case.validated {
+fn validate(rt: &impl Abort, found: &mut DiagnosticList, built_example: &BuiltExample) {
+    let schema = &built_example.schema;
+    let answer = match &built_example.validated {
         Validated::FieldSet(set) => validate_field_set(found, schema, set),
         Validated::Document(document) => validate_executable_document(found, &schema.0, document),
         Validated::Standalone(document) => validate_standalone_executable(found, document),
@@ -33,12 +33,12 @@ fn validate(rt: &impl Abort, found: &mut DiagnosticList, case: &Case) {
 }
 
 /// The example brings its lines.
-fn gives_its_lines(rt: &impl Abort, alloc: Global, row: &Row) {
-    let case = build_case(alloc, row).expect(rt, "an example");
+fn gives_its_lines(rt: &impl Abort, alloc: Global, example: &Example) {
+    let built_example = build_example(alloc, example).expect(rt, "an example");
     let mut found = DiagnosticList::new(alloc);
-    validate(rt, &mut found, &case);
-    drop(case);
-    reports(rt, alloc, &found, row.lines);
+    validate(rt, &mut found, &built_example);
+    drop(built_example);
+    reports(rt, alloc, &found, example.lines);
 }
 
 #[test]
@@ -49,7 +49,7 @@ fn examples_give_their_lines(rt: HostRuntime) {
 }
 
 /// A subscription as deep as all walks go.
-const DEEP_SUBSCRIPTION: Row = Row {
+const DEEP_SUBSCRIPTION: Example = Example {
     id: "",
     schema: SUBSCRIPTION,
     subject: Subject::Document("subscription <1-499:{ ... >{ a }<1-499: }>"),
@@ -76,9 +76,9 @@ const BUILT: &[(&str, bool)] = &[
 ];
 
 /// Whether the document of the example is built against its schema.
-fn is_built(rt: &impl Abort, case: &Case) -> bool {
-    match &case.validated {
-        Validated::Document(document) => built_against(&case.schema.0, document),
+fn is_built(rt: &impl Abort, built_example: &BuiltExample) -> bool {
+    match &built_example.validated {
+        Validated::Document(document) => built_against(&built_example.schema.0, document),
         _ => panic!(rt; "a document was expected"),
     }
 }
@@ -86,10 +86,10 @@ fn is_built(rt: &impl Abort, case: &Case) -> bool {
 #[test]
 fn documents_are_built_against_their_schemas_or_not(rt: HostRuntime) {
     for (id, expected) in BUILT {
-        let case = build_case(rt.alloc(), find(id).expect(&rt, "an example"));
-        let case = case.expect(&rt, "an example");
-        let found = is_built(&rt, &case);
-        drop(case);
+        let built_example = build_example(rt.alloc(), find(id).expect(&rt, "an example"));
+        let built_example = built_example.expect(&rt, "an example");
+        let found = is_built(&rt, &built_example);
+        drop(built_example);
         assert_eq!(rt; found, *expected, "{id}");
     }
 }

@@ -1,7 +1,8 @@
 //! What tests build and print. Where memory is refused, the test ends.
 use graphql_diagnostics::{BuildError, Details, DiagnosticList};
-use graphql_documents::documents::{InputValueDefinition, Name, Node, Schema, SourceSpan, Valid};
-use graphql_rows::build::{inputs, schema};
+use graphql_documents::documents::{InputValueDefinition, Schema, Valid};
+use graphql_examples::build::{inputs, schema};
+use graphql_nodes::{Name, Node, SourceSpan};
 use std::alloc::Global;
 use std::fmt::Write;
 use std::process::Abort;

@@ -32,7 +32,7 @@ fn a_path_of_no_names_takes_none(rt: HostRuntime) {
 }
 
 #[test]
-fn names_are_entered_and_left(rt: HostRuntime) {
+fn names_are_visited_and_left(rt: HostRuntime) {
     let a = name(&rt, rt.alloc(), "a");
     let mut stack = RecursionStack::new(rt.alloc());
     assert!(rt; !stack.contains(&a));

@@ -1,15 +1,15 @@
 //! The texts of reports, each written out in full.
+mod interfaces;
+mod words;
+
 use super::fixtures::{is_text, name, node, text};
 use graphql_coordinates::{
     DirectiveArgumentCoordinate, DirectiveCoordinate, FieldArgumentCoordinate, SchemaCoordinate,
     TypeAttributeCoordinate,
 };
-use graphql_diagnostics::{
-    BuildError, Details, DiagnosticData, NameOrAnon, RecursionLimitError, ValidationError,
-};
-use graphql_documents::documents::{
-    DirectiveLocation, FileId, Name, Node, OperationType, SourceSpan, Type, Value,
-};
+use graphql_diagnostics::DiagnosticData;
+use graphql_documents::documents::{Type, Value};
+use graphql_nodes::{DirectiveLocation, FileId, Name, Node, OperationType, SourceSpan};
 use std::alloc::Global;
 use std::fmt::Display;
 use std::process::Abort;
@@ -181,93 +181,6 @@ fn unknown_names(rt: HostRuntime) {
             definition_location: FIRST,
         },
         "field `x` does not exist on `Input`",
-    );
-}
-
-#[test]
-fn missing_fields_of_interfaces(rt: HostRuntime) {
-    let given = test_data(&rt);
-    given.prints(
-        DiagnosticData::MissingInterfaceField {
-            name: given.name("T"),
-            interface: given.name("I"),
-            field: given.name("f"),
-            implements_location: FIRST,
-            field_location: SECOND,
-        },
-        "type `T` does not satisfy interface `I`: missing field `f`",
-    );
-    given.prints(
-        DiagnosticData::InvalidImplementationFieldType {
-            name: given.name("T"),
-            interface: given.name("I"),
-            field: given.name("f"),
-            interface_type: Type::NonNullNamed(given.name("A")),
-            actual_type: Type::Named(given.name("B")),
-            field_location: FIRST,
-            interface_field_location: SECOND,
-        },
-        "interface field `I.f` expects type `A!` but `T.f` of type `B` is not a proper subtype",
-    );
-}
-
-#[test]
-fn missing_arguments_of_interfaces(rt: HostRuntime) {
-    let given = test_data(&rt);
-    given.prints(
-        DiagnosticData::MissingInterfaceFieldArgument {
-            name: given.name("T"),
-            interface: given.name("I"),
-            field: given.name("f"),
-            argument: given.name("a"),
-            field_location: FIRST,
-            interface_argument_location: SECOND,
-        },
-        "interface field `I.f` expects argument `a` but `T.f` does not provide it",
-    );
-    given.prints(
-        DiagnosticData::InvalidImplementationFieldArgumentType {
-            name: given.name("T"),
-            interface: given.name("I"),
-            field: given.name("f"),
-            argument: given.name("a"),
-            interface_type: given.node(Type::Named(given.name("A"))),
-            actual_type: given.node(Type::NonNullNamed(given.name("B"))),
-            argument_location: FIRST,
-            interface_argument_location: SECOND,
-        },
-        "interface field `I.f` expects argument `a` of type `A` but `T.f` provides type `B!`",
-    );
-    given.prints(
-        DiagnosticData::ExtraRequiredImplementationFieldArgument {
-            name: given.name("T"),
-            interface: given.name("I"),
-            field: given.name("f"),
-            argument: given.name("a"),
-            argument_location: FIRST,
-            interface_field_location: SECOND,
-        },
-        "`T.f` has extra required argument `a` not present in interface `I.f`",
-    );
-}
-
-#[test]
-fn implemented_interfaces(rt: HostRuntime) {
-    let given = test_data(&rt);
-    given.prints(
-        DiagnosticData::TransitiveImplementedInterfaces {
-            interface: given.name("A"),
-            via_interface: given.name("B"),
-            missing_interface: given.name("C"),
-            transitive_interface_location: FIRST,
-        },
-        "interface `A` declares that it implements `B`, but to do so it must also implement `C`",
-    );
-    given.prints(
-        DiagnosticData::RecursiveInterfaceDefinition {
-            name: given.name("I"),
-        },
-        "interface I cannot implement itself",
     );
 }
 
@@ -548,96 +461,4 @@ fn empty_types_and_reserved_names(rt: HostRuntime) {
         },
         "a field cannot be named `__f` as names starting with two underscores are reserved",
     );
-}
-
-#[test]
-fn names_or_words(rt: HostRuntime) {
-    let given = test_data(&rt);
-    let written = given.name("F");
-    let named = NameOrAnon {
-        name: Some(&written),
-        if_some_prefix: "fragment",
-        if_none: "inline fragment",
-    };
-    given.prints(named, "fragment `F`");
-    let anonymous: NameOrAnon<'_, Name> = NameOrAnon {
-        name: None,
-        if_some_prefix: "fragment",
-        if_none: "inline fragment",
-    };
-    given.prints(anonymous, "inline fragment");
-}
-
-#[test]
-fn details_show_messages_and_names(rt: HostRuntime) {
-    let given = test_data(&rt);
-    given.prints(ValidationError::OutOfMemory, "out of memory");
-    given.prints(RecursionLimitError, "too much recursion");
-    given.prints(
-        Details::RecursionLimit(RecursionLimitError),
-        "RecursionLimitError",
-    );
-    let unused = DiagnosticData::UnusedVariable {
-        name: given.name("v"),
-    };
-    given.prints(Details::Diagnostic(unused), "unused variable: `$v`");
-    let subscription = BuildError::SubscriptionUsesMultipleFields {
-        name: Some(given.name("S")),
-        fields: Vec::new(given.alloc),
-    };
-    given.prints(
-        Details::Build(subscription),
-        "SubscriptionUsesMultipleFields",
-    );
-    let conflict = BuildError::ConflictingFieldType {
-        alias: given.name("x"),
-        original_location: FIRST,
-        original_coordinate: given.attribute("A", "f"),
-        original_type: Type::Named(given.name("Int")),
-        conflicting_location: SECOND,
-        conflicting_coordinate: given.attribute("B", "g"),
-        conflicting_type: Type::Named(given.name("String")),
-    };
-    given.prints(Details::Build(conflict), "ConflictingFieldType");
-}
-
-const LOCATIONS: &[(DirectiveLocation, &str)] = &[
-    (DirectiveLocation::Query, "QUERY"),
-    (DirectiveLocation::Mutation, "MUTATION"),
-    (DirectiveLocation::Subscription, "SUBSCRIPTION"),
-    (DirectiveLocation::Field, "FIELD"),
-    (DirectiveLocation::FragmentDefinition, "FRAGMENT_DEFINITION"),
-    (DirectiveLocation::FragmentSpread, "FRAGMENT_SPREAD"),
-    (DirectiveLocation::InlineFragment, "INLINE_FRAGMENT"),
-    (DirectiveLocation::VariableDefinition, "VARIABLE_DEFINITION"),
-    (DirectiveLocation::Schema, "SCHEMA"),
-    (DirectiveLocation::Scalar, "SCALAR"),
-    (DirectiveLocation::Object, "OBJECT"),
-    (DirectiveLocation::FieldDefinition, "FIELD_DEFINITION"),
-    (DirectiveLocation::ArgumentDefinition, "ARGUMENT_DEFINITION"),
-    (DirectiveLocation::Interface, "INTERFACE"),
-    (DirectiveLocation::Union, "UNION"),
-    (DirectiveLocation::Enum, "ENUM"),
-    (DirectiveLocation::EnumValue, "ENUM_VALUE"),
-    (DirectiveLocation::InputObject, "INPUT_OBJECT"),
-    (
-        DirectiveLocation::InputFieldDefinition,
-        "INPUT_FIELD_DEFINITION",
-    ),
-];
-
-const OPERATION_TYPES: &[(OperationType, &str)] = &[
-    (OperationType::Query, "query"),
-    (OperationType::Mutation, "mutation"),
-    (OperationType::Subscription, "subscription"),
-];
-
-#[test]
-fn words_of_locations_and_operations(rt: HostRuntime) {
-    for (location, expected) in LOCATIONS {
-        is_text(&rt, location.name(), expected);
-    }
-    for (operation_type, expected) in OPERATION_TYPES {
-        is_text(&rt, operation_type.name(), expected);
-    }
 }

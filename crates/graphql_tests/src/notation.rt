@@ -1,10 +1,10 @@
 use super::fixtures::{name, query_of_itself, schema_of};
 use graphql_documents::documents::{
-    ComponentOrigin, DirectiveDefinition, DirectiveLocation, ExtendedType, FileId, ObjectType,
-    Schema,
+    ComponentOrigin, DirectiveDefinition, ExtendedType, ObjectType, Schema,
 };
-use graphql_rows::RowError;
-use graphql_rows::build::{document, schema};
+use graphql_examples::ExampleError;
+use graphql_examples::build::{document, schema};
+use graphql_nodes::{DirectiveLocation, FileId};
 use std::alloc::Global;
 use std::process::Abort;
 
@@ -81,19 +81,19 @@ fn definitions_stand_under_chosen_keys(rt: HostRuntime) {
 }
 
 /// Why the text is no schema, if it is none.
-fn fault_of_schema(alloc: Global, written: &str) -> Option<RowError> {
+fn fault_of_schema(alloc: Global, written: &str) -> Option<ExampleError> {
     schema(alloc, written).err()
 }
 
-const FAULTS_OF_SCHEMAS: &[(&str, RowError)] = &[
-    ("type Query { f: Int f: Int }", RowError::RepeatedName),
-    ("scalar Int", RowError::RepeatedName),
-    ("type Query { f: [Int }", RowError::NotInNotation),
-    ("type Query { : Int }", RowError::NotAName),
-    ("type Query { f Int }", RowError::NotInNotation),
-    ("scalar A extend scalar B @d", RowError::NotInNotation),
-    ("directive @d on NOWHERE", RowError::NotALocation),
-    ("<1-2 scalar A%>", RowError::NotARepetition),
+const FAULTS_OF_SCHEMAS: &[(&str, ExampleError)] = &[
+    ("type Query { f: Int f: Int }", ExampleError::RepeatedName),
+    ("scalar Int", ExampleError::RepeatedName),
+    ("type Query { f: [Int }", ExampleError::NotInNotation),
+    ("type Query { : Int }", ExampleError::NotAName),
+    ("type Query { f Int }", ExampleError::NotInNotation),
+    ("scalar A extend scalar B @d", ExampleError::NotInNotation),
+    ("directive @d on NOWHERE", ExampleError::NotALocation),
+    ("<1-2 scalar A%>", ExampleError::NotARepetition),
 ];
 
 #[test]
@@ -108,16 +108,16 @@ fn faults_of_schemas_are_told_apart(rt: HostRuntime) {
 }
 
 /// Why the text is no document over a query of itself, if it is none.
-fn fault_of_document(alloc: Global, schema: &Schema, written: &str) -> Option<RowError> {
+fn fault_of_document(alloc: Global, schema: &Schema, written: &str) -> Option<ExampleError> {
     document(alloc, schema, written).err()
 }
 
-const FAULTS_OF_DOCUMENTS: &[(&str, RowError)] = &[
-    ("{ x }", RowError::NoSuchField),
-    ("fragment F on X { x }", RowError::NoSuchType),
-    ("mutation { x }", RowError::NoSuchRoot),
-    ("{ a(x: 1e) }", RowError::NotANumber),
-    ("<1-520:{ q >{ a }<1-520: }>", RowError::TooDeep),
+const FAULTS_OF_DOCUMENTS: &[(&str, ExampleError)] = &[
+    ("{ x }", ExampleError::NoSuchField),
+    ("fragment F on X { x }", ExampleError::NoSuchType),
+    ("mutation { x }", ExampleError::NoSuchRoot),
+    ("{ a(x: 1e) }", ExampleError::NotANumber),
+    ("<1-520:{ q >{ a }<1-520: }>", ExampleError::TooDeep),
 ];
 
 #[test]

@@ -1,5 +1,5 @@
 use super::fixtures::text;
-use graphql_documents::documents::{FloatValue, IntValue};
+use graphql_numbers::{FloatValue, IntValue};
 
 /// Texts, and whether each writes an integer and a float.
 const TEXTS: &[(&str, bool, bool)] = &[

@@ -1,15 +1,19 @@
 //! The calls on operations and on parts of them that whole documents reach only through one another.
 use super::fixtures::{name, query_of_itself, reports, schema_of};
-use graphql_diagnostics::{DiagnosticList, ValidationError};
+use graphql_diagnostics::DiagnosticList;
 use graphql_documents::documents::{
-    ExecutableDocument, Fragment, NamedType, Node, Operation, Schema, Selection, SelectionSet,
+    ExecutableDocument, Fragment, Operation, Schema, Selection, SelectionSet,
 };
-use graphql_rows::build::document;
+use graphql_examples::build::document;
+use graphql_nodes::{NamedType, Node, ValidationError};
+use graphql_operations::{
+    FragmentUse, OperationValidationContext, validate_fragment_spread_type,
+    validate_fragment_type_condition, validate_fragments_used,
+};
 use graphql_rules::operations::{
-    FragmentUse, OperationValidationContext, validate_field, validate_fragment_definition,
-    validate_fragment_spread, validate_fragment_spread_type, validate_fragment_type_condition,
-    validate_fragments_used, validate_inline_fragment, validate_leaf_field_selection,
-    validate_operation, validate_operation_definitions, validate_selection_set,
+    validate_field, validate_fragment_definition, validate_fragment_spread,
+    validate_inline_fragment, validate_leaf_field_selection, validate_operation,
+    validate_operation_definitions, validate_selection_set,
 };
 use graphql_variables::VariablesByName;
 use std::alloc::Global;
@@ -50,7 +54,7 @@ fn operations_are_validated_alone_and_together(rt: HostRuntime) {
     reports(&rt, alloc, &found, OPERATIONS);
 }
 
-/// A selection of each kind, each of which breaks a rule whatever stands around it.
+/// A selection of each kind, each of which breaks a rule whatever is around it.
 const SELECTIONS: &str = "{ a @x ... on Int { ...N } ...F @y } fragment F on Query @z { a }";
 
 /// What is reported of those selections.

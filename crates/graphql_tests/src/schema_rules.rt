@@ -1,20 +1,32 @@
 use super::fixtures::{is_text, name, query_of_itself, reports, schema_of, text};
-use graphql_diagnostics::{Details, DiagnosticData, DiagnosticList, ValidationError};
+use graphql_diagnostics::{Details, DiagnosticData, DiagnosticList};
 use graphql_documents::documents::{
-    DirectiveLocation, ExtendedType, FieldDefinition, FileId, InputValueDefinition, Name, Node,
-    ObjectType, Schema, SourceSpan,
+    ExtendedType, FieldDefinition, InputValueDefinition, ObjectType, Schema,
 };
+use graphql_implementations::{
+    validate_implementation_field_arguments, validate_implementation_field_types,
+    validate_implements_interfaces,
+};
+use graphql_nodes::{DirectiveLocation, FileId, Name, Node, SourceSpan, ValidationError};
+use graphql_schemas::built_in_scalars::BuiltInScalars;
+use graphql_schemas::directive_definitions::{
+    validate_directive_definition, validate_directive_definitions,
+};
+use graphql_schemas::enums::{validate_enum_definition, validate_enum_value};
 use graphql_schemas::extensions::extensions;
-use graphql_schemas::schema_rules::{
-    BuiltInScalars, validate_argument_definitions, validate_directive_definition,
-    validate_directive_definitions, validate_enum_definition, validate_enum_value,
-    validate_field_definition, validate_field_definitions, validate_implementation_field_arguments,
-    validate_implementation_field_types, validate_implements_interfaces,
-    validate_input_object_definition, validate_input_value_definitions,
-    validate_interface_definition, validate_object_type_definition,
-    validate_root_operation_definitions, validate_scalar_definition, validate_schema_definition,
-    validate_type_system_name, validate_union_definition,
+use graphql_schemas::fields::{validate_field_definition, validate_field_definitions};
+use graphql_schemas::input_objects::validate_input_object_definition;
+use graphql_schemas::input_values::{
+    validate_argument_definitions, validate_input_value_definitions,
 };
+use graphql_schemas::interfaces::validate_interface_definition;
+use graphql_schemas::names::validate_type_system_name;
+use graphql_schemas::objects::validate_object_type_definition;
+use graphql_schemas::scalars::validate_scalar_definition;
+use graphql_schemas::schema_definition::{
+    validate_root_operation_definitions, validate_schema_definition,
+};
+use graphql_schemas::unions::validate_union_definition;
 use std::alloc::Global;
 use std::fmt::Write;
 use std::process::Abort;
@@ -235,7 +247,7 @@ fn definitions_of_arguments_are_checked(rt: HostRuntime) {
     reports(&rt, alloc, &found, ARGUMENTS);
 }
 
-/// Where the type is said to stand.
+/// Where the type is said to be.
 const PLACE: SourceSpan = SourceSpan {
     file_id: FileId(1),
     start: 2,
@@ -339,7 +351,7 @@ fn values_of_enums_are_checked(rt: HostRuntime) {
     );
 }
 
-/// What is reported of `__a` as the name of a field that stands there.
+/// What is reported of `__a` as the name of a field that is there.
 fn of_name(rt: &impl Abort, alloc: Global, place: SourceSpan) -> DiagnosticList {
     let name = Name::new(text(rt, alloc, "__a"), Some(place)).expect(rt, "a name");
     let mut found = DiagnosticList::new(alloc);
@@ -347,7 +359,7 @@ fn of_name(rt: &impl Abort, alloc: Global, place: SourceSpan) -> DiagnosticList 
     found
 }
 
-/// Where what is built in stands.
+/// Where what is built in is.
 const BUILT_IN: SourceSpan = SourceSpan {
     file_id: FileId::BUILT_IN,
     start: 0,
@@ -365,7 +377,7 @@ fn reserved_names_stand_for_what_is_built_in(rt: HostRuntime) {
     }
 }
 
-/// Names in order, whether each is a built-in scalar's, and whether all of these were met then.
+/// Names in order, whether each is a built-in scalar's, and whether all of these were visited then.
 const RECORDED: &[(&str, bool, bool)] = &[
     ("Int", true, false),
     ("ID", true, false),

@@ -1,5 +1,6 @@
 use super::fixtures::{is_text, schema_of};
-use graphql_documents::documents::{MetaFields, Name};
+use graphql_documents::documents::MetaFields;
+use graphql_nodes::Name;
 use indexmap::IndexSet;
 use std::fmt::Write;
 use std::process::Abort;

@@ -1,4 +1,4 @@
-use graphql_documents::documents::{FileId, SourceSpan};
+use graphql_nodes::{FileId, SourceSpan};
 
 fn span(file: u32, start: usize, end: usize) -> Option<SourceSpan> {
     Some(SourceSpan {
@@ -10,7 +10,7 @@ fn span(file: u32, start: usize, end: usize) -> Option<SourceSpan> {
 
 #[test]
 fn spans_are_recomposed(rt: HostRuntime) {
-    let rows = [
+    let examples = [
         (span(1, 0, 5), span(1, 9, 14), span(1, 0, 14)),
         (span(1, 9, 14), span(1, 0, 5), span(1, 9, 14)),
         (span(1, 5, 9), span(1, 0, 5), span(1, 5, 5)),
@@ -19,7 +19,7 @@ fn spans_are_recomposed(rt: HostRuntime) {
         (None, span(1, 0, 5), span(1, 0, 5)),
         (None, None, None),
     ];
-    for (left, right, both) in rows {
+    for (left, right, both) in examples {
         if SourceSpan::recompose(left, right) != both {
             panic!(rt; "{left:?} and {right:?}");
         }

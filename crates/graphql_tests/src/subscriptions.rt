@@ -1,9 +1,10 @@
 use super::fixtures::{reports_in_full, schema_of};
 use graphql_diagnostics::DiagnosticList;
-use graphql_documents::documents::{ExecutableDocument, FileId};
-use graphql_rows::build::document_in_file;
-use graphql_rows::rows::up_to_19::SUBSCRIPTION;
-use graphql_rules::operations::validate_subscription;
+use graphql_documents::documents::ExecutableDocument;
+use graphql_examples::build::document_in_file;
+use graphql_examples::examples::up_to_19::SUBSCRIPTION;
+use graphql_nodes::FileId;
+use graphql_operations::validate_subscription;
 use std::alloc::Global;
 use std::process::Abort;
 

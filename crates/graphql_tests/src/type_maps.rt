@@ -1,49 +1,49 @@
 use super::fixtures::{is_text, reports, schema_of};
 use graphql_diagnostics::DiagnosticList;
 use graphql_documents::documents::{Schema, Valid};
-use graphql_rows_more::find;
-use graphql_schemas::schema_rules::validate_schema;
+use graphql_more_examples::find;
+use graphql_schemas::schema::validate_schema;
 use std::alloc::Global;
 use std::fmt::Write;
 use std::process::Abort;
 
 /// What a validated schema brings, each time that it is validated.
-struct Settled {
+struct Retained {
     schema: &'static str,
     reports: &'static str,
     /// The names of the types afterwards, in order.
     types: &'static str,
 }
 
-const SETTLED: &[Settled] = &[
-    Settled {
+const SETTLED: &[Retained] = &[
+    Retained {
         schema: "type Query { f: Int g: X }",
         reports: "- cannot find type `X` in this document\n",
         types: "Int String Boolean Query ",
     },
     // What is used and missing is added, and so the default is wrong.
-    Settled {
+    Retained {
         schema: "without Float type Query { f(n: Float = true): Int }",
         reports: "- expected value of type Float, found a boolean\n",
         types: "Int String Boolean Query Float ",
     },
-    Settled {
+    Retained {
         schema: "without Int without ID type Query { g: ID f: Int } enum E",
         reports: "- `E` has no enum values\n",
         types: "String Boolean Query E Int ID ",
     },
-    Settled {
+    Retained {
         schema: "type Query { f: Int } directive @d33(a: Int) on ARGUMENT_DEFINITION
             <1-32: directive @d%(a: Int @d%+) on ARGUMENT_DEFINITION >",
         reports: "- `d1` contains too much nesting\n",
         types: "Int String Boolean Query ",
     },
-    Settled {
+    Retained {
         schema: "without Float type Query { f: Float } scalar Date",
         reports: "",
         types: "String Boolean Query Date Float ",
     },
-    Settled {
+    Retained {
         schema: "type Query { f(a: A!): Int } input A { e: E! b: B! n: Int }
             input B { l: [A!]! d: ID! } enum E { X }",
         reports: "",
@@ -61,7 +61,7 @@ fn names_of(rt: &impl Abort, alloc: Global, schema: &Schema) -> String {
 }
 
 /// Validates the schema, which brings what is expected of it.
-fn is_settled(rt: &impl Abort, alloc: Global, schema: &mut Schema, expected: &Settled) {
+fn is_retained(rt: &impl Abort, alloc: Global, schema: &mut Schema, expected: &Retained) {
     let mut found = DiagnosticList::new(alloc);
     validate_schema(&mut found, schema).expect(rt, "memory for reports");
     reports(rt, alloc, &found, expected.reports);
@@ -69,12 +69,12 @@ fn is_settled(rt: &impl Abort, alloc: Global, schema: &mut Schema, expected: &Se
 }
 
 #[test]
-fn types_are_settled_whatever_is_reported_and_stay_so(rt: HostRuntime) {
+fn types_are_retained_whatever_is_reported_and_stay_so(rt: HostRuntime) {
     let alloc = rt.alloc();
     for expected in SETTLED {
         let mut schema = schema_of(&rt, alloc, expected.schema);
-        is_settled(&rt, alloc, &mut schema.0, expected);
-        is_settled(&rt, alloc, &mut schema.0, expected);
+        is_retained(&rt, alloc, &mut schema.0, expected);
+        is_retained(&rt, alloc, &mut schema.0, expected);
     }
 }
 
@@ -99,6 +99,6 @@ fn a_second_validation_changes_nothing(rt: HostRuntime) {
 
 #[test]
 fn a_chain_is_not_too_long_where_its_end_was_gone_through(rt: HostRuntime) {
-    let row = find("13f").expect(&rt, "an example");
-    drop(validated(&rt, rt.alloc(), row.schema, 1));
+    let example = find("13f").expect(&rt, "an example");
+    drop(validated(&rt, rt.alloc(), example.schema, 1));
 }

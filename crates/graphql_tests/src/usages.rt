@@ -1,9 +1,10 @@
 use super::fixtures::{argument_definition, reports, schema_of};
 use graphql_diagnostics::DiagnosticList;
-use graphql_documents::documents::{Argument, Node, Schema, Type, VariableDefinition};
-use graphql_rows::build::{arguments, variables};
+use graphql_documents::documents::{Argument, Schema, Type, VariableDefinition};
+use graphql_examples::build::{arguments, variables};
+use graphql_nodes::Node;
 use graphql_values::value::{check_value_of_type, validate_values};
-use graphql_values::variable::{
+use graphql_variables::{
     VariablesByName, check_variable_usage, is_variable_usage_allowed, validate_variable_usage,
 };
 use std::alloc::Global;
@@ -26,7 +27,7 @@ fn is_allowed(rt: &impl Abort, alloc: Global, written: &str, taken: &str) -> boo
     is_variable_usage_allowed(&variable.value, &place.value)
 }
 
-/// Variables, places where they stand, and whether they may.
+/// Variables, places where they are used, and whether that is allowed.
 const USAGES: &[(&str, &str, bool)] = &[
     ("($v: Int = 1)", "(n: Int!)", true),
     ("($v: Int = null)", "(n: Int!)", false),

@@ -1,10 +1,10 @@
 use super::fixtures::{is_text, name, query_of_itself};
 use graphql_documents::documents::{ExecutableDocument, Selection, SelectionSet};
-use graphql_rows::build::document;
-use graphql_values::variable::{
+use graphql_examples::build::document;
+use graphql_variables::first_places::first_place;
+use graphql_variables::{
     Walked, walk_open_selections, walk_selections, walk_selections_with_deduped_fragments,
 };
-use graphql_variables::first_places::first_place;
 use std::alloc::Global;
 use std::collections::HashMap;
 use std::fmt::Write;
@@ -108,9 +108,9 @@ fn a_walk_passes_over_what_a_condition_may_leave_out(rt: HostRuntime) {
 #[test]
 fn the_first_place_of_a_name_is_kept(rt: HostRuntime) {
     let alloc = rt.alloc();
-    let met = name(&rt, alloc, "a");
+    let visited = name(&rt, alloc, "a");
     let mut seen = HashMap::new(alloc);
-    let first = first_place(&mut seen, &met, None).expect(&rt, "memory for a name");
-    let second = first_place(&mut seen, &met, None).expect(&rt, "memory for a name");
+    let first = first_place(&mut seen, &visited, None).expect(&rt, "memory for a name");
+    let second = first_place(&mut seen, &visited, None).expect(&rt, "memory for a name");
     assert!(rt; first == None && second == Some(None));
 }

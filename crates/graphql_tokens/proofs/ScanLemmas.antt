@@ -85,7 +85,7 @@ run_only test (c ∷ run) rest e n =
     let h = both_pass (test c) (list_all test run) e in
     rw h.0 (run_only test run rest h.1 n)
 
--- the run that stands there
+-- the run that is there
 pub run_of : (test : ℕ → Bool) (text : List ℕ) → (run : List ℕ) × IsRun test text run (after_run test text)
 run_of test [] = ([], record { written = refl; each = refl; ends = refl })
 run_of test (c ∷ cs) = by (test c) refl (run_of test cs) where

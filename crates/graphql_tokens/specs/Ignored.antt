@@ -1,5 +1,5 @@
--- What stands between tokens: `IsIgnored text rest` where the text begins with one ignored token, and
--- the rest is behind it. Specification: 2.1.7 Ignored Tokens, and Appendix B.2 Lexical Tokens.
+-- What is between tokens: `IsIgnored text rest` where the text begins with one ignored token, and the rest is behind it. Specification: 2.1.7 Ignored
+-- Tokens, and Appendix B.2 Lexical Tokens.
 use Rattle.std.specs.Prelude.{ℕ, Bool, not, ◌&&◌, List, ◌∷◌, IsFalse}
 use Rattle.graphql_tokens.specs.Characters.{is_line_byte, is_source_byte, begins_with_byte, IsRun}
 

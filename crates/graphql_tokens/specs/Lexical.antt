@@ -75,7 +75,7 @@ pub record IsStuck (rest : List ℕ) : Type 0 where
   pub nothing_ignored : (behind : List ℕ) → IsIgnored rest behind → ⊥
   pub no_token : (kind : TokenKind) (behind : List ℕ) → IsToken kind rest behind → ⊥
 
--- behind these tokens of the text, and what is ignored, stands this byte, and no token begins there
+-- behind these tokens of the text, and what is ignored, is this byte, and no token begins there
 pub record BreaksOff (text : List ℕ) (tokens : List Token) (at : ℕ) : Type 0 where
   pub rest : List ℕ
   pub lexes : Lexes (length text) text tokens rest

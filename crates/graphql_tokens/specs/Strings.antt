@@ -14,7 +14,7 @@ hex_digit c =
     else (if is_in_range 97 102 c then Some (c - 87)
     else (if is_in_range 65 70 c then Some (c - 55) else None))
 
--- the value of hexadecimal digits that stand behind a value
+-- the value of hexadecimal digits that are behind a value
 abbrev pub hex_value_behind : ℕ → List ℕ → Option ℕ
 hex_value_behind value [] = Some value
 hex_value_behind value (c ∷ digits) = option_and_then (λ d. hex_value_behind (16 * value + d) digits) (hex_digit c)

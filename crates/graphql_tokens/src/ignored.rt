@@ -1,4 +1,4 @@
-//! What stands between tokens.
+//! What is between tokens.
 
 ghost use Rattle.std.specs.Prelude.{◌≡◌};
 ghost use Rattle.graphql_tokens.specs.Scans.{Gives, ignored_at, after_return, is_blank};

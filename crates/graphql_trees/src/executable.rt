@@ -3,18 +3,8 @@
 use crate::directives::{Argument, Directive};
 use crate::types::TypeReference;
 use crate::values::{Value, Variable};
-use graphql_nodes::{Name, SourceSpan};
+use graphql_nodes::{Name, OperationType, SourceSpan};
 use sqlite_items::{Boxed, Items};
-
-/// The kind of an operation.
-///
-/// Specification: 2.3 Operations.
-#[derive(Clone, Copy, Debug, PartialEq, Eq)]
-pub enum OperationType {
-    Query,
-    Mutation,
-    Subscription,
-}
 
 /// An operation. A selection set alone is a query.
 ///

@@ -13,14 +13,14 @@ pub mod values;
 pub use directives::{Argument, Directive};
 pub use documents::{Definition, Document};
 pub use executable::{
-    Field, FragmentDefinition, FragmentSpread, InlineFragment, OperationDefinition, OperationType,
-    Selection, SelectionSet, VariableDefinition,
+    Field, FragmentDefinition, FragmentSpread, InlineFragment, OperationDefinition, Selection,
+    SelectionSet, VariableDefinition,
 };
 pub use type_system::{
-    DirectiveDefinition, DirectiveLocation, EnumTypeDefinition, EnumValueDefinition,
-    FieldDefinition, InputObjectTypeDefinition, InputValueDefinition, InterfaceTypeDefinition,
-    ObjectTypeDefinition, PlacedDirectiveLocation, RootOperationTypeDefinition,
-    ScalarTypeDefinition, SchemaDefinition, TypeDefinition, UnionTypeDefinition,
+    DirectiveDefinition, EnumTypeDefinition, EnumValueDefinition, FieldDefinition,
+    InputObjectTypeDefinition, InputValueDefinition, InterfaceTypeDefinition, ObjectTypeDefinition,
+    PlacedDirectiveLocation, RootOperationTypeDefinition, ScalarTypeDefinition, SchemaDefinition,
+    TypeDefinition, UnionTypeDefinition,
 };
 pub use types::TypeReference;
 pub use values::{ObjectField, StringLiteral, Value, Variable};

@@ -1,10 +1,9 @@
 //! Definitions of the type system. An extension is held as a definition without a description.
 
 use crate::directives::Directive;
-use crate::executable::OperationType;
 use crate::types::TypeReference;
 use crate::values::{StringLiteral, Value};
-use graphql_nodes::{Name, SourceSpan};
+use graphql_nodes::{DirectiveLocation, Name, OperationType, SourceSpan};
 use sqlite_items::{Boxed, Items};
 
 /// The definition of a schema, or an extension of it.
@@ -150,37 +149,11 @@ pub struct DirectiveDefinition {
     pub span: SourceSpan,
 }
 
-/// A location of a directive's definition, and where it stands.
+/// A location of a directive's definition, and where it is.
 ///
 /// Specification: 3.13 Directives.
 #[derive(Clone, Copy, Debug, PartialEq, Eq)]
 pub struct PlacedDirectiveLocation {
     pub location: DirectiveLocation,
     pub span: SourceSpan,
-}
-
-/// Where a directive may be applied.
-///
-/// Specification: 3.13 Directives.
-#[derive(Clone, Copy, Debug, PartialEq, Eq)]
-pub enum DirectiveLocation {
-    Query,
-    Mutation,
-    Subscription,
-    Field,
-    FragmentDefinition,
-    FragmentSpread,
-    InlineFragment,
-    VariableDefinition,
-    Schema,
-    Scalar,
-    Object,
-    FieldDefinition,
-    ArgumentDefinition,
-    Interface,
-    Union,
-    Enum,
-    EnumValue,
-    InputObject,
-    InputFieldDefinition,
 }

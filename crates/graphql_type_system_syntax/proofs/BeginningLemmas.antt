@@ -1,4 +1,4 @@
--- What may stand behind a definition of the type system, and what begins none.
+-- What may be behind a definition of the type system, and what begins none.
 use Rattle.std.proofs.Common.{◌≡◌, Bool, true, false, ◌||◌, ◌⊎◌, inl, inr, [], refl}
 use Rattle.std.specs.Str.{bytes_eq}
 use Rattle.graphql_tokens.specs.declared.token.TokenKind.TheVariants.{Name, LeftBrace}
@@ -8,9 +8,9 @@ use Rattle.graphql_syntax.specs.declared.keywords.Keyword.TheVariants as keyword
 use Rattle.graphql_syntax.specs.Inputs.{same_kind, Input, is_keyword, is_string, next_passes, sees, sees_keyword}
 use Rattle.graphql_syntax.proofs.NextLemmas.{passes_not, keyword_is_name, no_name_no_keyword, other_keyword, at_end, is_string_kind, goes_on, name_no_string, passes_or, fails_or, brace_ends, brace_no_name}
 use Rattle.graphql_type_system_syntax.specs.DefinitionReaders.{begins_type_definition, begins_type_system_definition}
-use Rattle.graphql_type_system_syntax.proofs.TypeDefinitionLemmas.{DefinitionEnds}
+use Rattle.graphql_type_system_syntax.proofs.MemberLemmas.{DefinitionEnds}
 
--- a definition may stand where the text ends, or before a string, a brace, or a keyword that is not `implements`
+-- a definition may be where the text ends, or before a string, a brace, or a keyword that is not `implements`
 pub end_follows : (i : Input) → i.tokens ≡ [] → DefinitionEnds i
 end_follows i e = record { ends = at_end _ i e; no_interfaces = at_end _ i e }
 
@@ -113,7 +113,7 @@ no_extend keyword.Enum e = refl
 no_extend keyword.Input e = refl
 no_extend _ e = absurd (let h : ⊥ = cc in h)
 
--- a definition may stand before another, and before an extension
+-- a definition may be before another, and before an extension
 pub definition_follows : (i : Input) → next_passes begins_type_system_definition i ≡ true → DefinitionEnds i
 definition_follows i e = elim (beginning i e) [
   | inl h ↦ string_follows i h

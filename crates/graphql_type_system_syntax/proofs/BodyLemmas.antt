@@ -1,4 +1,4 @@
--- What stands in braces, by how deep it may go.
+-- What is in braces, by how deep it may go.
 use Rattle.std.proofs.Common.{◌≡◌, ℕ, zero, suc, ◌-◌, ◌≢◌, true, false, length, Err, refl, arith}
 use Rattle.graphql_tokens.specs.declared.token.TokenKind.TheVariants.{LeftBrace}
 use Rattle.graphql_syntax.specs.declared.refusals.Expected.TheVariants as expected

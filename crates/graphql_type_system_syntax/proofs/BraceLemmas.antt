@@ -1,4 +1,4 @@
--- What stands in braces, and what an extension adds, is read by the grammar, both ways, and locally.
+-- What is in braces, and what an extension adds, is read by the grammar, both ways, and locally.
 use Rattle.std.proofs.Common.{◌≡◌, ℕ, zero, suc, ◌<◌, ◌≤◌, Bool, true, false, ◌||◌, inl, inr, List, length, Ok, refl, subst, ◌∙◌, arith}
 use Rattle.graphql_tokens.specs.declared.token.TokenKind.TheVariants.{LeftBrace, RightBrace}
 use Rattle.graphql_tokens.proofs.ScanLemmas.{or_true}
@@ -8,7 +8,8 @@ use Rattle.graphql_syntax.specs.Directives.{IsDirective, AreDirectives}
 use Rattle.graphql_syntax.specs.Inputs.{same_kind, Input, sees}
 use Rattle.graphql_syntax.specs.Many.{Many, nothing, more, Some1, some}
 use Rattle.graphql_syntax.specs.Reading.{Reader, more_test}
-use Rattle.graphql_syntax.proofs.Locality.{Local, Moves, takes_less, local_choose, local_answer, local_refuse, local_too_deep, local_bracketed}
+use Rattle.graphql_syntax.proofs.Locality.{Local, Moves, takes_less, local_choose, local_answer, local_refuse}
+use Rattle.graphql_syntax.proofs.TokenLocality.{local_too_deep, local_bracketed}
 use Rattle.graphql_syntax.proofs.NextLemmas.{Ends, closing_brace_ends, closing_stops, brace_ends}
 use Rattle.graphql_syntax.proofs.ReaderLemmas.{sequence_ok, sequence_read, choose_ok, choose_first, choose_second, answer_is, answer_read, take_one_ok, take_one_read, refuse_not_ok, too_deep_not_ok}
 use Rattle.graphql_syntax.proofs.RepetitionLemmas.{Item, some_sound, some_read, some_moves, local_some}

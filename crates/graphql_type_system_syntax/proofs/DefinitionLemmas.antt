@@ -5,7 +5,8 @@ use Rattle.graphql_trees.specs.declared.values.StringLiteral.{StringLiteral}
 use Rattle.graphql_syntax.specs.declared.keywords.Keyword.TheVariants as keyword
 use Rattle.graphql_syntax.specs.Inputs.{Input, next_passes, sees_keyword}
 use Rattle.graphql_syntax.specs.Many.{Perhaps}
-use Rattle.graphql_syntax.proofs.Locality.{Local, local_sequence, local_choose, local_answer, local_starting, local_take_one, keyword_is_plain}
+use Rattle.graphql_syntax.proofs.Locality.{Local, local_sequence, local_choose, local_answer, local_starting, keyword_is_plain}
+use Rattle.graphql_syntax.proofs.TokenLocality.{local_take_one}
 use Rattle.graphql_syntax.proofs.NextLemmas.{keyword_is_name, other_keyword, name_no_string}
 use Rattle.graphql_syntax.proofs.ReaderLemmas.{sequence_ok, sequence_read, choose_ok, choose_first, choose_second, starting_ok, starting_read, answer_is, answer_read, take_one_ok, take_one_read}
 use Rattle.graphql_type_system_syntax.specs.Definitions.{IsTypeSystemDefinition, IsTypeSystemExtension}
@@ -15,7 +16,8 @@ use Rattle.graphql_type_system_syntax.proofs.FirstTokens.{string_begins, schema_
 use Rattle.graphql_type_system_syntax.proofs.DirectiveDefinitionLemmas.{directive_sound, directive_read, directive_moves, directive_local}
 use Rattle.graphql_type_system_syntax.proofs.InputValueLemmas.{keyword_no_string, description_sound, description_read, description_local}
 use Rattle.graphql_type_system_syntax.proofs.SchemaLemmas.{schema_sound, schema_read, schema_moves, schema_local, schema_added_sound, schema_added_read, schema_added_moves, schema_added_local}
-use Rattle.graphql_type_system_syntax.proofs.TypeDefinitionLemmas.{DefinitionEnds, type_sound, type_read, type_behind_local}
+use Rattle.graphql_type_system_syntax.proofs.MemberLemmas.{DefinitionEnds}
+use Rattle.graphql_type_system_syntax.proofs.TypeDefinitionLemmas.{type_sound, type_read, type_behind_local}
 use Rattle.graphql_type_system_syntax.proofs.TypeExtensionLemmas.{type_extension_sound, type_extension_read, type_extension_local}
 
 -- definitions
@@ -69,7 +71,7 @@ definition_moves depth _ _ _ (IsTypeSystemDefinition.schema i j x is) = schema_m
 definition_moves depth _ _ _ (IsTypeSystemDefinition.directive i j x is) = directive_moves depth i x j is
 definition_moves depth _ _ _ (IsTypeSystemDefinition.type_definition i j x is) = (type_read depth i x j is).moves
 
--- a string begins it, or what stands behind the description
+-- a string begins it, or what is behind the description
 described_or : (i : Input) (x : Option StringLiteral) (m : Input) → Perhaps IsDescription i x m → next_passes begins_type_system_definition m ≡ true →
     next_passes begins_type_system_definition i ≡ true
 described_or _ _ _ (Perhaps.absent i) e = e

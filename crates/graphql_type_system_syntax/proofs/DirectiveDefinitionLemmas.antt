@@ -6,21 +6,22 @@ use Rattle.graphql_nodes.specs.declared.spans.SourceSpan.{SourceSpan}
 use Rattle.graphql_tokens.specs.declared.token.TokenKind.TheVariants.{Name, At, LeftParenthesis, VerticalBar}
 use Rattle.graphql_tokens.proofs.ScanLemmas.{chosen}
 use Rattle.graphql_trees.specs.declared.type_system.DirectiveDefinition.{DirectiveDefinition}
-use Rattle.graphql_trees.specs.declared.type_system.DirectiveLocation.{DirectiveLocation}
-use Rattle.graphql_trees.specs.declared.type_system.DirectiveLocation.TheVariants as location
+use Rattle.graphql_nodes.specs.declared.directive_locations.DirectiveLocation.{DirectiveLocation}
+use Rattle.graphql_nodes.specs.declared.directive_locations.DirectiveLocation.TheVariants as location
 use Rattle.graphql_trees.specs.declared.type_system.PlacedDirectiveLocation.{PlacedDirectiveLocation}
 use Rattle.graphql_trees.specs.declared.values.StringLiteral.{StringLiteral}
 use Rattle.graphql_syntax.specs.declared.keywords.Keyword.TheVariants as keyword
 use Rattle.graphql_syntax.specs.declared.refusals.Refusal.{Refusal}
 use Rattle.graphql_syntax.specs.Inputs.{same_kind, Input, next_text, start_of, sees, sees_keyword}
 use Rattle.graphql_syntax.specs.Many.{Perhaps}
-use Rattle.graphql_syntax.proofs.Locality.{Local, takes_less, local_sequence, local_choose, local_answer, local_place, local_starting, local_take_one, local_text_with, local_name, kind_is_plain, keyword_is_plain}
+use Rattle.graphql_syntax.proofs.Locality.{Local, takes_less, local_sequence, local_choose, local_answer, local_place, local_starting, kind_is_plain, keyword_is_plain}
+use Rattle.graphql_syntax.proofs.TokenLocality.{local_take_one, local_text_with, local_name}
 use Rattle.graphql_syntax.proofs.NextLemmas.{passes_not, keyword_is_name, other_keyword, Ends, not_bar}
 use Rattle.graphql_syntax.proofs.ReaderLemmas.{sequence_ok, sequence_read, choose_ok, choose_first, choose_second, starting_ok, starting_read, placed_is, placed_read, answer_is, answer_read, take_one_ok, take_one_read, text_with_ok, text_with_read, name_ok, name_read}
 use Rattle.graphql_type_system_syntax.specs.DirectiveDefinitions.{IsDirectiveLocation, IsRepeatable, IsDirectiveDefinition}
 use Rattle.graphql_type_system_syntax.specs.DirectiveDefinitionReaders.{location_among, location_named, directive_location_at, repeatable_at, directive_behind}
 use Rattle.graphql_type_system_syntax.specs.InputValues.{IsDescription}
-use Rattle.graphql_type_system_syntax.specs.Locations.{location_text, locations}
+use Rattle.graphql_nodes.specs.DirectiveLocations.{location_text, locations}
 use Rattle.graphql_type_system_syntax.proofs.InputValueLemmas.{description_less, argument_definitions_sound, argument_definitions_read, argument_definitions_less, argument_definitions_local}
 use Rattle.graphql_type_system_syntax.proofs.SeparatorLemmas.{Plain, separated_sound, separated_read, separated_moves, separated_local}
 

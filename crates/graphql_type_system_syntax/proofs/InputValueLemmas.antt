@@ -12,7 +12,8 @@ use Rattle.graphql_syntax.specs.Inputs.{same_kind, Input, is_string, next_passes
 use Rattle.graphql_syntax.specs.Many.{Perhaps, PerhapsList}
 use Rattle.graphql_syntax.specs.Reading.{Reader, more_test}
 use Rattle.graphql_syntax.proofs.DirectiveLemmas.{directives_sound, directives_read, directives_less, directives_local, directives_apart}
-use Rattle.graphql_syntax.proofs.Locality.{Local, Moves, takes_less, local_sequence, local_choose, local_answer, local_place, local_starting, local_take_one, local_name, kind_is_plain}
+use Rattle.graphql_syntax.proofs.Locality.{Local, Moves, takes_less, local_sequence, local_choose, local_answer, local_place, local_starting, kind_is_plain}
+use Rattle.graphql_syntax.proofs.TokenLocality.{local_take_one, local_name}
 use Rattle.graphql_syntax.proofs.NextLemmas.{by_kind, all_kinds, passes_so, passes_not, keyword_is_name, is_string_kind, goes_on, Ends, not_mark, not_parenthesis, not_at, not_equals, name_no_string, closing_parenthesis_ends, closing_stops}
 use Rattle.graphql_syntax.proofs.ReaderLemmas.{sequence_ok, sequence_read, choose_ok, choose_first, choose_second, starting_ok, starting_read, placed_is, placed_read, answer_is, answer_read, take_one_ok, take_one_read, name_ok, name_read}
 use Rattle.graphql_syntax.proofs.RepetitionLemmas.{Item, some_sound, some_read, some_moves, local_some}

@@ -1,12 +1,16 @@
-pub mod Deepening
+pub mod AdditionLemmas
 pub mod BeginningLemmas
 pub mod BodyLemmas
 pub mod BraceLemmas
+pub mod Deepening
 pub mod DefinitionLemmas
 pub mod DirectiveDefinitionLemmas
 pub mod FieldLemmas
+pub mod FieldTypeLemmas
 pub mod FirstTokens
 pub mod InputValueLemmas
+pub mod MemberLemmas
+pub mod MemberTypeLemmas
 pub mod SchemaLemmas
 pub mod SeparatorLemmas
 pub mod TypeDefinitionLemmas

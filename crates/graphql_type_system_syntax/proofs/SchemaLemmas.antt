@@ -12,7 +12,8 @@ use Rattle.graphql_syntax.specs.Inputs.{same_kind, Input, next_passes, start_of,
 use Rattle.graphql_syntax.specs.Many.{Perhaps}
 use Rattle.graphql_syntax.specs.Reading.{place, more_test}
 use Rattle.graphql_syntax.proofs.DirectiveLemmas.{directives_sound, directives_read, directives_less, directives_local}
-use Rattle.graphql_syntax.proofs.Locality.{Local, Moves, takes_less, local_sequence, local_answer, local_place, local_starting, local_take_one, local_name, kind_is_plain, keyword_is_plain}
+use Rattle.graphql_syntax.proofs.Locality.{Local, Moves, takes_less, local_sequence, local_answer, local_place, local_starting, kind_is_plain, keyword_is_plain}
+use Rattle.graphql_syntax.proofs.TokenLocality.{local_take_one, local_name}
 use Rattle.graphql_syntax.proofs.NextLemmas.{by_kind, passes_so, passes_not, Ends, not_parenthesis, not_at}
 use Rattle.graphql_syntax.proofs.ReaderLemmas.{sequence_ok, sequence_read, starting_ok, starting_read, placed_is, placed_read, take_one_ok, take_one_read, name_ok, name_read}
 use Rattle.graphql_syntax.proofs.RepetitionLemmas.{Item}
@@ -100,7 +101,7 @@ schema_sound depth i m description r described e =
       span = refl;
     })
 
--- directives stand before braces
+-- directives are before braces
 brace_free : (depth : ℕ) (i : Input) (xs : List RootOperationTypeDefinition) (j : Input) → InBraces IsRootOperation depth i xs j →
     (sees LeftParenthesis i ≡ false) × (sees At i ≡ false)
 unfolding same_kind

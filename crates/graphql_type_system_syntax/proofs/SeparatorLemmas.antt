@@ -1,11 +1,12 @@
--- What separators stand between is read by the grammar, both ways, and locally.
+-- What separators are between is read by the grammar, both ways, and locally.
 use Rattle.std.proofs.Common.{◌≡◌, ℕ, ◌<◌, ◌≤◌, true, false, inl, inr, List, [], ◌∷◌, length, Ok, refl, sym, subst, ◌∙◌, arith}
 use Rattle.graphql_tokens.specs.declared.token.TokenKind.{TokenKind}
 use Rattle.graphql_syntax.specs.Depths.{is_opening, is_closing}
 use Rattle.graphql_syntax.specs.Inputs.{Input, TokenTest, is_kind, sees}
 use Rattle.graphql_syntax.specs.Reading.{Reader, take_one, many_behind}
 use Rattle.graphql_syntax.specs.declared.refusals.Expected.{Expected}
-use Rattle.graphql_syntax.proofs.Locality.{Near, Local, Moves, takes_less, local_sequence, local_choose, local_answer, local_take_one, kind_is_plain}
+use Rattle.graphql_syntax.proofs.Locality.{Near, Local, Moves, takes_less, local_sequence, local_choose, local_answer, kind_is_plain}
+use Rattle.graphql_syntax.proofs.TokenLocality.{local_take_one}
 use Rattle.graphql_syntax.proofs.ReaderLemmas.{sequence_ok, sequence_read, choose_ok, choose_first, choose_second, answer_is, answer_read, take_one_ok, take_one_read}
 use Rattle.graphql_syntax.proofs.RepetitionLemmas.{Item, many_from_sound, many_from_read, many_less, local_many, sequence_moves, Anything}
 use Rattle.graphql_type_system_syntax.specs.Bodies.{MayTake, IsSeparated, AreSeparated, separated}

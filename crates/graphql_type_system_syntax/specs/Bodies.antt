@@ -1,5 +1,4 @@
--- What stands in braces, and what separators stand between. Specification: Appendix A Notation Conventions,
--- and Appendix B.3 Document Syntax.
+-- What is in braces, and what separators are between. Specification: Appendix A Notation Conventions, and Appendix B.3 Document Syntax.
 use Rattle.std.specs.Prelude.{ℕ, suc, true, List, [], ◌∷◌, IsFalse}
 use Rattle.graphql_tokens.specs.declared.token.TokenKind.{TokenKind}
 use Rattle.graphql_tokens.specs.declared.token.TokenKind.TheVariants.{LeftBrace, RightBrace}
@@ -29,13 +28,13 @@ pub record IsSeparated {A : Type 0} (separator : TokenKind) (R : Input → A →
   pub takes : Takes separator i behind_separator
   pub item : R behind_separator x j
 
--- one item or more with the separator between them, which may also stand before the first
+-- one item or more with the separator between them, which may also are before the first
 pub data AreSeparated {A : Type 0} (separator : TokenKind) (R : Input → A → Input → Type 0) : Input → List A → Input → Type 0 where
   separated : (i m n j : Input) (x : A) (xs : List A) →
       MayTake separator i m → R m x n → Many (IsSeparated separator R) n xs j → AreSeparated separator R i (x ∷ xs) j
 
--- what an extension adds in braces, where directives may stand before; or directives alone:
--- Directives[Const]? { .. } | Directives[Const] [lookahead ≠ `{`]
+-- what an extension adds in braces, where directives may be before; or directives alone: Directives[Const]? { .. } | Directives[Const] [lookahead ≠
+-- `{`]
 pub data IsAddition {A : Type 0} (R : ℕ → Input → A → Input → Type 0) (depth : ℕ) : Input → List Directive → List A → Input → Type 0 where
   with_body : (i m j : Input) (directives : List Directive) (xs : List A) →
       AreDirectives true depth i directives m → InBraces R depth m xs j → IsAddition R depth i directives xs j

@@ -1,4 +1,4 @@
--- Readers of what stands in braces, and of what separators stand between. That they answer by the grammar is proved.
+-- Readers of what is in braces, and of what separators are between. That they answer by the grammar is proved.
 use Rattle.std.specs.Prelude.{ℕ, zero, suc, Bool, true, false, List, [], ◌∷◌}
 use Rattle.graphql_tokens.specs.declared.token.TokenKind.{TokenKind}
 use Rattle.graphql_tokens.specs.declared.token.TokenKind.TheVariants.{LeftBrace, RightBrace}

@@ -3,7 +3,7 @@ use Rattle.std.specs.Prelude.{ℕ, Bool, true, false, List, [], ◌∷◌, Optio
 use Rattle.std.specs.Str.{bytes_eq}
 use Rattle.graphql_tokens.specs.declared.token.TokenKind.TheVariants.{Name, At, VerticalBar}
 use Rattle.graphql_trees.specs.declared.type_system.DirectiveDefinition.{DirectiveDefinition}
-use Rattle.graphql_trees.specs.declared.type_system.DirectiveLocation.{DirectiveLocation}
+use Rattle.graphql_nodes.specs.declared.directive_locations.DirectiveLocation.{DirectiveLocation}
 use Rattle.graphql_trees.specs.declared.type_system.PlacedDirectiveLocation.{PlacedDirectiveLocation}
 use Rattle.graphql_trees.specs.declared.values.StringLiteral.{StringLiteral}
 use Rattle.graphql_syntax.specs.declared.keywords.Keyword.TheVariants as keyword
@@ -12,7 +12,7 @@ use Rattle.graphql_syntax.specs.Inputs.{is_kind, is_keyword}
 use Rattle.graphql_syntax.specs.Reading.{Reader, ◌>>=◌, answer, choose, starting, place, expect, expect_keyword, name_at, text_with}
 use Rattle.graphql_type_system_syntax.specs.BodyReaders.{separated_at}
 use Rattle.graphql_type_system_syntax.specs.InputValueReaders.{argument_definitions_at}
-use Rattle.graphql_type_system_syntax.specs.Locations.{location_text, locations}
+use Rattle.graphql_nodes.specs.DirectiveLocations.{location_text, locations}
 
 -- the first of the locations with this text
 abbrev pub location_among : List DirectiveLocation → List ℕ → Option DirectiveLocation

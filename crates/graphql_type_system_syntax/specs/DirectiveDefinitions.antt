@@ -8,7 +8,7 @@ use Rattle.graphql_syntax.specs.Inputs.{Input, Takes, TakesKeyword, IsName, next
 use Rattle.graphql_syntax.specs.Many.{Perhaps, PerhapsList}
 use Rattle.graphql_type_system_syntax.specs.Bodies.{AreSeparated}
 use Rattle.graphql_type_system_syntax.specs.InputValues.{IsDescription, AreArgumentDefinitions}
-use Rattle.graphql_type_system_syntax.specs.Locations.{location_text}
+use Rattle.graphql_nodes.specs.DirectiveLocations.{location_text}
 
 -- DirectiveLocation : ExecutableDirectiveLocation | TypeSystemDirectiveLocation: a name with such a text
 pub record IsDirectiveLocation (i : Input) (x : PlacedDirectiveLocation) (j : Input) : Type 0 where

@@ -8,7 +8,6 @@ pub mod FieldReaders
 pub mod Fields
 pub mod InputValueReaders
 pub mod InputValues
-pub mod Locations
 pub mod SchemaReaders
 pub mod Schemas
 pub mod TypeDefinitionReaders

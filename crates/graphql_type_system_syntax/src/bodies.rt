@@ -1,4 +1,4 @@
-//! What stands in braces, and what separators stand between.
+//! What is in braces, and what separators are between.
 
 ghost use Rattle.std.specs.Prelude.{◌≡◌};
 ghost use Rattle.graphql_syntax.specs.Reading.{Reads, input};
@@ -10,7 +10,7 @@ use graphql_tokens::TokenKind;
 use sqlite_items::Items;
 use std::alloc::Global;
 
-/// At least one in braces, and the cursor behind them. What stands in the braces may nest a level less.
+/// At least one in braces, and the cursor behind them. What is in the braces may nest a level less.
 pub fn in_braces<'a, P: Part>(
     alloc: Global,
     cursor: Cursor<'a>,
@@ -56,7 +56,7 @@ pub fn perhaps_in_braces<'a, P: Part>(
     in_braces::<P>(alloc, cursor, depth)
 }
 
-/// At least one, with the separator between them; it may also stand before the first.
+/// At least one, with the separator between them; it may also come before the first.
 #[tactic(auto, unfolding(crate::specs::BodyReaders::separated_at, graphql_syntax::specs::Reading::sequence))]
 pub fn separated<'a, P: Part>(
     alloc: Global,

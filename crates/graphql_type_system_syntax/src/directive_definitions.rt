@@ -37,7 +37,7 @@ impl Part for PlacedDirectiveLocation {
     }
 }
 
-/// Whether `repeatable` stands here.
+/// Whether `repeatable` is here.
 #[tactic(auto, unfolding(crate::specs::DirectiveDefinitionReaders::repeatable_at, graphql_syntax::specs::Reading::choose, graphql_syntax::specs::Reading::sequence, graphql_syntax::specs::Reading::answer))]
 fn repeatable(cursor: Cursor) -> Result<(bool, Cursor), Refusal>
     ensures { Reads (λ found. (found.0, input found.1)) result (repeatable_at (input cursor.entry)) }

@@ -1,1 +1,1 @@
-mod ValidityLemmas
+mod SilenceLemmas

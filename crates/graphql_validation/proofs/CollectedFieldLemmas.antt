@@ -6,10 +6,10 @@ use Rattle.std.specs.Map.{lookup}
 use Rattle.std.specs.Prelude.{IsFalse, IsTrue, Ok, filter}
 use Rattle.std.proofs.lemmas.List.Elements.{All-contains, All-contains_itself, All-filter, All-head, AllZip-push, filter_passes}
 use Rattle.graphql_documents.specs.Built.{IsBuilt, OperationIsBuilt, SetsAreBuilt}
-use Rattle.graphql_documents.specs.CollectFields.{AppliesTo, CollectedFrom, CollectsFrom, Gathered, applies_interface, applies_itself, applies_union, collected_here, collected_in_inline_fragment, collected_in_spread, gathered_at_root, gathered_below}
-use Rattle.graphql_documents.specs.Defer.{operations_of}
-use Rattle.graphql_diagnostics.specs.MergedGroups.{key_of, under_key}
-use Rattle.graphql_documents.specs.Merging.{Chain, FieldInside, FieldSelection, MayOverlap, Merges, OverlapThroughout, ParentsMayOverlap, SameKey, SameNameAndArguments, SameShape, Together, chain_of_more, chain_of_one, set_of, type_of}
+use Rattle.graphql_specification.specs.CollectFields.{AppliesTo, CollectedFrom, CollectsFrom, Gathered, applies_interface, applies_itself, applies_union, collected_here, collected_in_inline_fragment, collected_in_spread, gathered_at_root, gathered_below}
+use Rattle.graphql_documents.specs.Executables.{operations_of}
+use Rattle.graphql_specification.specs.MergedSets.{key_of, under_key}
+use Rattle.graphql_specification.specs.Merging.{Chain, FieldInExpandedSet, FieldSelection, MayOverlap, FieldsCanMerge, OverlapThroughout, ParentsMayOverlap, SameKey, SameNameAndArguments, SameResponseShape, HaveSameResponsePath, chain_of_more, chain_of_one, set_of, type_of}
 use Rattle.graphql_nodes.specs.Names.{NameText, SameName, same_name}
 use Rattle.graphql_documents.specs.Schemas.{is_composite, is_object_type, type_definition, type_field}
 use Rattle.graphql_documents.specs.Selections.{Fragments, fragments_of, includes_inline_fragment, includes_itself, includes_spread, response_key, set_in_field, set_in_inline_fragment, set_itself}
@@ -30,9 +30,9 @@ use Rattle.graphql_laws.proofs.SchemaLaws.{one_type_found}
 use Rattle.graphql_variables.proofs.UseLemmas.{any_has}
 use Rattle.graphql_validation.proofs.CollectingLemmas.{lists_what_is_collected}
 
--- a collected field stands inside the set, on a type that applies
+-- a collected field is inside the set, on a type that applies
 pub collected_inside : {schema : Schema} {fragments : Fragments} {object : NameText} {set : SelectionSet} {x : FieldSelection} →
-    CollectedFrom schema fragments object set x → FieldInside fragments set x × AppliesTo schema object x.parent
+    CollectedFrom schema fragments object set x → FieldInExpandedSet fragments set x × AppliesTo schema object x.parent
 collected_inside {schema} {object = object} {set = set} (collected_here applies stands is) =
     (record { inner = set; included = includes_itself; stands = stands; parent_is = is }, subst (AppliesTo schema object) (sym is) applies)
 collected_inside (collected_in_inline_fragment applies stands condition more) =
@@ -118,14 +118,14 @@ module _ (schema : Schema) (object : NameText) (x y : FieldSelection) (on_x : Is
   }
 
 -- a field more at the end of a chain
-begins : {fragments : Fragments} {set : SelectionSet} {u : FieldSelection} {xs : List FieldSelection} → Chain fragments set (u ∷ xs) → FieldInside fragments set u
+begins : {fragments : Fragments} {set : SelectionSet} {u : FieldSelection} {xs : List FieldSelection} → Chain fragments set (u ∷ xs) → FieldInExpandedSet fragments set u
 begins (chain_of_one here) = here
 begins (chain_of_more here more) = here
 
 chain_further : {fragments : Fragments} {set : SelectionSet} {xs : List FieldSelection} (u x : FieldSelection) → Chain fragments set xs → (before : List FieldSelection) →
-    xs ≡ before ++ u ∷ [] → FieldInside fragments (set_of u) x → Chain fragments set (xs ++ x ∷ [])
+    xs ≡ before ++ u ∷ [] → FieldInExpandedSet fragments (set_of u) x → Chain fragments set (xs ++ x ∷ [])
 chain_further {fragments} u x (chain_of_one {x = w} here) [] is inside =
-    chain_of_more here (chain_of_one (subst (λ v. FieldInside fragments (set_of v) x) (sym (same_head is)) inside)) where
+    chain_of_more here (chain_of_one (subst (λ v. FieldInExpandedSet fragments (set_of v) x) (sym (same_head is)) inside)) where
       same_head : w ∷ [] ≡ u ∷ [] → w ≡ u
       same_head e = cc
 chain_further u x (chain_of_one here) (b ∷ []) is inside = absurd (let no' : ⊥ = cc in no')
@@ -184,10 +184,10 @@ module _ (schema : Schema) (document : ExecutableDocument) (built : IsBuilt sche
     record Meet (x y : FieldSelection) : Type 0 where
       xs : List FieldSelection
       ys : List FieldSelection
-      both : Together F operation.selection_set xs ys x y
+      both : HaveSameResponsePath F operation.selection_set xs ys x y
       overlap : OverlapThroughout schema xs ys x y
 
-    meet_below : (u v x y : FieldSelection) → Meet u v → FieldInside F (set_of u) x → FieldInside F (set_of v) y → SameKey x y → ParentsMayOverlap schema x y → Meet x y
+    meet_below : (u v x y : FieldSelection) → Meet u v → FieldInExpandedSet F (set_of u) x → FieldInExpandedSet F (set_of v) y → SameKey x y → ParentsMayOverlap schema x y → Meet x y
     meet_below u v x y above in_x in_y key parents = record {
       xs = above.xs ++ u ∷ [];
       ys = above.ys ++ v ∷ [];
@@ -199,7 +199,7 @@ module _ (schema : Schema) (document : ExecutableDocument) (built : IsBuilt sche
       overlap = AllZip-push (ParentsMayOverlap schema) (above.xs ++ u ∷ []) (above.ys ++ v ∷ []) x y above.overlap parents;
     }
 
-    meet_at_root : (x y : FieldSelection) → FieldInside F operation.selection_set x → FieldInside F operation.selection_set y → SameKey x y → ParentsMayOverlap schema x y → Meet x y
+    meet_at_root : (x y : FieldSelection) → FieldInExpandedSet F operation.selection_set x → FieldInExpandedSet F operation.selection_set y → SameKey x y → ParentsMayOverlap schema x y → Meet x y
     meet_at_root x y in_x in_y key parents = record {
       xs = [];
       ys = [];
@@ -229,19 +229,19 @@ module _ (schema : Schema) (document : ExecutableDocument) (built : IsBuilt sche
         (collected_built from_y (collected_built from_v (gathered_built above')).1).0 cx.1 cy.1)
 
     -- where the operation merges, they are one field with the same arguments, of one shape
-    pub agree_along : {path : List (NameText × NameText)} {s t : SelectionSet} → Merges schema F operation.selection_set → Gathered schema F operation path s → Gathered schema F operation path t →
+    pub agree_along : {path : List (NameText × NameText)} {s t : SelectionSet} → FieldsCanMerge schema F operation.selection_set → Gathered schema F operation path s → Gathered schema F operation path t →
         (object : NameText) (x y : FieldSelection) → CollectedFrom schema F object s x → CollectedFrom schema F object t y → SameKey x y →
-        SameNameAndArguments x.field.value.value y.field.value.value × SameShape schema (type_of x) (type_of y)
+        SameNameAndArguments x.field.value.value y.field.value.value × SameResponseShape schema (type_of x) (type_of y)
     agree_along merges from_s from_t object x y from_x from_y key =
         let m = meet_along from_s from_t refl object x y from_x from_y key in
         (merges.fields m.xs m.ys x y m.both m.overlap, merges.shapes m.xs m.ys x y m.both)
 
   -- the same of all fields under a key of sets that were gathered along the path
-  pub agree_under_key : (operation : Node Operation) → Contains (operations_of document) operation → Merges schema F operation.value.value.selection_set →
+  pub agree_under_key : (operation : Node Operation) → Contains (operations_of document) operation → FieldsCanMerge schema F operation.value.value.selection_set →
       (path : List (NameText × NameText)) (object : NameText) (sets : List SelectionSet) → All (Gathered schema F operation.value.value path) sets →
       (fields : List FieldSelection) → CollectsFrom schema F object [] sets fields → (key : NameText) (x y : FieldSelection) →
       Contains (under_key key fields) x → Contains (under_key key fields) y →
-      SameNameAndArguments x.field.value.value y.field.value.value × SameShape schema (type_of x) (type_of y)
+      SameNameAndArguments x.field.value.value y.field.value.value × SameResponseShape schema (type_of x) (type_of y)
   agree_under_key operation stands merges path object sets gathered fields walk key x y in_x in_y =
       let is_built = All-contains (λ (o : Node Operation). OperationIsBuilt schema o.value.value) (operations_of document) operation built.operations stands in
       let kx = kept_passes (λ (z : FieldSelection). same_name (key_of z) key) fields x in_x in

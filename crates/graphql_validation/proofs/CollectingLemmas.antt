@@ -4,8 +4,8 @@ use Rattle.std.proofs.lemmas.List.{append_assoc}
 use Rattle.std.proofs.lemmas.List.Elements.{All-append, All-cons, All-contains, All-contains_itself, All-nil, All-weaker, Contains-append_left, Contains-append_right}
 use Rattle.std.proofs.lemmas.List.Folds.{list_any-append}
 use Rattle.std.specs.Prelude.{◌↔◌, IfSome, IsTrue}
-use Rattle.graphql_documents.specs.CollectFields.{AppliesTo, CollectedFrom, CollectsAmong, CollectsFrom, CollectsIn, collect_next, collected_all, collected_here, collected_in_inline_fragment, collected_in_spread, collects_field, collects_inline_fragment, collects_none, collects_past_inline_fragment, collects_past_set, collects_past_spread, collects_set, collects_spread}
-use Rattle.graphql_documents.specs.Merging.{FieldSelection}
+use Rattle.graphql_specification.specs.CollectFields.{AppliesTo, CollectedFrom, CollectsAmong, CollectsFrom, CollectsIn, collect_next, collected_all, collected_here, collected_in_inline_fragment, collected_in_spread, collects_field, collects_inline_fragment, collects_none, collects_past_inline_fragment, collects_past_set, collects_past_spread, collects_set, collects_spread}
+use Rattle.graphql_specification.specs.Merging.{FieldSelection}
 use Rattle.graphql_nodes.specs.Names.{NameText, SameName, same_name, stands_on}
 use Rattle.graphql_documents.specs.Selections.{Fragments, selections_of}
 use Rattle.graphql_documents.specs.declared.documents.executables.Field.{Field}
@@ -20,7 +20,7 @@ use Rattle.graphql_documents.specs.declared.documents.schemas.Schema.{Schema}
 use Rattle.graphql_documents.proofs.ListLemmas.{none_stands, stands_behind, stands_first}
 use Rattle.graphql_nodes.proofs.NameLemmas.{same_name_itself}
 use Rattle.graphql_documents.proofs.SelectionLemmas.{not_inline, not_spread, same_field, same_inline, same_spread, spread_not_inline}
-use Rattle.graphql_laws.proofs.MetNameLemmas.{behind_true, either_true}
+use Rattle.graphql_laws.proofs.VisitedNameLemmas.{behind_true, either_true}
 use Rattle.graphql_variables.proofs.UseLemmas.{any_has, has_any}
 use Rattle.std.proofs.lemmas.Option.{same_Some}
 
@@ -54,20 +54,20 @@ module _ (schema : Schema) (fragments : Fragments) (object : NameText) where
   From = CollectedFrom schema fragments object
 
   -- a walk over some selections, and then over more
-  pub among_then : {parent : NameText} {seen mid met : List NameText} {xs ys : List Selection} {fs gs : List FieldSelection} →
-      Among parent seen xs fs mid → Among parent mid ys gs met → Among parent seen (xs ++ ys) (fs ++ gs) met
+  pub among_then : {parent : NameText} {seen mid visited : List NameText} {xs ys : List Selection} {fs gs : List FieldSelection} →
+      Among parent seen xs fs mid → Among parent mid ys gs visited → Among parent seen (xs ++ ys) (fs ++ gs) visited
   among_then collects_none more = more
   among_then (collects_field f rest) more = collects_field f (among_then rest more)
-  among_then {parent} {seen} {met = met} {ys = ys} {gs = gs} (collects_inline_fragment {rest = rest'} {within = within} {fields = fields} i condition inside rest) more =
-      subst (λ l. Among parent seen (kind.InlineFragment i ∷ (rest' ++ ys)) l met) (sym (append_assoc within fields gs))
+  among_then {parent} {seen} {visited = visited} {ys = ys} {gs = gs} (collects_inline_fragment {rest = rest'} {within = within} {fields = fields} i condition inside rest) more =
+      subst (λ l. Among parent seen (kind.InlineFragment i ∷ (rest' ++ ys)) l visited) (sym (append_assoc within fields gs))
       (collects_inline_fragment i condition inside (among_then rest more))
   among_then (collects_past_inline_fragment i condition no' rest) more = collects_past_inline_fragment i condition no' (among_then rest more)
   among_then (collects_past_spread p past rest) more = collects_past_spread p past (among_then rest more)
-  among_then {parent} {seen} {met = met} {ys = ys} {gs = gs} (collects_spread {rest = rest'} {within = within} {fields = fields} p d new found inside rest) more =
-      subst (λ l. Among parent seen (kind.FragmentSpread p ∷ (rest' ++ ys)) l met) (sym (append_assoc within fields gs))
+  among_then {parent} {seen} {visited = visited} {ys = ys} {gs = gs} (collects_spread {rest = rest'} {within = within} {fields = fields} p d new found inside rest) more =
+      subst (λ l. Among parent seen (kind.FragmentSpread p ∷ (rest' ++ ys)) l visited) (sym (append_assoc within fields gs))
       (collects_spread p d new found inside (among_then rest more))
 
-  -- a set of this type, which applies, and in which these selections stand
+  -- a set of this type, which applies, and in which these selections are
   abbrev Has : NameText → List Selection → SelectionSet → Type 0
   Has parent xs set = AppliesTo schema object set.ty × (parent ≡ set.ty) × ((s : Selection) → Contains xs s → Contains (selections_of set) s)
 
@@ -76,7 +76,7 @@ module _ (schema : Schema) (fragments : Fragments) (object : NameText) where
 
   -- each field that is listed is collected
   mutual
-    among_sound : {parent : NameText} {seen met : List NameText} {xs : List Selection} {fs : List FieldSelection} → Among parent seen xs fs met →
+    among_sound : {parent : NameText} {seen visited : List NameText} {xs : List Selection} {fs : List FieldSelection} → Among parent seen xs fs visited →
         (set : SelectionSet) → Has parent xs set → All (From set) fs
     among_sound collects_none set h = All-nil (From set)
     among_sound {parent} (collects_field {rest = rest'} {fields = fields} f rest) set h =
@@ -96,14 +96,14 @@ module _ (schema : Schema) (fragments : Fragments) (object : NameText) where
         (λ x from. collected_in_spread h.0 (h.2 (kind.FragmentSpread p) (stands_first (kind.FragmentSpread p) rest')) found from) within (in_sound inside))
         (among_sound rest set (has_rest parent (kind.FragmentSpread p) rest' set h))
 
-    in_sound : {seen met : List NameText} {set : SelectionSet} {fs : List FieldSelection} → In seen set fs met → All (From set) fs
+    in_sound : {seen visited : List NameText} {set : SelectionSet} {fs : List FieldSelection} → In seen set fs visited → All (From set) fs
     in_sound {set = set} (collects_set applies among) = among_sound among set (applies, refl, λ s stands. stands)
     in_sound {set = set} (collects_past_set no') = All-nil (From set)
 
-  -- names that were met stay met
+  -- names that were visited stay visited
   mutual
-    pub among_grows : {parent : NameText} {seen met : List NameText} {xs : List Selection} {fs : List FieldSelection} → Among parent seen xs fs met →
-        (k : NameText) → IsTrue (stands_on seen k) → IsTrue (stands_on met k)
+    pub among_grows : {parent : NameText} {seen visited : List NameText} {xs : List Selection} {fs : List FieldSelection} → Among parent seen xs fs visited →
+        (k : NameText) → IsTrue (stands_on seen k) → IsTrue (stands_on visited k)
     among_grows collects_none k there = there
     among_grows (collects_field f rest) k there = among_grows rest k there
     among_grows (collects_inline_fragment i condition inside rest) k there = among_grows rest k (in_grows inside k there)
@@ -112,13 +112,13 @@ module _ (schema : Schema) (fragments : Fragments) (object : NameText) where
     among_grows {seen = seen} (collects_spread p d new found inside rest) k there =
         among_grows rest k (in_grows inside k (stands_before seen p.value.value.fragment_name k there))
 
-    in_grows : {seen met : List NameText} {set : SelectionSet} {fs : List FieldSelection} → In seen set fs met →
-        (k : NameText) → IsTrue (stands_on seen k) → IsTrue (stands_on met k)
+    in_grows : {seen visited : List NameText} {set : SelectionSet} {fs : List FieldSelection} → In seen set fs visited →
+        (k : NameText) → IsTrue (stands_on seen k) → IsTrue (stands_on visited k)
     in_grows (collects_set applies among) k there = among_grows among k there
     in_grows (collects_past_set no') k there = there
 
   module _ (all : List FieldSelection) (names : List NameText) where
-    -- what is collected from the set is among all fields, or in a fragment whose name was met
+    -- what is collected from the set is among all fields, or in a fragment whose name was visited
     mutual
       data Listed : SelectionSet → Type 0 where
         listed : {set : SelectionSet} → (AppliesTo schema object set.ty → (s : Selection) → Contains (selections_of set) s → ListedAt set.ty s) → Listed set
@@ -161,14 +161,14 @@ module _ (schema : Schema) (fragments : Fragments) (object : NameText) where
     abbrev IsField : Selection → NameText → Type 0
     IsField s parent = ListedAt parent s
 
-    -- what a walk over selections has listed: each of them, and the fragments that it has met
-    record Lists (parent : NameText) (seen : List NameText) (xs : List Selection) (met : List NameText) : Type 0 where
+    -- what a walk over selections has listed: each of them, and the fragments that it has visited
+    record Lists (parent : NameText) (seen : List NameText) (xs : List Selection) (visited : List NameText) : Type 0 where
       each : (s : Selection) → Contains xs s → ListedAt parent s
-      closed : (k : NameText) (d : Node Fragment) → IsTrue (stands_on met k) → fragments k ≡ Some d → IsTrue (stands_on seen k) ⊎ Listed d.value.value.selection_set
+      closed : (k : NameText) (d : Node Fragment) → IsTrue (stands_on visited k) → fragments k ≡ Some d → IsTrue (stands_on seen k) ⊎ Listed d.value.value.selection_set
 
-    record ListsIn (seen : List NameText) (set : SelectionSet) (met : List NameText) : Type 0 where
+    record ListsIn (seen : List NameText) (set : SelectionSet) (visited : List NameText) : Type 0 where
       within : Listed set
-      closed : (k : NameText) (d : Node Fragment) → IsTrue (stands_on met k) → fragments k ≡ Some d → IsTrue (stands_on seen k) ⊎ Listed d.value.value.selection_set
+      closed : (k : NameText) (d : Node Fragment) → IsTrue (stands_on visited k) → fragments k ≡ Some d → IsTrue (stands_on seen k) ⊎ Listed d.value.value.selection_set
 
     at_field : (parent : NameText) (f : Node Field) → Contains all (record { parent = parent; field = f }) → ListedAt parent (kind.Field f)
     at_field parent f there = listed_by
@@ -191,10 +191,10 @@ module _ (schema : Schema) (fragments : Fragments) (object : NameText) where
         (λ q d is. subst (λ (r : Node FragmentSpread). fragments r.value.value.fragment_name ≡ Some d → IsTrue (stands_on names r.value.value.fragment_name)) (same_spread p q is) (goes d))
 
     -- one more selection in front
-    lists_more : (parent : NameText) (seen mid met : List NameText) (x : Selection) (xs : List Selection) → ListedAt parent x →
+    lists_more : (parent : NameText) (seen mid visited : List NameText) (x : Selection) (xs : List Selection) → ListedAt parent x →
         ((k : NameText) (d : Node Fragment) → IsTrue (stands_on mid k) → fragments k ≡ Some d → IsTrue (stands_on seen k) ⊎ Listed d.value.value.selection_set) →
-        Lists parent mid xs met → Lists parent seen (x ∷ xs) met
-    lists_more parent seen mid met x xs here first rest = record {
+        Lists parent mid xs visited → Lists parent seen (x ∷ xs) visited
+    lists_more parent seen mid visited x xs here first rest = record {
       each = λ s stands. elim (in_front x xs s stands) [ inl is ↦ subst (ListedAt parent) (sym is) here | inr behind ↦ rest.each s behind ];
       closed = λ k d there found. elim (rest.closed k d there found) [ inl between ↦ first k d between found | inr done ↦ inr done ];
     }
@@ -204,30 +204,30 @@ module _ (schema : Schema) (fragments : Fragments) (object : NameText) where
 
     module _ (respects : (a b : NameText) → SameName a b → fragments a ≡ fragments b) where
       mutual
-        among_lists : {parent : NameText} {seen met : List NameText} {xs : List Selection} {fs : List FieldSelection} → Among parent seen xs fs met →
-            ((x : FieldSelection) → Contains fs x → Contains all x) → ((k : NameText) → IsTrue (stands_on met k) → IsTrue (stands_on names k)) → Lists parent seen xs met
+        among_lists : {parent : NameText} {seen visited : List NameText} {xs : List Selection} {fs : List FieldSelection} → Among parent seen xs fs visited →
+            ((x : FieldSelection) → Contains fs x → Contains all x) → ((k : NameText) → IsTrue (stands_on visited k) → IsTrue (stands_on names k)) → Lists parent seen xs visited
         among_lists {seen = seen} collects_none has known = record { each = λ s stands. absurd (none_stands s stands); closed = same_names seen }
-        among_lists {parent} {seen} {met} (collects_field {rest = rest'} {fields = fields} f rest) has known =
-            lists_more parent seen seen met (kind.Field f) rest'
+        among_lists {parent} {seen} {visited} (collects_field {rest = rest'} {fields = fields} f rest) has known =
+            lists_more parent seen seen visited (kind.Field f) rest'
             (at_field parent f (has (record { parent = parent; field = f }) (stands_first (record { parent = parent; field = f }) fields))) (same_names seen)
             (among_lists rest (λ x stands. has x (stands_behind (record { parent = parent; field = f }) fields x stands)) known)
-        among_lists {parent} {seen} {met} (collects_inline_fragment {between = between} {rest = rest'} {within = within} {fields = fields} i condition inside rest) has known =
+        among_lists {parent} {seen} {visited} (collects_inline_fragment {between = between} {rest = rest'} {within = within} {fields = fields} i condition inside rest) has known =
             let deep = in_lists inside (λ x stands. has x (Contains-append_left within fields x stands)) (λ k there. known k (among_grows rest k there)) in
-            lists_more parent seen between met (kind.InlineFragment i) rest' (at_inline parent i (λ c. deep.within)) deep.closed
+            lists_more parent seen between visited (kind.InlineFragment i) rest' (at_inline parent i (λ c. deep.within)) deep.closed
             (among_lists rest (λ x stands. has x (Contains-append_right within fields x stands)) known)
-        among_lists {parent} {seen} {met} (collects_past_inline_fragment {condition = condition} {rest = rest'} i is no' rest) has known =
-            lists_more parent seen seen met (kind.InlineFragment i) rest'
+        among_lists {parent} {seen} {visited} (collects_past_inline_fragment {condition = condition} {rest = rest'} i is no' rest) has known =
+            lists_more parent seen seen visited (kind.InlineFragment i) rest'
             (at_inline parent i (λ c. absurd (no' (subst (λ o. IfSome o (AppliesTo schema object)) is c)))) (same_names seen) (among_lists rest has known)
-        among_lists {parent} {seen} {met} (collects_past_spread {rest = rest'} p past rest) has known =
-            lists_more parent seen seen met (kind.FragmentSpread p) rest'
+        among_lists {parent} {seen} {visited} (collects_past_spread {rest = rest'} p past rest) has known =
+            lists_more parent seen seen visited (kind.FragmentSpread p) rest'
             (at_spread parent p (λ d found. elim past [
               | inl there ↦ known p.value.value.fragment_name (among_grows rest p.value.value.fragment_name there)
               | inr none ↦ absurd (let no' : ⊥ = cc in no')
             ])) (same_names seen) (among_lists rest has known)
-        among_lists {parent} {seen} {met} (collects_spread {between = between} {rest = rest'} {within = within} {fields = fields} p d new found inside rest) has known =
+        among_lists {parent} {seen} {visited} (collects_spread {between = between} {rest = rest'} {within = within} {fields = fields} p d new found inside rest) has known =
             let name = p.value.value.fragment_name in
             let deep = in_lists inside (λ x stands. has x (Contains-append_left within fields x stands)) (λ k there. known k (among_grows rest k there)) in
-            lists_more parent seen between met (kind.FragmentSpread p) rest'
+            lists_more parent seen between visited (kind.FragmentSpread p) rest'
             (at_spread parent p (λ e is. known name (among_grows rest name (in_grows inside name (stands_last seen name)))))
             (λ k e there is. elim (deep.closed k e there is) [
               | inl pushed ↦ elim (stands_either seen name k pushed) [
@@ -238,14 +238,14 @@ module _ (schema : Schema) (fragments : Fragments) (object : NameText) where
             ])
             (among_lists rest (λ x stands. has x (Contains-append_right within fields x stands)) known)
 
-        in_lists : {seen met : List NameText} {set : SelectionSet} {fs : List FieldSelection} → In seen set fs met →
-            ((x : FieldSelection) → Contains fs x → Contains all x) → ((k : NameText) → IsTrue (stands_on met k) → IsTrue (stands_on names k)) → ListsIn seen set met
-        in_lists {seen} {met} {set} (collects_set applies among) has known =
+        in_lists : {seen visited : List NameText} {set : SelectionSet} {fs : List FieldSelection} → In seen set fs visited →
+            ((x : FieldSelection) → Contains fs x → Contains all x) → ((k : NameText) → IsTrue (stands_on visited k) → IsTrue (stands_on names k)) → ListsIn seen set visited
+        in_lists {seen} {visited} {set} (collects_set applies among) has known =
             let l = among_lists among has known in
             record { within = listed (λ a s stands. l.each s stands); closed = l.closed }
-        in_lists {seen} {met} {set} (collects_past_set no') has known = record { within = listed (λ a s stands. absurd (no' a)); closed = same_names seen }
+        in_lists {seen} {visited} {set} (collects_past_set no') has known = record { within = listed (λ a s stands. absurd (no' a)); closed = same_names seen }
 
-  -- the names that were met by the end of a walk over several sets
+  -- the names that were visited by the end of a walk over several sets
   record Ends (seen : List NameText) (sets : List SelectionSet) (fields : List FieldSelection) : Type 0 where
     names : List NameText
     grows : (k : NameText) → IsTrue (stands_on seen k) → IsTrue (stands_on names k)
@@ -259,7 +259,7 @@ module _ (schema : Schema) (fragments : Fragments) (object : NameText) where
     grows = λ k there. there;
     lists = λ respects all known has knows. (All-nil (Listed all known), λ k d there found. inl there);
   }
-  ends {seen} (collect_next {met = met} {set = set} {sets = sets} {within = within} {fields = fields} inside rest) =
+  ends {seen} (collect_next {visited = visited} {set = set} {sets = sets} {within = within} {fields = fields} inside rest) =
       let e = ends rest in record {
         names = e.names;
         grows = λ k there. e.grows k (in_grows inside k there);

@@ -2,9 +2,9 @@
 use Rattle.std.proofs.Common.{◌≡◌, ◌∷◌, ◌++◌, ◌∙◌, [], List, None, Option, Some, ap, refl, subst, sym, ◌⊎◌}
 use Rattle.std.proofs.lemmas.List.{append-nil, append_assoc}
 use Rattle.std.proofs.lemmas.Option.{same_Some}
-use Rattle.std.specs.Prelude.{◌↔◌, IfSome, IsFalse, IsTrue}
-use Rattle.graphql_documents.specs.CollectFields.{AppliesTo, CollectsFrom, applies_interface, applies_itself, applies_union, collect_next, collected_all, collects_field, collects_inline_fragment, collects_none, collects_past_inline_fragment, collects_past_set, collects_past_spread, collects_set, collects_spread}
-use Rattle.graphql_documents.specs.Merging.{FieldSelection}
+use Rattle.std.specs.Prelude.{◌↔◌, IfSome, IsFalse, IsTrue, Vec}
+use Rattle.graphql_specification.specs.CollectFields.{AppliesTo, CollectsFrom, applies_interface, applies_itself, applies_union, collect_next, collected_all, collects_field, collects_inline_fragment, collects_none, collects_past_inline_fragment, collects_past_set, collects_past_spread, collects_set, collects_spread}
+use Rattle.graphql_specification.specs.Merging.{FieldSelection}
 use Rattle.graphql_nodes.specs.Names.{NameText, SameName, stands_on}
 use Rattle.graphql_documents.specs.Schemas.{IsListed, IsSubtype, IsSubtypeOf, interfaces_of, type_definition}
 use Rattle.graphql_documents.specs.Selections.{Fragments, fragments_of, selections_of}
@@ -22,9 +22,8 @@ use Rattle.graphql_documents.specs.declared.documents.schemas.ObjectType.{Object
 use Rattle.graphql_documents.specs.declared.documents.schemas.Schema.{Schema}
 use Rattle.graphql_merging.specs.FieldSelections.{listed}
 use Rattle.graphql_merging.specs.declared.field_selections.FieldSelection as Code
-use Rattle.std.specs.Prelude.{Vec}
 use Rattle.std.specs.declared.alloc.Global.{Global}
-use Rattle.graphql_validation.specs.CollectionSteps.{CollectsMore, WalksAmong, WalksIn, WalksOver, met_of, walks_none, walks_next}
+use Rattle.graphql_validation.specs.CollectionSteps.{CollectsMore, WalksAmong, WalksIn, WalksOver, visited_of, walks_none, walks_next}
 use Rattle.graphql_validation.specs.declared.collect.CollectedFields.{CollectedFields}
 use Rattle.graphql_validation.specs.declared.collect.FieldCollection.{FieldCollection}
 use Rattle.graphql_validation.proofs.CollectingLemmas.{among_then}
@@ -91,12 +90,12 @@ module _ (of : FieldCollection) where
   set_passed {found} set no' = record { fields = []; walks = collects_past_set no'; appended = sym (append-nil (listed found.fields.items)) }
 
   -- each kind of selection
-  pub field_collected : {old new : CollectedFields} (parent : NameText) (f : Node Field) (s : Selection) → s ≡ kind.Field f → met_of new ≡ met_of old →
+  pub field_collected : {old new : CollectedFields} (parent : NameText) (f : Node Field) (s : Selection) → s ≡ kind.Field f → visited_of new ≡ visited_of old →
       listed new.fields.items ≡ listed old.fields.items ++ record { parent = parent; field = f } ∷ [] → CollectsMore old new (WalksAmong of parent (s ∷ []))
-  field_collected {old} {new} parent f s is met pushed = record {
+  field_collected {old} {new} parent f s is visited pushed = record {
     fields = record { parent = parent; field = f } ∷ [];
-    walks = subst (λ q. WalksAmong of parent (q ∷ []) (met_of old) (record { parent = parent; field = f } ∷ []) (met_of new)) (sym is)
-        (subst (WalksAmong of parent (kind.Field f ∷ []) (met_of old) (record { parent = parent; field = f } ∷ [])) (sym met) (collects_field f collects_none));
+    walks = subst (λ q. WalksAmong of parent (q ∷ []) (visited_of old) (record { parent = parent; field = f } ∷ []) (visited_of new)) (sym is)
+        (subst (WalksAmong of parent (kind.Field f ∷ []) (visited_of old) (record { parent = parent; field = f } ∷ [])) (sym visited) (collects_field f collects_none));
     appended = pushed;
   }
 
@@ -107,7 +106,7 @@ module _ (of : FieldCollection) where
       IfSome i.value.value.type_condition Applies → CollectsMore old new (WalksIn of i.value.value.selection_set) → CollectsMore old new (WalksAmong of parent (s ∷ []))
   inline_collected {old} {new} parent i s is condition c = record {
     fields = c.fields ++ [];
-    walks = subst (λ q. WalksAmong of parent (q ∷ []) (met_of old) (c.fields ++ []) (met_of new)) (sym is) (collects_inline_fragment i condition c.walks collects_none);
+    walks = subst (λ q. WalksAmong of parent (q ∷ []) (visited_of old) (c.fields ++ []) (visited_of new)) (sym is) (collects_inline_fragment i condition c.walks collects_none);
     appended = inside_one i.value.value.selection_set c;
   }
 
@@ -118,38 +117,38 @@ module _ (of : FieldCollection) where
     by_condition None e = absurd (no' (subst (λ q. IfSome q Applies) (sym e) tt))
     by_condition (Some condition) e = record {
       fields = [];
-      walks = subst (λ q. WalksAmong of parent (q ∷ []) (met_of found) [] (met_of found)) (sym is)
+      walks = subst (λ q. WalksAmong of parent (q ∷ []) (visited_of found) [] (visited_of found)) (sym is)
           (collects_past_inline_fragment i e (λ a. no' (subst (λ q. IfSome q Applies) (sym e) a)) collects_none);
       appended = sym (append-nil (listed found.fields.items));
     }
 
   pub spread_passed : {old new : CollectedFields} (parent : NameText) (p : Node FragmentSpread) →
-      IsTrue (stands_on (met_of old) p.value.value.fragment_name) ⊎ (F p.value.value.fragment_name ≡ None) → met_of new ≡ met_of old → new.fields ≡ old.fields →
+      IsTrue (stands_on (visited_of old) p.value.value.fragment_name) ⊎ (F p.value.value.fragment_name ≡ None) → visited_of new ≡ visited_of old → new.fields ≡ old.fields →
       CollectsMore old new (WalksAmong of parent (kind.FragmentSpread p ∷ []))
   spread_passed {old} parent p past same kept = record {
     fields = [];
-    walks = subst (WalksAmong of parent (kind.FragmentSpread p ∷ []) (met_of old) []) (sym same) (collects_past_spread p past collects_none);
+    walks = subst (WalksAmong of parent (kind.FragmentSpread p ∷ []) (visited_of old) []) (sym same) (collects_past_spread p past collects_none);
     appended = ap (λ (f : Vec Code.FieldSelection Global). listed f.items) kept ∙ sym (append-nil (listed old.fields.items));
   }
 
   pub spread_collected : {old mid new : CollectedFields} (parent : NameText) (p : Node FragmentSpread) (d : Node Fragment) →
-      IsFalse (stands_on (met_of old) p.value.value.fragment_name) → F p.value.value.fragment_name ≡ Some d →
-      met_of mid ≡ met_of old ++ p.value.value.fragment_name ∷ [] → listed mid.fields.items ≡ listed old.fields.items →
+      IsFalse (stands_on (visited_of old) p.value.value.fragment_name) → F p.value.value.fragment_name ≡ Some d →
+      visited_of mid ≡ visited_of old ++ p.value.value.fragment_name ∷ [] → listed mid.fields.items ≡ listed old.fields.items →
       CollectsMore mid new (WalksIn of d.value.value.selection_set) → CollectsMore old new (WalksAmong of parent (kind.FragmentSpread p ∷ []))
-  spread_collected {old} {mid} {new} parent p d unmet found marked same c = record {
+  spread_collected {old} {mid} {new} parent p d unvisited found marked same c = record {
     fields = c.fields ++ [];
-    walks = collects_spread p d unmet found
-        (subst (λ names. WalksIn of d.value.value.selection_set names c.fields (met_of new)) marked c.walks) collects_none;
+    walks = collects_spread p d unvisited found
+        (subst (λ names. WalksIn of d.value.value.selection_set names c.fields (visited_of new)) marked c.walks) collects_none;
     appended = inside_one d.value.value.selection_set c ∙ ap (λ l. l ++ (c.fields ++ [])) same;
   }
 
   -- several sets, one after another
-  pub over_then : {seen mid met : List NameText} {sets : List SelectionSet} (set : SelectionSet) {fs gs : List FieldSelection} →
-      WalksOver of sets seen fs mid → WalksIn of set mid gs met → WalksOver of (sets ++ set ∷ []) seen (fs ++ gs) met
-  over_then {seen} {met = met} set {gs = gs} walks_none inside =
-      subst (λ l. WalksOver of (set ∷ []) seen l met) (append-nil gs) (walks_next inside walks_none)
-  over_then {seen} {met = met} set {gs = gs} (walks_next {set = first} {sets = sets} {within = within} {fields = fields} inside rest) last =
-      subst (λ l. WalksOver of (first ∷ (sets ++ set ∷ [])) seen l met) (sym (append_assoc within fields gs)) (walks_next inside (over_then set rest last))
+  pub over_then : {seen mid visited : List NameText} {sets : List SelectionSet} (set : SelectionSet) {fs gs : List FieldSelection} →
+      WalksOver of sets seen fs mid → WalksIn of set mid gs visited → WalksOver of (sets ++ set ∷ []) seen (fs ++ gs) visited
+  over_then {seen} {visited = visited} set {gs = gs} walks_none inside =
+      subst (λ l. WalksOver of (set ∷ []) seen l visited) (append-nil gs) (walks_next inside walks_none)
+  over_then {seen} {visited = visited} set {gs = gs} (walks_next {set = first} {sets = sets} {within = within} {fields = fields} inside rest) last =
+      subst (λ l. WalksOver of (first ∷ (sets ++ set ∷ [])) seen l visited) (sym (append_assoc within fields gs)) (walks_next inside (over_then set rest last))
 
   pub over_more : {old mid new : CollectedFields} (sets : List SelectionSet) (set : SelectionSet) → CollectsMore old mid (WalksOver of sets) → CollectsMore mid new (WalksIn of set) →
       CollectsMore old new (WalksOver of (sets ++ set ∷ []))
@@ -162,7 +161,7 @@ module _ (of : FieldCollection) where
   pub over_none : {found : CollectedFields} → CollectsMore found found (WalksOver of [])
   over_none {found} = record { fields = []; walks = walks_none; appended = sym (append-nil (listed found.fields.items)) }
 
-  pub collected_over : {seen met : List NameText} {sets : List SelectionSet} {fields : List FieldSelection} → WalksOver of sets seen fields met →
+  pub collected_over : {seen visited : List NameText} {sets : List SelectionSet} {fields : List FieldSelection} → WalksOver of sets seen fields visited →
       CollectsFrom S F of.object_type.now seen sets fields
   collected_over walks_none = collected_all
   collected_over (walks_next inside rest) = collect_next inside (collected_over rest)

@@ -2,26 +2,29 @@
 use Rattle.std.proofs.Common.{◌≡◌, ◌⊎◌, inl, inr, Bool, true, false, List, [], ◌∷◌, Option, Some, refl, sym, ◌∙◌, subst, Contains}
 use Rattle.std.specs.Map.{lookup, values_of}
 use Rattle.std.proofs.lemmas.List.Elements.{Contains-append_left, Contains-append_right, Contains-push}
-use Rattle.graphql_documents.specs.Defer.{operations_of}
-use Rattle.graphql_diagnostics.specs.DeferReports as defer
-use Rattle.graphql_diagnostics.specs.Diagnostics.{Says}
-use Rattle.graphql_diagnostics.specs.DocumentReports.{DocumentReport, FragmentUseReport, OperationsReport, of_defer, of_one, of_operation, of_subscription}
-use Rattle.graphql_diagnostics.specs.Limits.{DeferLimit, DocumentLimit, FragmentLimit, FragmentWalkLimit, OperationsLimit, SubscriptionLimit, condition_walk_passes, defer_root_walk_passes, fragment_nests, label_walk_passes, one_passes, spread_passes, spreads_nest, subscription_walk_passes, variable_walk_passes, walk_of_conditions, walk_of_labels, walk_of_root, walk_of_variables}
+use Rattle.graphql_documents.specs.Executables.{operations_of}
+use Rattle.graphql_specification.specs.Defer as defer
+use Rattle.graphql_diagnostics.specs.Diagnostics.{DiagnosticReport}
+use Rattle.graphql_specification.specs.Documents.{DocumentReport, of_defer, of_operation, of_subscription, DocumentLimit, fragment_nests, walk_of_conditions, walk_of_labels, walk_of_root, walk_of_variables}
+use Rattle.graphql_specification.specs.FragmentsUsed.{FragmentUseReport, FragmentWalkLimit}
+use Rattle.graphql_specification.specs.Operations.{OperationsReport, of_one, OperationsLimit, one_passes, spread_passes, variable_walk_passes}
+use Rattle.graphql_specification.specs.Defer.{DeferLimit, condition_walk_passes, defer_root_walk_passes, label_walk_passes}
+use Rattle.graphql_specification.specs.Fragments.{FragmentLimit, spreads_nest}
+use Rattle.graphql_specification.specs.Subscriptions.{SubscriptionLimit, subscription_walk_passes}
 use Rattle.graphql_nodes.specs.Names.{NameText, same_name}
 use Rattle.graphql_documents.specs.Selections.{fragments_of}
-use Rattle.graphql_diagnostics.specs.SubscriptionReports as subscription
+use Rattle.graphql_specification.specs.Subscriptions as subscription
 use Rattle.graphql_documents.specs.declared.documents.executables.Fragment.{Fragment}
 use Rattle.graphql_nodes.specs.declared.nodes.Node.{Node}
 use Rattle.graphql_diagnostics.specs.declared.details.Details.{Details}
 use Rattle.graphql_diagnostics.specs.declared.details.Details.TheVariants as details
 use Rattle.graphql_diagnostics.specs.declared.lists.DiagnosticEntry.{DiagnosticEntry}
-use Rattle.graphql_documents.specs.declared.documents.definitions.OperationType.TheVariants as operation
+use Rattle.graphql_nodes.specs.declared.operation_types.OperationType.TheVariants as operation
 use Rattle.graphql_documents.specs.declared.documents.executables.ExecutableDocument.{ExecutableDocument}
-use Rattle.graphql_documents.specs.declared.documents.executables.Field.{Field}
 use Rattle.graphql_documents.specs.declared.documents.executables.Operation.{Operation}
 use Rattle.graphql_documents.specs.declared.documents.schemas.Schema.{Schema}
 use Rattle.graphql_nodes.specs.declared.spans.SourceSpan.{SourceSpan}
-use Rattle.graphql_rules.proofs.OperationLemmas.{OperationsTruth}
+use Rattle.graphql_rules.proofs.OperationLemmas.{OperationsEntryReport}
 use Rattle.graphql_operations.proofs.UsedFragmentLemmas.{is_document_limit, is_document_report}
 
 -- what a look-up finds is among the values
@@ -35,10 +38,10 @@ found_value test (e ∷ es) d found = at_first (test e.0) refl (λ later. found_
   at_first false is later = Contains-append_right (e.1 ∷ []) (values_of es) d (later (rw is at found))
 
 module _ (schema : Option Schema) (document : ExecutableDocument) where
-  abbrev pub DocumentTruth : DiagnosticEntry → Type 0
-  DocumentTruth e = DocumentReport schema document e.details e.location ⊎ DocumentLimit schema document e.details e.location
+  abbrev pub DocumentEntryReport : DiagnosticEntry → Type 0
+  DocumentEntryReport e = DocumentReport schema document e.details e.location ⊎ DocumentLimit schema document e.details e.location
 
-  by_details : (d : Details) (at : Option SourceSpan) → Says (OperationsReport schema document) d at → DocumentReport schema document d at
+  by_details : (d : Details) (at : Option SourceSpan) → DiagnosticReport (OperationsReport schema document) d at → DocumentReport schema document d at
   by_details (details.Diagnostic r) at (of_one in' b) = of_operation in' b
   by_details (details.Build b) at says = absurd says
   by_details (details.RecursionLimit l) at says = absurd says
@@ -51,12 +54,12 @@ module _ (schema : Option Schema) (document : ExecutableDocument) where
   by_limit d at (one_passes in' (variable_walk_passes passes)) = walk_of_variables in' passes
   by_limit d at (one_passes in' (spread_passes limit)) = of_nesting limit.d limit.name limit.found limit.passes
 
-  pub of_operations : (e : DiagnosticEntry) → OperationsTruth schema document e → DocumentTruth e
+  pub of_operations : (e : DiagnosticEntry) → OperationsEntryReport schema document e → DocumentEntryReport e
   of_operations e (inl says) = inl (by_details e.details e.location says)
   of_operations e (inr limit) = inr (by_limit e.details e.location limit)
 
   pub of_used_fragments : (e : DiagnosticEntry) →
-      FragmentUseReport document e.details e.location ⊎ FragmentWalkLimit document e.details e.location → DocumentTruth e
+      FragmentUseReport document e.details e.location ⊎ FragmentWalkLimit document e.details e.location → DocumentEntryReport e
   of_used_fragments e (inl unused) = inl (is_document_report unused)
   of_used_fragments e (inr limit) = inr (is_document_limit limit)
 
@@ -68,7 +71,7 @@ module _ (schema : Option Schema) (document : ExecutableDocument) where
   by_defer_limit (defer_root_walk_passes in' other passes) = walk_of_root in' other passes
   by_defer_limit (condition_walk_passes in' is passes) = walk_of_conditions in' is passes
 
-  pub of_all_defer : (e : DiagnosticEntry) → defer.DeferReport document e.details e.location ⊎ DeferLimit document e.details e.location → DocumentTruth e
+  pub of_all_defer : (e : DiagnosticEntry) → defer.DeferReport document e.details e.location ⊎ DeferLimit document e.details e.location → DocumentEntryReport e
   of_all_defer e (inl says) = inl (by_defer says)
   of_all_defer e (inr limit) = inr (by_defer_limit limit)
 
@@ -82,6 +85,6 @@ module _ (schema : Schema) (document : ExecutableDocument) (o : Node Operation) 
 
   pub of_a_subscription : (e : DiagnosticEntry) →
       subscription.SubscriptionReport (fragments_of document) o e.details e.location ⊎ SubscriptionLimit (fragments_of document) o.value.value e.details e.location →
-      DocumentTruth (Some schema) document e
+      DocumentEntryReport (Some schema) document e
   of_a_subscription e (inl says) = inl (by_subscription says)
   of_a_subscription e (inr limit) = inr (by_subscription_limit limit)

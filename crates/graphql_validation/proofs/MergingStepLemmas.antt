@@ -4,21 +4,22 @@ use Rattle.std.proofs.lemmas.List.{append-nil, append_assoc, append_cancel_left,
 use Rattle.std.proofs.lemmas.List.Elements.{All-append, All-cons, All-contains_itself, All-head, All-nil, Contains-append_right}
 use Rattle.std.specs.Prelude.{IsFalse, Option}
 use Rattle.graphql_documents.specs.Built.{IsBuilt}
-use Rattle.graphql_documents.specs.Defer.{DeferHolds, operations_of}
+use Rattle.graphql_specification.specs.Defer.{DeferHolds}
+use Rattle.graphql_documents.specs.Executables.{operations_of}
 use Rattle.graphql_diagnostics.specs.Diagnostics.{IsLimitEntry, limit_of_depth}
-use Rattle.graphql_diagnostics.specs.DocumentReports as document_report
-use Rattle.graphql_diagnostics.specs.DocumentReports.{DocumentReport}
-use Rattle.graphql_documents.specs.Documents.{DocumentHolds, IsFragmentUsed, OperationHolds, OperationSubscriptionHolds}
+use Rattle.graphql_specification.specs.Documents as document_report
+use Rattle.graphql_specification.specs.Documents.{DocumentReport, DocumentHolds, DocumentLimit, merging_limit}
+use Rattle.graphql_specification.specs.FragmentsUsed.{IsFragmentUsed}
+use Rattle.graphql_specification.specs.Operations.{OperationHolds}
+use Rattle.graphql_specification.specs.Subscriptions.{OperationSubscriptionHolds}
 use Rattle.indexmap.specs.IndexMap.{values}
 use Rattle.std.proofs.lemmas.Option.{same_Some}
-use Rattle.graphql_diagnostics.specs.Limits.{DocumentLimit, MergingLimit, merging_limit, merging_nests}
-use Rattle.graphql_documents.specs.Merging.{Merges}
-use Rattle.graphql_diagnostics.specs.MergingReports.{MergingReport, of_conflict}
+use Rattle.graphql_specification.specs.MergedSets.{MergingLimit, merging_nests}
+use Rattle.graphql_specification.specs.Merging.{FieldsCanMerge, MergingReport, of_conflict}
 use Rattle.graphql_diagnostics.specs.Reports.{Appends, KeepsReports, ReportsWithin}
 use Rattle.graphql_documents.specs.Selections.{fragments_of}
 use Rattle.graphql_diagnostics.specs.declared.details.Details.{Details}
 use Rattle.graphql_diagnostics.specs.declared.lists.DiagnosticEntry.{DiagnosticEntry}
-use Rattle.graphql_documents.specs.declared.documents.definitions.FieldDefinition.{FieldDefinition}
 use Rattle.graphql_documents.specs.declared.documents.executables.ExecutableDocument.{ExecutableDocument}
 use Rattle.graphql_documents.specs.declared.documents.executables.Operation.{Operation}
 use Rattle.graphql_nodes.specs.declared.nodes.Node.{Node}
@@ -28,9 +29,9 @@ use Rattle.graphql_diagnostics.proofs.ReportLemmas.{appended_then, both_nil, kep
 use Rattle.graphql_documents.proofs.ListLemmas.{All-append_left, All-append_right, more_is, stands_first}
 use Rattle.graphql_merging.specs.MergedOperations.{AreLimits, HasMerged, MergesOneMore, Merging, beyond_bound, within_bound}
 use Rattle.graphql_merging.proofs.MergedOperationLemmas.{conflicts_decide}
-use Rattle.graphql_validation.proofs.DocumentLemmas.{DocumentTruth}
+use Rattle.graphql_validation.proofs.DocumentLemmas.{DocumentEntryReport}
 
--- a report of merging, as one of the document
+-- a diagnostic of merging, as one of the document
 module _ (schema : Schema) (document : ExecutableDocument) (before after : List (Node Operation)) (o : Node Operation) (split : operations_of document ≡ before ++ o ∷ after) where
   by_merging : {d : Details} {at : Option SourceSpan} → Contains (operations_of document) o → MergingReport schema (fragments_of document) o.value.value.selection_set d at →
       DocumentReport (Some schema) document d at
@@ -41,7 +42,7 @@ module _ (schema : Schema) (document : ExecutableDocument) (before after : List 
 
   pub of_merged : Contains (operations_of document) o → (e : DiagnosticEntry) →
       MergingReport schema (fragments_of document) o.value.value.selection_set e.details e.location ⊎
-      MergingLimit schema (fragments_of document) before o e.details e.location → DocumentTruth (Some schema) document e
+      MergingLimit schema (fragments_of document) before o e.details e.location → DocumentEntryReport (Some schema) document e
   of_merged stands e (inl says) = inl (by_merging stands says)
   of_merged stands e (inr limit) = inr (by_merging_limit limit)
 
@@ -53,7 +54,7 @@ IsNoLimit e = ¬ IsLimitEntry e
 pub record ValidatedSoFar (schema : Schema) (document : ExecutableDocument) (done : List (Node Operation)) (m : Merging) (old now : List DiagnosticEntry) : Type 0 where
   pub added : List DiagnosticEntry
   pub appended : now ≡ old ++ added
-  pub each : All (DocumentTruth (Some schema) document) added
+  pub each : All (DocumentEntryReport (Some schema) document) added
   pub silent : All IsNoLimit added → (added ≡ []) ↔ (All (λ o. OperationSubscriptionHolds document o.value.value) done × IsFalse m.conflicting)
   pub shallow : All IsNoLimit added → IsFalse m.too_deep
 
@@ -67,8 +68,8 @@ no_limits o too_deep (within_bound within) none = (refl, within)
 no_limits o too_deep (beyond_bound beyond) none = absurd (All-head IsNoLimit _ [] none limit_of_depth)
 
 module _ (schema : Schema) (document : ExecutableDocument) where
-  abbrev Truth : DiagnosticEntry → Type 0
-  Truth = DocumentTruth (Some schema) document
+  abbrev CheckedEntryReport : DiagnosticEntry → Type 0
+  CheckedEntryReport = DocumentEntryReport (Some schema) document
 
   abbrev Sub : Node Operation → Type 0
   Sub o = OperationSubscriptionHolds document o.value.value
@@ -77,19 +78,19 @@ module _ (schema : Schema) (document : ExecutableDocument) where
   validated_none m old silent shallow = record {
     added = [];
     appended = sym (append-nil old);
-    each = All-nil Truth;
+    each = All-nil CheckedEntryReport;
     silent = λ none. (λ e. (All-nil Sub, silent), λ p. refl);
     shallow = λ none. shallow;
   }
 
   pub validated_more : (done : List (Node Operation)) (o : Node Operation) (m m' : Merging) {old now mid after : List DiagnosticEntry} →
-      ValidatedSoFar schema document done m old now → ReportsWithin IsLimitEntry (Sub o) Truth now mid →
-      MergesOneMore schema o m m' mid after → KeepsReports Truth mid after → ValidatedSoFar schema document (done ++ o ∷ []) m' old after
+      ValidatedSoFar schema document done m old now → ReportsWithin IsLimitEntry (Sub o) CheckedEntryReport now mid →
+      MergesOneMore schema o m m' mid after → KeepsReports CheckedEntryReport mid after → ValidatedSoFar schema document (done ++ o ∷ []) m' old after
   validated_more done o m m' {old} {now} {mid} {after} so_far sub merged kept = record {
     added = so_far.added ++ (sub.added ++ reports);
     appended = appended_then old now after so_far.added (sub.added ++ reports) so_far.appended (appended_then now mid after sub.added reports sub.appended merged.appended);
-    each = All-append Truth so_far.added (sub.added ++ reports) so_far.each
-        (All-append Truth sub.added reports sub.each (subst (All Truth) (append_cancel_left mid kept.added reports (sym kept.appended ∙ merged.appended)) kept.each));
+    each = All-append CheckedEntryReport so_far.added (sub.added ++ reports) so_far.each
+        (All-append CheckedEntryReport sub.added reports sub.each (subst (All CheckedEntryReport) (append_cancel_left mid kept.added reports (sym kept.appended ∙ merged.appended)) kept.each));
     silent = λ none. (
       λ e.
           let first = (both_nil so_far.added (sub.added ++ reports)).0 e in
@@ -141,14 +142,14 @@ module _ (schema : Schema) (document : ExecutableDocument) where
   -- all operations of a document that was built were validated
   pub validated_all : (m : Merging) {old new : List DiagnosticEntry} → IsBuilt schema document →
       m.operations ≡ operations_of document → HasMerged schema (fragments_of document) m → ValidatedSoFar schema document (operations_of document) m old new →
-      ReportsWithin IsLimitEntry (All Sub (operations_of document) × All (λ o. Merges schema (fragments_of document) o.value.value.selection_set) (operations_of document)) Truth old new
+      ReportsWithin IsLimitEntry (All Sub (operations_of document) × All (λ o. FieldsCanMerge schema (fragments_of document) o.value.value.selection_set) (operations_of document)) CheckedEntryReport old new
   validated_all m built operations was so_far = record {
     added = so_far.added;
     appended = so_far.appended;
     silent = λ none.
         let s = so_far.silent none in
         let merge = conflicts_decide schema document m built (subst (All (Contains (operations_of document))) (sym operations) (All-contains_itself (operations_of document))) was (so_far.shallow none) in
-        let all = λ (l : List (Node Operation)). All (λ o. Merges schema (fragments_of document) o.value.value.selection_set) l in (
+        let all = λ (l : List (Node Operation)). All (λ o. FieldsCanMerge schema (fragments_of document) o.value.value.selection_set) l in (
           λ e. let p = s.0 e in (p.0, subst all operations (merge.0 p.1)),
           λ p. s.1 (p.0, merge.1 (subst all (sym operations) p.1)),
         );
@@ -164,20 +165,20 @@ split_at xs i x are within item =
 
 -- what a call on a value that merges operations says, of a schema, a document and operations that are those
 -- of the value
-abbrev pub MergedTruth : Schema → ExecutableDocument → List (Node Operation) → Node Operation → DiagnosticEntry → Type 0
-MergedTruth schema document before o e =
+abbrev pub MergedEntryReport : Schema → ExecutableDocument → List (Node Operation) → Node Operation → DiagnosticEntry → Type 0
+MergedEntryReport schema document before o e =
     MergingReport schema (fragments_of document) o.value.value.selection_set e.details e.location ⊎
     MergingLimit schema (fragments_of document) before o e.details e.location
 
 pub merged_kept : {schema schema' : Schema} {document document' : ExecutableDocument} {before before' : List (Node Operation)} (after : List (Node Operation)) (o : Node Operation) {old new : List DiagnosticEntry} →
-    schema' ≡ schema → document' ≡ document → before' ≡ before → operations_of document ≡ before ++ o ∷ after → KeepsReports (MergedTruth schema' document' before' o) old new →
-    KeepsReports (DocumentTruth (Some schema) document) old new
+    schema' ≡ schema → document' ≡ document → before' ≡ before → operations_of document ≡ before ++ o ∷ after → KeepsReports (MergedEntryReport schema' document' before' o) old new →
+    KeepsReports (DocumentEntryReport (Some schema) document) old new
 merged_kept {schema} {schema'} {document} {document'} {before} {before'} after o {old} {new} is_schema is_document is_before split kept =
     let stands = subst (λ l. Contains l o) (sym split) (Contains-append_right before (o ∷ after) o (stands_first o after)) in
     kept_wider (of_merged schema document before after o split stands)
-    (subst (λ b. KeepsReports (MergedTruth schema document b o) old new) is_before
-    (subst (λ d. KeepsReports (MergedTruth schema d before' o) old new) is_document
-    (subst (λ s. KeepsReports (MergedTruth s document' before' o) old new) is_schema kept)))
+    (subst (λ b. KeepsReports (MergedEntryReport schema document b o) old new) is_before
+    (subst (λ d. KeepsReports (MergedEntryReport schema d before' o) old new) is_document
+    (subst (λ s. KeepsReports (MergedEntryReport s document' before' o) old new) is_schema kept)))
 
 pub merged_of : {schema schema' : Schema} {document document' : ExecutableDocument} {m : Merging} → schema' ≡ schema → document' ≡ document →
     HasMerged schema' (fragments_of document') m → HasMerged schema (fragments_of document) m
@@ -185,14 +186,14 @@ merged_of {schema} {schema'} {document} {document'} {m} is_schema is_document wa
     subst (λ d. HasMerged schema (fragments_of d) m) is_document (subst (λ s. HasMerged s (fragments_of document') m) is_schema was)
 
 pub kept_so_far : (schema : Schema) (document : ExecutableDocument) {done : List (Node Operation)} {m : Merging} {old now : List DiagnosticEntry} →
-    ValidatedSoFar schema document done m old now → KeepsReports (DocumentTruth (Some schema) document) old now
+    ValidatedSoFar schema document done m old now → KeepsReports (DocumentEntryReport (Some schema) document) old now
 kept_so_far schema document so_far = record { added = so_far.added; appended = so_far.appended; each = so_far.each }
 
 -- a document holds exactly where its parts do
 pub document_holds : (schema : Schema) (document : ExecutableDocument) →
     ((All (λ o. OperationHolds (Some schema) document o.value.value) (operations_of document) × All (λ d. IsFragmentUsed document d.value.value) (values document.fragments) × DeferHolds document) ×
     (All (λ o. OperationSubscriptionHolds document o.value.value) (operations_of document) ×
-    All (λ o. Merges schema (fragments_of document) o.value.value.selection_set) (operations_of document))) ↔
+    All (λ o. FieldsCanMerge schema (fragments_of document) o.value.value.selection_set) (operations_of document))) ↔
     DocumentHolds (Some schema) document
 document_holds schema document = (
   λ p. record {
@@ -200,7 +201,7 @@ document_holds schema document = (
     fragments = p.0.1;
     defer = p.0.2;
     subscriptions = λ s is. p.1.0;
-    merging = λ s is. subst (λ z. All (λ o. Merges z (fragments_of document) o.value.value.selection_set) (operations_of document)) (same_Some schema s is) p.1.1;
+    merging = λ s is. subst (λ z. All (λ o. FieldsCanMerge z (fragments_of document) o.value.value.selection_set) (operations_of document)) (same_Some schema s is) p.1.1;
   },
   λ h. ((h.operations, h.fragments, h.defer), (h.subscriptions schema refl, h.merging schema refl)),
 )

@@ -2,31 +2,30 @@
 
 ghost use Rattle.std.specs.Prelude.{◌≡◌, ◌↔◌, ◌∷◌, [], IfOk, IfSome, IsTrue, List, OnOk, map, not};
 ghost use Rattle.std.specs.Option.{option_copied};
-ghost use Rattle.graphql_documents.specs.CollectFields.{AppliesTo, CollectsFrom};
-ghost use Rattle.graphql_documents.specs.Merging as merging;
+ghost use Rattle.graphql_specification.specs.CollectFields.{AppliesTo, CollectsFrom};
+ghost use Rattle.graphql_specification.specs.Merging as merging;
 ghost use Rattle.graphql_nodes.specs.Names.{stands_on, with_name};
 ghost use Rattle.graphql_documents.specs.Selections.{fragments_of};
 ghost use Rattle.graphql_documents.specs.declared.documents.executables.Selection.TheVariants as kind;
 ghost use Rattle.graphql_merging.specs.Groups.{by_keys, named_fields};
-ghost use Rattle.graphql_validation.specs.CollectionSteps.{CollectsMore, WalksAmong, WalksIn, met_of};
+ghost use Rattle.graphql_validation.specs.CollectionSteps.{CollectsMore, WalksAmong, WalksIn, visited_of};
 
-use graphql_diagnostics::ValidationError;
 use graphql_documents::documents::{
-    ExecutableDocument, ExtendedType, FragmentSpread, Name, NamedType, Node, Schema, Selection,
-    SelectionSet,
+    ExecutableDocument, ExtendedType, FragmentSpread, Schema, Selection, SelectionSet,
 };
 use graphql_merging::field_selections::FieldSelection;
 use graphql_merging::groups::fields_by_key;
+use graphql_nodes::{Name, NamedType, Node, ValidationError};
 use indexmap::{IndexMap, IndexSet};
 use std::alloc::Global;
 
-/// The fields that an object of this type answers, by response key: those of each set in order, and those of the
-/// fragments in them where they stand, each named fragment once over all sets. Only sets and conditions
+/// The fields that an object of this type answers, by response key: those of each set in order, and those of
+/// the fragments in them where they are, each named fragment once over all sets. Only sets and conditions
 /// count that apply to the object: its own type, an interface that it lists, a union that has it as a member.
 /// `@skip` and `@include` are not evaluated.
 ///
-/// Keys come in order of first field, and the fields under a key in the order of the walk. The only error is want
-/// of memory.
+/// Keys come in order of first field, and the fields under a key in the order of the walk. The only error is
+/// a failed allocation.
 ///
 /// Specification: 6.3.2 Field Collection.
 pub fn collect_fields<'doc>(
@@ -47,7 +46,7 @@ pub fn collect_fields<'doc>(
     };
     let mut found = CollectedFields {
         fields: Vec::new(alloc),
-        met: IndexSet::new(alloc),
+        visited: IndexSet::new(alloc),
     };
     for set in sets {
         collection.collect_set(set, &mut found)?;
@@ -63,21 +62,21 @@ struct FieldCollection<'a, 'doc> {
     object_type: &'a NamedType,
 }
 
-/// The fields that were collected, and the names of the fragments that were gone into.
+/// The fields that were collected, and the names of the fragments that were visited.
 #[derive(Drop)]
 struct CollectedFields<'doc> {
     fields: Vec<FieldSelection<'doc>>,
-    met: IndexSet<&'doc Name>,
+    visited: IndexSet<&'doc Name>,
 }
 
 impl<'doc> CollectedFields<'doc> {
     /// Goes into the fragment of this name, and answers whether it is the first time.
     fn enter(&mut self, name: &'doc Name) -> Result<bool, ValidationError>
-        ensures is_new { IfOk result (λ new. new ≡ not (stands_on (met_of self.old) name.now)) }
-        ensures names { OnOk result (met_of self.new ≡ with_name (met_of self.old) name.now) }
+        ensures is_new { IfOk result (λ new. new ≡ not (stands_on (visited_of self.old) name.now)) }
+        ensures names { OnOk result (visited_of self.new ≡ with_name (visited_of self.old) name.now) }
         ensures fields { self.new.fields ≡ self.old.fields }
     {
-        Ok(self.met.insert(name)?)
+        Ok(self.visited.insert(name)?)
     }
 }
 

@@ -4,23 +4,27 @@ ghost use Rattle.indexmap.specs.IndexMap.{values};
 ghost use Rattle.std.specs.Option.{option_copied};
 ghost use Rattle.std.specs.Prelude.{◌≡◌, ◌↔◌, ◌⊎◌, [], All, None, OnOk, Some};
 ghost use Rattle.graphql_documents.specs.Built.{IsBuilt};
-ghost use Rattle.graphql_documents.specs.Defer.{DeferHolds, operations_of};
+ghost use Rattle.graphql_specification.specs.Defer.{DeferHolds};
+ghost use Rattle.graphql_documents.specs.Executables.{operations_of};
 ghost use Rattle.graphql_diagnostics.specs.Diagnostics.{IsLimitEntry, entries};
-ghost use Rattle.graphql_diagnostics.specs.DocumentReports.{DocumentReport};
-ghost use Rattle.graphql_documents.specs.Documents.{DocumentHolds, IsFragmentUsed, OperationHolds, OperationSubscriptionHolds};
-ghost use Rattle.graphql_diagnostics.specs.FieldSets.{FieldSetHolds, NamesBrokenFieldSetRule};
-ghost use Rattle.graphql_diagnostics.specs.Limits.{DocumentLimit};
-ghost use Rattle.graphql_documents.specs.Merging.{Merges};
+ghost use Rattle.graphql_specification.specs.Documents.{DocumentReport, DocumentHolds, DocumentLimit};
+ghost use Rattle.graphql_specification.specs.FragmentsUsed.{IsFragmentUsed};
+ghost use Rattle.graphql_specification.specs.Operations.{OperationHolds};
+ghost use Rattle.graphql_specification.specs.Subscriptions.{OperationSubscriptionHolds};
+ghost use Rattle.graphql_specification.specs.FieldSets.{FieldSetHolds, FieldSetReport};
+ghost use Rattle.graphql_specification.specs.Merging.{FieldsCanMerge};
 ghost use Rattle.graphql_diagnostics.specs.Reports.{Appends, Checks, ChecksWithin, KeepsReports, ReportsWithin};
 ghost use Rattle.graphql_documents.specs.Selections.{fragments_of};
 
-use graphql_diagnostics::{DiagnosticList, ValidationError};
+use graphql_diagnostics::DiagnosticList;
 use graphql_documents::documents::{ExecutableDocument, FieldSet, OperationMap, Schema, Valid};
 use graphql_merging::merging::FieldsInSetCanMerge;
-use graphql_rules::operations::{
+use graphql_nodes::ValidationError;
+use graphql_operations::{
     OperationValidationContext, operations_of, validate_defer, validate_fragments_used,
-    validate_operation_definitions, validate_selection_set, validate_subscription,
+    validate_subscription,
 };
+use graphql_rules::operations::{validate_operation_definitions, validate_selection_set};
 use graphql_variables::VariablesByName;
 use indexmap::IndexMap;
 use std::alloc::Global;
@@ -30,14 +34,14 @@ use std::alloc::Global;
 /// of subscriptions; and that all fields that come together in a response agree.
 ///
 /// Reports come in this order: for each operation those of its directives, of the definitions of its
-/// variables, its unused variables, and those of its selections, each with what is below it; then the
-/// unused fragments; then of `@defer` the labels of each operation and of each fragment, and for each
-/// mutation and subscription the roots and the conditions; last, for each operation, those of
-/// subscriptions, then of fields whose shapes differ, of fields whose names or arguments do, and whether
-/// fields nest too deep to be merged. The only error is want of memory.
+/// variables, its unused variables, and those of its selections, each with what is below it; then the unused
+/// fragments; then of `@defer` the labels of each operation and of each fragment, and for each mutation and
+/// subscription the roots and the conditions; last, for each operation, those of subscriptions, then of
+/// fields whose shapes differ, of fields whose names or arguments do, and whether fields nest too deep to be
+/// merged. The only error is a failed allocation.
 ///
 /// Of a document that was built against the schema: where no limit is reported, nothing is reported exactly
-/// where every rule holds (`silence`). Of any document: a report names a broken rule (`reports`), or it is of a
+/// where every rule holds (`silence`). Of any document: a diagnostic names a broken rule (`reports`), or it is of a
 /// limit that is really passed (`limits`), also where memory is refused; and where nothing is reported, all
 /// rules hold but for merging (`parts`).
 ///
@@ -65,7 +69,7 @@ pub fn validate_executable_document(
 }
 
 /// Validates a document without a schema, by the rules that need none: all but those of subscriptions and
-/// merging. Reports come in the same order. The only error is want of memory.
+/// merging. Reports come in the same order. The only error is a failed allocation.
 ///
 /// Specification: 5 Validation.
 pub fn validate_standalone_executable(
@@ -108,7 +112,7 @@ fn validate_with_schema(
     ensures holds { IsBuilt schema.now document.now →
         OnOk result (ReportsWithin IsLimitEntry
         (All (λ o. OperationSubscriptionHolds document.now o.value.value) (operations_of document.now) ×
-        All (λ o. Merges schema.now (fragments_of document.now) o.value.value.selection_set) (operations_of document.now))
+        All (λ o. FieldsCanMerge schema.now (fragments_of document.now) o.value.value.selection_set) (operations_of document.now))
         (λ e. DocumentReport (Some schema.now) document.now e.details e.location ⊎ DocumentLimit (Some schema.now) document.now e.details e.location)
         (entries diagnostics.old) (entries diagnostics.new)) }
     ensures truth { KeepsReports
@@ -127,8 +131,8 @@ fn validate_with_schema(
     Ok(())
 }
 
-/// Validates a field set against a schema: every selection that is reached holds at its place. There are
-/// no fragments to spread and no variables. The only error is want of memory.
+/// Validates a field set against a schema: every selection that is reached holds at its place. There are no
+/// fragments to spread and no variables. The only error is a failed allocation.
 ///
 /// Reports come in the order of the set, each selection with what is below it. No limit is reported.
 ///
@@ -139,7 +143,7 @@ pub fn validate_field_set(
     field_set: &FieldSet,
 ) -> Result<(), ValidationError>
     ensures checks { Checks result (FieldSetHolds schema.now.0 field_set.now.selection_set)
-        (NamesBrokenFieldSetRule schema.now.0 field_set.now.selection_set)
+        (FieldSetReport schema.now.0 field_set.now.selection_set)
         diagnostics.old diagnostics.new }
     ensures limits { KeepsReports (λ e. ¬ IsLimitEntry e) (entries diagnostics.old) (entries diagnostics.new) }
 {

@@ -3,10 +3,10 @@
 
 ghost use Rattle.std.specs.Prelude.{◌↔◌, [], All, Any, Contains, List};
 ghost use Rattle.graphql_documents.specs.Built.{IsBuilt};
-ghost use Rattle.graphql_documents.specs.CollectFields.{CollectedFrom, CollectsFrom, Gathered};
-ghost use Rattle.graphql_documents.specs.Defer.{operations_of};
-ghost use Rattle.graphql_diagnostics.specs.MergedGroups.{under_key};
-ghost use Rattle.graphql_documents.specs.Merging.{FieldSelection, Merges, SameNameAndArguments, SameShape, type_of};
+ghost use Rattle.graphql_specification.specs.CollectFields.{CollectedFrom, CollectsFrom, Gathered};
+ghost use Rattle.graphql_documents.specs.Executables.{operations_of};
+ghost use Rattle.graphql_specification.specs.MergedSets.{under_key};
+ghost use Rattle.graphql_specification.specs.Merging.{FieldSelection, FieldsCanMerge, SameNameAndArguments, SameResponseShape, type_of};
 ghost use Rattle.graphql_nodes.specs.Names.{NameText};
 ghost use Rattle.graphql_documents.specs.Selections.{fragments_of};
 ghost use Rattle.graphql_documents.specs.declared.documents.executables.ExecutableDocument.{ExecutableDocument};
@@ -15,7 +15,7 @@ ghost use Rattle.graphql_documents.specs.declared.documents.executables.Selectio
 ghost use Rattle.graphql_nodes.specs.declared.nodes.Node.{Node};
 ghost use Rattle.graphql_documents.specs.declared.documents.schemas.Schema.{Schema};
 
-/// The walk that collects fields lists exactly those that are collected from one of the sets: each stands there,
+/// The walk that collects fields lists exactly those that are collected from one of the sets: each is there,
 /// or in a fragment there, and all sets and conditions on the way apply to the object.
 ///
 /// Specification: 6.3.2 Field Collection.
@@ -33,10 +33,10 @@ pub fn walk_lists_what_is_collected()
 pub fn fields_under_one_key_agree()
     ensures { (schema : Schema) (document : ExecutableDocument) (operation : Node Operation) →
         IsBuilt schema document → Contains (operations_of document) operation →
-        Merges schema (fragments_of document) operation.value.value.selection_set →
+        FieldsCanMerge schema (fragments_of document) operation.value.value.selection_set →
         (path : List (NameText × NameText)) (object : NameText) (sets : List SelectionSet) →
         All (Gathered schema (fragments_of document) operation.value.value path) sets →
         (fields : List FieldSelection) → CollectsFrom schema (fragments_of document) object [] sets fields →
         (key : NameText) (x y : FieldSelection) → Contains (under_key key fields) x → Contains (under_key key fields) y →
-        SameNameAndArguments x.field.value.value y.field.value.value × SameShape schema (type_of x) (type_of y) }
+        SameNameAndArguments x.field.value.value y.field.value.value × SameResponseShape schema (type_of x) (type_of y) }
 {}

@@ -3,13 +3,11 @@ use Rattle.std.proofs.Common.{◌≡◌, ◌↔◌, ◌⊎◌, inl, inr, List, S
 use Rattle.std.specs.declared.alloc.Global.{Global}
 use Rattle.std.proofs.lemmas.List.Elements.{All-weaker, All-contains, All-contains_itself}
 use Rattle.std.proofs.lemmas.Option.{same_Some, none-some}
-use Rattle.graphql_documents.specs.InputCoercion.{Accepts, accepts_undefined, accepts_null, accepts_variable, accepts_leaf, accepts_list, accepts_custom_object, accepts_object, AcceptsLeaf, IsFieldGiven, IsInputField, is_custom_scalar}
+use Rattle.graphql_specification.specs.Values.{Accepts, accepts_undefined, accepts_null, accepts_variable, accepts_leaf, accepts_list, accepts_custom_object, accepts_object, AcceptsLeaf, IsFieldProvided, IsInputField, is_custom_scalar, CannotStandFor, null_for_non_null, variable_of_other_type, leaf_of_other_type, list_for_no_list, list_of_no_input, object_for_no_object, TakesLists, is_leaf_literal}
 use Rattle.graphql_nodes.specs.Names.{NameText, SameName}
-use Rattle.graphql_documents.specs.SchemaReferences.{as_input_object}
-use Rattle.graphql_documents.specs.Schemas.{IsInputObject, is_input_type, type_definition}
+use Rattle.graphql_documents.specs.Schemas.{as_input_object, IsInputObject, is_input_type, type_definition}
 use Rattle.graphql_documents.specs.TypeReferences.{inner_named_type, is_non_null, item_type}
-use Rattle.graphql_diagnostics.specs.ValueReports.{CannotStandFor, null_for_non_null, variable_of_other_type, leaf_of_other_type, list_for_no_list, list_of_no_input, object_for_no_object, TakesLists, is_leaf_literal}
-use Rattle.graphql_documents.specs.VariableUsage.{variable_named}
+use Rattle.graphql_documents.specs.Definitions.{variable_named}
 use Rattle.graphql_documents.specs.declared.documents.definitions.VariableDefinition.{VariableDefinition}
 use Rattle.graphql_nodes.specs.declared.nodes.Node.{Node}
 use Rattle.graphql_documents.specs.declared.documents.schemas.ExtendedType.{ExtendedType}
@@ -113,7 +111,7 @@ accepts_open schema variables ty v (accepts_object {d = o} entries e known given
       record {
         known = known;
         each = each_all (AcceptsField schema variables entries.items) o.value.value.fields.entries
-            (λ field among. (All-contains (IsFieldGiven entries.items) o.value.value.fields.entries field given among, λ value first. each field value among first));
+            (λ field among. (All-contains (IsFieldProvided entries.items) o.value.value.fields.entries field given among, λ value first. each field value among first));
       },
     ))
 
@@ -169,7 +167,7 @@ object_accepted schema variables ty o entries is = (there, back) where
   there : All (λ entry. IsInputField o.value.value entry.0) entries.items × All (AcceptsField schema variables entries.items) o.value.value.fields.entries →
       Accepts schema variables ty (literal.Object entries)
   there p = accepts_object entries is p.0
-      (All-weaker (AcceptsField schema variables entries.items) (IsFieldGiven entries.items) (λ field h. h.0) o.value.value.fields.entries p.1)
+      (All-weaker (AcceptsField schema variables entries.items) (IsFieldProvided entries.items) (λ field h. h.0) o.value.value.fields.entries p.1)
       (λ field value among first. (All-contains (AcceptsField schema variables entries.items) o.value.value.fields.entries field p.1 among).1 value first)
 
   back : Accepts schema variables ty (literal.Object entries) →

@@ -2,11 +2,10 @@
 use Rattle.std.proofs.Common.{◌≡◌, ◌↔◌, ℕ, ◌<◌, List, [], ◌∷◌, ◌++◌, length, get_or, Option, Some, None, Result, refl, sym, ◌∙◌, subst, find, All, Contains}
 use Rattle.std.proofs.lemmas.List.Elements.{All-append, All-cons, All-contains, All-head, All-nil, All-weaker}
 use Rattle.std.proofs.lemmas.Option.{same_Some, none-some}
-use Rattle.graphql_diagnostics.specs.ArgumentReports.{RepetitionReport}
-use Rattle.graphql_documents.specs.Arguments.{ArgumentNamesHold, ArgumentValuesHold, HasDistinctNames, IsDefined, IsGivenIfRequired, ValueHoldsBy}
+use Rattle.graphql_specification.specs.Arguments.{RepetitionReport, ArgumentNamesHold, ArgumentValuesHold, HasDistinctNames, IsDefined, RequiredArgumentIsProvided, ValueHoldsBy}
 use Rattle.graphql_diagnostics.specs.Diagnostics.{IsDiagnostic}
-use Rattle.graphql_diagnostics.specs.DirectiveReports.{DirectivesBreak, IsApplied, of_application, of_argument_values, of_missing_argument, of_repeated_argument, of_unknown_argument}
-use Rattle.graphql_documents.specs.Directives.{ApplicationHolds, ApplicationsHold, IsRepeatable, RepetitionsHold, directive_definition, directive_in}
+use Rattle.graphql_specification.specs.Directives.{DirectivesReport, IsApplied, of_application, of_argument_values, of_missing_argument, of_repeated_argument, of_unknown_argument, ApplicationHolds, ApplicationsHold, IsRepeatable, RepetitionsHold}
+use Rattle.graphql_documents.specs.Directives.{directive_definition, directive_in}
 use Rattle.graphql_nodes.specs.Names.{SameName, same_name}
 use Rattle.graphql_diagnostics.specs.Reports.{Reports}
 use Rattle.graphql_diagnostics.proofs.DiagnosticLemmas.{diagnostic_wider}
@@ -16,7 +15,7 @@ use Rattle.graphql_diagnostics.specs.declared.data.DiagnosticData.TheVariants as
 use Rattle.graphql_diagnostics.specs.declared.data.DiagnosticData.{DiagnosticData}
 use Rattle.graphql_diagnostics.specs.declared.lists.DiagnosticEntry.{DiagnosticEntry}
 use Rattle.graphql_documents.specs.declared.documents.definitions.DirectiveDefinition.{DirectiveDefinition}
-use Rattle.graphql_documents.specs.declared.documents.definitions.DirectiveLocation.{DirectiveLocation}
+use Rattle.graphql_nodes.specs.declared.directive_locations.DirectiveLocation.{DirectiveLocation}
 use Rattle.graphql_documents.specs.declared.documents.definitions.VariableDefinition.{VariableDefinition}
 use Rattle.graphql_documents.specs.declared.documents.directives.Directive.{Directive}
 use Rattle.graphql_nodes.specs.declared.nodes.Node.{Node}
@@ -29,7 +28,7 @@ use Rattle.graphql_values.specs.declared.argument.owners.GivenArguments.{GivenAr
 use Rattle.graphql_variables.proofs.FirstPlaceLemmas.{find_none, found_at, pairs_more}
 
 module _ (schema : Option Schema) where
-  -- repetitions hold exactly where they held before the last directive, and it may stand behind the first of its name
+  -- repetitions hold exactly where they held before the last directive, and it may be behind the first of its name
   repetitions_more : (xs : List (Node Directive)) (x : Node Directive) →
       (RepetitionsHold schema xs × RepetitionHolds schema xs x) ↔ RepetitionsHold schema (xs ++ x ∷ [])
   repetitions_more xs x =
@@ -100,22 +99,22 @@ module _ (schema : Option Schema) where
         )
 
     module _ (directives : List (Node Directive)) where
-      -- a report on the arguments of one of the directives is one on the directives
+      -- a diagnostic on the arguments of one of the directives is one on the directives
       pub names_repetition : (d : Node Directive) → Contains directives d → (e : DiagnosticEntry) →
-          IsDiagnostic (RepetitionReport d.value.value.arguments.items) e → IsDiagnostic (DirectivesBreak schema variables location directives) e
+          IsDiagnostic (RepetitionReport d.value.value.arguments.items) e → IsDiagnostic (DirectivesReport schema variables location directives) e
       names_repetition d among =
-          diagnostic_wider (RepetitionReport d.value.value.arguments.items) (DirectivesBreak schema variables location directives) wide where
-            wide : (r : DiagnosticData) (at : Option SourceSpan) → RepetitionReport d.value.value.arguments.items r at → DirectivesBreak schema variables location directives r at
+          diagnostic_wider (RepetitionReport d.value.value.arguments.items) (DirectivesReport schema variables location directives) wide where
+            wide : (r : DiagnosticData) (at : Option SourceSpan) → RepetitionReport d.value.value.arguments.items r at → DirectivesReport schema variables location directives r at
             wide (report.UniqueArgument name original redefined) at said = of_repeated_argument d among said
             wide r at said = absurd said
 
       -- one directive more was checked
       pub application_checked : (before : List (Node Directive)) (x : Node Directive) (old mid new : List DiagnosticEntry) →
-          Reports (ApplicationsHold schema variables location before) (IsDiagnostic (DirectivesBreak schema variables location directives)) old mid →
-          Reports (FollowsWell schema variables location before x) (IsDiagnostic (DirectivesBreak schema variables location directives)) mid new →
-          Reports (ApplicationsHold schema variables location (before ++ x ∷ [])) (IsDiagnostic (DirectivesBreak schema variables location directives)) old new
+          Reports (ApplicationsHold schema variables location before) (IsDiagnostic (DirectivesReport schema variables location directives)) old mid →
+          Reports (FollowsWell schema variables location before x) (IsDiagnostic (DirectivesReport schema variables location directives)) mid new →
+          Reports (ApplicationsHold schema variables location (before ++ x ∷ [])) (IsDiagnostic (DirectivesReport schema variables location directives)) old new
       application_checked before x old mid new done follows =
-          let Q = IsDiagnostic (DirectivesBreak schema variables location directives) in
+          let Q = IsDiagnostic (DirectivesReport schema variables location directives) in
           let H = ApplicationsHold schema variables location before in
           let F = FollowsWell schema variables location before x in
           in_words (applications_more before x)
@@ -139,7 +138,7 @@ module _ (schema : Schema) (variables : List (Node VariableDefinition)) (locatio
   pub applied_well :
       (Contains definition.value.value.locations.items location ×
       All (GivenArgumentHolds schema variables definition.value.value.arguments.items) d.value.value.arguments.items ×
-      All (IsGivenIfRequired d.value.value.arguments.items) definition.value.value.arguments.items) ↔
+      All (RequiredArgumentIsProvided d.value.value.arguments.items) definition.value.value.arguments.items) ↔
       IsAppliedWell (Some schema) variables location d.value.value
   applied_well =
       let given = d.value.value.arguments.items in
@@ -164,7 +163,7 @@ module _ (schema : Schema) (variables : List (Node VariableDefinition)) (locatio
               subst (λ (x : Node DirectiveDefinition). Contains x.value.value.locations.items location) same h.allowed,
               given_each h.definition same h.names
                   (subst (λ s. ArgumentValuesHold s variables h.definition.value.value.arguments.items given) same_schema h.values),
-              subst (λ (x : Node DirectiveDefinition). All (IsGivenIfRequired given) x.value.value.arguments.items) same h.names.required,
+              subst (λ (x : Node DirectiveDefinition). All (RequiredArgumentIsProvided given) x.value.value.arguments.items) same h.names.required,
             ),
       )
 
@@ -173,35 +172,35 @@ module _ (schema : Schema) (variables : List (Node VariableDefinition)) (locatio
     is_applied = record { applied = among; has_schema = refl; defined = defined }
 
     of_given : (r : DiagnosticData) (at : Option SourceSpan) → GivenArgumentReport schema variables arguments r at →
-        DirectivesBreak (Some schema) variables location directives r at
+        DirectivesReport (Some schema) variables location directives r at
     of_given r at (given.of_unknown_argument lacks) =
         of_application is_applied (of_unknown_argument (rw (are.given_is, are.definitions_are, are.coordinate_is, are.definition_location_is) at lacks))
     of_given r at (given.of_argument_values break) = of_application is_applied (of_argument_values (rw (are.given_is, are.definitions_are) at break))
 
     of_missing : (r : DiagnosticData) (at : Option SourceSpan) → MissingArgumentReport arguments r at →
-        DirectivesBreak (Some schema) variables location directives r at
+        DirectivesReport (Some schema) variables location directives r at
     of_missing r at (given.of_missing_argument misses) =
         of_application is_applied (of_missing_argument (rw (are.given_is, are.definitions_are, are.argument_coordinate_is, are.location_is) at misses))
 
-    -- a report on the given arguments, or on one that is not given, is one on the directives
+    -- a diagnostic on the given arguments, or on one that is not given, is one on the directives
     pub names_given : (e : DiagnosticEntry) → IsDiagnostic (GivenArgumentReport schema variables arguments) e →
-        IsDiagnostic (DirectivesBreak (Some schema) variables location directives) e
-    names_given = diagnostic_wider (GivenArgumentReport schema variables arguments) (DirectivesBreak (Some schema) variables location directives) of_given
+        IsDiagnostic (DirectivesReport (Some schema) variables location directives) e
+    names_given = diagnostic_wider (GivenArgumentReport schema variables arguments) (DirectivesReport (Some schema) variables location directives) of_given
 
     pub names_missing : (e : DiagnosticEntry) → IsDiagnostic (MissingArgumentReport arguments) e →
-        IsDiagnostic (DirectivesBreak (Some schema) variables location directives) e
-    names_missing = diagnostic_wider (MissingArgumentReport arguments) (DirectivesBreak (Some schema) variables location directives) of_missing
+        IsDiagnostic (DirectivesReport (Some schema) variables location directives) e
+    names_missing = diagnostic_wider (MissingArgumentReport arguments) (DirectivesReport (Some schema) variables location directives) of_missing
 
     -- the arguments were checked against the definition
     pub arguments_checked : {T E : Type 0} (r : Result T E) (old mid new : List DiagnosticEntry) →
         Reports (All (GivenArgumentHolds schema variables arguments.definitions.now) arguments.given.now)
         (IsDiagnostic (GivenArgumentReport schema variables arguments)) old mid →
-        ChecksList r (All (IsGivenIfRequired arguments.given.now) arguments.definitions.now) (IsDiagnostic (MissingArgumentReport arguments)) mid new →
+        ChecksList r (All (RequiredArgumentIsProvided arguments.given.now) arguments.definitions.now) (IsDiagnostic (MissingArgumentReport arguments)) mid new →
         ChecksList r (All (GivenArgumentHolds schema variables definition.value.value.arguments.items) d.value.value.arguments.items ×
-        All (IsGivenIfRequired d.value.value.arguments.items) definition.value.value.arguments.items)
-        (IsDiagnostic (DirectivesBreak (Some schema) variables location directives)) old new
+        All (RequiredArgumentIsProvided d.value.value.arguments.items) definition.value.value.arguments.items)
+        (IsDiagnostic (DirectivesReport (Some schema) variables location directives)) old new
     arguments_checked r old mid new given required =
-        let Q = IsDiagnostic (DirectivesBreak (Some schema) variables location directives) in
+        let Q = IsDiagnostic (DirectivesReport (Some schema) variables location directives) in
         rw (sym are.given_is, sym are.definitions_are)
         (checks_after r _ _ Q old mid new
         (wider names_given given)

@@ -2,13 +2,12 @@
 use Rattle.std.proofs.Common.{◌≡◌, ◌↔◌, List, Some, sym, ap, ◌∙◌, subst, Contains}
 use Rattle.std.specs.Prelude.{Option, is_some}
 use Rattle.std.proofs.lemmas.Option.{same_Some}
-use Rattle.graphql_documents.specs.Arguments.{ArgumentValueHolds, definition_named}
+use Rattle.graphql_specification.specs.Arguments.{ArgumentValueHolds, of_usage, of_value}
+use Rattle.graphql_documents.specs.Definitions.{definition_named}
 use Rattle.graphql_diagnostics.specs.Diagnostics.{IsDiagnostic}
-use Rattle.graphql_diagnostics.specs.DirectiveReports.{UsageReport, of_usage, of_value}
-use Rattle.graphql_documents.specs.InputCoercion.{Accepts}
+use Rattle.graphql_specification.specs.VariableUsages.{UsageReport, UsageHolds}
+use Rattle.graphql_specification.specs.Values.{Accepts, ValueReport}
 use Rattle.graphql_documents.specs.TypeReferences.{reference_of}
-use Rattle.graphql_diagnostics.specs.ValueReports.{ValueReport}
-use Rattle.graphql_documents.specs.VariableUsage.{UsageHolds}
 use Rattle.graphql_diagnostics.proofs.DiagnosticLemmas.{diagnostic_wider}
 use Rattle.graphql_diagnostics.specs.declared.data.DiagnosticData.TheVariants as report
 use Rattle.graphql_diagnostics.specs.declared.data.DiagnosticData.{DiagnosticData}
@@ -29,16 +28,16 @@ module _ (schema : Schema) (variables : List (Node VariableDefinition)) (argumen
       of_argument_values (of_usage (record { a = a; definition = d; is_given = in'; defined = found; misuse = said }))
   misuse r at said = absurd said
 
-  -- a report on a variable that may not stand there
+  -- a diagnostic on a variable that is not allowed there
   pub names_misuse : (e : DiagnosticEntry) → IsDiagnostic (UsageReport variables d a) e → IsDiagnostic (GivenArgumentReport schema variables arguments) e
   names_misuse = diagnostic_wider (UsageReport variables d a) (GivenArgumentReport schema variables arguments) misuse
 
-  -- the argument holds only where its variable may stand there
+  -- the argument holds only where its variable is allowed there
   pub usage_needed : GivenArgumentHolds schema variables arguments.definitions.now a → UsageHolds variables d.value.value a.value.value.value.value.value
   usage_needed h = (h.value_holds d found).usage
 
   module _ (input : InputValueDefinition) (same : input ≡ d.value.value) where
-    -- a report on its value
+    -- a diagnostic on its value
     pub names_wrong_value : (e : DiagnosticEntry) → IsDiagnostic (ValueReport schema variables (reference_of input.ty) a.value.value.value) e →
         IsDiagnostic (GivenArgumentReport schema variables arguments) e
     names_wrong_value e said =
@@ -46,7 +45,7 @@ module _ (schema : Schema) (variables : List (Node VariableDefinition)) (argumen
         (λ r at broken. of_argument_values (of_value (record { a = a; definition = d; is_given = in'; defined = found; broken = broken }))) e
         (subst (λ x. IsDiagnostic (ValueReport schema variables (reference_of x.ty) a.value.value.value) e) same said)
 
-    -- the argument holds where its variable may stand there and its value is accepted
+    -- the argument holds where its variable is allowed there and its value is accepted
     pub given_decides : (UsageHolds variables d.value.value a.value.value.value.value.value × Accepts schema variables input.ty.value.value a.value.value.value.value.value) ↔
         GivenArgumentHolds schema variables arguments.definitions.now a
     given_decides = (

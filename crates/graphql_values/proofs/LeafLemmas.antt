@@ -1,13 +1,12 @@
 -- What it takes that a literal without parts is accepted, and why it is not.
 use Rattle.std.proofs.Common.{ℕ, codes, ◌≡◌, inl, inr, List, Bool, Some, IsTrue, IsFalse, IsSome, refl, sym, ◌∙◌, subst, true≢false}
 use Rattle.indexmap.specs.IndexMap.{get}
-use Rattle.graphql_documents.specs.InputCoercion.{Accepts, accepts_null, accepts_variable, accepts_leaf, AcceptsLeaf, is_built_in_scalar, is_custom_scalar}
+use Rattle.graphql_specification.specs.Values.{Accepts, accepts_null, accepts_variable, accepts_leaf, AcceptsLeaf, is_built_in_scalar, is_custom_scalar, CannotStandFor, null_for_non_null, variable_of_other_type, leaf_of_other_type, IsUnknownEnumValue}
 use Rattle.graphql_nodes.specs.Names.{NameText, SameName, same_name}
 use Rattle.graphql_numbers.specs.Numbers.{FitsInt, integer_value}
 use Rattle.graphql_documents.specs.Schemas.{is_input_type, type_definition}
 use Rattle.graphql_documents.specs.TypeReferences.{inner_named_type, is_non_null}
-use Rattle.graphql_diagnostics.specs.ValueReports.{CannotStandFor, null_for_non_null, variable_of_other_type, leaf_of_other_type, IsUnknownEnumValue}
-use Rattle.graphql_documents.specs.VariableUsage.{variable_named}
+use Rattle.graphql_documents.specs.Definitions.{variable_named}
 use Rattle.graphql_documents.specs.declared.documents.definitions.VariableDefinition.{VariableDefinition}
 use Rattle.graphql_nodes.specs.declared.nodes.Node.{Node}
 use Rattle.graphql_documents.specs.declared.documents.schemas.EnumType.{EnumType}

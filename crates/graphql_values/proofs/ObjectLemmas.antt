@@ -5,11 +5,10 @@ use Rattle.std.proofs.lemmas.List.Elements.{All-head}
 use Rattle.graphql_diagnostics.specs.Reports.{Reports}
 use Rattle.graphql_diagnostics.proofs.ReportLemmas.{holds}
 use Rattle.graphql_documents.proofs.ListLemmas.{All-append_right}
-use Rattle.graphql_documents.specs.InputCoercion.{IsInputField}
+use Rattle.graphql_specification.specs.Values.{IsInputField, HasUnknownEntry}
 use Rattle.graphql_nodes.specs.Names.{NameText}
 use Rattle.graphql_documents.specs.Schemas.{IsInputObject}
 use Rattle.graphql_documents.specs.TypeReferences.{inner_named_type}
-use Rattle.graphql_diagnostics.specs.ValueReports.{HasUnknownEntry}
 use Rattle.graphql_nodes.specs.declared.nodes.Node.{Node}
 use Rattle.graphql_documents.specs.declared.documents.schemas.InputObjectType.{InputObjectType}
 use Rattle.graphql_documents.specs.declared.documents.schemas.Schema.{Schema}

@@ -1,11 +1,11 @@
--- Which arguments repeat a name, and the reports that say so.
+-- Which arguments repeat a name, and the diagnostics that say so.
 use Rattle.std.proofs.Common.{◌≡◌, ◌↔◌, ℕ, ◌+◌, ◌<◌, List, [], ◌∷◌, ◌++◌, Option, Some, None, length, get_or, take, drop, refl, sym, ap, ◌∙◌, subst}
 use Rattle.std.specs.List.{AllZip, cons_option}
 use Rattle.std.specs.Option.{option_map}
 use Rattle.std.proofs.lemmas.List.{append-nil, append_assoc, drop_more, take-append-drop}
 use Rattle.std.proofs.lemmas.List.Elements.{All-nil}
-use Rattle.graphql_diagnostics.specs.ArgumentReports.{AreRepetitionReports, AreReportsOf, IsRepetition, IsReportOf, RepetitionReport, repetition_after, repetitions_after}
-use Rattle.graphql_documents.specs.Arguments.{HasDistinctNames, argument_named}
+use Rattle.graphql_specification.specs.Arguments.{AreRepetitionReports, AreReportsOf, IsRepetition, ArgumentRepetitionReport, RepetitionReport, repetition_after, repetitions_after, HasDistinctNames}
+use Rattle.graphql_documents.specs.Directives.{argument_named}
 use Rattle.graphql_diagnostics.specs.Diagnostics.{IsDiagnostic}
 use Rattle.graphql_diagnostics.specs.Reports.{Appends, Reports}
 use Rattle.graphql_diagnostics.proofs.DiagnosticLemmas.{diagnostic_wider}
@@ -44,9 +44,9 @@ repetitions_more before (a ∷ given) x =
     sym (append_assoc one rest (repetition_after ((before ++ a ∷ []) ++ given) x)) ∙
     ap (λ l. (one ++ rest) ++ repetition_after l x) (append_assoc before (a ∷ []) given)
 
--- the report of a repetition is that of one among the arguments
+-- the diagnostic of a repetition is that of one among the arguments
 module _ (given : List (Node Argument)) (first again : Node Argument) (repetition : IsRepetition given first again) where
-  among : (r : DiagnosticData) (at : Option SourceSpan) → IsReportOf (first, again) r at → RepetitionReport given r at
+  among : (r : DiagnosticData) (at : Option SourceSpan) → ArgumentRepetitionReport (first, again) r at → RepetitionReport given r at
   among (report.UniqueArgument name original redefined) at said = record { first = first; again = again; repetition = repetition; says = said }
   among r at said = absurd said
 
@@ -55,7 +55,7 @@ module _ (given : List (Node Argument)) (first again : Node Argument) (repetitio
   of_one old new [] is are = absurd are
   of_one old new (e ∷ []) is are =
       broken (IsDiagnostic (RepetitionReport given)) ⊥ old new e is (λ x. x)
-      (diagnostic_wider (IsReportOf (first, again)) (RepetitionReport given) among e are.0)
+      (diagnostic_wider (ArgumentRepetitionReport (first, again)) (RepetitionReport given) among e are.0)
   of_one old new (e ∷ e' ∷ added) is are = absurd are.1
 
   pub reports_repetition : (old new : List DiagnosticEntry) → Appends (AreReportsOf ((first, again) ∷ [])) old new →
@@ -85,7 +85,7 @@ module _ (xs : List (Node Argument)) (i : ℕ) (x : Node Argument) (within : i <
     are =
         subst (λ l. AreRepetitionReports l (a.added ++ b.added)) (sym (more_is xs i x within item))
         (subst (λ pairs. AreReportsOf pairs (a.added ++ b.added)) (sym (repetitions_more [] (take i xs) x))
-        (zip_then (λ pair. IsDiagnostic (IsReportOf pair)) (repetitions_after [] (take i xs)) (repetition_after (take i xs) x) a.added b.added a.are b.are));
+        (zip_then (λ pair. IsDiagnostic (ArgumentRepetitionReport pair)) (repetitions_after [] (take i xs)) (repetition_after (take i xs) x) a.added b.added a.are b.are));
   }
 
   none_added : (added : List DiagnosticEntry) → AreReportsOf [] added → added ≡ []

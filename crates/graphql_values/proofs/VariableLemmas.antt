@@ -3,18 +3,17 @@ use Rattle.std.proofs.Common.{◌≡◌, ◌↔◌, List, [], ◌∷◌, ◌++�
 use Rattle.std.proofs.lemmas.List.Elements.{All-append, All-cons, All-head, All-nil}
 use Rattle.std.proofs.lemmas.Option.{same_Some, none-some}
 use Rattle.graphql_diagnostics.specs.Diagnostics.{IsDiagnostic}
-use Rattle.graphql_diagnostics.specs.DirectiveReports.{DirectivesBreak}
+use Rattle.graphql_specification.specs.Directives.{DirectivesReport}
 use Rattle.graphql_diagnostics.specs.Reports.{Reports}
 use Rattle.graphql_documents.specs.Schemas.{is_input_type, type_definition}
 use Rattle.graphql_documents.specs.TypeReferences.{inner_named_type, reference_of}
-use Rattle.graphql_diagnostics.specs.ValueReports.{ValueReport}
-use Rattle.graphql_diagnostics.specs.VariableReports.{VariablesReport, of_default, of_variable, of_variable_directives}
-use Rattle.graphql_documents.specs.Variables.{DefaultHolds, HasInputType, VariableDefinitionHolds, VariableDefinitionsHold}
+use Rattle.graphql_specification.specs.Values.{ValueReport}
+use Rattle.graphql_specification.specs.Variables.{VariablesReport, of_default, of_variable, of_variable_directives, DefaultHolds, HasInputType, VariableDefinitionHolds, VariableDefinitionsHold}
 use Rattle.graphql_diagnostics.proofs.DiagnosticLemmas.{diagnostic_wider}
 use Rattle.graphql_diagnostics.proofs.ReportLemmas.{both, in_words}
 use Rattle.graphql_documents.proofs.ListLemmas.{All-append_left, All-append_right}
 use Rattle.graphql_diagnostics.specs.declared.lists.DiagnosticEntry.{DiagnosticEntry}
-use Rattle.graphql_documents.specs.declared.documents.definitions.DirectiveLocation.TheVariants as allowed_at
+use Rattle.graphql_nodes.specs.declared.directive_locations.DirectiveLocation.TheVariants as allowed_at
 use Rattle.graphql_documents.specs.declared.documents.definitions.VariableDefinition.{VariableDefinition}
 use Rattle.graphql_nodes.specs.declared.nodes.Node.{Node}
 use Rattle.graphql_documents.specs.declared.documents.schemas.ExtendedType.{ExtendedType}
@@ -84,13 +83,13 @@ module _ (schema : Option Schema) where
       in_words (variables_more before x) (both done follows)
 
   module _ (variables : List (Node VariableDefinition)) (v : Node VariableDefinition) (among : Contains variables v) where
-    -- a report on the directives of a variable is one on the variables
+    -- a diagnostic on the directives of a variable is one on the variables
     pub names_directives : (e : DiagnosticEntry) →
-        IsDiagnostic (DirectivesBreak schema [] allowed_at.VariableDefinition v.value.value.directives.items) e → IsDiagnostic (VariablesReport schema variables) e
-    names_directives = diagnostic_wider (DirectivesBreak schema [] allowed_at.VariableDefinition v.value.value.directives.items) (VariablesReport schema variables)
+        IsDiagnostic (DirectivesReport schema [] allowed_at.VariableDefinition v.value.value.directives.items) e → IsDiagnostic (VariablesReport schema variables) e
+    names_directives = diagnostic_wider (DirectivesReport schema [] allowed_at.VariableDefinition v.value.value.directives.items) (VariablesReport schema variables)
         (λ r at said. of_variable_directives among said)
 
-    -- a report on the default of a variable is one on the variables
+    -- a diagnostic on the default of a variable is one on the variables
     pub names_default : (against : Schema) (value : Node Value) → schema ≡ Some against → v.value.value.default_value ≡ Some value → (e : DiagnosticEntry) →
         IsDiagnostic (ValueReport against [] (reference_of v.value.value.ty) value) e → IsDiagnostic (VariablesReport schema variables) e
     names_default against value has_schema is_default =

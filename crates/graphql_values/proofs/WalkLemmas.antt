@@ -2,13 +2,11 @@
 use Rattle.std.proofs.Common.{◌≡◌, List, Bool, true, false, ◌||◌, Some, None, Result, IsTrue, IsFalse, refl, sym, ap, ◌∙◌, subst, All, Contains}
 use Rattle.std.proofs.lemmas.Option.{same_Some}
 use Rattle.graphql_diagnostics.specs.Diagnostics.{IsDiagnostic}
-use Rattle.graphql_documents.specs.InputCoercion.{Accepts, accepts_custom_object, IsInputField, is_custom_scalar}
+use Rattle.graphql_specification.specs.Values.{Accepts, accepts_custom_object, IsInputField, is_custom_scalar, CannotStandFor, list_for_no_list, list_of_no_input, object_for_no_object, TakesLists, ValueReport, within_item, within_entry}
 use Rattle.graphql_nodes.specs.Names.{NameText}
 use Rattle.graphql_diagnostics.specs.Reports.{Reports}
-use Rattle.graphql_documents.specs.SchemaReferences.{as_input_object}
-use Rattle.graphql_documents.specs.Schemas.{IsInputObject, is_input_type, type_definition}
+use Rattle.graphql_documents.specs.Schemas.{as_input_object, IsInputObject, is_input_type, type_definition}
 use Rattle.graphql_documents.specs.TypeReferences.{TypeReference, inner_named_type, is_list, item_reference, item_type, reference_of}
-use Rattle.graphql_diagnostics.specs.ValueReports.{CannotStandFor, list_for_no_list, list_of_no_input, object_for_no_object, TakesLists, ValueReport, within_item, within_entry}
 use Rattle.graphql_documents.specs.Values.{entry_named}
 use Rattle.graphql_diagnostics.proofs.DiagnosticLemmas.{diagnostic_wider}
 use Rattle.graphql_diagnostics.proofs.ReportLemmas.{ChecksList, checks_after, checks_words}
@@ -70,7 +68,7 @@ module _ {variables : List (Node VariableDefinition)} {ty : «Type»} {d : Exten
   custom_object_accepted {schema} is has custom = subst (Accepts schema variables ty) (sym has.is_object) (accepts_custom_object has.entries is custom)
 
 module _ (schema : Schema) (variables : List (Node VariableDefinition)) (ty : TypeReference) where
-  -- a report on an item of a list
+  -- a diagnostic on an item of a list
   pub names_item : (items : List (Node Value)) (item : Node Value) → Contains items item →
       (e : DiagnosticEntry) → IsDiagnostic (ValueReport schema variables ty item) e → IsDiagnostic (ItemReport schema variables ty items) e
   names_item items item among = diagnostic_wider (ValueReport schema variables ty item) (ItemReport schema variables ty items)
@@ -104,7 +102,7 @@ module _ (schema : Schema) (variables : List (Node VariableDefinition)) (ty : Ty
 
   module _ (o : Node InputObjectType) (value : Node Value) (given : List (NameText × Node Value))
       (is : IsInputObject schema (inner_named_type ty.ty) o) (has : HasEntries value.value.value given) where
-    -- a report on the first entry under the name of a field
+    -- a diagnostic on the first entry under the name of a field
     pub names_entry : (field : NameText × Component InputValueDefinition) → Contains o.value.value.fields.entries field →
         (entry : DiagnosticEntry) → IsDiagnostic (EntryReport schema variables given field) entry → IsDiagnostic (ValueReport schema variables ty value) entry
     names_entry field among = diagnostic_wider (EntryReport schema variables given field) (ValueReport schema variables ty value)
@@ -144,9 +142,9 @@ entry_checked r schema variables entries field value ty old mid new first ty_is 
     let P = λ (t : TypeReference). Accepts schema variables t.ty value.value.value in
     let Q = λ (t : TypeReference) (entry : DiagnosticEntry). IsDiagnostic (ValueReport schema variables t value) entry in
     let typed : ChecksList r (P Own) (Q Own) mid new = subst (λ t. ChecksList r (P t) (Q t) mid new) ty_is c in
-    let placed : ChecksList r (P Own) (Q Own) old new = subst (λ l. ChecksList r (P Own) (Q Own) l new) same typed in
+    let reachable_on : ChecksList r (P Own) (Q Own) old new = subst (λ l. ChecksList r (P Own) (Q Own) l new) same typed in
     checks_words r (P Own) (AcceptsEntry schema variables entries field) (Q Own) (IsDiagnostic (EntryReport schema variables entries field)) old new
     (λ h other found. subst (λ x. Accepts schema variables Own.ty x.value.value) (same_Some value other (sym first ∙ found)) h, λ h. h value first)
     (diagnostic_wider (ValueReport schema variables Own value) (EntryReport schema variables entries field)
     (λ report at says. record { value = value; is_first = first; says = says }))
-    placed
+    reachable_on

@@ -1,16 +1,16 @@
 -- The steps of the checks of applied directives, for the contracts of their private functions.
 use Rattle.std.specs.Prelude.{◌≡◌, List, Option, Some, Contains, Result, find}
 use Rattle.std.specs.Option.{option_map}
-use Rattle.graphql_documents.specs.Arguments.{ArgumentNamesHold, ArgumentValuesHold, HasDistinctNames}
+use Rattle.graphql_specification.specs.Arguments.{ArgumentNamesHold, ArgumentValuesHold, HasDistinctNames}
 use Rattle.graphql_diagnostics.specs.Diagnostics.{IsDiagnostic}
-use Rattle.graphql_diagnostics.specs.DirectiveReports.{DirectivesBreak}
-use Rattle.graphql_documents.specs.Directives.{IsRepeatable, directive_definition}
+use Rattle.graphql_specification.specs.Directives.{DirectivesReport, IsRepeatable}
+use Rattle.graphql_documents.specs.Directives.{directive_definition}
 use Rattle.graphql_nodes.specs.Names.{NameText, same_name}
 use Rattle.graphql_diagnostics.specs.Reports.{Checks}
 use Rattle.graphql_nodes.specs.Spans.{recompose}
 use Rattle.graphql_diagnostics.specs.declared.lists.DiagnosticList.{DiagnosticList}
 use Rattle.graphql_documents.specs.declared.documents.definitions.DirectiveDefinition.{DirectiveDefinition}
-use Rattle.graphql_documents.specs.declared.documents.definitions.DirectiveLocation.{DirectiveLocation}
+use Rattle.graphql_nodes.specs.declared.directive_locations.DirectiveLocation.{DirectiveLocation}
 use Rattle.graphql_documents.specs.declared.documents.definitions.VariableDefinition.{VariableDefinition}
 use Rattle.graphql_documents.specs.declared.documents.directives.Directive.{Directive}
 use Rattle.graphql_nodes.specs.declared.nodes.Node.{Node}
@@ -23,8 +23,8 @@ abbrev pub head_place : Node Directive → Option SourceSpan
 head_place d = recompose d.location d.value.value.name.location
 
 -- the name of an application beside its head
-abbrev pub met_directive : Node Directive → NameText × Option SourceSpan
-met_directive d = (d.value.value.name, head_place d)
+abbrev pub visited_directive : Node Directive → NameText × Option SourceSpan
+visited_directive d = (d.value.value.name, head_place d)
 
 -- the first application of the directive with this name
 abbrev pub directive_named : NameText → List (Node Directive) → Option (Node Directive)
@@ -53,13 +53,13 @@ pub record IsAppliedWell (schema : Option Schema) (variables : List (Node Variab
 abbrev pub ChecksApplication : {T E : Type 0} → Result T E → Type 0 → Option Schema → List (Node VariableDefinition) → DirectiveLocation → Node Directive → DiagnosticList → DiagnosticList → Type 0
 ChecksApplication result Holds schema variables location d old new =
     (directives : List (Node Directive)) → Contains directives d →
-    Checks result Holds (IsDiagnostic (DirectivesBreak schema variables location directives)) old new
+    Checks result Holds (IsDiagnostic (DirectivesReport schema variables location directives)) old new
 
 -- a call that checks a rule for one of the directives applied at a place, behind these
 abbrev pub ChecksNext : {T E : Type 0} → Result T E → Type 0 → Option Schema → List (Node VariableDefinition) → DirectiveLocation → List (Node Directive) → Node Directive → DiagnosticList → DiagnosticList → Type 0
 ChecksNext result Holds schema variables location before d old new =
     (directives : List (Node Directive)) → IsNext directives before d →
-    Checks result Holds (IsDiagnostic (DirectivesBreak schema variables location directives)) old new
+    Checks result Holds (IsDiagnostic (DirectivesReport schema variables location directives)) old new
 
 -- a call that checks whether a directive repeats one that is applied before it
 abbrev pub ChecksRepetition : {T E : Type 0} → Result T E → Option Schema → List (Node Directive) → Node Directive → DiagnosticList → DiagnosticList → Type 0
@@ -67,7 +67,7 @@ ChecksRepetition result schema before d old new =
     (variables : List (Node VariableDefinition)) (location : DirectiveLocation) →
     ChecksNext result (RepetitionHolds schema before d) schema variables location before d old new
 
--- a directive may stand behind these, and is applied as its definition asks
+-- a directive may be behind these, and is applied as its definition asks
 abbrev pub FollowsWell : Option Schema → List (Node VariableDefinition) → DirectiveLocation → List (Node Directive) → Node Directive → Type 0
 FollowsWell schema variables location before d =
     HasDistinctNames d.value.value.arguments.items × (RepetitionHolds schema before d × IsAppliedWell schema variables location d.value.value)

@@ -1,8 +1,6 @@
 -- Arguments beside their definitions, for the calls that fields and directives share.
 use Rattle.std.specs.Prelude.{◌≡◌, List, Option}
-use Rattle.graphql_diagnostics.specs.ArgumentReports.{LacksArgument, MissesArgument}
-use Rattle.graphql_documents.specs.Arguments.{IsDefined, ValueHoldsBy}
-use Rattle.graphql_diagnostics.specs.DirectiveReports.{ArgumentValuesBreak}
+use Rattle.graphql_specification.specs.Arguments.{LacksArgument, MissesArgument, IsDefined, ValueHoldsBy, ArgumentValuesReport}
 use Rattle.graphql_nodes.specs.Names.{NameText}
 use Rattle.graphql_diagnostics.specs.declared.data.DiagnosticData.TheVariants as report
 use Rattle.graphql_diagnostics.specs.declared.data.DiagnosticData.{DiagnosticData}
@@ -36,7 +34,7 @@ argument_coordinate_of (owner.Field parent field) argument =
 argument_coordinate_of (owner.Directive application definition) argument =
     coordinate.DirectiveArgument (record { directive = definition.now; argument = argument })
 
--- these are the arguments of a field that stands on this type, with this definition
+-- these are the arguments of a field that is on this type, with this definition
 pub record AreOfField (parent : NameText) (f : Node Field) (d : Component FieldDefinition) (arguments : GivenArguments) : Type 0 where
   pub coordinate_is : owner_coordinate arguments.owner ≡ coordinate.TypeAttribute (record { ty = parent; attribute = f.value.value.name })
   pub argument_coordinate_is : argument_coordinate_of arguments.owner ≡
@@ -61,17 +59,17 @@ pub record GivenArgumentHolds (schema : Schema) (variables : List (Node Variable
   pub defined : IsDefined definitions a
   pub value_holds : ValueHoldsBy schema variables definitions a
 
--- the report names an argument that is not defined, or what is wrong with the value of one
+-- the diagnostic names an argument that is not defined, or what is wrong with the value of one
 pub data GivenArgumentReport (schema : Schema) (variables : List (Node VariableDefinition)) (arguments : GivenArguments) : DiagnosticData → Option SourceSpan → Type 0 where
   of_unknown_argument : {name : NameText} {reported : SchemaCoordinate} {definition_location at : Option SourceSpan} →
       LacksArgument arguments.definitions.now arguments.given.now (owner_coordinate arguments.owner) arguments.definition_location
       name reported definition_location at →
       GivenArgumentReport schema variables arguments (report.UndefinedArgument name reported definition_location) at
   of_argument_values : {r : DiagnosticData} {at : Option SourceSpan} →
-      ArgumentValuesBreak schema variables arguments.definitions.now arguments.given.now r at →
+      ArgumentValuesReport schema variables arguments.definitions.now arguments.given.now r at →
       GivenArgumentReport schema variables arguments r at
 
--- the report names a required argument that is not given
+-- the diagnostic names a required argument that is not given
 pub data MissingArgumentReport (arguments : GivenArguments) : DiagnosticData → Option SourceSpan → Type 0 where
   of_missing_argument : {name : NameText} {reported : SchemaCoordinate} {expected : Node «Type»} {definition_location at : Option SourceSpan} →
       MissesArgument arguments.definitions.now arguments.given.now (argument_coordinate_of arguments.owner) arguments.location

@@ -2,12 +2,11 @@
 use Rattle.std.specs.Prelude.{◌≡◌, ◌||◌, Bool, true, false, List, Option, Some, Contains, Vec, Result, codes}
 use Rattle.std.specs.declared.alloc.Global.{Global}
 use Rattle.graphql_diagnostics.specs.Diagnostics.{IsDiagnostic}
-use Rattle.graphql_documents.specs.InputCoercion.{Accepts, IsFieldGiven, is_built_in_scalar, is_custom_scalar}
+use Rattle.graphql_specification.specs.Values.{Accepts, IsFieldProvided, is_built_in_scalar, is_custom_scalar, ValueReport}
 use Rattle.graphql_nodes.specs.Names.{NameText}
 use Rattle.graphql_diagnostics.specs.Reports.{Checks}
 use Rattle.graphql_documents.specs.Schemas.{type_definition}
 use Rattle.graphql_documents.specs.TypeReferences.{TypeReference, inner_named_type, reference_of}
-use Rattle.graphql_diagnostics.specs.ValueReports.{ValueReport}
 use Rattle.graphql_documents.specs.Values.{entry_named}
 use Rattle.graphql_diagnostics.specs.declared.data.DiagnosticData.{DiagnosticData}
 use Rattle.graphql_diagnostics.specs.declared.lists.DiagnosticList.{DiagnosticList}
@@ -48,7 +47,7 @@ pub record HasItems (value : Value) (given : List (Node Value)) : Type 0 where
 abbrev pub AcceptsItem : Schema → List (Node VariableDefinition) → «Type» → Node Value → Type 0
 AcceptsItem schema variables item_type item = Accepts schema variables item_type item.value.value
 
--- the report names what is wrong with one of the items
+-- the diagnostic names what is wrong with one of the items
 pub record ItemReport (schema : Schema) (variables : List (Node VariableDefinition)) (item_type : TypeReference) (items : List (Node Value)) (r : DiagnosticData) (at : Option SourceSpan) : Type 0 where
   pub item : Node Value
   pub stands : Contains items item
@@ -66,7 +65,7 @@ AcceptsEntry schema variables entries field =
     (value : Node Value) → entry_named field.0 entries ≡ Some value →
     Accepts schema variables field.1.node.value.value.ty.value.value value.value.value
 
--- the report names what is wrong with the first entry under the name of the field
+-- the diagnostic names what is wrong with the first entry under the name of the field
 pub record EntryReport (schema : Schema) (variables : List (Node VariableDefinition)) (entries : List (NameText × Node Value)) (field : NameText × Component InputValueDefinition) (r : DiagnosticData) (at : Option SourceSpan) : Type 0 where
   pub value : Node Value
   pub is_first : entry_named field.0 entries ≡ Some value
@@ -74,7 +73,7 @@ pub record EntryReport (schema : Schema) (variables : List (Node VariableDefinit
 
 -- the field is given if it is required, and its first entry is accepted
 abbrev pub AcceptsField : Schema → List (Node VariableDefinition) → List (NameText × Node Value) → NameText × Component InputValueDefinition → Type 0
-AcceptsField schema variables entries field = IsFieldGiven entries field × AcceptsEntry schema variables entries field
+AcceptsField schema variables entries field = IsFieldProvided entries field × AcceptsEntry schema variables entries field
 
 -- a string, a float or a boolean
 abbrev pub is_other_scalar : Value → Bool

@@ -2,14 +2,13 @@
 use Rattle.std.specs.Prelude.{◌≡◌, List, [], Option, None, Some, Contains, Result}
 use Rattle.std.specs.Option.{option_map}
 use Rattle.graphql_diagnostics.specs.Diagnostics.{IsDiagnostic}
-use Rattle.graphql_documents.specs.Directives.{ApplicationsHold}
+use Rattle.graphql_specification.specs.Directives.{ApplicationsHold}
 use Rattle.graphql_nodes.specs.Names.{NameText}
 use Rattle.graphql_diagnostics.specs.Reports.{Checks}
-use Rattle.graphql_diagnostics.specs.VariableReports.{VariablesReport}
-use Rattle.graphql_documents.specs.VariableUsage.{variable_named}
-use Rattle.graphql_documents.specs.Variables.{DefaultHolds, HasInputType}
+use Rattle.graphql_specification.specs.Variables.{VariablesReport, DefaultHolds, HasInputType}
+use Rattle.graphql_documents.specs.Definitions.{variable_named}
 use Rattle.graphql_diagnostics.specs.declared.lists.DiagnosticList.{DiagnosticList}
-use Rattle.graphql_documents.specs.declared.documents.definitions.DirectiveLocation.TheVariants as at
+use Rattle.graphql_nodes.specs.declared.directive_locations.DirectiveLocation.TheVariants as at
 use Rattle.graphql_documents.specs.declared.documents.definitions.VariableDefinition.{VariableDefinition}
 use Rattle.graphql_nodes.specs.declared.nodes.Node.{Node}
 use Rattle.graphql_documents.specs.declared.documents.schemas.Schema.{Schema}
@@ -21,8 +20,8 @@ abbrev pub variable_name : Node VariableDefinition → NameText
 variable_name v = v.value.value.name
 
 -- the name of a variable beside its location
-abbrev pub met_variable : Node VariableDefinition → NameText × Option SourceSpan
-met_variable v = (v.value.value.name, v.location)
+abbrev pub visited_variable : Node VariableDefinition → NameText × Option SourceSpan
+visited_variable v = (v.value.value.name, v.location)
 
 -- the location of the first variable with this name
 abbrev pub variable_place_in : List (Node VariableDefinition) → NameText → Option (Option SourceSpan)

@@ -5,8 +5,7 @@ mod owners;
 mod required;
 
 ghost use Rattle.std.specs.Prelude.{◌≡◌, List, MatchResult, OnOk};
-ghost use Rattle.graphql_diagnostics.specs.ArgumentReports.{AreRepetitionReports, AreReportsOf, RepetitionReport, repetition_after};
-ghost use Rattle.graphql_documents.specs.Arguments.{HasDistinctNames};
+ghost use Rattle.graphql_specification.specs.Arguments.{AreRepetitionReports, AreReportsOf, RepetitionReport, repetition_after, HasDistinctNames};
 ghost use Rattle.graphql_diagnostics.specs.Diagnostics.{IsDiagnostic, entries};
 ghost use Rattle.graphql_diagnostics.specs.Reports.{Appends, Checks};
 ghost use Rattle.graphql_documents.specs.declared.documents.directives.Argument.{Argument};
@@ -14,15 +13,16 @@ ghost use Rattle.graphql_nodes.specs.declared.nodes.Node.{Node};
 ghost use Rattle.graphql_values.specs.Repetitions.{argument_place_in};
 
 pub use given::validate_given_arguments;
-use graphql_diagnostics::{Details, DiagnosticData, DiagnosticList, ValidationError};
-use graphql_documents::documents::{Argument, Name, Node, SourceSpan};
+use graphql_diagnostics::{Details, DiagnosticData, DiagnosticList};
+use graphql_documents::documents::Argument;
+use graphql_nodes::{Name, Node, SourceSpan, ValidationError};
 use graphql_variables::first_places::first_place;
 pub use owners::{ArgumentOwner, GivenArguments};
 pub use required::validate_required_arguments;
 use std::collections::HashMap;
 
-/// Reports each argument that repeats the name of an earlier one, in order, at the repetition and with
-/// the place of the first of its name. The only error is want of memory.
+/// Reports each argument that repeats the name of an earlier one, in order, at the repetition and with the
+/// place of the first of its name. The only error is a failed allocation.
 ///
 /// Specification: 5.4.2 Argument Uniqueness.
 pub fn validate_arguments(
@@ -40,8 +40,8 @@ pub fn validate_arguments(
     Ok(())
 }
 
-/// Reports an argument that repeats the name of one before it. The first argument of the name, if there
-/// is one, stands at `first`.
+/// Reports an argument that repeats the name of one before it. The first argument of the name, if there is
+/// one, is at `first`.
 fn check_repetition(
     diagnostics: &mut DiagnosticList,
     argument: &Node<Argument>,

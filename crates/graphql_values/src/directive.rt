@@ -7,20 +7,18 @@ mod variable_definitions;
 ghost use Rattle.std.specs.Prelude.{◌≡◌, ◌∷◌, ◌++◌, [], IfOk, List, OnOk, map};
 ghost use Rattle.std.specs.Option.{option_copied};
 ghost use Rattle.graphql_diagnostics.specs.Diagnostics.{IsDiagnostic};
-ghost use Rattle.graphql_diagnostics.specs.DirectiveReports.{DirectivesBreak};
-ghost use Rattle.graphql_documents.specs.Directives.{ApplicationsHold};
+ghost use Rattle.graphql_specification.specs.Directives.{DirectivesReport, ApplicationsHold};
 ghost use Rattle.graphql_diagnostics.specs.Reports.{Checks};
 ghost use Rattle.graphql_documents.specs.declared.documents.directives.Directive.{Directive};
 ghost use Rattle.graphql_nodes.specs.declared.nodes.Node.{Node};
-ghost use Rattle.graphql_values.specs.DirectiveSteps.{ChecksNext, FollowsWell, met_directive};
+ghost use Rattle.graphql_values.specs.DirectiveSteps.{ChecksNext, FollowsWell, visited_directive};
 ghost use Rattle.graphql_variables.specs.FirstPlaces.{Remembers};
 
 use crate::argument::validate_arguments;
 use applications::{check_repetition, validate_application};
-use graphql_diagnostics::{DiagnosticList, ValidationError};
-use graphql_documents::documents::{
-    Directive, DirectiveLocation, Name, Node, Schema, SourceSpan, VariableDefinition,
-};
+use graphql_diagnostics::DiagnosticList;
+use graphql_documents::documents::{Directive, Schema, VariableDefinition};
+use graphql_nodes::{DirectiveLocation, Name, Node, SourceSpan, ValidationError};
 use graphql_variables::VariablesByName;
 use graphql_variables::first_places::first_place;
 use std::alloc::Global;
@@ -29,10 +27,10 @@ pub use variable_definitions::validate_variable_definitions;
 
 /// Validates the directives applied at one place. Without a schema each is reported as undefined.
 ///
-/// Reports come directive by directive: its repeated arguments; that it repeats one that is not
-/// repeatable, where an unknown directive counts as repeatable; that it may not stand there; what its
-/// arguments break; the required ones that are missing. One that is not defined is reported after its
-/// repeated arguments, and nothing else is said of it. The only error is want of memory.
+/// Reports come directive by directive: its repeated arguments; that it repeats one that is not repeatable,
+/// where an unknown directive counts as repeatable; that it is not allowed there; what its arguments break;
+/// the required ones that are missing. One that is not defined is reported after its repeated arguments, and
+/// nothing else is said of it. The only error is a failed allocation.
 ///
 /// Specification: 5.7 Directives; 5.4 Arguments.
 pub fn validate_directives(
@@ -44,7 +42,7 @@ pub fn validate_directives(
 ) -> Result<(), ValidationError>
     ensures { Checks result
         (ApplicationsHold (option_copied schema.entry) variables.now location (map (λ d. d.now) directives.now))
-        (IsDiagnostic (DirectivesBreak (option_copied schema.entry) variables.now location (map (λ d. d.now) directives.now)))
+        (IsDiagnostic (DirectivesReport (option_copied schema.entry) variables.now location (map (λ d. d.now) directives.now)))
         diagnostics.old diagnostics.new }
 {
     let variables = VariablesByName::new(diagnostics.allocator(), variables)?;
@@ -63,7 +61,7 @@ pub fn check_directives(
 ) -> Result<(), ValidationError>
     ensures { Checks result
         (ApplicationsHold (option_copied schema.entry) variables.now location (map (λ d. d.now) directives.now))
-        (IsDiagnostic (DirectivesBreak (option_copied schema.entry) variables.now location (map (λ d. d.now) directives.now)))
+        (IsDiagnostic (DirectivesReport (option_copied schema.entry) variables.now location (map (λ d. d.now) directives.now)))
         diagnostics.old diagnostics.new }
 {
     let mut seen: HashMap<&Name, Option<SourceSpan>> = HashMap::new(diagnostics.allocator());
@@ -91,7 +89,7 @@ pub fn check_each_directive(
     variables: &VariablesByName,
 ) -> Result<(), ValidationError>
     ensures { Checks result (ApplicationsHold (option_copied schema.entry) variables.now location directives.now)
-        (IsDiagnostic (DirectivesBreak (option_copied schema.entry) variables.now location directives.now))
+        (IsDiagnostic (DirectivesReport (option_copied schema.entry) variables.now location directives.now))
         diagnostics.old diagnostics.new }
 {
     let directives = each_directive(diagnostics.allocator(), directives)?;
@@ -112,7 +110,7 @@ fn each_directive<'a>(
     Ok(each)
 }
 
-/// Validates one of the directives applied at one place, behind those that were met.
+/// Validates one of the directives applied at one place, behind those that were visited.
 fn validate_directive<'a>(
     diagnostics: &mut DiagnosticList,
     schema: Option<&Schema>,
@@ -121,11 +119,11 @@ fn validate_directive<'a>(
     location: DirectiveLocation,
     variables: &VariablesByName,
 ) -> Result<(), ValidationError>
-    ensures checks { (before : List (Node Directive)) → Remembers seen.old (map met_directive before) →
+    ensures checks { (before : List (Node Directive)) → Remembers seen.old (map visited_directive before) →
         ChecksNext result (FollowsWell (option_copied schema.entry) variables.now location before directive.now)
         (option_copied schema.entry) variables.now location before directive.now diagnostics.old diagnostics.new }
-    ensures remembers { OnOk result ((before : List (Node Directive)) → Remembers seen.old (map met_directive before) →
-        Remembers seen.new (map met_directive (before ++ directive.now ∷ []))) }
+    ensures remembers { OnOk result ((before : List (Node Directive)) → Remembers seen.old (map visited_directive before) →
+        Remembers seen.new (map visited_directive (before ++ directive.now ∷ []))) }
 {
     let name = &directive.value.name;
     let head = SourceSpan::recompose(directive.location, name.location());

@@ -5,4 +5,3 @@
 pub mod argument;
 pub mod directive;
 pub mod value;
-pub mod variable;

@@ -1,23 +1,25 @@
 //! Values against types.
 
+mod expected;
 mod leaves;
 mod objects;
 mod reports;
 
 ghost use Rattle.std.specs.Prelude.{◌≡◌, Some, All};
 ghost use Rattle.graphql_diagnostics.specs.Diagnostics.{IsDiagnostic};
-ghost use Rattle.graphql_documents.specs.InputCoercion.{Accepts};
+ghost use Rattle.graphql_specification.specs.Values.{Accepts, ValueReport};
 ghost use Rattle.graphql_diagnostics.specs.Reports.{Checks};
 ghost use Rattle.graphql_documents.specs.Schemas.{IsInputObject, type_definition};
 ghost use Rattle.graphql_documents.specs.TypeReferences.{TypeReference, inner_named_type, reference_of};
-ghost use Rattle.graphql_diagnostics.specs.ValueReports.{ValueReport};
 ghost use Rattle.graphql_values.specs.ValueSteps.{AcceptsEntry, AcceptsField, AcceptsItem, ChecksValue, EntryReport, HasEntries, HasItems, ItemReport, written_at};
 
-use graphql_diagnostics::{DiagnosticList, ValidationError};
+use expected::ExpectedType;
+use graphql_diagnostics::DiagnosticList;
 use graphql_documents::documents::{
-    Argument, Component, ExtendedType, InputObjectType, InputValueDefinition, Name, Node, Schema,
-    SourceSpan, Type, Value, VariableDefinition,
+    Argument, Component, ExtendedType, InputObjectType, InputValueDefinition, Schema, Type, Value,
+    VariableDefinition,
 };
+use graphql_nodes::{Name, Node, SourceSpan, ValidationError};
 use graphql_variables::VariablesByName;
 use leaves::{
     check_enum_value, check_int, check_null, check_other_scalar, check_variable, is_custom_scalar,
@@ -46,9 +48,9 @@ pub fn validate_values(
 
 /// Validates a value against a type. Nothing is said of a type that is not defined.
 ///
-/// Reports come in the order of the value. Of an input object value the first unknown entry is
-/// reported, and then for each field of the definition, in order, that it is missing or null, and
-/// what its first entry breaks. The only error is want of memory.
+/// Reports come in the order of the value. Of an input object value the first unknown entry is reported, and
+/// then for each field of the definition, in order, that it is missing or null, and what its first entry
+/// breaks. The only error is a failed allocation.
 ///
 /// Specification: 5.6 Values.
 pub fn value_of_correct_type(
@@ -93,7 +95,8 @@ pub fn check_value_of_type(
     )
 }
 
-/// Checks a value against a type that is written at this location.
+/// Checks a value against a type that is written at this location. Nothing is reported of a type that is not
+/// defined.
 #[cycle(value)]
 fn check_value(
     diagnostics: &mut DiagnosticList,
@@ -108,52 +111,42 @@ fn check_value(
     let Some(definition) = schema.types.get(ty.inner_named_type()) else {
         return Ok(());
     };
+    let expected = ExpectedType {
+        ty,
+        location,
+        definition,
+    };
+    check_expected(diagnostics, schema, value, &expected, variables)
+}
+
+/// Checks a value against the type that is expected.
+#[cycle(value)]
+fn check_expected(
+    diagnostics: &mut DiagnosticList,
+    schema: &Schema,
+    value: &Node<Value>,
+    expected: &ExpectedType<'_>,
+    variables: &VariablesByName,
+) -> Result<(), ValidationError>
+    requires { type_definition schema.now (inner_named_type expected.now.ty.now) ≡ Some expected.now.definition.now }
+    ensures { ChecksValue result schema.now variables.now (written_at expected.now.ty.now expected.now.location) value.now diagnostics.old diagnostics.new }
+{
     match &*value.value {
-        Value::Null => check_null(diagnostics, definition, ty, location, value),
-        Value::Enum(name) => check_enum_value(diagnostics, definition, ty, location, value, name),
-        Value::Variable(name) => {
-            check_variable(
-                diagnostics,
-                definition,
-                ty,
-                location,
-                value,
-                name,
-                variables,
-            )
-        }
-        Value::Int(number) => check_int(diagnostics, definition, ty, location, value, number),
+        Value::Null => check_null(diagnostics, expected, value),
+        Value::Enum(name) => check_enum_value(diagnostics, expected, value, name),
+        Value::Variable(name) => check_variable(diagnostics, expected, value, name, variables),
+        Value::Int(number) => check_int(diagnostics, expected, value, number),
         Value::String(_) | Value::Float(_) | Value::Boolean(_) => {
-            check_other_scalar(diagnostics, definition, ty, location, value)
+            check_other_scalar(diagnostics, expected, value)
         }
-        Value::List(items) => {
-            check_list(
-                diagnostics,
-                schema,
-                value,
-                items,
-                definition,
-                ty,
-                location,
-                variables,
-            )
-        }
+        Value::List(items) => check_list(diagnostics, schema, value, items, expected, variables),
         Value::Object(entries) => {
-            check_object(
-                diagnostics,
-                schema,
-                value,
-                entries,
-                definition,
-                ty,
-                location,
-                variables,
-            )
+            check_object(diagnostics, schema, value, entries, expected, variables)
         }
     }
 }
 
-/// Checks a list value of these items against a type with this definition.
+/// Checks a list value of these items.
 ///
 /// Specification: 3.11 List, Input Coercion.
 #[cycle(value)]
@@ -162,26 +155,28 @@ fn check_list(
     schema: &Schema,
     value: &Node<Value>,
     items: &[Node<Value>],
-    definition: &ExtendedType,
-    ty: &Type,
-    location: Option<SourceSpan>,
+    expected: &ExpectedType<'_>,
     variables: &VariablesByName,
 ) -> Result<(), ValidationError>
     requires list { HasItems value.now.value.value items.now }
-    requires defined { type_definition schema.now (inner_named_type ty.now) ≡ Some definition.now }
-    ensures { ChecksValue result schema.now variables.now (written_at ty.now location) value.now diagnostics.old diagnostics.new }
+    requires defined { type_definition schema.now (inner_named_type expected.now.ty.now) ≡ Some expected.now.definition.now }
+    ensures { ChecksValue result schema.now variables.now (written_at expected.now.ty.now expected.now.location) value.now diagnostics.old diagnostics.new }
 {
-    if !takes_lists(definition, ty) {
-        return unsupported_type(diagnostics, ty, location, value);
+    if !takes_lists(expected) {
+        return unsupported_type(diagnostics, expected, value);
     }
-    let item_type = ty.item_type();
-    if !definition.is_input_type() {
-        return unsupported_type(diagnostics, item_type, location, value);
+    let expected_item = ExpectedType {
+        ty: expected.ty.item_type(),
+        location: expected.location,
+        definition: expected.definition,
+    };
+    if !expected.definition.is_input_type() {
+        return unsupported_type(diagnostics, &expected_item, value);
     }
-    check_items(diagnostics, schema, items, item_type, location, variables)
+    check_items(diagnostics, schema, items, &expected_item, variables)
 }
 
-/// Checks an object value of these entries against a type with this definition.
+/// Checks an object value of these entries.
 ///
 /// Specification: 3.10 Input Objects, Input Coercion.
 #[cycle(value)]
@@ -190,41 +185,39 @@ fn check_object(
     schema: &Schema,
     value: &Node<Value>,
     entries: &[(Name, Node<Value>)],
-    definition: &ExtendedType,
-    ty: &Type,
-    location: Option<SourceSpan>,
+    expected: &ExpectedType<'_>,
     variables: &VariablesByName,
 ) -> Result<(), ValidationError>
     requires object { HasEntries value.now.value.value entries.now }
-    requires defined { type_definition schema.now (inner_named_type ty.now) ≡ Some definition.now }
-    ensures { ChecksValue result schema.now variables.now (written_at ty.now location) value.now diagnostics.old diagnostics.new }
+    requires defined { type_definition schema.now (inner_named_type expected.now.ty.now) ≡ Some expected.now.definition.now }
+    ensures { ChecksValue result schema.now variables.now (written_at expected.now.ty.now expected.now.location) value.now diagnostics.old diagnostics.new }
 {
-    if is_custom_scalar(definition) {
+    if is_custom_scalar(expected.definition) {
         return Ok(());
     }
-    let ExtendedType::InputObject(input_object) = definition else {
-        return unsupported_type(diagnostics, ty, location, value);
+    let ExtendedType::InputObject(input_object) = expected.definition else {
+        return unsupported_type(diagnostics, expected, value);
     };
     check_known_entries(diagnostics, input_object, value, entries)?;
     check_fields(diagnostics, schema, value, entries, input_object, variables)
 }
 
-/// Checks each item of a list against the type of the items, which is written at this location.
+/// Checks each item of a list against the type of the items.
 #[cycle(value)]
 fn check_items(
     diagnostics: &mut DiagnosticList,
     schema: &Schema,
     items: &[Node<Value>],
-    item_type: &Type,
-    location: Option<SourceSpan>,
+    expected: &ExpectedType<'_>,
     variables: &VariablesByName,
 ) -> Result<(), ValidationError>
-    ensures { Checks result (All (AcceptsItem schema.now variables.now item_type.now) items.now)
-        (IsDiagnostic (ItemReport schema.now variables.now (written_at item_type.now location) items.now))
+    requires { type_definition schema.now (inner_named_type expected.now.ty.now) ≡ Some expected.now.definition.now }
+    ensures { Checks result (All (AcceptsItem schema.now variables.now expected.now.ty.now) items.now)
+        (IsDiagnostic (ItemReport schema.now variables.now (written_at expected.now.ty.now expected.now.location) items.now))
         diagnostics.old diagnostics.new }
 {
     for item in items {
-        check_value(diagnostics, schema, item, item_type, location, variables)?;
+        check_expected(diagnostics, schema, item, expected, variables)?;
     }
     Ok(())
 }

@@ -60,7 +60,7 @@ map_choice : {X Y : Type 0} (f : X → Y) (b : Bool) (x : X) → option_map f (c
 map_choice f true x = refl
 map_choice f false x = refl
 
--- where what is found stands
+-- where what is found is
 pub found_at : {X : Type 0} (p : X → Bool) (xs : List X) (x : X) → find p xs ≡ Some x →
     (k : ℕ) × (k < length xs) × ((d : X) → get_or xs k d ≡ x) × (p x ≡ true)
 found_at p [] x e = absurd (let h : ⊥ = cc in h)
@@ -134,37 +134,37 @@ twice_mapped f g None = refl
 twice_mapped f g (Some x) = refl
 
 -- the location of the first, where the names are those of a list
-pub place_of_first : {X : Type 0} (met : X → NameText × Option SourceSpan) (xs : List X) (name : NameText) →
-    place_in (map met xs) name ≡ option_map (λ x. (met x).1) (find (λ x. same_name (met x).0 name) xs)
-place_of_first {X} met xs name =
-    ap (option_map (λ (m : NameText × Option SourceSpan). m.1)) (find_mapped met (λ m. same_name m.0 name) xs) ∙
-    twice_mapped met (λ m. m.1) (find (λ (x : X). same_name (met x).0 name) xs)
+pub place_of_first : {X : Type 0} (visited : X → NameText × Option SourceSpan) (xs : List X) (name : NameText) →
+    place_in (map visited xs) name ≡ option_map (λ x. (visited x).1) (find (λ x. same_name (visited x).0 name) xs)
+place_of_first {X} visited xs name =
+    ap (option_map (λ (m : NameText × Option SourceSpan). m.1)) (find_mapped visited (λ m. same_name m.0 name) xs) ∙
+    twice_mapped visited (λ m. m.1) (find (λ (x : X). same_name (visited x).0 name) xs)
 
-place_more : (met : List (NameText × Option SourceSpan)) (m : NameText × Option SourceSpan) (other : NameText) →
-    place_in (met ++ m ∷ []) other ≡ option_or (place_in met other) (cond (same_name m.0 other) (Some m.1) None)
-place_more met m other =
+place_more : (visited : List (NameText × Option SourceSpan)) (m : NameText × Option SourceSpan) (other : NameText) →
+    place_in (visited ++ m ∷ []) other ≡ option_or (place_in visited other) (cond (same_name m.0 other) (Some m.1) None)
+place_more visited m other =
     let P = λ (n : NameText × Option SourceSpan). same_name n.0 other in
-    ap (option_map (λ (n : NameText × Option SourceSpan). n.1)) (find-append P met (m ∷ [])) ∙
-    map_or (λ (n : NameText × Option SourceSpan). n.1) (find P met) (find P (m ∷ [])) ∙
-    ap (option_or (place_in met other)) (map_choice (λ (n : NameText × Option SourceSpan). n.1) (same_name m.0 other) m)
+    ap (option_map (λ (n : NameText × Option SourceSpan). n.1)) (find-append P visited (m ∷ [])) ∙
+    map_or (λ (n : NameText × Option SourceSpan). n.1) (find P visited) (find P (m ∷ [])) ∙
+    ap (option_or (place_in visited other)) (map_choice (λ (n : NameText × Option SourceSpan). n.1) (same_name m.0 other) m)
 
 -- one more is remembered
-pub remembers_more : {S : Type 0} {seen new : HashMap (Bor NameText) (Option SourceSpan) S} {met : List (NameText × Option SourceSpan)}
+pub remembers_more : {S : Type 0} {seen new : HashMap (Bor NameText) (Option SourceSpan) S} {visited : List (NameText × Option SourceSpan)}
     (name : NameText) (location : Option SourceSpan) →
     ((other : NameText) → get_by (λ b. same_name other b.now) new ≡ option_or (get_by (λ b. same_name other b.now) seen) (cond (same_name name other) (Some location) None)) →
-    Remembers seen met → Remembers new (met ++ (name, location) ∷ [])
-remembers_more {met} name location more r = record {
+    Remembers seen visited → Remembers new (visited ++ (name, location) ∷ [])
+remembers_more {visited} name location more r = record {
   look_up = λ other.
       more other ∙ ap (λ o. option_or o (cond (same_name name other) (Some location) None)) (r.look_up other) ∙
-      sym (place_more met (name, location) other);
+      sym (place_more visited (name, location) other);
 }
 
 -- the same of a list
-pub remembers_next : {S X : Type 0} {seen : HashMap (Bor NameText) (Option SourceSpan) S} (met : X → NameText × Option SourceSpan) (xs : List X) (x : X) →
-    Remembers seen (map met xs ++ met x ∷ []) → Remembers seen (map met (xs ++ x ∷ []))
-remembers_next {seen} met xs x r = subst (Remembers seen) (sym (map-append met xs (x ∷ []))) r
+pub remembers_next : {S X : Type 0} {seen : HashMap (Bor NameText) (Option SourceSpan) S} (visited : X → NameText × Option SourceSpan) (xs : List X) (x : X) →
+    Remembers seen (map visited xs ++ visited x ∷ []) → Remembers seen (map visited (xs ++ x ∷ []))
+remembers_next {seen} visited xs x r = subst (Remembers seen) (sym (map-append visited xs (x ∷ []))) r
 
--- what stands behind others stands in the list
+-- what is behind others is in the list
 pub next_stands : {X : Type 0} {all before : List X} {x : X} → IsNext all before x → Contains all x
 next_stands {all} {before} {x} next =
     subst (λ l. Contains l x) (sym next.split) (Contains-append_right before (x ∷ next.after) x (stands_first x next.after))

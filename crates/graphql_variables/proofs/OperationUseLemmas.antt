@@ -6,8 +6,8 @@ use Rattle.std.specs.Borrow.{Bor}
 use Rattle.std.specs.List.{Any}
 use mathlib.Core.Logic.{inl, inr}
 use Rattle.graphql_nodes.specs.Names.{NameText}
-use Rattle.graphql_documents.specs.Selections.{Fragments, Reached, arguments_of, directives_of}
-use Rattle.graphql_documents.specs.Variables.{StandsInArguments, StandsInDirectives, UsesVariable, in_arguments, in_directives, in_fragment_definition, in_operation}
+use Rattle.graphql_documents.specs.Selections.{Fragments, Reachable, arguments_of, directives_of}
+use Rattle.graphql_documents.specs.VariableUses.{StandsInArguments, StandsInDirectives, UsesVariable, in_arguments, in_directives, in_fragment_definition, in_operation}
 use Rattle.graphql_documents.specs.declared.documents.executables.Field.{Field}
 use Rattle.graphql_documents.specs.declared.documents.executables.Fragment.{Fragment}
 use Rattle.graphql_documents.specs.declared.documents.executables.FragmentSpread.{FragmentSpread}
@@ -22,7 +22,7 @@ use Rattle.graphql_documents.proofs.SelectionLemmas.{not_spread, same_spread, sp
 use Rattle.graphql_variables.specs.Uses.{IsNamedIn, NamesAlso, UsedAt, in_definition, in_own_arguments, in_own_directives, names_of}
 use Rattle.graphql_variables.proofs.UseLemmas.{also_in_words, also_then, any_has, any_more, has_any, none_in_none}
 
--- no variable stands in no arguments
+-- no variable is in no arguments
 no_arguments : (n : NameText) → ¬ StandsInArguments n []
 no_arguments n (k, x, within, is, p) = omega (arith, within)
 
@@ -111,21 +111,21 @@ module _ {fragments : Fragments} {s : Selection} where
 
 -- a variable is used where the operation's directives or the selections that it reaches use it
 pub uses_by_selections : (fragments : Fragments) (o : Operation) (selections : List (Bor Selection)) →
-    ((s : Selection) → Contains (map (λ (b : Bor Selection). b.now) selections) s ↔ Reached fragments o.selection_set s) → (n : NameText) →
+    ((s : Selection) → Contains (map (λ (b : Bor Selection). b.now) selections) s ↔ Reachable fragments o.selection_set s) → (n : NameText) →
     (StandsInDirectives n o.directives.items ⊎ Any (λ (b : Bor Selection). UsedAt fragments b.now n) selections) ↔ UsesVariable fragments o n
 uses_by_selections fragments o selections reach n = (forth, back) where
-  at_reached : {s : Selection} → Reached fragments o.selection_set s → UsedAt fragments s n → UsesVariable fragments o n
-  at_reached r (in_own_directives d) = in_directives r d
-  at_reached r (in_own_arguments a) = in_arguments r a
-  at_reached r (in_definition is found d) = in_fragment_definition (subst (Reached fragments o.selection_set) is r) found d
+  at_reachable : {s : Selection} → Reachable fragments o.selection_set s → UsedAt fragments s n → UsesVariable fragments o n
+  at_reachable r (in_own_directives d) = in_directives r d
+  at_reachable r (in_own_arguments a) = in_arguments r a
+  at_reachable r (in_definition is found d) = in_fragment_definition (subst (Reachable fragments o.selection_set) is r) found d
 
   forth : StandsInDirectives n o.directives.items ⊎ Any (λ (b : Bor Selection). UsedAt fragments b.now n) selections → UsesVariable fragments o n
   forth (inl d) = in_operation d
   forth (inr any) =
       let h = any_has (λ (b : Bor Selection). UsedAt fragments b.now n) selections any in
-      at_reached ((reach h.0.now).0 (stands_mapped (λ (b : Bor Selection). b.now) selections h.0 h.1)) h.2
+      at_reachable ((reach h.0.now).0 (stands_mapped (λ (b : Bor Selection). b.now) selections h.0 h.1)) h.2
 
-  listed : (s : Selection) → Reached fragments o.selection_set s → UsedAt fragments s n → Any (λ (b : Bor Selection). UsedAt fragments b.now n) selections
+  listed : (s : Selection) → Reachable fragments o.selection_set s → UsedAt fragments s n → Any (λ (b : Bor Selection). UsedAt fragments b.now n) selections
   listed s r u =
       let h = made_of (λ (b : Bor Selection). b.now) selections s ((reach s).1 r) in
       has_any (λ (b : Bor Selection). UsedAt fragments b.now n) selections h.0 h.1 (subst (λ x. UsedAt fragments x n) (sym h.2) u)
@@ -172,7 +172,7 @@ module _ (fragments : Fragments) (o : Operation) (selections : List (Bor Selecti
         back n (inl d) = inl (inl d)
         back n (inr any) = apart_last n ((more n).0 any)
 
-  pub used_all : ((s : Selection) → Contains (map (λ (b : Bor Selection). b.now) selections) s ↔ Reached fragments o.selection_set s) →
+  pub used_all : ((s : Selection) → Contains (map (λ (b : Bor Selection). b.now) selections) s ↔ Reachable fragments o.selection_set s) →
       (names : List (Bor NameText)) → NamesAlso (UsedBy selections) [] names → (n : NameText) → IsNamedIn (names_of names) n ↔ UsesVariable fragments o n
   used_all reach names also n = (λ there. forth ((also n).0 there), λ used. (also n).1 (inr (uses.1 used))) where
     uses : UsedBy selections n ↔ UsesVariable fragments o n

@@ -15,7 +15,7 @@ module _ {X : Type 0} (xs : List (Bor X)) (i : ℕ) (x : Bor X) (within : i < le
   pub referred_more : referred (take (i + 1) xs) ≡ referred (take i xs) ++ x.now ∷ []
   referred_more = ap (λ (l : List (Bor X)). referred l) (more_is xs i x within item) ∙ map-append (λ y. y.now) (take i xs) (x ∷ [])
 
-  -- what stands before it and behind it
+  -- what is before it and behind it
   pub referred_next : IsNext (referred xs) (referred (take i xs)) x.now
   referred_next = record {
     after = referred (drop (i + 1) xs);

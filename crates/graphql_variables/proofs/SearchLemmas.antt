@@ -1,4 +1,4 @@
--- Searches put together: nothing done, one after another, one that is entered before its successors, and
+-- Searches put together: nothing done, one after another, one that is visited before its successors, and
 -- what a search from nothing has seen.
 use Rattle.std.proofs.Common.{◌⊎◌, inl, inr}
 use Rattle.graphql_variables.specs.Searches.{Leads, leads_to_itself, leads_by, Finds, Searched}
@@ -11,7 +11,7 @@ leads_then (leads_by step more) after = leads_by step (leads_then more after)
 module _ {X : Type 0} {Step : X → X → Type 0} where
   -- nothing was done
   pub finds_nothing : {begins seen : X → Type 0} → Finds Step begins seen seen
-  finds_nothing = record { grows = λ x h. h; reached = λ x h. inl h }
+  finds_nothing = record { grows = λ x h. h; reachable = λ x h. inl h }
 
   -- nothing is to be done where all of it was seen before
   pub searched_before : {begins seen : X → Type 0} → ((x : X) → begins x → seen x) → Searched Step begins seen seen
@@ -22,7 +22,7 @@ module _ {X : Type 0} {Step : X → X → Type 0} where
       Finds Step begins old new → Finds Step begins' old new
   finds_from_more more f = record {
     grows = f.grows;
-    reached = λ x h. elim (f.reached x h) [ inl before ↦ inl before | inr way ↦ inr (way.0, more way.0 way.1, way.2) ];
+    reachable = λ x h. elim (f.reachable x h) [ inl before ↦ inl before | inr way ↦ inr (way.0, more way.0 way.1, way.2) ];
   }
 
   -- the same search in other words
@@ -39,8 +39,8 @@ module _ {X : Type 0} {Step : X → X → Type 0} where
       Finds Step begins old mid → Finds Step begins' mid new → Finds Step (λ x. begins x ⊎ begins' x) old new
   finds_then a b = record {
     grows = λ x h. b.grows x (a.grows x h);
-    reached = λ x h. elim (b.reached x h) [
-      | inl before ↦ elim (a.reached x before) [ inl first ↦ inl first | inr way ↦ inr (way.0, inl way.1, way.2) ]
+    reachable = λ x h. elim (b.reachable x h) [
+      | inl before ↦ elim (a.reachable x before) [ inl first ↦ inl first | inr way ↦ inr (way.0, inl way.1, way.2) ]
       | inr way ↦ inr (way.0, inr way.1, way.2)
     ];
   }
@@ -56,15 +56,15 @@ module _ {X : Type 0} {Step : X → X → Type 0} where
     ];
   }
 
-  -- some are entered, and then the search goes on with their successors
+  -- some are visited, and then the search goes on with their successors
   pub finds_below : {begins below old mid new : X → Type 0} →
       ((x : X) → old x → mid x) → ((x : X) → mid x → old x ⊎ begins x) →
       ((y : X) → below y → (x : X) × begins x × Step x y) →
       Finds Step below mid new → Finds Step begins old new
-  finds_below grows entered from b = record {
+  finds_below grows visited_fragments from b = record {
     grows = λ x h. b.grows x (grows x h);
-    reached = λ x h. elim (b.reached x h) [
-      | inl before ↦ elim (entered x before) [ inl first ↦ inl first | inr here ↦ inr (x, here, leads_to_itself) ]
+    reachable = λ x h. elim (b.reachable x h) [
+      | inl before ↦ elim (visited_fragments x before) [ inl first ↦ inl first | inr here ↦ inr (x, here, leads_to_itself) ]
       | inr way ↦ let start = from way.0 way.1 in inr (start.0, start.1, leads_by start.2 way.2)
     ];
   }
@@ -73,11 +73,11 @@ module _ {X : Type 0} {Step : X → X → Type 0} where
       ((x : X) → old x → mid x) → ((x : X) → begins x → mid x) → ((x : X) → mid x → old x ⊎ begins x) →
       ((y : X) → below y → (x : X) × begins x × Step x y) → ((x y : X) → begins x → Step x y → below y) →
       Searched Step below mid new → Searched Step begins old new
-  searched_below grows enters entered from next b = record {
-    finds = finds_below grows entered from b.finds;
+  searched_below grows enters visited_fragments from next b = record {
+    finds = finds_below grows visited_fragments from b.finds;
     begun = λ x h. b.finds.grows x (enters x h);
     closed = λ x h. elim (b.closed x h) [
-      | inl before ↦ elim (entered x before) [ inl first ↦ inl first | inr here ↦ inr (λ y step. b.begun y (next x y here step)) ]
+      | inl before ↦ elim (visited_fragments x before) [ inl first ↦ inl first | inr here ↦ inr (λ y step. b.begun y (next x y here step)) ]
       | inr all ↦ inr all
     ];
   }
@@ -94,4 +94,4 @@ module _ {X : Type 0} {Step : X → X → Type 0} where
   -- and nothing else
   pub only_found : {begins old new : X → Type 0} → ((x : X) → ¬ old x) → Finds Step begins old new →
       (x : X) → new x → (start : X) × begins start × Leads Step start x
-  only_found nothing f x h = elim (f.reached x h) [ inl before ↦ absurd (nothing x before) | inr way ↦ way ]
+  only_found nothing f x h = elim (f.reachable x h) [ inl before ↦ absurd (nothing x before) | inr way ↦ way ]

@@ -1,4 +1,4 @@
--- What the steps of a walk over selections do to what it has met, and how deep it gets.
+-- What the steps of a walk over selections do to what it has visited, and how deep it gets.
 use Rattle.std.proofs.Common.{ℕ, suc, ◌≡◌, ◌+◌, ◌<◌, ◌≤◌, ◌⊎◌, inl, inr, Bool, true, false, ◌||◌, not, if◌then◌else◌, map, List, [], ◌∷◌, ◌++◌, Some, None, IsTrue, IsFalse, length, take, drop, get_or, refl, sym, ap, ◌∙◌, subst, Contains, arith}
 use Rattle.std.specs.List.{list_any}
 use Rattle.std.specs.Str.{bytes_eq}
@@ -25,10 +25,10 @@ use Rattle.graphql_nodes.specs.declared.nodes.Node.{Node}
 use Rattle.graphql_variables.proofs.SplitLemmas.{split_at}
 use Rattle.graphql_variables.proofs.SearchLemmas.{finds_nothing, searched_before, finds_from_more, searched_words, finds_then, searched_then, finds_below, searched_below}
 use Rattle.graphql_variables.specs.Searches.{Finds, Searched}
-use Rattle.graphql_variables.specs.WalkSteps.{Stop, at_selection, at_name, walk_of, IsInSet, IsName, BeginsIn, GoesThrough, Step, into_field, into_inline_fragment, to_name, into_fragment, entered_names, listed_of, IsMet, StepOf, PassesFrom, HasWalked}
+use Rattle.graphql_variables.specs.WalkSteps.{Stop, at_selection, at_name, walk_of, IsInSet, IsName, BeginsIn, GoesThrough, Step, into_field, into_inline_fragment, to_name, into_fragment, visited_fragment_names, listed_of, IsVisited, StepOf, PassesFrom, HasWalked}
 use Rattle.graphql_variables.specs.declared.walks.Extent.TheVariants as extent
 use Rattle.graphql_variables.specs.declared.walks.Extent.{Extent}
-use Rattle.graphql_variables.specs.declared.walks.Met.{Met}
+use Rattle.graphql_variables.specs.declared.walks.Visited.{Visited}
 use Rattle.graphql_variables.specs.declared.walks.SelectionWalk.{SelectionWalk}
 
 same_selection : (s t : Selection) → at_selection s ≡ at_selection t → s ≡ t
@@ -91,87 +91,87 @@ or_right : (a b : Bool) → IsTrue b → IsTrue (a || b)
 or_right true b h = refl
 or_right false b h = h
 
--- a name that was entered behind others
-pub stands_before : (names : List NameText) (entered name : NameText) → IsTrue (stands_on names name) → IsTrue (stands_on (names ++ entered ∷ []) name)
-stands_before names entered name h =
-    subst IsTrue (sym (list_any-append (same_name name) names (entered ∷ [])))
-    (or_left (list_any (same_name name) names) (list_any (same_name name) (entered ∷ [])) h)
+-- a name that was visited behind others
+pub stands_before : (names : List NameText) (visited_fragments name : NameText) → IsTrue (stands_on names name) → IsTrue (stands_on (names ++ visited_fragments ∷ []) name)
+stands_before names visited_fragments name h =
+    subst IsTrue (sym (list_any-append (same_name name) names (visited_fragments ∷ [])))
+    (or_left (list_any (same_name name) names) (list_any (same_name name) (visited_fragments ∷ [])) h)
 
-pub stands_last : (names : List NameText) (entered name : NameText) → SameName name entered → IsTrue (stands_on (names ++ entered ∷ []) name)
-stands_last names entered name h =
-    subst IsTrue (sym (list_any-append (same_name name) names (entered ∷ [])))
-    (or_right (list_any (same_name name) names) (list_any (same_name name) (entered ∷ [])) (or_left (same_name name entered) false h))
+pub stands_last : (names : List NameText) (visited_fragments name : NameText) → SameName name visited_fragments → IsTrue (stands_on (names ++ visited_fragments ∷ []) name)
+stands_last names visited_fragments name h =
+    subst IsTrue (sym (list_any-append (same_name name) names (visited_fragments ∷ [])))
+    (or_right (list_any (same_name name) names) (list_any (same_name name) (visited_fragments ∷ [])) (or_left (same_name name visited_fragments) false h))
 
-pub stands_either : (names : List NameText) (entered name : NameText) → IsTrue (stands_on (names ++ entered ∷ []) name) →
-    IsTrue (stands_on names name) ⊎ SameName name entered
-stands_either names entered name h =
-    elim (either (list_any (same_name name) names) (list_any (same_name name) (entered ∷ []))
-    (subst IsTrue (list_any-append (same_name name) names (entered ∷ [])) h)) [
+pub stands_either : (names : List NameText) (visited_fragments name : NameText) → IsTrue (stands_on (names ++ visited_fragments ∷ []) name) →
+    IsTrue (stands_on names name) ⊎ SameName name visited_fragments
+stands_either names visited_fragments name h =
+    elim (either (list_any (same_name name) names) (list_any (same_name name) (visited_fragments ∷ []))
+    (subst IsTrue (list_any-append (same_name name) names (visited_fragments ∷ [])) h)) [
       | inl before ↦ inl before
-      | inr last ↦ inr (elim (either (same_name name entered) false last) [ inl same ↦ same | inr none ↦ absurd (both_not false none refl) ])
+      | inr last ↦ inr (elim (either (same_name name visited_fragments) false last) [ inl same ↦ same | inr none ↦ absurd (both_not false none refl) ])
     ]
 
--- what was met before a name was entered, or a selection listed
-pub record Entered (name : NameText) (old new : Met) : Type 0 where
-  pub unmet : IsFalse (stands_on (entered_names old) name)
-  pub names : entered_names new ≡ entered_names old ++ name ∷ []
+-- what was visited before a name was visited, or a selection listed
+pub record VisitedFragment (name : NameText) (old new : Visited) : Type 0 where
+  pub unvisited : IsFalse (stands_on (visited_fragment_names old) name)
+  pub names : visited_fragment_names new ≡ visited_fragment_names old ++ name ∷ []
   pub listed : listed_of new ≡ listed_of old
 
-pub record Listed (s : Selection) (old new : Met) : Type 0 where
-  pub names : entered_names new ≡ entered_names old
+pub record Listed (s : Selection) (old new : Visited) : Type 0 where
+  pub names : visited_fragment_names new ≡ visited_fragment_names old
   pub listed : listed_of new ≡ listed_of old ++ s ∷ []
 
--- a name that was to be entered stood there, or was entered
-pub stood_there : (name : NameText) (old new : Met) (is_new : Bool) → is_new ≡ not (stands_on (entered_names old) name) →
-    entered_names new ≡ with_name (entered_names old) name → is_new ≡ false → IsTrue (stands_on (entered_names old) name) × (entered_names new ≡ entered_names old)
+-- a name that was to be visited was there, or was visited
+pub stood_there : (name : NameText) (old new : Visited) (is_new : Bool) → is_new ≡ not (stands_on (visited_fragment_names old) name) →
+    visited_fragment_names new ≡ with_name (visited_fragment_names old) name → is_new ≡ false → IsTrue (stands_on (visited_fragment_names old) name) × (visited_fragment_names new ≡ visited_fragment_names old)
 stood_there name old new is_new e names is =
-    let there = flipped (stands_on (entered_names old) name) (sym e ∙ is) in
-    (there, names ∙ ap (λ b. if b then entered_names old else entered_names old ++ name ∷ []) there) where
+    let there = flipped (stands_on (visited_fragment_names old) name) (sym e ∙ is) in
+    (there, names ∙ ap (λ b. if b then visited_fragment_names old else visited_fragment_names old ++ name ∷ []) there) where
       flipped : (b : Bool) → not b ≡ false → b ≡ true
       flipped true h = refl
       flipped false h = sym h
 
-pub was_entered : (name : NameText) (old new : Met) (is_new : Bool) → is_new ≡ not (stands_on (entered_names old) name) →
-    entered_names new ≡ with_name (entered_names old) name → listed_of new ≡ listed_of old → is_new ≡ true → Entered name old new
-was_entered name old new is_new e names listed is =
-    let missing = flipped (stands_on (entered_names old) name) (sym e ∙ is) in
+pub was_visited : (name : NameText) (old new : Visited) (is_new : Bool) → is_new ≡ not (stands_on (visited_fragment_names old) name) →
+    visited_fragment_names new ≡ with_name (visited_fragment_names old) name → listed_of new ≡ listed_of old → is_new ≡ true → VisitedFragment name old new
+was_visited name old new is_new e names listed is =
+    let missing = flipped (stands_on (visited_fragment_names old) name) (sym e ∙ is) in
     record {
-      unmet = missing;
-      names = names ∙ ap (λ b. if b then entered_names old else entered_names old ++ name ∷ []) missing;
+      unvisited = missing;
+      names = names ∙ ap (λ b. if b then visited_fragment_names old else visited_fragment_names old ++ name ∷ []) missing;
       listed = listed;
     } where
       flipped : (b : Bool) → not b ≡ true → b ≡ false
       flipped true h = sym h
       flipped false h = refl
 
-pub entered_grows : {name : NameText} {old new : Met} → Entered name old new → (x : Stop) → IsMet old x → IsMet new x
-entered_grows {name = name} {old = old} e (at_selection s) h = subst (λ l. Contains l s) (sym e.listed) h
-entered_grows {name = name} {old = old} e (at_name other) h = subst (λ l. IsTrue (stands_on l other)) (sym e.names) (stands_before (entered_names old) name other h)
+pub visited_grows : {name : NameText} {old new : Visited} → VisitedFragment name old new → (x : Stop) → IsVisited old x → IsVisited new x
+visited_grows {name = name} {old = old} e (at_selection s) h = subst (λ l. Contains l s) (sym e.listed) h
+visited_grows {name = name} {old = old} e (at_name other) h = subst (λ l. IsTrue (stands_on l other)) (sym e.names) (stands_before (visited_fragment_names old) name other h)
 
-pub entered_is_met : {name : NameText} {old new : Met} → Entered name old new → (x : Stop) → IsName name x → IsMet new x
-entered_is_met {name = name} {old = old} e (at_selection s) h = absurd h
-entered_is_met {name = name} {old = old} e (at_name other) h =
-    subst (λ l. IsTrue (stands_on l other)) (sym e.names) (stands_last (entered_names old) name other (same_name_back name other h))
+pub fragment_is_visited : {name : NameText} {old new : Visited} → VisitedFragment name old new → (x : Stop) → IsName name x → IsVisited new x
+fragment_is_visited {name = name} {old = old} e (at_selection s) h = absurd h
+fragment_is_visited {name = name} {old = old} e (at_name other) h =
+    subst (λ l. IsTrue (stands_on l other)) (sym e.names) (stands_last (visited_fragment_names old) name other (same_name_back name other h))
 
-pub entered_only : {name : NameText} {old new : Met} → Entered name old new → (x : Stop) → IsMet new x → IsMet old x ⊎ IsName name x
-entered_only {name = name} {old = old} e (at_selection s) h = inl (subst (λ l. Contains l s) e.listed h)
-entered_only {name = name} {old = old} e (at_name other) h =
-    elim (stands_either (entered_names old) name other (subst (λ l. IsTrue (stands_on l other)) e.names h)) [
+pub visited_only : {name : NameText} {old new : Visited} → VisitedFragment name old new → (x : Stop) → IsVisited new x → IsVisited old x ⊎ IsName name x
+visited_only {name = name} {old = old} e (at_selection s) h = inl (subst (λ l. Contains l s) e.listed h)
+visited_only {name = name} {old = old} e (at_name other) h =
+    elim (stands_either (visited_fragment_names old) name other (subst (λ l. IsTrue (stands_on l other)) e.names h)) [
       | inl before ↦ inl before
       | inr same ↦ inr (same_name_back other name same)
     ]
 
-pub listed_grows : {s : Selection} {old new : Met} → Listed s old new → (x : Stop) → IsMet old x → IsMet new x
+pub listed_grows : {s : Selection} {old new : Visited} → Listed s old new → (x : Stop) → IsVisited old x → IsVisited new x
 listed_grows {s = s} {old = old} e (at_selection t) h = subst (λ l. Contains l t) (sym e.listed) (Contains-append_left (listed_of old) (s ∷ []) t h)
 listed_grows {s = s} {old = old} e (at_name other) h = subst (λ l. IsTrue (stands_on l other)) (sym e.names) h
 
-pub listed_is_met : {s : Selection} {old new : Met} → Listed s old new → (x : Stop) → x ≡ at_selection s → IsMet new x
-listed_is_met {s = s} {old = old} e (at_selection t) h =
+pub listed_is_visited : {s : Selection} {old new : Visited} → Listed s old new → (x : Stop) → x ≡ at_selection s → IsVisited new x
+listed_is_visited {s = s} {old = old} e (at_selection t) h =
     let same : s ≡ t = sym (same_selection t s h) in
     subst (λ l. Contains l t) (sym e.listed) (Contains-append_right (listed_of old) (s ∷ []) t (subst (Contains (s ∷ [])) same (stands_first s [])))
-listed_is_met {s = s} {old = old} e (at_name other) h = absurd (selection_no_name s other h)
+listed_is_visited {s = s} {old = old} e (at_name other) h = absurd (selection_no_name s other h)
 
-pub listed_only : {s : Selection} {old new : Met} → Listed s old new → (x : Stop) → IsMet new x → IsMet old x ⊎ (x ≡ at_selection s)
+pub listed_only : {s : Selection} {old new : Visited} → Listed s old new → (x : Stop) → IsVisited new x → IsVisited old x ⊎ (x ≡ at_selection s)
 listed_only {s = s} {old = old} e (at_selection t) h =
     elim (Contains-append_cases (listed_of old) (s ∷ []) t (subst (λ l. Contains l t) e.listed h)) [
       | inl before ↦ inl before
@@ -194,56 +194,56 @@ module _ {R : Type 0} (name_at : R → NameText) where
         inserted true = refl
         inserted false = map-append name_at old (r ∷ [])
 
--- what has the same names and selections has met the same
-same_met : (old new : Met) → entered_names old ≡ entered_names new → listed_of old ≡ listed_of new → (x : Stop) → IsMet old x → IsMet new x
-same_met old new names listed (at_selection s) h = subst (λ l. Contains l s) listed h
-same_met old new names listed (at_name name) h = subst (λ l. IsTrue (stands_on l name)) names h
+-- what has the same names and selections has visited the same
+same_visited : (old new : Visited) → visited_fragment_names old ≡ visited_fragment_names new → listed_of old ≡ listed_of new → (x : Stop) → IsVisited old x → IsVisited new x
+same_visited old new names listed (at_selection s) h = subst (λ l. Contains l s) listed h
+same_visited old new names listed (at_name name) h = subst (λ l. IsTrue (stands_on l name)) names h
 
--- a name that was met was met at each place where it stands
-named_is_met : (name : NameText) (met : Met) → IsTrue (stands_on (entered_names met) name) → (x : Stop) → IsName name x → IsMet met x
-named_is_met name met h (at_selection s) named = absurd named
-named_is_met name met h (at_name other) named =
-    subst IsTrue (ap (λ (text : List ℕ). list_any (λ (key : NameText). bytes_eq text key.text) (entered_names met)) (same_text name other named)) h
+-- a name that was visited was visited at each place where it is
+named_is_visited : (name : NameText) (visited : Visited) → IsTrue (stands_on (visited_fragment_names visited) name) → (x : Stop) → IsName name x → IsVisited visited x
+named_is_visited name visited h (at_selection s) named = absurd named
+named_is_visited name visited h (at_name other) named =
+    subst IsTrue (ap (λ (text : List ℕ). list_any (λ (key : NameText). bytes_eq text key.text) (visited_fragment_names visited)) (same_text name other named)) h
 
--- a name that was not met is not among fewer names
-fresh_before : (old new : Met) → ((x : Stop) → IsMet old x → IsMet new x) → (name : NameText) →
-    IsFalse (stands_on (entered_names new) name) → IsFalse (stands_on (entered_names old) name)
+-- a name that was not visited is not among fewer names
+fresh_before : (old new : Visited) → ((x : Stop) → IsVisited old x → IsVisited new x) → (name : NameText) →
+    IsFalse (stands_on (visited_fragment_names new) name) → IsFalse (stands_on (visited_fragment_names old) name)
 fresh_before old new grows name other =
-    not_true (stands_on (entered_names old) name) (λ h. both_not (stands_on (entered_names new) name) (grows (at_name name) h) other)
+    not_true (stands_on (visited_fragment_names old) name) (λ h. both_not (stands_on (visited_fragment_names new) name) (grows (at_name name) h) other)
 
 -- so a descent that enters none of more names enters none of fewer
-pub passes_before : {walk : SelectionWalk} {old new : Met} {limit depth : ℕ} {set : SelectionSet} → ((x : Stop) → IsMet old x → IsMet new x) →
+pub passes_before : {walk : SelectionWalk} {old new : Visited} {limit depth : ℕ} {set : SelectionSet} → ((x : Stop) → IsVisited old x → IsVisited new x) →
     PassesFrom walk new limit depth set → PassesFrom walk old limit depth set
 passes_before {old = old} {new = new} grows p = record {
   steps = p.steps;
   names = p.names;
   descent = p.descent;
   once = p.once;
-  fresh = All-weaker (λ name. IsFalse (stands_on (entered_names new) name)) (λ name. IsFalse (stands_on (entered_names old) name)) (fresh_before old new grows) p.names p.fresh;
+  fresh = All-weaker (λ name. IsFalse (stands_on (visited_fragment_names new) name)) (λ name. IsFalse (stands_on (visited_fragment_names old) name)) (fresh_before old new grows) p.names p.fresh;
   passes = p.passes;
 }
 
--- a walk that stands at its limit passes it with one step more
-pub passes_here : {walk : SelectionWalk} (met : Met) (limit depth : ℕ) {set : SelectionSet} → limit ≤ depth → PassesFrom walk met limit (depth + 1) set
-passes_here met limit depth deep = record {
+-- a walk that is at its limit passes it with one step more
+pub passes_here : {walk : SelectionWalk} (visited : Visited) (limit depth : ℕ) {set : SelectionSet} → limit ≤ depth → PassesFrom walk visited limit (depth + 1) set
+passes_here visited limit depth deep = record {
   steps = 0;
   names = [];
   descent = descent_ends;
   once = λ i j d before within. absurd (omega (arith, within));
-  fresh = All-nil (λ name. IsFalse (stands_on (entered_names met) name));
+  fresh = All-nil (λ name. IsFalse (stands_on (visited_fragment_names visited) name));
   passes = omega arith;
 }
 
--- each walk goes into fragments, and that of what stands inside a set through each selection
+-- each walk goes into fragments, and that of what is inside a set through each selection
 goes_into_fragments : (e : Extent) → IsTrue (walk_of e).into_fragments
-goes_into_fragments extent.Inside = refl
-goes_into_fragments extent.Reached = refl
+goes_into_fragments extent.InExpandedSet = refl
+goes_into_fragments extent.Reachable = refl
 goes_into_fragments extent.Open = refl
 
-module _ {walk : SelectionWalk} {met : Met} {limit depth : ℕ} {set : SelectionSet} where
+module _ {walk : SelectionWalk} {visited : Visited} {limit depth : ℕ} {set : SelectionSet} where
   -- a descent from one step deeper, with that step
   pub passes_by_field : (f : Node Field) → IsTrue (walk_of walk.extent).into_fields → BeginsIn walk set (at_selection (kind.Field f)) →
-      PassesFrom walk met limit (depth + 1) f.value.value.selection_set → PassesFrom walk met limit depth set
+      PassesFrom walk visited limit (depth + 1) f.value.value.selection_set → PassesFrom walk visited limit depth set
   passes_by_field f into stands p = record {
     steps = suc p.steps;
     names = p.names;
@@ -254,7 +254,7 @@ module _ {walk : SelectionWalk} {met : Met} {limit depth : ℕ} {set : Selection
   }
 
   pub passes_by_inline_fragment : (i : Node InlineFragment) → BeginsIn walk set (at_selection (kind.InlineFragment i)) →
-      PassesFrom walk met limit (depth + 1) i.value.value.selection_set → PassesFrom walk met limit depth set
+      PassesFrom walk visited limit (depth + 1) i.value.value.selection_set → PassesFrom walk visited limit depth set
   passes_by_inline_fragment i stands p = record {
     steps = suc p.steps;
     names = p.names;
@@ -264,10 +264,10 @@ module _ {walk : SelectionWalk} {met : Met} {limit depth : ℕ} {set : Selection
     passes = omega (arith, p.passes);
   }
 
-  pub passes_by_spread : (p : Node FragmentSpread) (d : Node Fragment) {after : Met} → BeginsIn walk set (at_selection (kind.FragmentSpread p)) →
+  pub passes_by_spread : (p : Node FragmentSpread) (d : Node Fragment) {after : Visited} → BeginsIn walk set (at_selection (kind.FragmentSpread p)) →
       fragments_of walk.document.now p.value.value.fragment_name ≡ Some d →
-      Entered p.value.value.fragment_name met after →
-      PassesFrom walk after limit (depth + 1) d.value.value.selection_set → PassesFrom walk met limit depth set
+      VisitedFragment p.value.value.fragment_name visited after →
+      PassesFrom walk after limit (depth + 1) d.value.value.selection_set → PassesFrom walk visited limit depth set
   passes_by_spread p d {after = after} stands found e passing =
       let name : NameText = p.value.value.fragment_name in
       record {
@@ -275,18 +275,18 @@ module _ {walk : SelectionWalk} {met : Met} {limit depth : ℕ} {set : Selection
         names = name ∷ passing.names;
         descent = descent_into_fragment (goes_into_fragments walk.extent) stands.0 stands.1 found passing.descent;
         once = AllPairs-cons DifferentNames name passing.names
-            (All-weaker (λ n. IsFalse (stands_on (entered_names after) n)) (DifferentNames name) (λ n fresh.
-            not_true (same_name name n) (λ same. both_not (stands_on (entered_names after) n) (entered_is_met e (at_name n) same) fresh)) passing.names passing.fresh)
+            (All-weaker (λ n. IsFalse (stands_on (visited_fragment_names after) n)) (DifferentNames name) (λ n fresh.
+            not_true (same_name name n) (λ same. both_not (stands_on (visited_fragment_names after) n) (fragment_is_visited e (at_name n) same) fresh)) passing.names passing.fresh)
             passing.once;
-        fresh = All-cons (λ n. IsFalse (stands_on (entered_names met) n)) name passing.names e.unmet
-            (All-weaker (λ n. IsFalse (stands_on (entered_names after) n)) (λ n. IsFalse (stands_on (entered_names met) n))
-            (fresh_before met after (entered_grows e)) passing.names passing.fresh);
+        fresh = All-cons (λ n. IsFalse (stands_on (visited_fragment_names visited) n)) name passing.names e.unvisited
+            (All-weaker (λ n. IsFalse (stands_on (visited_fragment_names after) n)) (λ n. IsFalse (stands_on (visited_fragment_names visited) n))
+            (fresh_before visited after (visited_grows e)) passing.names passing.fresh);
         passes = omega (arith, passing.passes);
       }
 
--- the bounds of walks over a set and below a selection
-abbrev pub PassesBelow : SelectionWalk → Met → ℕ → ℕ → Selection → Type 0
-PassesBelow walk met limit depth s = (set : SelectionSet) → BeginsIn walk set (at_selection s) → PassesFrom walk met limit depth set
+-- the limits of walks over a set and below a selection
+abbrev pub PassesBelow : SelectionWalk → Visited → ℕ → ℕ → Selection → Type 0
+PassesBelow walk visited limit depth s = (set : SelectionSet) → BeginsIn walk set (at_selection s) → PassesFrom walk visited limit depth set
 
 module _ (walk : SelectionWalk) (p : Node FragmentSpread) where
   -- a step from a name in the set that it finds
@@ -307,16 +307,16 @@ module _ (walk : SelectionWalk) (p : Node FragmentSpread) where
 
 module _ {walk : SelectionWalk} where
   -- the walk is at its limit
-  pub walked_to_limit : (set : SelectionSet) (limit depth : ℕ) (met : Met) → limit ≤ depth →
-      HasWalked walk (BeginsIn walk set) (PassesFrom walk met limit (depth + 1) set) met met false
-  walked_to_limit set limit depth met deep = record {
+  pub walked_to_limit : (set : SelectionSet) (limit depth : ℕ) (visited : Visited) → limit ≤ depth →
+      HasWalked walk (BeginsIn walk set) (PassesFrom walk visited limit (depth + 1) set) visited visited false
+  walked_to_limit set limit depth visited deep = record {
     finds = finds_nothing;
     searched = λ h. absurd (both_not false h refl);
-    bound = λ h. passes_here met limit depth deep;
+    bound = λ h. passes_here visited limit depth deep;
   }
 
   -- the same walk in other words
-  pub walked_words : {begins begins' : Stop → Type 0} {Passes Passes' : Type 0} {old new : Met} {complete : Bool} →
+  pub walked_words : {begins begins' : Stop → Type 0} {Passes Passes' : Type 0} {old new : Visited} {complete : Bool} →
       ((x : Stop) → begins x → begins' x) → ((x : Stop) → begins' x → begins x) → (Passes → Passes') →
       HasWalked walk begins Passes old new complete → HasWalked walk begins' Passes' old new complete
   walked_words there back passes w = record {
@@ -325,8 +325,8 @@ module _ {walk : SelectionWalk} where
     bound = λ h. passes (w.bound h);
   }
 
-  -- below a field that is gone into, and below an inline fragment
-  pub walked_field : {s : Selection} (f : Node Field) {limit depth : ℕ} {old new : Met} {complete : Bool} → s ≡ kind.Field f → IsTrue (walk_of walk.extent).into_fields →
+  -- below a field that is visited, and below an inline fragment
+  pub walked_field : {s : Selection} (f : Node Field) {limit depth : ℕ} {old new : Visited} {complete : Bool} → s ≡ kind.Field f → IsTrue (walk_of walk.extent).into_fields →
       HasWalked walk (BeginsIn walk f.value.value.selection_set) (PassesFrom walk old limit (depth + 1) f.value.value.selection_set) old new complete →
       HasWalked walk (StepOf walk (at_selection s)) (PassesBelow walk old limit depth s) old new complete
   walked_field f {limit = limit} {depth = depth} {old = old} is into w =
@@ -336,7 +336,7 @@ module _ {walk : SelectionWalk} where
       (λ passes set stands. passes_by_field f into (subst (λ t. BeginsIn walk set (at_selection t)) is stands) passes)
       w
 
-  pub walked_inline_fragment : {s : Selection} (i : Node InlineFragment) {limit depth : ℕ} {old new : Met} {complete : Bool} → s ≡ kind.InlineFragment i →
+  pub walked_inline_fragment : {s : Selection} (i : Node InlineFragment) {limit depth : ℕ} {old new : Visited} {complete : Bool} → s ≡ kind.InlineFragment i →
       HasWalked walk (BeginsIn walk i.value.value.selection_set) (PassesFrom walk old limit (depth + 1) i.value.value.selection_set) old new complete →
       HasWalked walk (StepOf walk (at_selection s)) (PassesBelow walk old limit depth s) old new complete
   walked_inline_fragment i {limit = limit} {depth = depth} {old = old} is w =
@@ -347,28 +347,28 @@ module _ {walk : SelectionWalk} where
       w
 
   module _ (p : Node FragmentSpread) {limit depth : ℕ} where
-    -- a spread whose name was entered before
-    pub walked_entered : (old new : Met) → entered_names new ≡ entered_names old → listed_of new ≡ listed_of old →
-        IsTrue (stands_on (entered_names old) p.value.value.fragment_name) →
+    -- a spread whose name was visited before
+    pub walked_visited : (old new : Visited) → visited_fragment_names new ≡ visited_fragment_names old → listed_of new ≡ listed_of old →
+        IsTrue (stands_on (visited_fragment_names old) p.value.value.fragment_name) →
         HasWalked walk (StepOf walk (at_selection (kind.FragmentSpread p))) (PassesBelow walk old limit depth (kind.FragmentSpread p)) old new true
-    walked_entered old new names listed entered =
+    walked_visited old new names listed visited_fragments =
         let name : NameText = p.value.value.fragment_name in
-        let there : (x : Stop) → IsMet old x → IsMet new x = same_met old new (sym names) (sym listed) in
-        let back : (x : Stop) → IsMet new x → IsMet old x = same_met new old names listed in
-        let finds : Finds (StepOf walk) (StepOf walk (at_selection (kind.FragmentSpread p))) (IsMet old) (IsMet new) =
-        record { grows = there; reached = λ x h. inl (back x h) } in
+        let there : (x : Stop) → IsVisited old x → IsVisited new x = same_visited old new (sym names) (sym listed) in
+        let back : (x : Stop) → IsVisited new x → IsVisited old x = same_visited new old names listed in
+        let finds : Finds (StepOf walk) (StepOf walk (at_selection (kind.FragmentSpread p))) (IsVisited old) (IsVisited new) =
+        record { grows = there; reachable = λ x h. inl (back x h) } in
         record {
           finds = finds;
           searched = λ h. record {
             finds = finds;
-            begun = λ x step. there x (named_is_met name old entered x (from_spread step p refl));
+            begun = λ x step. there x (named_is_visited name old visited_fragments x (from_spread step p refl));
             closed = λ x h. inl (back x h);
           };
           bound = λ h. absurd (both_not true refl h);
         }
 
-    -- a spread of a fragment that is gone into
-    pub walked_fragment : (d : Node Fragment) {old mid new : Met} {complete : Bool} → Entered p.value.value.fragment_name old mid →
+    -- a spread of a fragment that is visited
+    pub walked_fragment : (d : Node Fragment) {old mid new : Visited} {complete : Bool} → VisitedFragment p.value.value.fragment_name old mid →
         fragments_of walk.document.now p.value.value.fragment_name ≡ Some d →
         HasWalked walk (BeginsIn walk d.value.value.selection_set) (PassesFrom walk mid limit (depth + 1) d.value.value.selection_set) mid new complete →
         HasWalked walk (StepOf walk (at_selection (kind.FragmentSpread p))) (PassesBelow walk old limit depth (kind.FragmentSpread p)) old new complete
@@ -381,13 +381,13 @@ module _ {walk : SelectionWalk} where
         (λ x step. from_spread step p refl)
         (λ passes set stands. passes_by_spread p d stands found e passes)
         (record {
-          finds = finds_below (entered_grows e) (entered_only e) from w.finds;
-          searched = λ h. searched_below (entered_grows e) (entered_is_met e) (entered_only e) from (next_of walk p d found) (w.searched h);
+          finds = finds_below (visited_grows e) (visited_only e) from w.finds;
+          searched = λ h. searched_below (visited_grows e) (fragment_is_visited e) (visited_only e) from (next_of walk p d found) (w.searched h);
           bound = w.bound;
         })
 
     -- a spread of one that is not defined
-    pub walked_undefined : {old new : Met} → Entered p.value.value.fragment_name old new →
+    pub walked_undefined : {old new : Visited} → VisitedFragment p.value.value.fragment_name old new →
         fragments_of walk.document.now p.value.value.fragment_name ≡ None →
         HasWalked walk (StepOf walk (at_selection (kind.FragmentSpread p))) (PassesBelow walk old limit depth (kind.FragmentSpread p)) old new true
     walked_undefined e none =
@@ -397,14 +397,14 @@ module _ {walk : SelectionWalk} where
         (λ x step. from_spread step p refl)
         (λ passes. passes)
         (record {
-          finds = finds_below {below = nothing} (entered_grows e) (entered_only e) (λ y h. absurd h) finds_nothing;
-          searched = λ h. searched_below {below = nothing} (entered_grows e) (entered_is_met e) (entered_only e) (λ y h. absurd h)
+          finds = finds_below {below = nothing} (visited_grows e) (visited_only e) (λ y h. absurd h) finds_nothing;
+          searched = λ h. searched_below {below = nothing} (visited_grows e) (fragment_is_visited e) (visited_only e) (λ y h. absurd h)
               (nothing_next walk p none) (searched_before (λ x h. absurd h));
           bound = λ h. absurd (both_not true refl h);
         })
 
 -- a walk over the first selections of a set, and then over the next
-module _ (walk : SelectionWalk) (xs : List Selection) (i : ℕ) (s : Selection) (old new : Met) {mid pushed : Met}
+module _ (walk : SelectionWalk) (xs : List Selection) (i : ℕ) (s : Selection) (old new : Visited) {mid pushed : Visited}
     (within : i < length xs) (item : s ≡ get_or xs i s) (through : IsTrue ((walk_of walk.extent).goes_through s)) (e : Listed s mid pushed) where
   next_from : (y : Stop) → StepOf walk (at_selection s) y → (x : Stop) × (x ≡ at_selection s) × StepOf walk x y
   next_from y step = (at_selection s, refl, step)
@@ -442,19 +442,19 @@ module _ (walk : SelectionWalk) (xs : List Selection) (i : ℕ) (s : Selection) 
       ]
   among_either (at_name name) h = absurd h
 
-  pub searched_next : Searched (StepOf walk) (GoesThrough walk (take i xs)) (IsMet old) (IsMet mid) →
-      Searched (StepOf walk) (StepOf walk (at_selection s)) (IsMet pushed) (IsMet new) →
-      Searched (StepOf walk) (GoesThrough walk (take (i + 1) xs)) (IsMet old) (IsMet new)
+  pub searched_next : Searched (StepOf walk) (GoesThrough walk (take i xs)) (IsVisited old) (IsVisited mid) →
+      Searched (StepOf walk) (StepOf walk (at_selection s)) (IsVisited pushed) (IsVisited new) →
+      Searched (StepOf walk) (GoesThrough walk (take (i + 1) xs)) (IsVisited old) (IsVisited new)
   searched_next a b =
       let is : Stop → Type 0 = λ x. x ≡ at_selection s in
       searched_words among_more among_either
       (searched_then a
       (searched_below {begins = is}
-      (listed_grows e) (listed_is_met e) (listed_only e) next_from is_next b))
+      (listed_grows e) (listed_is_visited e) (listed_only e) next_from is_next b))
 
   -- the walk stops below it
   pub walked_part : {set : SelectionSet} {limit depth : ℕ} → xs ≡ selections_of set →
-      Searched (StepOf walk) (GoesThrough walk (take i xs)) (IsMet old) (IsMet mid) →
+      Searched (StepOf walk) (GoesThrough walk (take i xs)) (IsVisited old) (IsVisited mid) →
       HasWalked walk (StepOf walk (at_selection s)) (PassesBelow walk pushed limit depth s) pushed new false →
       HasWalked walk (BeginsIn walk set) (PassesFrom walk old limit depth set) old new false
   walked_part {set = set} same a w =
@@ -485,15 +485,15 @@ module _ (walk : SelectionWalk) (xs : List Selection) (i : ℕ) (s : Selection) 
       ]
   no_more_among past (at_name name) h = h
 
-  pub searched_past : (old new : Met) → IsFalse ((walk_of walk.extent).goes_through s) →
-      Searched (StepOf walk) (GoesThrough walk (take i xs)) (IsMet old) (IsMet new) →
-      Searched (StepOf walk) (GoesThrough walk (take (i + 1) xs)) (IsMet old) (IsMet new)
+  pub searched_past : (old new : Visited) → IsFalse ((walk_of walk.extent).goes_through s) →
+      Searched (StepOf walk) (GoesThrough walk (take i xs)) (IsVisited old) (IsVisited new) →
+      Searched (StepOf walk) (GoesThrough walk (take (i + 1) xs)) (IsVisited old) (IsVisited new)
   searched_past old new past a = searched_words more_among (no_more_among past) a
 
 -- the walk has come to the end of a set
-pub walked_whole : (walk : SelectionWalk) {Passes : Type 0} {xs ys : List Selection} (i : ℕ) (old new : Met) → length xs ≤ i → xs ≡ ys →
-    Searched (StepOf walk) (GoesThrough walk (take i xs)) (IsMet old) (IsMet new) → HasWalked walk (GoesThrough walk ys) Passes old new true
+pub walked_whole : (walk : SelectionWalk) {Passes : Type 0} {xs ys : List Selection} (i : ℕ) (old new : Visited) → length xs ≤ i → xs ≡ ys →
+    Searched (StepOf walk) (GoesThrough walk (take i xs)) (IsVisited old) (IsVisited new) → HasWalked walk (GoesThrough walk ys) Passes old new true
 walked_whole walk {xs = xs} {ys = ys} i old new past same a =
-    let whole : Searched (StepOf walk) (GoesThrough walk ys) (IsMet old) (IsMet new) =
-    subst (λ l. Searched (StepOf walk) (GoesThrough walk l) (IsMet old) (IsMet new)) (take_all i xs past ∙ same) a in
+    let whole : Searched (StepOf walk) (GoesThrough walk ys) (IsVisited old) (IsVisited new) =
+    subst (λ l. Searched (StepOf walk) (GoesThrough walk l) (IsVisited old) (IsVisited new)) (take_all i xs past ∙ same) a in
     record { finds = whole.finds; searched = λ h. whole; bound = λ h. absurd (both_not true refl h) }

@@ -14,8 +14,8 @@ use Rattle.graphql_nodes.specs.Names.{NameText, SameName, different_names, same_
 use Rattle.graphql_diagnostics.specs.Reports.{Appends, KeepsReports}
 use Rattle.graphql_documents.specs.Selections.{Fragments}
 use Rattle.graphql_nodes.specs.Spans.{recompose}
-use Rattle.graphql_diagnostics.specs.VariableReports.{AreUnusedReports, AreUsesReports, IsBoundReport, IsUnusedReport, UsesReport, are_unused, defined_names, is_bound, no_name, unused_name, used_name}
-use Rattle.graphql_documents.specs.Variables.{UsesVariable}
+use Rattle.graphql_specification.specs.Variables.{AreUnusedReports, AreUsesReports, UsesLimitReport, UnusedVariableReport, UsesReport, are_unused, defined_names, is_bound, no_name, unused_name, used_name}
+use Rattle.graphql_documents.specs.VariableUses.{UsesVariable}
 use Rattle.graphql_documents.specs.Walks.{HasListed}
 use Rattle.graphql_diagnostics.specs.declared.data.DiagnosticData.TheVariants as report
 use Rattle.graphql_diagnostics.specs.declared.data.DiagnosticData.{DiagnosticData}
@@ -117,9 +117,9 @@ reports_then (used_name used others) rest = used_name used (reports_then others 
 reports_then (unused_name says others) rest = unused_name says (reports_then others rest)
 
 -- each of them is a true report
-says_unused : (fragments : Fragments) (o : Operation) (name : NameText) (e : DiagnosticEntry) → IsDiagnostic (IsUnusedReport fragments o name) e → IsDiagnostic (UsesReport fragments o) e
-says_unused fragments o name e says = diagnostic_wider (IsUnusedReport fragments o name) (UsesReport fragments o) wide e says where
-  wide : (r : DiagnosticData) (at : Option SourceSpan) → IsUnusedReport fragments o name r at → UsesReport fragments o r at
+says_unused : (fragments : Fragments) (o : Operation) (name : NameText) (e : DiagnosticEntry) → IsDiagnostic (UnusedVariableReport fragments o name) e → IsDiagnostic (UsesReport fragments o) e
+says_unused fragments o name e says = diagnostic_wider (UnusedVariableReport fragments o name) (UsesReport fragments o) wide e says where
+  wide : (r : DiagnosticData) (at : Option SourceSpan) → UnusedVariableReport fragments o name r at → UsesReport fragments o r at
   wide (report.UnusedVariable reported) at h = h.1
   wide r at h = absurd h
 
@@ -139,7 +139,7 @@ used_report {fragments = fragments} {o = o} {name = name} {v = v} last used =
 pub unused_report : {fragments : Fragments} {o : Operation} {name reported : NameText} {v : Node VariableDefinition} {place : Option SourceSpan} →
     IsLastDefinition o.variables.items name v → ¬ UsesVariable fragments o v.value.value.name → reported ≡ v.value.value.name →
     place ≡ recompose v.location v.value.value.name.location →
-    IsUnusedReport fragments o name (report.UnusedVariable reported) place
+    UnusedVariableReport fragments o name (report.UnusedVariable reported) place
 unused_report {name = name} {v = v} last unused is at = (
   subst (λ n. SameName n name) (sym is) (same_name_back name v.value.value.name last.same),
   record {
@@ -169,17 +169,17 @@ pub appends_kept : {fragments : Fragments} {o : Operation} {names : List NameTex
 appends_kept a = record { added = a.added; appended = a.appended; each = each_says_unused a.are }
 
 -- a walk that came to its end lists what it is to meet
-pub lists_all : {IsMet : Selection → Type 0} {Passes : Type 0} {listed : List Selection} {complete : Bool} → HasListed IsMet Passes listed complete →
-    complete ≡ true → (s : Selection) → Contains listed s ↔ IsMet s
-lists_all {IsMet = IsMet} {listed = listed} h is s = (λ there. All-contains IsMet listed s h.each there, h.all is s)
+pub lists_all : {IsVisited : Selection → Type 0} {Passes : Type 0} {listed : List Selection} {complete : Bool} → HasListed IsVisited Passes listed complete →
+    complete ≡ true → (s : Selection) → Contains listed s ↔ IsVisited s
+lists_all {IsVisited = IsVisited} {listed = listed} h is s = (λ there. All-contains IsVisited listed s h.each there, h.all is s)
 
--- the report of the bound
+-- the diagnostic of the limit
 pub bound_reported : {T E : Type 0} (r : Result T E) (fragments : Fragments) (o : Operation) (old new : List DiagnosticEntry) (e : DiagnosticEntry) →
-    IsDiagnostic (IsBoundReport fragments o) e → OnOk r (new ≡ old ++ e ∷ []) → OnOk r (Appends (AreUsesReports fragments o) old new)
+    IsDiagnostic (UsesLimitReport fragments o) e → OnOk r (new ≡ old ++ e ∷ []) → OnOk r (Appends (AreUsesReports fragments o) old new)
 bound_reported (Ok x) fragments o old new e says ok = record { added = e ∷ []; appended = ok; are = is_bound says }
 bound_reported (Err x) fragments o old new e says ok = ok
 
--- the reports of each unused variable
+-- the diagnostics of each unused variable
 pub uses_reported : {T E : Type 0} (r : Result T E) (fragments : Fragments) (o : Operation) (old new : List DiagnosticEntry) →
     MatchResult r (λ _. Appends (AreUnusedReports fragments o (defined_names o)) old new) (λ _. KeepsReports (IsDiagnostic (UsesReport fragments o)) old new) →
     OnOk r (Appends (AreUsesReports fragments o) old new)

@@ -1,7 +1,8 @@
 -- The variable that a value is.
 use Rattle.std.proofs.Common.{◌≡◌, List, sym, ap, ◌∙◌, subst}
 use Rattle.std.proofs.lemmas.Option.{same_Some}
-use Rattle.graphql_documents.specs.VariableUsage.{IsUsageAllowed, IsVariable, UsageHolds, variable_named}
+use Rattle.graphql_specification.specs.VariableUsages.{IsUsageAllowed, IsVariable, UsageHolds}
+use Rattle.graphql_documents.specs.Definitions.{variable_named}
 use Rattle.graphql_documents.specs.declared.documents.definitions.InputValueDefinition.{InputValueDefinition}
 use Rattle.graphql_documents.specs.declared.documents.definitions.VariableDefinition.{VariableDefinition}
 use Rattle.graphql_nodes.specs.declared.nodes.Node.{Node}

@@ -1,4 +1,4 @@
--- Lists of the variables that stand in values, arguments and directives.
+-- Lists of the variables that are in values, arguments and directives.
 use Rattle.std.proofs.Common.{◌≡◌, ◌↔◌, ℕ, ◌+◌, ◌<◌, ◌≤◌, arith, List, [], ◌∷◌, ◌++◌, length, get_or, take, refl, sym, ap, ◌∙◌, subst, Contains, Vec}
 use Rattle.std.specs.Prelude.{◌⊎◌}
 use Rattle.std.specs.Borrow.{Bor}
@@ -17,7 +17,7 @@ use Rattle.graphql_documents.proofs.ListLemmas.{more_is, only_one, stands_first}
 use Rattle.graphql_documents.proofs.VariableUseLemmas.{one_list_only}
 use Rattle.graphql_variables.specs.Uses.{AddsNames, IsNamedIn, NamesAlso, names_of}
 
--- some element, as one that stands in the list
+-- some element, as one that is in the list
 pub any_has : {X : Type 0} (P : X → Type 0) (xs : List X) → Any P xs → (x : X) × Contains xs x × P x
 any_has P xs (k, x, within, is, p) = (x, (k, within, is), p)
 
@@ -145,7 +145,7 @@ also_then P Q old mid new a b n = (λ there. forth ((b n).0 there), λ some. (b 
   back (inr (inl p)) = inl ((a n).1 (inr p))
   back (inr (inr q)) = inr q
 
--- the variables of a value are the names that stand in it
+-- the variables of a value are the names that are in it
 pub also_in_value : {v : Value} {old new : List (Bor NameText)} → AddsNames (VariablesIn v) old new → NamesAlso (λ n. StandsIn n v) old new
 also_in_value {v = v} {old = old} {new = new} a n = (forth, back) where
   added : List NameText

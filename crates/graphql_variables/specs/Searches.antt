@@ -10,7 +10,7 @@ pub data Leads {X : Type 0} (Step : X → X → Type 0) : X → X → Type 0 whe
 -- these leads
 pub record Finds {X : Type 0} (Step : X → X → Type 0) (begins old new : X → Type 0) : Type 0 where
   pub grows : (x : X) → old x → new x
-  pub reached : (x : X) → new x → old x ⊎ ((start : X) × begins start × Leads Step start x)
+  pub reachable : (x : X) → new x → old x ⊎ ((start : X) × begins start × Leads Step start x)
 
 -- it has seen these, and with each newly seen one all to which a step leads from it
 pub record Searched {X : Type 0} (Step : X → X → Type 0) (begins old new : X → Type 0) : Type 0 where

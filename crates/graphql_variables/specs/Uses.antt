@@ -1,11 +1,11 @@
--- The variables that a walk over an operation has met.
+-- The variables that a walk over an operation has visited.
 use Rattle.std.specs.Prelude.{◌≡◌, ◌↔◌, ◌⊎◌, List, ◌∷◌, ◌++◌, None, Some, Contains, map}
 use Rattle.std.specs.Borrow.{Bor}
 use Rattle.indexmap.specs.IndexSet.{IndexSet}
 use Rattle.graphql_nodes.specs.Names.{NameText, SameName}
 use Rattle.graphql_documents.specs.Selections.{Fragments, arguments_of, directives_of}
-use Rattle.graphql_documents.specs.VariableUsage.{variable_named}
-use Rattle.graphql_documents.specs.Variables.{StandsInArguments, StandsInDirectives}
+use Rattle.graphql_documents.specs.Definitions.{variable_named}
+use Rattle.graphql_documents.specs.VariableUses.{StandsInArguments, StandsInDirectives}
 use Rattle.graphql_documents.specs.declared.documents.definitions.VariableDefinition.{VariableDefinition}
 use Rattle.graphql_documents.specs.declared.documents.executables.Fragment.{Fragment}
 use Rattle.graphql_documents.specs.declared.documents.executables.FragmentSpread.{FragmentSpread}

@@ -4,7 +4,7 @@ use Rattle.std.specs.Borrow.{Bor}
 use Rattle.std.specs.HashMap.{HashMap, get_by}
 use Rattle.std.specs.Option.{option_copied}
 use Rattle.graphql_nodes.specs.Names.{NameText, same_name}
-use Rattle.graphql_documents.specs.VariableUsage.{variable_named}
+use Rattle.graphql_documents.specs.Definitions.{variable_named}
 use Rattle.graphql_documents.specs.declared.documents.definitions.VariableDefinition.{VariableDefinition}
 use Rattle.graphql_nodes.specs.declared.nodes.Node.{Node}
 

@@ -1,12 +1,12 @@
 ghost use Rattle.std.specs.Option.{option_copied};
 ghost use Rattle.std.specs.Prelude.{◌≡◌, ◌∷◌, ◌++◌, [], IfOk, List, OnOk};
-ghost use Rattle.graphql_documents.specs.VariableUsage.{variable_named};
+ghost use Rattle.graphql_documents.specs.Definitions.{variable_named};
 ghost use Rattle.graphql_documents.specs.declared.documents.definitions.VariableDefinition.{VariableDefinition};
 ghost use Rattle.graphql_nodes.specs.declared.nodes.Node.{Node};
 ghost use Rattle.graphql_variables.specs.VariablesByName.{FindsFirst};
 
-use graphql_diagnostics::ValidationError;
-use graphql_documents::documents::{Name, Node, VariableDefinition};
+use graphql_documents::documents::VariableDefinition;
+use graphql_nodes::{Name, Node, ValidationError};
 use std::alloc::Global;
 use std::collections::HashMap;
 use std::marker::Model;
@@ -40,7 +40,7 @@ impl<'a> Model for VariablesByName<'a> {
 }
 
 impl<'a> VariablesByName<'a> {
-    /// The variables with these definitions. The only error is want of memory.
+    /// The variables with these definitions. The only error is a failed allocation.
     pub fn new(
         alloc: Global,
         definitions: &'a [Node<VariableDefinition>],

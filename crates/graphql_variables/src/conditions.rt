@@ -2,10 +2,11 @@
 
 ghost use Rattle.std.specs.Option.{option_copied};
 ghost use Rattle.std.specs.Prelude.{◌≡◌};
-ghost use Rattle.graphql_documents.specs.Defer.{argument_value, can_be_excluded, is_boolean, is_literally, may_exclude};
-ghost use Rattle.graphql_documents.specs.Selections.{directives_of};
+ghost use Rattle.graphql_documents.specs.Directives.{argument_value, is_boolean, is_literally, may_exclude};
+ghost use Rattle.graphql_documents.specs.Selections.{can_be_excluded, directives_of};
 
-use graphql_documents::documents::{Directive, Node, Selection, Value};
+use graphql_documents::documents::{Directive, Selection, Value};
+use graphql_nodes::Node;
 
 /// The name of the directive that leaves a selection out where its argument `if` is true.
 pub const SKIP_DIRECTIVE_NAME: &str = "skip";
@@ -14,7 +15,7 @@ pub const SKIP_DIRECTIVE_NAME: &str = "skip";
 pub const INCLUDE_DIRECTIVE_NAME: &str = "include";
 
 /// Whether the conditions of a selection may leave it out: it has `@skip` whose `if` is not literally
-/// `false`, or `@include` whose `if` is not literally `true`. What is around the selection is not asked.
+/// `false`, or `@include` whose `if` is not literally `true`. What is around the selection does not matter.
 ///
 /// Specification: 3.13.1 @skip; 3.13.2 @include.
 pub fn can_be_excluded(selection: &Selection) -> bool

@@ -1,23 +1,22 @@
-//! Names that were met, each with the location of the first.
+//! Names that were visited, each with the location of the first.
 
 ghost use Rattle.std.specs.Prelude.{◌≡◌, ◌∷◌, ◌++◌, [], IfOk, List, OnOk, Option};
 ghost use Rattle.graphql_nodes.specs.Names.{NameText};
 ghost use Rattle.graphql_nodes.specs.declared.spans.SourceSpan.{SourceSpan};
 ghost use Rattle.graphql_variables.specs.FirstPlaces.{Remembers, place_in};
 
-use graphql_diagnostics::ValidationError;
-use graphql_documents::documents::{Name, SourceSpan};
+use graphql_nodes::{Name, SourceSpan, ValidationError};
 use std::collections::HashMap;
 
-/// Answers the location of the first of this name among those that were met. Where the name is new,
-/// there is none, and this location stands for it from then on. The only error is want of memory.
+/// Answers the location of the first of this name among those that were visited. Where the name is new, there
+/// is none, and this location stands for it from then on. The only error is a failed allocation.
 pub fn first_place<'a>(
     seen: &mut HashMap<&'a Name, Option<SourceSpan>>,
     name: &'a Name,
     location: Option<SourceSpan>,
 ) -> Result<Option<Option<SourceSpan>>, ValidationError>
-    ensures found { IfOk result (λ first. (met : List (NameText × Option SourceSpan)) → Remembers seen.old met → first ≡ place_in met name.now) }
-    ensures remembered { OnOk result ((met : List (NameText × Option SourceSpan)) → Remembers seen.old met → Remembers seen.new (met ++ (name.now, location) ∷ [])) }
+    ensures found { IfOk result (λ first. (visited : List (NameText × Option SourceSpan)) → Remembers seen.old visited → first ≡ place_in visited name.now) }
+    ensures remembered { OnOk result ((visited : List (NameText × Option SourceSpan)) → Remembers seen.old visited → Remembers seen.new (visited ++ (name.now, location) ∷ [])) }
 {
     match seen.get(&name) {
         Some(first) => Ok(Some(*first)),

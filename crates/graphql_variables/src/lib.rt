@@ -1,4 +1,4 @@
-//! Variables: where they may stand, which of them are used, and the walks over selections that find it.
+//! Variables: where they may be, which of them are used, and the walks over selections that find it.
 #![tactic(auto)]
 
 mod by_name;

@@ -2,19 +2,18 @@ ghost use Rattle.std.specs.Prelude.{◌≡◌, ◌↔◌, [], ◌∷◌, All, Co
 ghost use Rattle.graphql_diagnostics.specs.Diagnostics.{IsDiagnostic, entries};
 ghost use Rattle.graphql_nodes.specs.Names.{NameText, different_names};
 ghost use Rattle.graphql_diagnostics.specs.Reports.{Appends, Checks, KeepsReports};
-ghost use Rattle.graphql_documents.specs.Selections.{Fragments, Reached, fragments_of};
-ghost use Rattle.graphql_diagnostics.specs.VariableReports.{AreUnusedReports, AreUsesReports, UsesReport};
-ghost use Rattle.graphql_documents.specs.Variables.{UsesVariable};
+ghost use Rattle.graphql_documents.specs.Selections.{Fragments, Reachable, fragments_of};
+ghost use Rattle.graphql_specification.specs.Variables.{AreUnusedReports, AreUsesReports, UsesReport};
+ghost use Rattle.graphql_documents.specs.VariableUses.{UsesVariable};
 ghost use Rattle.graphql_documents.specs.declared.documents.executables.Operation.{Operation};
 ghost use Rattle.graphql_documents.specs.declared.documents.executables.Selection.{Selection};
 ghost use Rattle.graphql_variables.specs.Uses.{HasUsed, IsLastDefinition, IsNamedIn, NamesAlso, UsedAt, names_of};
 
 use super::uses::{add_in_arguments, add_in_directives};
 use super::walks::walk_selections_with_deduped_fragments;
-use graphql_diagnostics::{Details, DiagnosticData, DiagnosticList, ValidationError};
-use graphql_documents::documents::{
-    ExecutableDocument, Name, Node, Operation, Selection, SourceSpan, VariableDefinition,
-};
+use graphql_diagnostics::{Details, DiagnosticData, DiagnosticList};
+use graphql_documents::documents::{ExecutableDocument, Operation, Selection, VariableDefinition};
+use graphql_nodes::{Name, Node, SourceSpan, ValidationError};
 use indexmap::{IndexMap, IndexSet};
 use std::alloc::Global;
 
@@ -23,8 +22,8 @@ use std::alloc::Global;
 /// reaches. Each name is reported once, in order of its first definition, as its last one writes it and
 /// at that place.
 ///
-/// Where the walk over the operation passes its bound, this alone is reported. The only error is want of
-/// memory.
+/// Where the walk over the operation passes its limit, this alone is reported. The only error is a failed
+/// allocation.
 ///
 /// Specification: 5.8.4 All Variables Used.
 pub fn validate_unused_variables(
@@ -52,7 +51,7 @@ fn used_variables<'doc>(
     operation: &'doc Operation,
     selections: &[&'doc Selection],
 ) -> Result<IndexSet<&'doc Name>, ValidationError>
-    ensures { ((s : Selection) → Contains (map (λ s. s.now) selections.now) s ↔ Reached (fragments_of document.now) operation.now.selection_set s) →
+    ensures { ((s : Selection) → Contains (map (λ s. s.now) selections.now) s ↔ Reachable (fragments_of document.now) operation.now.selection_set s) →
         IfOk result (HasUsed (UsesVariable (fragments_of document.now) operation.now)) }
 {
     let mut names = Vec::new(alloc);

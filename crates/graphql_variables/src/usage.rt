@@ -1,20 +1,20 @@
 ghost use Rattle.std.specs.Prelude.{◌≡◌, ◌↔◌, IsTrue, IfOk, List};
 ghost use Rattle.graphql_diagnostics.specs.Diagnostics.{IsDiagnostic};
-ghost use Rattle.graphql_diagnostics.specs.DirectiveReports.{UsageReport};
+ghost use Rattle.graphql_specification.specs.VariableUsages.{UsageReport, HasNonNullDefault, IsUsageAllowed, IsVariable, UsageHolds};
 ghost use Rattle.graphql_diagnostics.specs.Reports.{Checks};
 ghost use Rattle.graphql_documents.specs.TypeReferences.{is_assignable, nullable};
-ghost use Rattle.graphql_documents.specs.VariableUsage.{HasNonNullDefault, IsUsageAllowed, IsVariable, UsageHolds};
 ghost use Rattle.graphql_documents.specs.declared.documents.definitions.VariableDefinition.{VariableDefinition};
 ghost use Rattle.graphql_nodes.specs.declared.nodes.Node.{Node};
 
 use super::by_name::VariablesByName;
-use graphql_diagnostics::{Details, DiagnosticData, DiagnosticList, ValidationError};
+use graphql_diagnostics::{Details, DiagnosticData, DiagnosticList};
 use graphql_documents::documents::{
-    Argument, InputValueDefinition, Node, Type, Value, VariableDefinition,
+    Argument, InputValueDefinition, Type, Value, VariableDefinition,
 };
+use graphql_nodes::{Node, ValidationError};
 
-/// Reports an argument that is a defined variable which may not stand there, by the definition of the
-/// argument, and answers whether nothing was reported. The only error is want of memory.
+/// Reports an argument that is a defined variable which is not allowed there, by the definition of the
+/// argument, and answers whether nothing was reported. The only error is a failed allocation.
 ///
 /// Specification: 5.8.5 All Variable Usages Are Allowed.
 pub fn validate_variable_usage(
@@ -58,9 +58,9 @@ pub fn check_variable_usage(
     }
 }
 
-/// Whether a variable may stand for what has this definition: its type may; or the defined type is
-/// non-null, one of the two has a default, which for the variable is not null, and the variable's type
-/// may stand where null is taken too.
+/// Whether a variable may stand for what has this definition: its type may; or the defined type is non-null,
+/// one of the two has a default, which for the variable is not null, and the variable's type may be where
+/// null is taken too.
 ///
 /// Specification: 5.8.5 All Variable Usages Are Allowed.
 pub fn is_variable_usage_allowed(
@@ -88,7 +88,7 @@ fn has_non_null_default(variable: &VariableDefinition) -> bool
     }
 }
 
-/// Whether a value of this type may stand where the wanted type, or null, is asked for.
+/// Whether a value of this type may be used where the wanted type, or null, is expected.
 fn is_assignable_to_nullable(ty: &Type, wanted: &Type) -> bool
     ensures { result ≡ is_assignable ty.now (nullable wanted.now) }
 {

@@ -1,17 +1,17 @@
-//! The variables that stand in values, arguments and directives.
+//! The variables that are in values, arguments and directives.
 
 ghost use Rattle.std.specs.Prelude.{◌≡◌, ◌++◌, IfOk, OnOk};
 ghost use Rattle.graphql_nodes.specs.Names.{NameText};
 ghost use Rattle.graphql_documents.specs.Values.{StandsIn, VariablesIn, VariablesInEntries, VariablesInItems};
-ghost use Rattle.graphql_documents.specs.Variables.{StandsInArguments, StandsInDirectives};
+ghost use Rattle.graphql_documents.specs.VariableUses.{StandsInArguments, StandsInDirectives};
 ghost use Rattle.graphql_variables.specs.Uses.{AddsNames, NamesAlso, names_of};
 
-use graphql_diagnostics::ValidationError;
-use graphql_documents::documents::{Argument, Directive, Name, Node, Value};
+use graphql_documents::documents::{Argument, Directive, Value};
+use graphql_nodes::{Name, Node, ValidationError};
 use std::alloc::Global;
 
-/// The variables in a value at any depth, in order, each as often as it stands there. The only error
-/// is want of memory.
+/// The variables in a value at any depth, in order, each as often as it is there. The only error is a failed
+/// allocation.
 ///
 /// Specification: 2.10 Variables.
 pub fn variables_in_value(alloc: Global, value: &Value) -> Result<Vec<&Name>, ValidationError>

@@ -3,39 +3,36 @@
 ghost use Rattle.std.specs.Prelude.{◌≡◌, ◌+◌, List, [], map, not, IfOk, IsTrue, OnOk};
 ghost use Rattle.graphql_guards.specs.Guards.{depth_limit, depth_of};
 ghost use Rattle.graphql_nodes.specs.Names.{NameText, stands_on, with_name};
-ghost use Rattle.graphql_documents.specs.Selections.{Inside, Reached, fragments_of, selections_of};
-ghost use Rattle.graphql_documents.specs.Defer.{Open};
-ghost use Rattle.graphql_documents.specs.Subscriptions.{WalkedFields, fields_among};
+ghost use Rattle.graphql_documents.specs.Selections.{InExpandedSet, Reachable, fragments_of, selections_of, fields_among};
+ghost use Rattle.graphql_specification.specs.Defer.{Open};
+ghost use Rattle.graphql_specification.specs.Subscriptions.{WalkedFields};
 ghost use Rattle.graphql_documents.specs.Walks.{HasListed, PassesDepth, full_walk, open_walk, root_walk};
 ghost use Rattle.graphql_documents.specs.declared.documents.executables.Selection.TheVariants as kind;
-ghost use Rattle.graphql_variables.specs.WalkSteps.{MetFrom, OrderBelow, OrderOver, WalksBelow, WalksOver, listed_of, entered_names, walk_of};
+ghost use Rattle.graphql_variables.specs.WalkSteps.{VisitedFrom, OrderBelow, OrderOver, WalksBelow, WalksOver, listed_of, visited_fragment_names, walk_of};
 ghost use Rattle.graphql_variables.specs.declared.walks.Extent.TheVariants as extent;
 
 use crate::conditions::can_be_excluded;
-use graphql_diagnostics::ValidationError;
-use graphql_documents::documents::{
-    ExecutableDocument, FragmentSpread, Name, Node, Selection, SelectionSet,
-};
+use graphql_documents::documents::{ExecutableDocument, FragmentSpread, Selection, SelectionSet};
 use graphql_guards::DepthCounter;
+use graphql_nodes::{Name, Node, ValidationError};
 use indexmap::IndexSet;
 use std::alloc::Global;
 
 /// How deep a walk may go.
 const WALK_LIMIT: usize = 500;
 
-/// The selections that a walk met, in the order in which it met them, and whether it came to its end
-/// or passed its bound.
+/// The selections that a walk visited, in the order in which it visited them, and whether it came to its end
+/// or passed its limit.
 #[derive(Drop)]
 pub struct Walked<'doc> {
     pub selections: Vec<&'doc Selection>,
     pub complete: bool,
 }
 
-/// Walks over each selection that stands inside a set: in the set itself or in that of a fragment in
-/// it, at any depth, but not below fields. Each named fragment is gone into once, and an undefined one
-/// gives nothing. A selection is listed before what stands in its set or fragment, and that before the
-/// next selection. The walk stops where it would go into more than 500 sets, one in another. The only
-/// error is want of memory.
+/// Walks over each selection that is inside a set: in the set itself or in that of a fragment in it, at any
+/// depth, but not below fields. Each named fragment is visited once, and an undefined one gives nothing. A
+/// selection is listed before what is in its set or fragment, and that before the next selection. The walk
+/// stops where it would go into more than 500 sets, one in another. The only error is a failed allocation.
 ///
 /// Specification: 5.2.3.1 Single Root Field.
 pub fn walk_selections<'doc>(
@@ -43,16 +40,16 @@ pub fn walk_selections<'doc>(
     document: &'doc ExecutableDocument,
     selection_set: &'doc SelectionSet,
 ) -> Result<Walked<'doc>, ValidationError>
-    ensures listed { IfOk result (λ walked. HasListed (Inside (fragments_of document.now) selection_set.now)
+    ensures listed { IfOk result (λ walked. HasListed (InExpandedSet (fragments_of document.now) selection_set.now)
         (PassesDepth (fragments_of document.now) root_walk selection_set.now)
         (map (λ s. s.now) walked.selections.items) walked.complete) }
-    ensures ordered { IfOk result (λ walked. IsTrue walked.complete → (met : List NameText) ×
+    ensures ordered { IfOk result (λ walked. IsTrue walked.complete → (visited : List NameText) ×
         WalkedFields (fragments_of document.now) [] (selections_of selection_set.now)
-        (fields_among (map (λ s. s.now) walked.selections.items)) met) }
+        (fields_among (map (λ s. s.now) walked.selections.items)) visited) }
 {
     let walk = SelectionWalk {
         document,
-        extent: Extent::Inside,
+        extent: Extent::InExpandedSet,
     };
     walk.over(alloc, selection_set)
 }
@@ -65,20 +62,20 @@ pub fn walk_selections_with_deduped_fragments<'doc>(
     document: &'doc ExecutableDocument,
     selection_set: &'doc SelectionSet,
 ) -> Result<Walked<'doc>, ValidationError>
-    ensures { IfOk result (λ walked. HasListed (Reached (fragments_of document.now) selection_set.now)
+    ensures { IfOk result (λ walked. HasListed (Reachable (fragments_of document.now) selection_set.now)
         (PassesDepth (fragments_of document.now) full_walk selection_set.now)
         (map (λ s. s.now) walked.selections.items) walked.complete) }
 {
     let walk = SelectionWalk {
         document,
-        extent: Extent::Reached,
+        extent: Extent::Reachable,
     };
     walk.over(alloc, selection_set)
 }
 
-/// The same, but only over the selections that are met whatever the conditions: a selection that may be
-/// left out by `@skip` or `@include` is neither listed nor gone into. A fragment that is spread there is
-/// gone into at the first spread that can't be left out.
+/// The same, but only over the selections that are visited whatever the conditions: a selection that may be
+/// left out by `@skip` or `@include` is neither listed nor visited. A fragment that is spread there is
+/// visited at the first spread that can't be left out.
 ///
 /// Specification: the incremental delivery proposal, Defer And Stream Directives Are Used In Valid
 /// Operations.
@@ -99,11 +96,11 @@ pub fn walk_open_selections<'doc>(
 }
 
 /// Which selections a walk goes through: those inside a set, those that are reached from it, or those of
-/// them that are met whatever the conditions.
+/// them that are visited whatever the conditions.
 #[derive(Clone, Copy)]
 enum Extent {
-    Inside,
-    Reached,
+    InExpandedSet,
+    Reachable,
     Open,
 }
 
@@ -113,8 +110,8 @@ impl Extent {
         ensures { result ≡ (walk_of self).into_fields }
     {
         match self {
-            Extent::Inside => false,
-            Extent::Reached | Extent::Open => true,
+            Extent::InExpandedSet => false,
+            Extent::Reachable | Extent::Open => true,
         }
     }
 
@@ -123,7 +120,7 @@ impl Extent {
         ensures { result ≡ (walk_of self).goes_through selection.now }
     {
         match self {
-            Extent::Inside | Extent::Reached => true,
+            Extent::InExpandedSet | Extent::Reachable => true,
             Extent::Open => !can_be_excluded(selection),
         }
     }
@@ -136,42 +133,42 @@ struct SelectionWalk<'doc> {
     extent: Extent,
 }
 
-/// What a walk has met: the names of the fragments that it has gone into, and the selections.
+/// What a walk has visited: the names of the fragments that it has visited, and the selections.
 #[derive(Drop)]
-struct Met<'doc> {
-    entered: IndexSet<&'doc Name>,
+struct Visited<'doc> {
+    visited_fragments: IndexSet<&'doc Name>,
     selections: Vec<&'doc Selection>,
 }
 
-impl<'doc> Met<'doc> {
+impl<'doc> Visited<'doc> {
     /// Adds the name of a fragment, and answers whether it is new.
     fn enter(&mut self, name: &'doc Name) -> Result<bool, ValidationError>
-        ensures is_new { IfOk result (λ new. new ≡ not (stands_on (entered_names self.old) name.now)) }
-        ensures names { OnOk result (entered_names self.new ≡ with_name (entered_names self.old) name.now) }
+        ensures is_new { IfOk result (λ new. new ≡ not (stands_on (visited_fragment_names self.old) name.now)) }
+        ensures names { OnOk result (visited_fragment_names self.new ≡ with_name (visited_fragment_names self.old) name.now) }
         ensures selections { OnOk result (listed_of self.new ≡ listed_of self.old) }
     {
-        Ok(self.entered.insert(name)?)
+        Ok(self.visited_fragments.insert(name)?)
     }
 }
 
 impl<'doc> SelectionWalk<'doc> {
     /// Walks over a set.
     fn over(&self, alloc: Global, set: &'doc SelectionSet) -> Result<Walked<'doc>, ValidationError>
-        ensures listed { IfOk result (λ walked. HasListed (MetFrom (fragments_of self.now.document.now) (walk_of self.now.extent) set.now)
+        ensures listed { IfOk result (λ walked. HasListed (VisitedFrom (fragments_of self.now.document.now) (walk_of self.now.extent) set.now)
             (PassesDepth (fragments_of self.now.document.now) (walk_of self.now.extent) set.now)
             (map (λ s. s.now) walked.selections.items) walked.complete) }
-        ensures ordered { IfOk result (λ walked. IsTrue walked.complete → self.now.extent ≡ extent.Inside → (met : List NameText) ×
+        ensures ordered { IfOk result (λ walked. IsTrue walked.complete → self.now.extent ≡ extent.InExpandedSet → (visited : List NameText) ×
             WalkedFields (fragments_of self.now.document.now) [] (selections_of set.now)
-            (fields_among (map (λ s. s.now) walked.selections.items)) met) }
+            (fields_among (map (λ s. s.now) walked.selections.items)) visited) }
     {
-        let mut met = Met {
-            entered: IndexSet::new(alloc),
+        let mut visited = Visited {
+            visited_fragments: IndexSet::new(alloc),
             selections: Vec::new(alloc),
         };
         let mut depth = DepthCounter::new().with_limit(WALK_LIMIT);
-        let complete = self.walk_set(set, &mut met, &mut depth)?;
+        let complete = self.walk_set(set, &mut visited, &mut depth)?;
         Ok(Walked {
-            selections: met.selections,
+            selections: visited.selections,
             complete,
         })
     }
@@ -181,11 +178,11 @@ impl<'doc> SelectionWalk<'doc> {
     fn walk_set(
         &self,
         set: &'doc SelectionSet,
-        met: &mut Met<'doc>,
+        visited: &mut Visited<'doc>,
         depth: &mut DepthCounter,
     ) -> Result<bool, ValidationError>
-        ensures walks { IfOk result (λ complete. WalksOver self.now depth.old (depth_of depth.old) set.now met.old met.new complete) }
-        ensures order { IfOk result (λ complete. OrderOver self.now set.now met.old met.new complete) }
+        ensures walks { IfOk result (λ complete. WalksOver self.now depth.old (depth_of depth.old) set.now visited.old visited.new complete) }
+        ensures order { IfOk result (λ complete. OrderOver self.now set.now visited.old visited.new complete) }
         ensures depth { OnOk result (depth_of depth.new ≡ depth_of depth.old) }
         ensures limit { OnOk result (depth_limit depth.new ≡ depth_limit depth.old) }
     {
@@ -193,8 +190,8 @@ impl<'doc> SelectionWalk<'doc> {
             if !self.extent.goes_through(selection) {
                 continue;
             }
-            met.selections.push(selection)?;
-            if !self.walk_below(selection, met, depth)? {
+            visited.selections.push(selection)?;
+            if !self.walk_below(selection, visited, depth)? {
                 return Ok(false);
             }
         }
@@ -206,45 +203,45 @@ impl<'doc> SelectionWalk<'doc> {
     fn walk_below(
         &self,
         selection: &'doc Selection,
-        met: &mut Met<'doc>,
+        visited: &mut Visited<'doc>,
         depth: &mut DepthCounter,
     ) -> Result<bool, ValidationError>
-        ensures walks { IfOk result (λ complete. WalksBelow self.now depth.old selection.now met.old met.new complete) }
-        ensures order { IfOk result (λ complete. OrderBelow self.now selection.now met.old met.new complete) }
+        ensures walks { IfOk result (λ complete. WalksBelow self.now depth.old selection.now visited.old visited.new complete) }
+        ensures order { IfOk result (λ complete. OrderBelow self.now selection.now visited.old visited.new complete) }
         ensures depth { OnOk result (depth_of depth.new ≡ depth_of depth.old) }
         ensures limit { OnOk result (depth_limit depth.new ≡ depth_limit depth.old) }
     {
         match selection {
             Selection::Field(field) if self.extent.goes_into_fields() => {
-                self.walk_deeper(&field.value.selection_set, met, depth)
+                self.walk_deeper(&field.value.selection_set, visited, depth)
             }
             Selection::Field(_) => Ok(true),
             Selection::InlineFragment(fragment) => {
-                self.walk_deeper(&fragment.value.selection_set, met, depth)
+                self.walk_deeper(&fragment.value.selection_set, visited, depth)
             }
-            Selection::FragmentSpread(spread) => self.walk_fragment(spread, met, depth),
+            Selection::FragmentSpread(spread) => self.walk_fragment(spread, visited, depth),
         }
     }
 
-    /// The same over the fragment that a spread names, if it is defined and was not yet gone into.
+    /// The same over the fragment that a spread names, if it is defined and was not yet visited.
     #[cycle(walk)]
     fn walk_fragment(
         &self,
         spread: &'doc Node<FragmentSpread>,
-        met: &mut Met<'doc>,
+        visited: &mut Visited<'doc>,
         depth: &mut DepthCounter,
     ) -> Result<bool, ValidationError>
-        ensures walks { IfOk result (λ complete. WalksBelow self.now depth.old (kind.FragmentSpread spread.now) met.old met.new complete) }
-        ensures order { IfOk result (λ complete. OrderBelow self.now (kind.FragmentSpread spread.now) met.old met.new complete) }
+        ensures walks { IfOk result (λ complete. WalksBelow self.now depth.old (kind.FragmentSpread spread.now) visited.old visited.new complete) }
+        ensures order { IfOk result (λ complete. OrderBelow self.now (kind.FragmentSpread spread.now) visited.old visited.new complete) }
         ensures depth { OnOk result (depth_of depth.new ≡ depth_of depth.old) }
         ensures limit { OnOk result (depth_limit depth.new ≡ depth_limit depth.old) }
     {
         let name = &spread.value.fragment_name;
-        if !met.enter(name)? {
+        if !visited.enter(name)? {
             return Ok(true);
         }
         match self.document.fragments.get(name) {
-            Some(fragment) => self.walk_deeper(&fragment.value.selection_set, met, depth),
+            Some(fragment) => self.walk_deeper(&fragment.value.selection_set, visited, depth),
             None => Ok(true),
         }
     }
@@ -254,16 +251,16 @@ impl<'doc> SelectionWalk<'doc> {
     fn walk_deeper(
         &self,
         set: &'doc SelectionSet,
-        met: &mut Met<'doc>,
+        visited: &mut Visited<'doc>,
         depth: &mut DepthCounter,
     ) -> Result<bool, ValidationError>
-        ensures walks { IfOk result (λ complete. WalksOver self.now depth.old (depth_of depth.old + 1) set.now met.old met.new complete) }
-        ensures order { IfOk result (λ complete. OrderOver self.now set.now met.old met.new complete) }
+        ensures walks { IfOk result (λ complete. WalksOver self.now depth.old (depth_of depth.old + 1) set.now visited.old visited.new complete) }
+        ensures order { IfOk result (λ complete. OrderOver self.now set.now visited.old visited.new complete) }
         ensures depth { OnOk result (depth_of depth.new ≡ depth_of depth.old) }
         ensures limit { OnOk result (depth_limit depth.new ≡ depth_limit depth.old) }
     {
         match depth.increment() {
-            Ok(mut guard) => self.walk_set(set, met, guard.counter),
+            Ok(mut guard) => self.walk_set(set, visited, guard.counter),
             Err(_) => Ok(false),
         }
     }

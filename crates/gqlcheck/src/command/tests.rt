@@ -1,8 +1,7 @@
 use super::*;
 use crate::places::Place;
-use graphql_documents::documents::{FileId, SourceSpan};
-use graphql_rows::{Row, RowError};
-use graphql_rows_more::{find, tables};
+use graphql_examples::{Example, ExampleError};
+use graphql_nodes::{FileId, SourceSpan};
 use std::io::ErrorKind;
 use std::process::Abort;
 
@@ -11,14 +10,19 @@ const USAGE: &str = "usage: gqlcheck row ID | rows\n";
 /// What all examples that run print, by the tables.
 fn all_lines(rt: &impl Abort, alloc: Global) -> String {
     let mut text = String::new(alloc);
-    for id in RUNNING {
-        let row = find(id).expect(rt, "an example");
-        let printed = format!(in alloc; "row {id}\n{}", row.lines);
+    for examples in tables() {
+        add_lines(rt, alloc, examples, &mut text);
+    }
+    text
+}
+
+fn add_lines(rt: &impl Abort, alloc: Global, examples: &[Example], text: &mut String) {
+    for example in examples {
+        let printed = format!(in alloc; "row {}\n{}", example.id, example.lines);
         let printed = printed.expect(rt, "memory for lines");
         text.push_str(printed.as_str())
             .expect(rt, "memory for lines");
     }
-    text
 }
 
 fn words_of(rt: &impl Abort, alloc: Global, texts: &[&str]) -> Vec<String> {
@@ -56,29 +60,28 @@ fn ends(
 }
 
 /// The status of the example: whether it reports something. One that shows types does not.
-fn status_of(row: &Row) -> u8 {
-    u8::from(!row.lines.is_empty() && !row.lines.starts_with("types:"))
+fn status_of(example: &Example) -> u8 {
+    u8::from(!example.lines.is_empty() && !example.lines.starts_with("types:"))
 }
 
 /// The example runs, under its name.
-fn answers_row(rt: &impl Abort, alloc: Global, row: &Row) {
-    assert!(rt; RUNNING.iter().any(|id| *id == row.id), "{}", row.id);
-    let words = ["row", row.id];
-    answers(rt, alloc, &words, status_of(row), row.lines, "");
+fn answers_example(rt: &impl Abort, alloc: Global, example: &Example) {
+    let words = ["row", example.id];
+    answers(rt, alloc, &words, status_of(example), example.lines, "");
 }
 
 /// Each example of a table runs.
-fn answers_each(rt: &impl Abort, alloc: Global, rows: &[Row]) {
-    for row in rows {
-        answers_row(rt, alloc, row);
+fn answers_each(rt: &impl Abort, alloc: Global, examples: &[Example]) {
+    for example in examples {
+        answers_example(rt, alloc, example);
     }
 }
 
 #[test]
 fn examples_print_their_lines(rt: HostRuntime) {
     let alloc = rt.alloc();
-    for rows in tables() {
-        answers_each(&rt, alloc, rows);
+    for examples in tables() {
+        answers_each(&rt, alloc, examples);
     }
     let printed = all_lines(&rt, alloc);
     answers(&rt, alloc, &["rows"], 0, printed.as_str(), "");
@@ -168,22 +171,28 @@ fn is_cut(rt: &impl Abort, status: u8, taken: &[u8], printed: &str) {
 }
 
 /// Whichever write of the example fails, the run ends there.
-fn ends_at_each_failed_write(rt: &impl Abort, alloc: Global, row: &Row) {
+fn ends_at_each_failed_write(rt: &impl Abort, alloc: Global, example: &Example) {
     for writes in 0..1000 {
-        let (status, taken) = limited_run(rt, alloc, &["row", row.id], writes);
-        if taken.as_slice() == row.lines.as_bytes() {
-            assert_eq!(rt; status, status_of(row), "{}", row.id);
+        let (status, taken) = limited_run(rt, alloc, &["row", example.id], writes);
+        if taken.as_slice() == example.lines.as_bytes() {
+            assert_eq!(rt; status, status_of(example), "{}", example.id);
             return;
         }
-        is_cut(rt, status, &taken, row.lines);
+        is_cut(rt, status, &taken, example.lines);
     }
     panic!(rt; "no run came to its end")
 }
 
 #[test]
 fn a_row_ends_at_the_first_failed_write(rt: HostRuntime) {
-    for id in RUNNING {
-        ends_at_each_failed_write(&rt, rt.alloc(), find(id).expect(&rt, "an example"));
+    for examples in tables() {
+        each_ends_at_each_failed_write(&rt, rt.alloc(), examples);
+    }
+}
+
+fn each_ends_at_each_failed_write(rt: &impl Abort, alloc: Global, examples: &[Example]) {
+    for example in examples {
+        ends_at_each_failed_write(rt, alloc, example);
     }
 }
 
@@ -217,11 +226,11 @@ fn has_words(rt: &impl Abort, alloc: Global, fault: Fault, status: u8, text: &st
 #[test]
 fn faults_have_their_words(rt: HostRuntime) {
     let alloc = rt.alloc();
-    let refused = Fault::from(RowError::OutOfMemory);
+    let refused = Fault::from(ExampleError::OutOfMemory);
     has_words(&rt, alloc, refused, 3, "out of memory\n");
     has_words(&rt, alloc, Fault::OutputFailed, 4, "");
     let wrong = "the case is wrong: a text of the notation is no name\n";
-    has_words(&rt, alloc, Fault::from(RowError::NotAName), 5, wrong);
+    has_words(&rt, alloc, Fault::from(ExampleError::NotAName), 5, wrong);
 }
 
 /// The place is shown so.

@@ -1,4 +1,4 @@
-//! Definitions of a schema that stand under their own names.
+//! Definitions of a schema that are listed under their own names.
 
 ghost use Rattle.std.specs.Prelude.{◌↔◌, All, IsTrue};
 ghost use Rattle.graphql_documents.specs.Built.{StandsUnderOwnNames, TypeStandsUnderItsName};
@@ -6,11 +6,12 @@ ghost use Rattle.graphql_nodes.specs.Names.{SameName};
 
 use graphql_documents::documents::{
     Component, DirectiveDefinition, EnumValueDefinition, ExtendedType, FieldDefinition,
-    InputValueDefinition, Name, Node, Schema,
+    InputValueDefinition, Schema,
 };
+use graphql_nodes::{Name, Node};
 use indexmap::IndexMap;
 
-/// Whether the definitions of the schema stand under their own names, and so do the parts of its types.
+/// Whether the definitions of the schema are listed under their own names, and so are the parts of its types.
 pub(super) fn stands_under_own_names(schema: &Schema) -> bool
     ensures { IsTrue result ↔ StandsUnderOwnNames schema.now }
 {
@@ -24,7 +25,7 @@ fn types_stand_under_own_names(types: &IndexMap<Name, ExtendedType>) -> bool
     types.iter().all(|(key, definition)| type_stands_under_its_name(key, definition))
 }
 
-/// Whether a type and its parts stand under their own names.
+/// Whether a type and its parts are listed under their own names.
 fn type_stands_under_its_name(key: &Name, definition: &ExtendedType) -> bool
     ensures { IsTrue result ↔ TypeStandsUnderItsName key.now definition.now }
 {

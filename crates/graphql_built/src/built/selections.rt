@@ -5,9 +5,8 @@ ghost use Rattle.graphql_built.specs.BuiltSelections.{HasDefinitionOfType, HasSe
 ghost use Rattle.graphql_documents.specs.Built.{FieldIsBuilt, SetsAreBuilt};
 ghost use Rattle.graphql_documents.specs.Schemas.{NamesKind, is_output_type};
 
-use graphql_documents::documents::{
-    Field, InlineFragment, NamedType, Schema, Selection, SelectionSet,
-};
+use graphql_documents::documents::{Field, InlineFragment, Schema, Selection, SelectionSet};
+use graphql_nodes::NamedType;
 
 /// Whether the set, and each set that is written in it, is built for its type.
 #[cycle(selection)]

@@ -1,15 +1,11 @@
 ghost use Rattle.std.specs.Option.{option_copied};
 ghost use Rattle.std.specs.Prelude.{◌≡◌, Some};
-ghost use Rattle.graphql_documents.specs.Arguments.{definition_named};
-ghost use Rattle.graphql_documents.specs.DirectiveLocations.{location_text};
-ghost use Rattle.graphql_documents.specs.OperationTypes.{operation_type_text};
-ghost use Rattle.graphql_documents.specs.VariableUsage.{variable_named};
+ghost use Rattle.graphql_documents.specs.Definitions.{definition_named, variable_named};
 
 use super::directives::Directive;
 use super::type_references::Type;
 use super::values::Value;
-use graphql_nodes::{Name, Node};
-use std::fmt;
+use graphql_nodes::{DirectiveLocation, Name, Node};
 
 /// An argument of a field or directive definition, or a field of an input object.
 ///
@@ -68,69 +64,6 @@ pub struct EnumValueDefinition {
     pub directives: Vec<Node<Directive>>,
 }
 
-/// A place where a directive may be applied.
-///
-/// Specification: 3.13 Directives.
-#[derive(Clone, Copy, Debug, PartialEq, Eq)]
-pub enum DirectiveLocation {
-    Query,
-    Mutation,
-    Subscription,
-    Field,
-    FragmentDefinition,
-    FragmentSpread,
-    InlineFragment,
-    VariableDefinition,
-    Schema,
-    Scalar,
-    Object,
-    FieldDefinition,
-    ArgumentDefinition,
-    Interface,
-    Union,
-    Enum,
-    EnumValue,
-    InputObject,
-    InputFieldDefinition,
-}
-
-impl DirectiveLocation {
-    /// The location in capitals, as a directive definition writes it.
-    pub fn name(&self) -> &'static str
-        ensures { result.now ≡ location_text self.now }
-    {
-        match self {
-            DirectiveLocation::Query => "QUERY",
-            DirectiveLocation::Mutation => "MUTATION",
-            DirectiveLocation::Subscription => "SUBSCRIPTION",
-            DirectiveLocation::Field => "FIELD",
-            DirectiveLocation::FragmentDefinition => "FRAGMENT_DEFINITION",
-            DirectiveLocation::FragmentSpread => "FRAGMENT_SPREAD",
-            DirectiveLocation::InlineFragment => "INLINE_FRAGMENT",
-            DirectiveLocation::VariableDefinition => "VARIABLE_DEFINITION",
-            DirectiveLocation::Schema => "SCHEMA",
-            DirectiveLocation::Scalar => "SCALAR",
-            DirectiveLocation::Object => "OBJECT",
-            DirectiveLocation::FieldDefinition => "FIELD_DEFINITION",
-            DirectiveLocation::ArgumentDefinition => "ARGUMENT_DEFINITION",
-            DirectiveLocation::Interface => "INTERFACE",
-            DirectiveLocation::Union => "UNION",
-            DirectiveLocation::Enum => "ENUM",
-            DirectiveLocation::EnumValue => "ENUM_VALUE",
-            DirectiveLocation::InputObject => "INPUT_OBJECT",
-            DirectiveLocation::InputFieldDefinition => "INPUT_FIELD_DEFINITION",
-        }
-    }
-}
-
-impl fmt::Display for DirectiveLocation {
-    ghost output = { λ location. Some (location_text location) };
-
-    fn fmt<W: fmt::Write>(&self, f: &mut fmt::Formatter<W>) -> fmt::Result {
-        f.write_str(self.name())
-    }
-}
-
 /// A directive definition.
 ///
 /// Specification: 3.13 Directives.
@@ -140,37 +73,6 @@ pub struct DirectiveDefinition {
     pub arguments: Vec<Node<InputValueDefinition>>,
     pub repeatable: bool,
     pub locations: Vec<DirectiveLocation>,
-}
-
-/// The kind of an operation.
-///
-/// Specification: 2.3 Operations.
-#[derive(Clone, Copy, Debug, PartialEq, Eq)]
-pub enum OperationType {
-    Query,
-    Mutation,
-    Subscription,
-}
-
-impl OperationType {
-    /// The keyword of the operation.
-    pub fn name(&self) -> &'static str
-        ensures { result.now ≡ operation_type_text self.now }
-    {
-        match self {
-            OperationType::Query => "query",
-            OperationType::Mutation => "mutation",
-            OperationType::Subscription => "subscription",
-        }
-    }
-}
-
-impl fmt::Display for OperationType {
-    ghost output = { λ operation. Some (operation_type_text operation) };
-
-    fn fmt<W: fmt::Write>(&self, f: &mut fmt::Formatter<W>) -> fmt::Result {
-        f.write_str(self.name())
-    }
 }
 
 /// A variable of an operation.

@@ -1,6 +1,6 @@
 ghost use Rattle.std.specs.Option.{option_copied};
 ghost use Rattle.std.specs.Prelude.{◌≡◌};
-ghost use Rattle.graphql_documents.specs.Arguments.{argument_named};
+ghost use Rattle.graphql_documents.specs.Directives.{argument_named};
 
 use super::values::Value;
 use graphql_nodes::{Name, Node};

@@ -1,6 +1,6 @@
-use super::definitions::{FieldDefinition, OperationType, VariableDefinition};
+use super::definitions::{FieldDefinition, VariableDefinition};
 use super::directives::{Argument, Directive};
-use graphql_nodes::{Name, NamedType, Node};
+use graphql_nodes::{Name, NamedType, Node, OperationType};
 use indexmap::IndexMap;
 
 /// Fields, fragment spreads and inline fragments, to be selected from a type.

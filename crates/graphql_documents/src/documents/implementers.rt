@@ -35,8 +35,8 @@ impl<'a> Implementers<'a> {
 }
 
 impl Schema {
-    /// Each interface that some object or interface lists, in order of first listing, with the own names
-    /// of those that list it, in order. The only error is want of memory.
+    /// Each interface that some object or interface lists, in order of first listing, with the own names of
+    /// those that list it, in order. The only error is a failed allocation.
     ///
     /// Specification: 3.7 Interfaces.
     pub fn implementers_map(

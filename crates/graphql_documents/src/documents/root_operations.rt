@@ -5,9 +5,8 @@ ghost use Rattle.graphql_documents.specs.Roots.{roots_left};
 ghost use Rattle.graphql_documents.specs.Schemas.{root_operation, roots_of};
 
 use super::components::ComponentName;
-use super::definitions::OperationType;
 use super::schemas::Schema;
-use graphql_nodes::NamedType;
+use graphql_nodes::{NamedType, OperationType};
 
 /// The root operation types that a schema names, with the kinds of their operations: query, mutation,
 /// subscription.

@@ -148,7 +148,7 @@ impl ExtendedType {
         !matches!(self, ExtendedType::InputObject(_))
     }
 
-    /// Whether the definition is one of those that every schema has: it stands in their file.
+    /// Whether the definition is one of those that every schema has: it is in their file.
     pub fn is_built_in(&self) -> bool
         ensures { result ≡ is_built_in self.now }
     {
@@ -158,7 +158,7 @@ impl ExtendedType {
         }
     }
 
-    /// Where the definition stands.
+    /// Where the definition is.
     pub fn location(&self) -> Option<SourceSpan>
         ensures { result ≡ location_of self.now }
     {
@@ -233,8 +233,7 @@ impl ExtendedType {
 impl Schema {
     ghost use Rattle.std.specs.Prelude.{◌≡◌, ◌↔◌, IsTrue, MatchResult, Ok, Err};
     ghost use Rattle.std.specs.Option.{option_copied};
-    ghost use Rattle.graphql_documents.specs.SchemaReferences.{input_object_named};
-    ghost use Rattle.graphql_documents.specs.Schemas.{Implements, IsSubtype, interface_named, type_field, meta_field, is_query_root};
+    ghost use Rattle.graphql_documents.specs.Schemas.{input_object_named, Implements, IsSubtype, interface_named, type_field, meta_field, is_query_root};
 
     /// The definition of a field of a type: the type's own field, else a meta-field that it has.
     ///

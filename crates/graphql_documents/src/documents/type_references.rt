@@ -58,7 +58,7 @@ impl Type {
         }
     }
 
-    /// Whether a value of this type may stand where the target is asked for.
+    /// Whether a value of this type may be used where the target is expected.
     ///
     /// Specification: 5.8.5 All Variable Usages Are Allowed.
     pub fn is_assignable_to(&self, target: &Type) -> bool

@@ -1,12 +1,13 @@
 ghost use Rattle.std.specs.Option.{option_copied};
 ghost use Rattle.std.specs.Prelude.{◌≡◌, MatchOption, find, is_some, not};
-ghost use Rattle.graphql_documents.specs.Arguments.{argument_named};
-ghost use Rattle.graphql_documents.specs.Merging.{SameNameAndArguments};
+ghost use Rattle.graphql_documents.specs.Directives.{argument_named};
+ghost use Rattle.graphql_specification.specs.Merging.{SameNameAndArguments};
 ghost use Rattle.graphql_merging.specs.Comparisons.{ArgumentConflicts, ArgumentsConflict, Conflicts, HasArgument, StandAmong};
 
 use super::values::same_value;
 use crate::field_selections::FieldSelection;
-use graphql_documents::documents::{Argument, Node, argument_named};
+use graphql_documents::documents::{Argument, argument_named};
+use graphql_nodes::Node;
 
 /// What two fields disagree on.
 #[derive(Clone, Copy, Debug)]

@@ -3,7 +3,8 @@ ghost use Rattle.std.specs.Prelude.{◌≡◌, ◌↔◌, ◌⊎◌, IsSome, IsT
 ghost use Rattle.graphql_documents.specs.Values.{SameValue, entry_named};
 ghost use Rattle.graphql_merging.specs.Comparisons.{HasEntry, HasKeysOf, SameEntries, SameItems, StandIn};
 
-use graphql_documents::documents::{Name, Node, Value};
+use graphql_documents::documents::Value;
+use graphql_nodes::{Name, Node};
 
 /// Whether two values are the same: of one kind, and of one text or truth value; lists as long, item by
 /// item; objects with the same keys, by the first entry under each.

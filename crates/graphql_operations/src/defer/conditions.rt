@@ -1,17 +1,18 @@
 ghost use Rattle.std.specs.Prelude.{◌≡◌};
-ghost use Rattle.graphql_documents.specs.Defer.{DefersCanBeDisabled};
+ghost use Rattle.graphql_specification.specs.Defer.{DefersCanBeDisabled};
 ghost use Rattle.graphql_diagnostics.specs.Reports.{ChecksWithin};
 ghost use Rattle.graphql_documents.specs.Selections.{fragments_of};
-ghost use Rattle.graphql_documents.specs.declared.documents.definitions.OperationType.TheVariants as operation_type;
+ghost use Rattle.graphql_nodes.specs.declared.operation_types.OperationType.TheVariants as operation_type;
 ghost use Rattle.graphql_operations.specs.OperationDefers.{OperationDeferLimit, OperationDeferReport};
 
 use super::rules::DeferRule;
-use graphql_diagnostics::{DiagnosticList, ValidationError};
-use graphql_documents::documents::{ExecutableDocument, Operation, OperationType};
+use graphql_diagnostics::DiagnosticList;
+use graphql_documents::documents::{ExecutableDocument, Operation};
+use graphql_nodes::{OperationType, ValidationError};
 
-/// Reports each `@defer` of a subscription that can't be disabled, on a selection that is met whatever
-/// the conditions, in order of the walk over these. Where the walk passes its bound, a limit without a
-/// location stands behind them. The only error is want of memory.
+/// Reports each `@defer` of a subscription that can't be disabled, on a selection that is visited whatever
+/// the conditions, in order of the walk over these. Where the walk passes its limit, a limit without a
+/// location comes behind them. The only error is a failed allocation.
 ///
 /// Specification: the incremental delivery proposal, Defer And Stream Directives Are Used In Valid
 /// Operations.

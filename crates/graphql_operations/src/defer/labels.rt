@@ -1,35 +1,33 @@
 ghost use Rattle.std.specs.Option.{option_copied};
 ghost use Rattle.std.specs.Prelude.{◌≡◌, ◌∷◌, ◌++◌, [], Bool, suc, Contains, IfOk, List, OnOk, Some, map};
-ghost use Rattle.graphql_documents.specs.Defer.{DefersIn, DefersOn, LabelsHold, sets_of};
-ghost use Rattle.graphql_diagnostics.specs.DeferReports.{DeferReport, HasLabel};
+ghost use Rattle.graphql_specification.specs.Defer.{DefersIn, DefersOn, LabelsHold, DeferReport, HasLabel, DeferLimit, DefersVisited};
+ghost use Rattle.graphql_documents.specs.Executables.{sets_of};
 ghost use Rattle.graphql_diagnostics.specs.Diagnostics.{entries};
-ghost use Rattle.graphql_diagnostics.specs.Limits.{DeferLimit};
 ghost use Rattle.graphql_diagnostics.specs.Reports.{ChecksWithin, KeepsReports};
 ghost use Rattle.graphql_documents.specs.Selections.{selections_of};
-ghost use Rattle.graphql_documents.specs.Walks.{DefersMet, walk_bound};
+ghost use Rattle.graphql_documents.specs.Walks.{walk_depth_limit};
 ghost use Rattle.graphql_diagnostics.specs.declared.lists.DiagnosticEntry.{DiagnosticEntry};
 ghost use Rattle.graphql_documents.specs.declared.documents.values.Value.TheVariants as literal;
-ghost use Rattle.graphql_operations.specs.DeferLabels.{DeferTruth, LabelsSoFar, PassesLabels, PassesLabelsIn, RemembersLabels, first_place_in, has_text, label_of, label_place};
+ghost use Rattle.graphql_operations.specs.DeferLabels.{DeferEntryReport, LabelsSoFar, PassesLabels, PassesLabelsIn, RemembersLabels, first_place_in, has_text, label_of, label_place};
 
 use super::written::written_defers;
 use crate::fragments_used::operations_of;
-use graphql_diagnostics::{BuildError, Details, DiagnosticData, DiagnosticList, ValidationError};
-use graphql_documents::documents::{
-    Directive, ExecutableDocument, Node, SelectionSet, SourceSpan, Value,
-};
+use graphql_diagnostics::{BuildError, Details, DiagnosticData, DiagnosticList};
+use graphql_documents::documents::{Directive, ExecutableDocument, SelectionSet, Value};
+use graphql_nodes::{Node, SourceSpan, ValidationError};
 use graphql_variables::conditions::argument_value;
 use indexmap::IndexMap;
 use std::alloc::Global;
 
-/// The place of the first label of each text that was met.
+/// The place of the first label of each text that was visited.
 type Labels<'doc> = IndexMap<&'doc str, Option<SourceSpan>>;
 
 /// Reports the labels of `@defer` that are variables, and those that repeat the text of an earlier one,
 /// each at its value. They come in order: those written in the set of each operation, the one without
 /// a name first, then those in the set of each fragment, spread or not.
 ///
-/// Where the walk over a set passes its bound, a limit without a location stands where that walk ends,
-/// and the next set goes on.
+/// Where the walk over a set passes its limit, a limit without a location comes where that walk ends, and the
+/// next set goes on.
 pub(super) fn validate_labels(
     document: &ExecutableDocument,
     diagnostics: &mut DiagnosticList,
@@ -74,7 +72,7 @@ fn check_set<'doc>(
 ) -> Result<(), ValidationError>
     ensures { (document : ExecutableDocument) (here found : List (Node Directive)) (complete : Bool) →
         Contains (sets_of document) set.now → DefersOn (selections_of set.now) here →
-        DefersMet (suc walk_bound) (selections_of set.now) found complete →
+        DefersVisited (suc walk_depth_limit) (selections_of set.now) found complete →
         PassesLabelsIn result document here found labels.old labels.new diagnostics.old diagnostics.new }
 {
     let written = written_defers(diagnostics.allocator(), set)?;
@@ -120,7 +118,7 @@ fn check_label<'doc>(
     }
 }
 
-/// Reports a label whose text was met before.
+/// Reports a label whose text was visited before.
 fn check_text<'doc>(
     text: &'doc String,
     location: Option<SourceSpan>,
@@ -144,16 +142,16 @@ fn check_text<'doc>(
     )
 }
 
-/// Answers the place of the first label of this text among those that were met. Where the text is new,
+/// Answers the place of the first label of this text among those that were visited. Where the text is new,
 /// there is none, and this place stands for it from then on.
 fn first_place<'doc>(
     labels: &mut Labels<'doc>,
     text: &'doc str,
     location: Option<SourceSpan>,
 ) -> Result<Option<Option<SourceSpan>>, ValidationError>
-    ensures found { IfOk result (λ first. (met : List (Node Directive)) → RemembersLabels labels.old met → first ≡ first_place_in met text.now) }
-    ensures remembered { OnOk result ((met : List (Node Directive)) (d : Node Directive) → RemembersLabels labels.old met →
-        HasLabel d text.now location → RemembersLabels labels.new (met ++ d ∷ [])) }
+    ensures found { IfOk result (λ first. (visited : List (Node Directive)) → RemembersLabels labels.old visited → first ≡ first_place_in visited text.now) }
+    ensures remembered { OnOk result ((visited : List (Node Directive)) (d : Node Directive) → RemembersLabels labels.old visited →
+        HasLabel d text.now location → RemembersLabels labels.new (visited ++ d ∷ [])) }
 {
     match labels.get(&text) {
         Some(first) => Ok(Some(*first)),

@@ -1,15 +1,16 @@
-ghost use Rattle.graphql_documents.specs.Defer.{OperationDeferHolds};
+ghost use Rattle.graphql_specification.specs.Defer.{OperationDeferHolds};
 ghost use Rattle.graphql_diagnostics.specs.Reports.{ChecksWithin};
 ghost use Rattle.graphql_documents.specs.Selections.{fragments_of};
 ghost use Rattle.graphql_operations.specs.OperationDefers.{OperationDeferLimit, OperationDeferReport};
 
 use super::conditions::check_conditions;
 use super::roots::check_root;
-use graphql_diagnostics::{DiagnosticList, ValidationError};
+use graphql_diagnostics::DiagnosticList;
 use graphql_documents::documents::{ExecutableDocument, Operation};
+use graphql_nodes::ValidationError;
 
 /// Reports each `@defer` in an operation that breaks a rule: first those at the root of a mutation or
-/// subscription, then those of a subscription that can't be disabled. The only error is want of memory.
+/// subscription, then those of a subscription that can't be disabled. The only error is a failed allocation.
 ///
 /// Specification: the incremental delivery proposal, Defer And Stream Directives Are Used On Valid Root
 /// Field, and In Valid Operations.

@@ -1,17 +1,18 @@
 ghost use Rattle.std.specs.Prelude.{◌≢◌};
-ghost use Rattle.graphql_documents.specs.Defer.{HasNoDeferAtRoot};
+ghost use Rattle.graphql_specification.specs.Defer.{HasNoDeferAtRoot};
 ghost use Rattle.graphql_diagnostics.specs.Reports.{ChecksWithin};
 ghost use Rattle.graphql_documents.specs.Selections.{fragments_of};
-ghost use Rattle.graphql_documents.specs.declared.documents.definitions.OperationType.TheVariants as operation_type;
+ghost use Rattle.graphql_nodes.specs.declared.operation_types.OperationType.TheVariants as operation_type;
 ghost use Rattle.graphql_operations.specs.OperationDefers.{OperationDeferLimit, OperationDeferReport};
 
 use super::rules::DeferRule;
-use graphql_diagnostics::{DiagnosticList, ValidationError};
-use graphql_documents::documents::{ExecutableDocument, Operation, OperationType};
+use graphql_diagnostics::DiagnosticList;
+use graphql_documents::documents::{ExecutableDocument, Operation};
+use graphql_nodes::{OperationType, ValidationError};
 
 /// Reports each `@defer` on an inline fragment or a spread at the root of a mutation or subscription, in
-/// order of the walk over what stands inside its set. Where the walk passes its bound, a limit without a
-/// location stands behind them. The only error is want of memory.
+/// order of the walk over what is inside its set. Where the walk passes its limit, a limit without a location
+/// comes behind them. The only error is a failed allocation.
 ///
 /// Specification: the incremental delivery proposal, Defer And Stream Directives Are Used On Valid Root
 /// Field.

@@ -1,5 +1,5 @@
 ghost use Rattle.std.specs.Prelude.{◌≡◌, ◌↔◌, All, Contains, IfOk, IsTrue, List, map};
-ghost use Rattle.graphql_documents.specs.Defer.{CanBeDisabled, defers};
+ghost use Rattle.graphql_specification.specs.Defer.{CanBeDisabled, defers};
 ghost use Rattle.graphql_nodes.specs.Names.{NameText};
 ghost use Rattle.graphql_diagnostics.specs.Reports.{Checks, ChecksWithin};
 ghost use Rattle.graphql_documents.specs.Selections.{fragments_of};
@@ -7,18 +7,17 @@ ghost use Rattle.graphql_documents.specs.Walks.{HasListed, PassesDepth};
 ghost use Rattle.graphql_documents.specs.declared.documents.directives.Directive.{Directive};
 ghost use Rattle.graphql_nodes.specs.declared.nodes.Node.{Node};
 ghost use Rattle.graphql_documents.specs.declared.documents.values.Value.TheVariants as literal;
-ghost use Rattle.graphql_operations.specs.OperationDefers.{BreaksAmong, BreaksAny, BreaksAt, HoldsAt, IsMet, MeetsIfDeferred, Meets, RuleBreaks, RuleHolds, RuleLimit, broken_by, concerns, is_defer, walk_of};
+ghost use Rattle.graphql_operations.specs.OperationDefers.{DirectivesDeferReport, SelectionsDeferReport, SelectionDeferReport, HoldsAt, IsVisited, MeetsIfDeferred, Meets, DeferRuleReport, RuleHolds, RuleLimit, broken_by, concerns, is_defer, walk_of};
 
 use super::DEFER_DIRECTIVE_NAME;
-use graphql_diagnostics::{BuildError, Details, DiagnosticData, DiagnosticList, ValidationError};
-use graphql_documents::documents::{
-    Directive, ExecutableDocument, Node, OperationType, Selection, SelectionSet, Value,
-};
+use graphql_diagnostics::{BuildError, Details, DiagnosticData, DiagnosticList};
+use graphql_documents::documents::{Directive, ExecutableDocument, Selection, SelectionSet, Value};
+use graphql_nodes::{Node, OperationType, ValidationError};
 use graphql_variables::conditions::{argument_value, directives_of, is_literally};
 use graphql_variables::{Walked, walk_open_selections, walk_selections};
 use std::alloc::Global;
 
-/// What is asked of each `@defer` that a walk over an operation meets.
+/// What must hold of each `@defer` that a walk over an operation visits.
 #[derive(Clone, Copy)]
 pub(super) enum DeferRule {
     /// There is none on a fragment at the root of an operation of this type.
@@ -29,7 +28,7 @@ pub(super) enum DeferRule {
 
 impl DeferRule {
     /// Reports each `@defer` below a set that breaks the rule, in order of the walk, and behind them a
-    /// limit if the walk passed its bound.
+    /// limit if the walk passed its limit.
     pub(super) fn check(
         self,
         diagnostics: &mut DiagnosticList,
@@ -37,7 +36,7 @@ impl DeferRule {
         set: &SelectionSet,
     ) -> Result<(), ValidationError>
         ensures { ChecksWithin result (RuleHolds self (fragments_of document.now) set.now)
-            (RuleBreaks self (fragments_of document.now) set.now)
+            (DeferRuleReport self (fragments_of document.now) set.now)
             (RuleLimit self (fragments_of document.now) set.now)
             diagnostics.old diagnostics.new }
     {
@@ -49,14 +48,14 @@ impl DeferRule {
         diagnostics.push(None, Details::Diagnostic(DiagnosticData::RecursionError))
     }
 
-    /// Walks over the selections of which the rule is asked.
+    /// Walks over the selections that the rule is about.
     fn walk<'doc>(
         self,
         alloc: Global,
         document: &'doc ExecutableDocument,
         set: &'doc SelectionSet,
     ) -> Result<Walked<'doc>, ValidationError>
-        ensures { IfOk result (λ walked. HasListed (IsMet self (fragments_of document.now) set.now)
+        ensures { IfOk result (λ walked. HasListed (IsVisited self (fragments_of document.now) set.now)
             (PassesDepth (fragments_of document.now) (walk_of self) set.now)
             (map (λ s. s.now) walked.selections.items) walked.complete) }
     {
@@ -72,7 +71,7 @@ impl DeferRule {
         diagnostics: &mut DiagnosticList,
         selections: &[&Selection],
     ) -> Result<(), ValidationError>
-        ensures { Checks result (All (λ s. HoldsAt self s.now) selections.now) (BreaksAny self selections.now) diagnostics.old diagnostics.new }
+        ensures { Checks result (All (λ s. HoldsAt self s.now) selections.now) (SelectionsDeferReport self selections.now) diagnostics.old diagnostics.new }
     {
         for selection in selections {
             self.check_selection(diagnostics, selection)?;
@@ -86,7 +85,7 @@ impl DeferRule {
         diagnostics: &mut DiagnosticList,
         selection: &Selection,
     ) -> Result<(), ValidationError>
-        ensures { Checks result (HoldsAt self selection.now) (BreaksAt self selection.now) diagnostics.old diagnostics.new }
+        ensures { Checks result (HoldsAt self selection.now) (SelectionDeferReport self selection.now) diagnostics.old diagnostics.new }
     {
         if self.concerns(selection) {
             self.check_directives(diagnostics, directives_of(selection))
@@ -101,7 +100,7 @@ impl DeferRule {
         diagnostics: &mut DiagnosticList,
         directives: &[Node<Directive>],
     ) -> Result<(), ValidationError>
-        ensures { Checks result (All (Meets self) (defers directives.now)) (BreaksAmong self directives.now) diagnostics.old diagnostics.new }
+        ensures { Checks result (All (Meets self) (defers directives.now)) (DirectivesDeferReport self directives.now) diagnostics.old diagnostics.new }
     {
         for directive in directives {
             self.check_directive(diagnostics, directive)?;
@@ -116,15 +115,15 @@ impl DeferRule {
         directive: &Node<Directive>,
     ) -> Result<(), ValidationError>
         ensures { (directives : List (Node Directive)) → Contains directives directive.now →
-            Checks result (MeetsIfDeferred self directive.now) (BreaksAmong self directives) diagnostics.old diagnostics.new }
+            Checks result (MeetsIfDeferred self directive.now) (DirectivesDeferReport self directives) diagnostics.old diagnostics.new }
     {
-        if !is_defer(directive) || self.is_met_by(directive) {
+        if !is_defer(directive) || self.is_visited_by(directive) {
             return Ok(());
         }
         diagnostics.push(directive.location, Details::Build(self.broken()))
     }
 
-    /// Whether the rule is asked of a selection.
+    /// Whether the rule is about a selection.
     fn concerns(self, selection: &Selection) -> bool
         ensures { result ≡ concerns self selection.now }
     {
@@ -135,7 +134,7 @@ impl DeferRule {
     }
 
     /// Whether a `@defer` meets the rule.
-    fn is_met_by(self, directive: &Node<Directive>) -> bool
+    fn is_visited_by(self, directive: &Node<Directive>) -> bool
         ensures { IsTrue result ↔ Meets self directive.now }
     {
         match self {

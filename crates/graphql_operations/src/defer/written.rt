@@ -1,21 +1,21 @@
 ghost use Rattle.std.specs.Prelude.{◌≡◌, ◌+◌, ◌∷◌, ◌++◌, [], IfOk, OnOk, map};
-ghost use Rattle.graphql_documents.specs.Defer.{defers};
+ghost use Rattle.graphql_specification.specs.Defer.{defers};
 ghost use Rattle.graphql_documents.specs.Selections.{selections_of};
 ghost use Rattle.graphql_guards.specs.Guards.{depth_limit, depth_of};
-ghost use Rattle.graphql_operations.specs.DeferLabels.{HasMetDefers, MeetsDefers};
+ghost use Rattle.graphql_operations.specs.DeferLabels.{HasVisitedDefers, MeetsDefers};
 
 use super::DEFER_DIRECTIVE_NAME;
-use graphql_diagnostics::ValidationError;
-use graphql_documents::documents::{Directive, Node, Selection, SelectionSet};
+use graphql_documents::documents::{Directive, Selection, SelectionSet};
 use graphql_guards::DepthCounter;
+use graphql_nodes::{Node, ValidationError};
 use graphql_variables::conditions::directives_of;
 use std::alloc::Global;
 
 /// How deep a walk may go.
 const WALK_LIMIT: usize = 500;
 
-/// The `@defer` applications that a walk met, in the order in which they are written, and whether it
-/// came to its end or passed its bound.
+/// The `@defer` applications that a walk visited, in the order in which they are written, and whether it
+/// came to its end or passed its limit.
 #[derive(Drop)]
 pub(super) struct WrittenDefers<'doc> {
     pub applications: Vec<&'doc Node<Directive>>,
@@ -29,7 +29,7 @@ pub(super) fn written_defers<'doc>(
     alloc: Global,
     set: &'doc SelectionSet,
 ) -> Result<WrittenDefers<'doc>, ValidationError>
-    ensures { IfOk result (λ written. HasMetDefers set.now (map (λ d. d.now) written.applications.items) written.complete) }
+    ensures { IfOk result (λ written. HasVisitedDefers set.now (map (λ d. d.now) written.applications.items) written.complete) }
 {
     let mut applications = Vec::new(alloc);
     let mut depth = DepthCounter::new().with_limit(WALK_LIMIT);
@@ -44,16 +44,16 @@ pub(super) fn written_defers<'doc>(
 #[cycle(written)]
 fn walk_set<'doc>(
     set: &'doc SelectionSet,
-    met: &mut Vec<&'doc Node<Directive>>,
+    visited: &mut Vec<&'doc Node<Directive>>,
     depth: &mut DepthCounter,
 ) -> Result<bool, ValidationError>
     ensures walks { IfOk result (λ complete. MeetsDefers (depth_limit depth.old) (depth_of depth.old) 1 (selections_of set.now)
-        (map (λ d. d.now) met.old.items) (map (λ d. d.now) met.new.items) complete) }
+        (map (λ d. d.now) visited.old.items) (map (λ d. d.now) visited.new.items) complete) }
     ensures depth { OnOk result (depth_of depth.new ≡ depth_of depth.old) }
     ensures limit { OnOk result (depth_limit depth.new ≡ depth_limit depth.old) }
 {
     for selection in &set.selections {
-        if !walk_selection(selection, met, depth)? {
+        if !walk_selection(selection, visited, depth)? {
             return Ok(false);
         }
     }
@@ -64,19 +64,19 @@ fn walk_set<'doc>(
 #[cycle(written)]
 fn walk_selection<'doc>(
     selection: &'doc Selection,
-    met: &mut Vec<&'doc Node<Directive>>,
+    visited: &mut Vec<&'doc Node<Directive>>,
     depth: &mut DepthCounter,
 ) -> Result<bool, ValidationError>
     ensures walks { IfOk result (λ complete. MeetsDefers (depth_limit depth.old) (depth_of depth.old) 1 (selection.now ∷ [])
-        (map (λ d. d.now) met.old.items) (map (λ d. d.now) met.new.items) complete) }
+        (map (λ d. d.now) visited.old.items) (map (λ d. d.now) visited.new.items) complete) }
     ensures depth { OnOk result (depth_of depth.new ≡ depth_of depth.old) }
     ensures limit { OnOk result (depth_limit depth.new ≡ depth_limit depth.old) }
 {
-    add_defers(directives_of(selection), met)?;
+    add_defers(directives_of(selection), visited)?;
     match selection {
-        Selection::Field(field) => walk_deeper(&field.value.selection_set, met, depth),
+        Selection::Field(field) => walk_deeper(&field.value.selection_set, visited, depth),
         Selection::InlineFragment(fragment) => {
-            walk_deeper(&fragment.value.selection_set, met, depth)
+            walk_deeper(&fragment.value.selection_set, visited, depth)
         }
         Selection::FragmentSpread(_) => Ok(true),
     }
@@ -86,16 +86,16 @@ fn walk_selection<'doc>(
 #[cycle(written)]
 fn walk_deeper<'doc>(
     set: &'doc SelectionSet,
-    met: &mut Vec<&'doc Node<Directive>>,
+    visited: &mut Vec<&'doc Node<Directive>>,
     depth: &mut DepthCounter,
 ) -> Result<bool, ValidationError>
     ensures walks { IfOk result (λ complete. MeetsDefers (depth_limit depth.old) (depth_of depth.old + 1) 0 (selections_of set.now)
-        (map (λ d. d.now) met.old.items) (map (λ d. d.now) met.new.items) complete) }
+        (map (λ d. d.now) visited.old.items) (map (λ d. d.now) visited.new.items) complete) }
     ensures depth { OnOk result (depth_of depth.new ≡ depth_of depth.old) }
     ensures limit { OnOk result (depth_limit depth.new ≡ depth_limit depth.old) }
 {
     match depth.increment() {
-        Ok(mut guard) => walk_set(set, met, guard.counter),
+        Ok(mut guard) => walk_set(set, visited, guard.counter),
         Err(_) => Ok(false),
     }
 }
@@ -103,13 +103,13 @@ fn walk_deeper<'doc>(
 /// Adds those of these directives that are `@defer`.
 fn add_defers<'doc>(
     directives: &'doc [Node<Directive>],
-    met: &mut Vec<&'doc Node<Directive>>,
+    visited: &mut Vec<&'doc Node<Directive>>,
 ) -> Result<(), ValidationError>
-    ensures { OnOk result (map (λ d. d.now) met.new.items ≡ map (λ d. d.now) met.old.items ++ defers directives.now) }
+    ensures { OnOk result (map (λ d. d.now) visited.new.items ≡ map (λ d. d.now) visited.old.items ++ defers directives.now) }
 {
     for directive in directives {
         if directive.value.name.as_str() == DEFER_DIRECTIVE_NAME {
-            met.push(directive)?;
+            visited.push(directive)?;
         }
     }
     Ok(())

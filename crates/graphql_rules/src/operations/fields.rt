@@ -1,44 +1,41 @@
 ghost use Rattle.std.specs.Prelude.{◌≡◌, ◌↔◌, Some, false, [], IfOk, IsTrue, MatchOption};
 ghost use Rattle.std.specs.Option.{option_copied};
 ghost use Rattle.graphql_diagnostics.specs.Diagnostics.{IsDiagnostic};
-ghost use Rattle.graphql_documents.specs.Directives.{ApplicationsHold};
-ghost use Rattle.graphql_diagnostics.specs.FieldReports.{SelectionIsMissing};
-ghost use Rattle.graphql_documents.specs.Fields.{FieldHolds, HasNeededSelection};
+ghost use Rattle.graphql_specification.specs.Directives.{ApplicationsHold};
+ghost use Rattle.graphql_specification.specs.Fields.{MissingSelectionReport, FieldHolds, HasNeededSelection, FieldReport};
 ghost use Rattle.graphql_diagnostics.specs.Reports.{Checks};
 ghost use Rattle.graphql_documents.specs.Selections.{definition_at, selections_of};
 ghost use Rattle.graphql_operations.specs.Contexts.{IsAgainst, parent_of, schema_of, variables_of};
-ghost use Rattle.graphql_rules.specs.SelectionSteps.{DefinedFieldHolds, FieldArgumentsHold, FieldSays, IsBelow, IsUnselected};
+ghost use Rattle.graphql_rules.specs.SelectionSteps.{DefinedFieldHolds, FieldArgumentsHold, IsParentOfSubselections, IsUnselected};
 
 use graphql_coordinates::TypeAttributeCoordinate;
-use graphql_diagnostics::{Details, DiagnosticData, DiagnosticList, ValidationError};
-use graphql_documents::documents::{
-    Component, DirectiveLocation, ExtendedType, Field, FieldDefinition, NamedType, Node, Schema,
-    Type,
-};
+use graphql_diagnostics::{Details, DiagnosticData, DiagnosticList};
+use graphql_documents::documents::{Component, ExtendedType, Field, FieldDefinition, Schema, Type};
+use graphql_nodes::{DirectiveLocation, NamedType, Node, ValidationError};
 use graphql_operations::OperationValidationContext;
 use graphql_values::argument::{
     GivenArguments, validate_arguments, validate_given_arguments, validate_required_arguments,
 };
 use graphql_values::directive::check_each_directive;
 
-/// Where the selections of a field's set stand: on a type, if that is known, or nowhere.
-pub(super) enum Below<'a> {
+/// Where the selections of a field's set are: on a type, if that is known, or nowhere.
+pub(super) enum SubselectionParent<'a> {
     Nowhere,
     On(Option<(&'a Schema, &'a NamedType)>),
 }
 
-/// Validates a field, what is below it apart, and answers where that stands.
+/// Validates a field, what is below it apart, and answers where that is.
 pub(super) fn check_field<'a>(
     diagnostics: &mut DiagnosticList,
     against_type: Option<(&'a Schema, &NamedType)>,
     field: &Node<Field>,
     context: &OperationValidationContext<'a>,
-) -> Result<Below<'a>, ValidationError>
+) -> Result<SubselectionParent<'a>, ValidationError>
     requires { IsAgainst (schema_of context.now) against_type }
     ensures checks { Checks result (FieldHolds (schema_of context.now) (variables_of context.now) (parent_of against_type.entry) field.now.value.value)
-        (IsDiagnostic (FieldSays (schema_of context.now) (variables_of context.now) (parent_of against_type.entry) field.now))
+        (IsDiagnostic (FieldReport (schema_of context.now) (variables_of context.now) (parent_of against_type.entry) field.now))
         diagnostics.old diagnostics.new }
-    ensures below { IfOk result (IsBelow (schema_of context.now) (parent_of against_type.entry) field.now.value.value) }
+    ensures below { IfOk result (IsParentOfSubselections (schema_of context.now) (parent_of against_type.entry) field.now.value.value) }
 {
     check_each_directive(
         diagnostics,
@@ -49,15 +46,15 @@ pub(super) fn check_field<'a>(
     )?;
     validate_arguments(diagnostics, &field.value.arguments)?;
     let Some((schema, parent)) = against_type else {
-        return Ok(Below::On(None));
+        return Ok(SubselectionParent::On(None));
     };
     let Ok(definition) = schema.type_field(parent, &field.value.name) else {
-        return Ok(Below::Nowhere);
+        return Ok(SubselectionParent::Nowhere);
     };
     check_defined_field(diagnostics, schema, parent, field, definition, context)
 }
 
-/// Validates what the definition of a field asks of it.
+/// Validates what the definition of a field requires of it.
 fn check_defined_field<'a>(
     diagnostics: &mut DiagnosticList,
     schema: &'a Schema,
@@ -65,19 +62,19 @@ fn check_defined_field<'a>(
     field: &Node<Field>,
     definition: &'a Component<FieldDefinition>,
     context: &OperationValidationContext<'a>,
-) -> Result<Below<'a>, ValidationError>
+) -> Result<SubselectionParent<'a>, ValidationError>
     requires found { definition_at (Some schema.now) (Some parent.now) field.now.value.value.name ≡ Some definition.now }
     ensures checks { Checks result (DefinedFieldHolds schema.now (variables_of context.now) field.now.value.value definition.now.node.value.value)
-        (IsDiagnostic (FieldSays (Some schema.now) (variables_of context.now) (Some parent.now) field.now))
+        (IsDiagnostic (FieldReport (Some schema.now) (variables_of context.now) (Some parent.now) field.now))
         diagnostics.old diagnostics.new }
-    ensures below { IfOk result (IsBelow (Some schema.now) (Some parent.now) field.now.value.value) }
+    ensures below { IfOk result (IsParentOfSubselections (Some schema.now) (Some parent.now) field.now.value.value) }
 {
     check_field_arguments(diagnostics, schema, parent, field, definition, context)?;
     let ty = &definition.node.value.ty;
     if validate_leaf_field_selection(diagnostics, schema, parent, field, ty)? {
-        Ok(Below::On(Some((schema, ty.inner_named_type()))))
+        Ok(SubselectionParent::On(Some((schema, ty.inner_named_type()))))
     } else {
-        Ok(Below::Nowhere)
+        Ok(SubselectionParent::Nowhere)
     }
 }
 
@@ -92,7 +89,7 @@ fn check_field_arguments(
 ) -> Result<(), ValidationError>
     requires found { definition_at (Some schema.now) (Some parent.now) field.now.value.value.name ≡ Some definition.now }
     ensures { Checks result (FieldArgumentsHold schema.now (variables_of context.now) field.now.value.value definition.now.node.value.value)
-        (IsDiagnostic (FieldSays (Some schema.now) (variables_of context.now) (Some parent.now) field.now))
+        (IsDiagnostic (FieldReport (Some schema.now) (variables_of context.now) (Some parent.now) field.now))
         diagnostics.old diagnostics.new }
 {
     let arguments = GivenArguments::of_field(parent, field, definition);
@@ -101,7 +98,7 @@ fn check_field_arguments(
 }
 
 /// Reports a field of a composite type that selects nothing, at the field, and answers whether none was
-/// reported. A type that is not defined needs no selection. The only error is want of memory.
+/// reported. A type that is not defined needs no selection. The only error is a failed allocation.
 ///
 /// Specification: 5.3.3 Leaf Field Selections.
 pub fn validate_leaf_field_selection(
@@ -112,7 +109,7 @@ pub fn validate_leaf_field_selection(
     field_type: &Type,
 ) -> Result<bool, ValidationError>
     ensures checks { Checks result (HasNeededSelection (Some schema.now) field.now.value.value field_type.now)
-        (IsDiagnostic (SelectionIsMissing (Some schema.now) parent_type.now field.now field_type.now))
+        (IsDiagnostic (MissingSelectionReport (Some schema.now) parent_type.now field.now field_type.now))
         diagnostics.old diagnostics.new }
     ensures answer { IfOk result (λ silent. IsTrue silent ↔ HasNeededSelection (Some schema.now) field.now.value.value field_type.now) }
 

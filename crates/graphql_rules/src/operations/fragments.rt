@@ -1,21 +1,19 @@
 ghost use Rattle.std.specs.Prelude.{◌≡◌, ◌≢◌, Some, None, false, IfOk, IsTrue};
 ghost use Rattle.std.specs.Option.{option_copied};
 ghost use Rattle.graphql_diagnostics.specs.Diagnostics.{IsDiagnostic, IsLimitEntry, entries};
-ghost use Rattle.graphql_documents.specs.FragmentSpreads.{FragmentHasNoCycle, FragmentHolds, InlineFragmentHolds, IsPossibleIn, TargetHolds};
-ghost use Rattle.graphql_diagnostics.specs.Limits.{FragmentLimit};
+ghost use Rattle.graphql_specification.specs.Fragments.{FragmentHasNoCycle, FragmentHolds, InlineFragmentHolds, IsPossibleIn, TargetHolds, FragmentLimit, FragmentFormReport, InlineFragmentConditionReport, SpreadTargetReport, FragmentReport, InlineFragmentReport, SpreadReport};
 ghost use Rattle.graphql_diagnostics.specs.Reports.{Checks, ChecksWithin, KeepsReports};
 ghost use Rattle.graphql_nodes.specs.Names.{NameText};
-ghost use Rattle.graphql_diagnostics.specs.SelectionReports.{FragmentBreaks, InlineFragmentBreaks, SpreadBreaks};
 ghost use Rattle.graphql_documents.specs.Selections.{Fragments, fragments_of};
 ghost use Rattle.graphql_operations.specs.Contexts.{IsAgainst, StaysAsItWas, parent_of, schema_of, variables_of};
-ghost use Rattle.graphql_rules.specs.SelectionSteps.{ConditionHolds, FragmentSays, InlineFragmentSays, SpreadSays, SpreadStands, IsUndefined};
+ghost use Rattle.graphql_rules.specs.SelectionSteps.{ConditionHolds, SpreadStands, IsUndefined};
 
 use graphql_cycles::fragments::validate_fragment_cycles;
-use graphql_diagnostics::{Details, DiagnosticData, DiagnosticList, ValidationError};
+use graphql_diagnostics::{Details, DiagnosticData, DiagnosticList};
 use graphql_documents::documents::{
-    DirectiveLocation, ExecutableDocument, Fragment, FragmentSpread, InlineFragment, NamedType,
-    Node, Schema,
+    ExecutableDocument, Fragment, FragmentSpread, InlineFragment, Schema,
 };
+use graphql_nodes::{DirectiveLocation, NamedType, Node, ValidationError};
 use graphql_operations::{
     FragmentUse, OperationValidationContext, validate_fragment_spread_type,
     validate_fragment_type_condition,
@@ -32,7 +30,7 @@ pub(super) fn check_inline_fragment<'a>(
 ) -> Result<bool, ValidationError>
     requires { IsAgainst (schema_of context.old) against_type }
     ensures checks { Checks result (InlineFragmentHolds (schema_of context.old) (variables_of context.old) (parent_of against_type.entry) inline.now.value.value)
-        (IsDiagnostic (InlineFragmentSays (schema_of context.old) (variables_of context.old) (parent_of against_type.entry) inline.now))
+        (IsDiagnostic (InlineFragmentReport (schema_of context.old) (variables_of context.old) (parent_of against_type.entry) inline.now))
         diagnostics.old diagnostics.new }
     ensures goes_on { IfOk result (λ goes_on. IsTrue goes_on → (condition : NameText) → inline.now.value.value.type_condition ≡ Some condition →
         TargetHolds (schema_of context.old) condition) }
@@ -64,7 +62,7 @@ fn check_condition<'a>(
     requires against { IsAgainst (schema_of context.old) against_type }
     requires condition { inline.now.value.value.type_condition ≡ Some condition.now }
     ensures checks { Checks result (ConditionHolds (schema_of context.old) (parent_of against_type.entry) condition.now)
-        (IsDiagnostic (InlineFragmentBreaks (schema_of context.old) (parent_of against_type.entry) inline.now))
+        (IsDiagnostic (InlineFragmentConditionReport (schema_of context.old) (parent_of against_type.entry) inline.now))
         diagnostics.old diagnostics.new }
     ensures answer { IfOk result (λ goes_on. goes_on ≡ false → ¬ TargetHolds (schema_of context.old) condition.now) }
     ensures goes_on { IfOk result (λ goes_on. IsTrue goes_on → TargetHolds (schema_of context.old) condition.now) }
@@ -95,7 +93,7 @@ pub(super) fn check_spread<'a>(
 ) -> Result<Option<&'a Node<Fragment>>, ValidationError>
     requires { IsAgainst (schema_of context.old) against_type }
     ensures checks { Checks result (SpreadStands (schema_of context.old) (fragments_of document.now) (variables_of context.old) (parent_of against_type.entry) spread.now.value.value)
-        (IsDiagnostic (SpreadSays (schema_of context.old) (fragments_of document.now) (variables_of context.old) (parent_of against_type.entry) spread.now))
+        (IsDiagnostic (SpreadReport (schema_of context.old) (fragments_of document.now) (variables_of context.old) (parent_of against_type.entry) spread.now))
         diagnostics.old diagnostics.new }
     ensures found { IfOk result (λ fragment. option_copied fragment ≡ fragments_of document.now spread.now.value.value.fragment_name) }
     ensures context { StaysAsItWas context.old context.new }
@@ -129,7 +127,7 @@ fn report_undefined_fragment(
     )
 }
 
-/// Reports a spread whose fragment cannot be met on the type around, where that is known.
+/// Reports a spread whose fragment cannot be visited on the type around, where that is known.
 fn check_possible<'a>(
     diagnostics: &mut DiagnosticList,
     against_type: Option<(&'a Schema, &NamedType)>,
@@ -140,7 +138,7 @@ fn check_possible<'a>(
     requires { IsAgainst (schema_of context.old) against_type }
     ensures checks { (fragments : Fragments) → fragments spread.now.value.value.fragment_name ≡ Some fragment.now →
         Checks result (IsPossibleIn (schema_of context.old) fragment.now.value.value.selection_set.ty (parent_of against_type.entry))
-        (IsDiagnostic (SpreadBreaks (schema_of context.old) fragments (parent_of against_type.entry) spread.now))
+        (IsDiagnostic (SpreadTargetReport (schema_of context.old) fragments (parent_of against_type.entry) spread.now))
         diagnostics.old diagnostics.new }
     ensures context { StaysAsItWas context.old context.new }
 {
@@ -163,7 +161,7 @@ pub(super) fn check_fragment(
     context: &OperationValidationContext,
 ) -> Result<bool, ValidationError>
     ensures checks { ChecksWithin result (FragmentHolds (schema_of context.now) (fragments_of document.now) (variables_of context.now) fragment.now)
-        (IsDiagnostic (FragmentSays (schema_of context.now) (fragments_of document.now) (variables_of context.now) fragment.now))
+        (IsDiagnostic (FragmentReport (schema_of context.now) (fragments_of document.now) (variables_of context.now) fragment.now))
         (λ e. FragmentLimit (fragments_of document.now) fragment.now e.details e.location)
         diagnostics.old diagnostics.new }
     ensures answer { IfOk result (λ goes_on. goes_on ≡ false → entries diagnostics.new ≢ entries diagnostics.old) }
@@ -192,7 +190,7 @@ fn check_target(
     fragment: &Node<Fragment>,
 ) -> Result<(), ValidationError>
     ensures { (fragments : Fragments) → Checks result (TargetHolds (option_copied schema.entry) fragment.now.value.value.selection_set.ty)
-        (IsDiagnostic (FragmentBreaks (option_copied schema.entry) fragments fragment.now))
+        (IsDiagnostic (FragmentFormReport (option_copied schema.entry) fragments fragment.now))
         diagnostics.old diagnostics.new }
 {
     let Some(schema) = schema else {

@@ -1,24 +1,21 @@
 ghost use Rattle.std.specs.Option.{option_copied};
 ghost use Rattle.std.specs.Prelude.{◌≡◌, [], All};
-ghost use Rattle.graphql_documents.specs.Defer.{operations_of};
+ghost use Rattle.graphql_documents.specs.Executables.{operations_of};
 ghost use Rattle.graphql_diagnostics.specs.Diagnostics.{IsDiagnostic};
-ghost use Rattle.graphql_diagnostics.specs.DocumentReports.{OperationReport, OperationsReport};
-ghost use Rattle.graphql_documents.specs.Documents.{OperationHolds, operation_location, root_type};
-ghost use Rattle.graphql_diagnostics.specs.Limits.{OperationLimit, OperationsLimit};
+ghost use Rattle.graphql_specification.specs.Operations.{OperationReport, OperationsReport, OperationHolds, operation_location, root_type, OperationLimit, OperationsLimit};
 ghost use Rattle.graphql_diagnostics.specs.Reports.{ChecksWithin};
-ghost use Rattle.graphql_operations.specs.Contexts.{IsAgainst, entered_names, parent_of, schema_of, variables_of};
+ghost use Rattle.graphql_operations.specs.Contexts.{IsAgainst, visited_fragment_names, parent_of, schema_of, variables_of};
 
 use super::selections::validate_selection_set;
-use graphql_diagnostics::{DiagnosticList, ValidationError};
-use graphql_documents::documents::{
-    DirectiveLocation, ExecutableDocument, NamedType, Operation, OperationType, Schema,
-};
+use graphql_diagnostics::DiagnosticList;
+use graphql_documents::documents::{ExecutableDocument, Operation, Schema};
+use graphql_nodes::{DirectiveLocation, NamedType, OperationType, ValidationError};
 use graphql_operations::{OperationValidationContext, operations_of};
 use graphql_values::directive::{check_each_directive, validate_variable_definitions};
 use graphql_variables::{VariablesByName, validate_unused_variables};
 
-/// Validates the operations of a document, each with the fragments that it reaches: the one without a
-/// name, then the others in order. The only error is want of memory.
+/// Validates the operations of a document, each with the fragments that it reaches: the one without a name,
+/// then the others in order. The only error is a failed allocation.
 ///
 /// Specification: 5.2 Operations.
 pub fn validate_operation_definitions(
@@ -45,8 +42,8 @@ pub fn validate_operation_definitions(
 
 /// Validates an operation with the fragments that it reaches.
 ///
-/// Reports come in this order: of its directives; of the definitions of its variables; its unused
-/// variables; and of its selections, each with what is below it. The only error is want of memory.
+/// Reports come in this order: of its directives; of the definitions of its variables; its unused variables;
+/// and of its selections, each with what is below it. The only error is a failed allocation.
 ///
 /// Specification: 5.2 Operations; 5.8 Variables.
 pub fn validate_operation(
@@ -74,7 +71,7 @@ fn check_operation<'a>(
     context: &mut OperationValidationContext<'a>,
 ) -> Result<(), ValidationError>
     requires variables { variables_of context.old ≡ operation.now.variables.items }
-    requires entered { entered_names context.old ≡ [] }
+    requires visited_fragments { visited_fragment_names context.old ≡ [] }
     ensures checks { ChecksWithin result (OperationHolds (schema_of context.old) document.now operation.now)
         (IsDiagnostic (OperationReport (schema_of context.old) document.now operation.now))
         (λ e. OperationLimit document.now operation.now e.details e.location)
@@ -100,7 +97,7 @@ fn check_operation<'a>(
     )
 }
 
-/// Where the directives of an operation stand.
+/// Where the directives of an operation are.
 fn location_of(operation_type: OperationType) -> DirectiveLocation
     ensures { result ≡ operation_location operation_type }
 {
@@ -111,7 +108,7 @@ fn location_of(operation_type: OperationType) -> DirectiveLocation
     }
 }
 
-/// The type on which the selections of an operation stand, if the schema names that root.
+/// The type on which the selections of an operation are, if the schema names that root.
 fn root_of<'a>(
     schema: Option<&'a Schema>,
     operation: &Operation,

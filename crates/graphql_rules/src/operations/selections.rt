@@ -5,22 +5,23 @@ ghost use Rattle.std.specs.Prelude.{◌≡◌, ◌∷◌, []};
 ghost use Rattle.graphql_diagnostics.specs.Diagnostics.{entries};
 ghost use Rattle.graphql_documents.specs.Selections.{fragments_of, selections_of, type_under};
 ghost use Rattle.graphql_documents.specs.declared.documents.executables.Selection.TheVariants as kind;
-ghost use Rattle.graphql_operations.specs.Contexts.{IsAgainst, SharesWith, entered_names, parent_of, schema_of, variables_of};
+ghost use Rattle.graphql_operations.specs.Contexts.{IsAgainst, SharesWith, visited_fragment_names, parent_of, schema_of, variables_of};
 ghost use Rattle.graphql_rules.specs.SelectionSteps.{FragmentWalks, Walks};
 
-use super::fields::{Below, check_field};
+use super::fields::{SubselectionParent, check_field};
 use super::fragments::{check_fragment, check_inline_fragment, check_spread};
-use graphql_diagnostics::{DiagnosticList, ValidationError};
+use graphql_diagnostics::DiagnosticList;
 use graphql_documents::documents::{
-    ExecutableDocument, Field, Fragment, FragmentSpread, InlineFragment, NamedType, Node, Schema,
-    Selection, SelectionSet,
+    ExecutableDocument, Field, Fragment, FragmentSpread, InlineFragment, Schema, Selection,
+    SelectionSet,
 };
+use graphql_nodes::{NamedType, Node, ValidationError};
 use graphql_operations::OperationValidationContext;
 
 /// Validates each selection of a set, with what is below it, in the order in which they are written.
 ///
-/// Without a type, as without a schema or below an unknown root, only what needs none is validated. The
-/// only error is want of memory.
+/// Without a type, as without a schema or below an unknown root, only what needs none is validated. The only
+/// error is a failed allocation.
 ///
 /// Specification: 5.3 Fields; 5.4 Arguments; 5.5 Fragments; 5.6 Values; 5.7 Directives.
 #[cycle(selection)]
@@ -33,7 +34,7 @@ pub fn validate_selection_set<'a>(
 ) -> Result<(), ValidationError>
     requires { IsAgainst (schema_of context.old) against_type }
     ensures walks { Walks result (schema_of context.old) (fragments_of document.now) (variables_of context.old) (parent_of against_type.entry)
-        (selections_of selection_set.now) (entered_names context.old) (entered_names context.new) (entries diagnostics.old) (entries diagnostics.new) }
+        (selections_of selection_set.now) (visited_fragment_names context.old) (visited_fragment_names context.new) (entries diagnostics.old) (entries diagnostics.new) }
     ensures context { SharesWith context.old context.new }
 {
     for selection in &selection_set.selections {
@@ -52,7 +53,7 @@ fn validate_selection<'a>(
 ) -> Result<(), ValidationError>
     requires { IsAgainst (schema_of context.old) against_type }
     ensures walks { Walks result (schema_of context.old) (fragments_of document.now) (variables_of context.old) (parent_of against_type.entry)
-        (selection.now ∷ []) (entered_names context.old) (entered_names context.new) (entries diagnostics.old) (entries diagnostics.new) }
+        (selection.now ∷ []) (visited_fragment_names context.old) (visited_fragment_names context.new) (entries diagnostics.old) (entries diagnostics.new) }
     ensures context { SharesWith context.old context.new }
 {
     match selection {
@@ -70,10 +71,10 @@ fn validate_selection<'a>(
 
 /// Validates a field, with what is below it.
 ///
-/// Reports come in this order: of its directives; its repeated arguments; each argument, that it is
-/// unknown, or that its variable may not stand there, or else what its value breaks; the required
-/// arguments that are missing; a missing selection, or else what is below. A field that its type lacks is
-/// not reported, and what is below it is not looked at. The only error is want of memory.
+/// Reports come in this order: of its directives; its repeated arguments; each argument, that it is unknown,
+/// or that its variable is not allowed there, or else what its value breaks; the required arguments that are
+/// missing; a missing selection, or else what is below. A field that its type lacks is not reported, and what
+/// is below it is not looked at. The only error is a failed allocation.
 ///
 /// Specification: 5.3 Fields; 5.4 Arguments; 5.7 Directives.
 #[cycle(selection)]
@@ -86,12 +87,12 @@ pub fn validate_field<'a>(
 ) -> Result<(), ValidationError>
     requires { IsAgainst (schema_of context.old) against_type }
     ensures walks { Walks result (schema_of context.old) (fragments_of document.now) (variables_of context.old) (parent_of against_type.entry)
-        (kind.Field field.now ∷ []) (entered_names context.old) (entered_names context.new) (entries diagnostics.old) (entries diagnostics.new) }
+        (kind.Field field.now ∷ []) (visited_fragment_names context.old) (visited_fragment_names context.new) (entries diagnostics.old) (entries diagnostics.new) }
     ensures context { SharesWith context.old context.new }
 {
     match check_field(diagnostics, against_type, field, context)? {
-        Below::Nowhere => Ok(()),
-        Below::On(ty) => {
+        SubselectionParent::Nowhere => Ok(()),
+        SubselectionParent::On(ty) => {
             let set = &field.value.selection_set;
             validate_selection_set(diagnostics, document, ty, set, context)
         }
@@ -100,9 +101,9 @@ pub fn validate_field<'a>(
 
 /// Validates an inline fragment, with the selections in it.
 ///
-/// Reports come in this order: of its directives; that its condition is no composite type, or else that
-/// it cannot be met on the type around, and then of the selections in it. The only error is want of
-/// memory.
+/// Reports come in this order: of its directives; that its condition is no composite type, or else that it
+/// cannot be visited on the type around, and then of the selections in it. The only error is a failed
+/// allocation.
 ///
 /// Specification: 5.5.1.3 Fragments on Composite Types; 5.5.2.3 Fragment Spread Is Possible.
 #[cycle(selection)]
@@ -115,7 +116,7 @@ pub fn validate_inline_fragment<'a>(
 ) -> Result<(), ValidationError>
     requires { IsAgainst (schema_of context.old) against_type }
     ensures walks { Walks result (schema_of context.old) (fragments_of document.now) (variables_of context.old) (parent_of against_type.entry)
-        (kind.InlineFragment inline.now ∷ []) (entered_names context.old) (entered_names context.new) (entries diagnostics.old) (entries diagnostics.new) }
+        (kind.InlineFragment inline.now ∷ []) (visited_fragment_names context.old) (visited_fragment_names context.new) (entries diagnostics.old) (entries diagnostics.new) }
     ensures context { SharesWith context.old context.new }
 {
     if !check_inline_fragment(diagnostics, against_type, inline, context)? {
@@ -127,10 +128,10 @@ pub fn validate_inline_fragment<'a>(
     validate_selection_set(diagnostics, document, under, set, context)
 }
 
-/// Validates a spread, and its fragment where it was not gone into before.
+/// Validates a spread, and its fragment where it was not visited before.
 ///
-/// Reports come in this order: of its directives; that no fragment has its name, or else that its
-/// fragment cannot be met on the type around; and then of the fragment. The only error is want of memory.
+/// Reports come in this order: of its directives; that no fragment has its name, or else that its fragment
+/// cannot be visited on the type around; and then of the fragment. The only error is a failed allocation.
 ///
 /// Specification: 5.5.2 Fragment Spreads.
 #[cycle(selection)]
@@ -143,7 +144,7 @@ pub fn validate_fragment_spread<'a>(
 ) -> Result<(), ValidationError>
     requires { IsAgainst (schema_of context.old) against_type }
     ensures walks { Walks result (schema_of context.old) (fragments_of document.now) (variables_of context.old) (parent_of against_type.entry)
-        (kind.FragmentSpread spread.now ∷ []) (entered_names context.old) (entered_names context.new) (entries diagnostics.old) (entries diagnostics.new) }
+        (kind.FragmentSpread spread.now ∷ []) (visited_fragment_names context.old) (visited_fragment_names context.new) (entries diagnostics.old) (entries diagnostics.new) }
     ensures context { SharesWith context.old context.new }
 {
     let Some(fragment) = check_spread(diagnostics, document, against_type, spread, context)? else {
@@ -158,9 +159,9 @@ pub fn validate_fragment_spread<'a>(
 
 /// Validates a fragment with the variables of an operation that reaches it, and the selections in it.
 ///
-/// Reports come in this order: of its directives; that its condition is no composite type; that it
-/// spreads itself, or nests too deep; and where neither was reported, of the selections in it. The only
-/// error is want of memory.
+/// Reports come in this order: of its directives; that its condition is no composite type; that it spreads
+/// itself, or nests too deep; and where neither was reported, of the selections in it. The only error is a
+/// failed allocation.
 ///
 /// Specification: 5.5.1.3 Fragments on Composite Types; 5.5.2.2 Fragment Spreads Must Not Form Cycles.
 #[cycle(selection)]
@@ -171,7 +172,7 @@ pub fn validate_fragment_definition<'a>(
     context: &mut OperationValidationContext<'a>,
 ) -> Result<(), ValidationError>
     ensures walks { FragmentWalks result (schema_of context.old) (fragments_of document.now) (variables_of context.old)
-        fragment.now (entered_names context.old) (entered_names context.new) (entries diagnostics.old) (entries diagnostics.new) }
+        fragment.now (visited_fragment_names context.old) (visited_fragment_names context.new) (entries diagnostics.old) (entries diagnostics.new) }
     ensures context { SharesWith context.old context.new }
 {
     if !check_fragment(diagnostics, document, fragment, context)? {

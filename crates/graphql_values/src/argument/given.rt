@@ -1,5 +1,5 @@
 ghost use Rattle.std.specs.Prelude.{All, Contains, List};
-ghost use Rattle.graphql_documents.specs.Arguments.{IsDefined};
+ghost use Rattle.graphql_specification.specs.Arguments.{IsDefined};
 ghost use Rattle.graphql_diagnostics.specs.Diagnostics.{IsDiagnostic};
 ghost use Rattle.graphql_diagnostics.specs.Reports.{Checks};
 ghost use Rattle.graphql_documents.specs.declared.documents.definitions.VariableDefinition.{VariableDefinition};
@@ -9,12 +9,13 @@ ghost use Rattle.graphql_values.specs.GivenArguments.{GivenArgumentHolds, GivenA
 
 use super::owners::GivenArguments;
 use crate::value::check_value_of_type;
-use graphql_diagnostics::{Details, DiagnosticData, DiagnosticList, ValidationError};
-use graphql_documents::documents::{Argument, Node, Schema, definition_named};
+use graphql_diagnostics::{Details, DiagnosticData, DiagnosticList};
+use graphql_documents::documents::{Argument, Schema, definition_named};
+use graphql_nodes::{Node, ValidationError};
 use graphql_variables::{VariablesByName, check_variable_usage};
 
-/// Reports for each argument, in order, that no definition has its name, or that it is a variable
-/// that may not stand there, or else what its value breaks. The only error is want of memory.
+/// Reports for each argument, in order, that no definition has its name, or that it is a variable that is not
+/// allowed there, or else what its value breaks. The only error is a failed allocation.
 ///
 /// Specification: 5.4.1 Argument Names; 5.6.1 Values of Correct Type; 5.8.5 All Variable Usages Are
 /// Allowed.

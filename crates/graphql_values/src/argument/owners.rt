@@ -5,11 +5,11 @@ use graphql_coordinates::{
     DirectiveArgumentCoordinate, DirectiveCoordinate, FieldArgumentCoordinate, SchemaCoordinate,
     TypeAttributeCoordinate,
 };
-use graphql_diagnostics::ValidationError;
 use graphql_documents::documents::{
     Argument, Component, Directive, DirectiveDefinition, Field, FieldDefinition,
-    InputValueDefinition, Name, NamedType, Node, SourceSpan,
+    InputValueDefinition,
 };
+use graphql_nodes::{Name, NamedType, Node, SourceSpan, ValidationError};
 use std::alloc::Global;
 
 /// What arguments are given to: a field of a type, or a directive, which its definition may write
@@ -75,7 +75,7 @@ impl ArgumentOwner<'_> {
 }
 
 impl<'a> GivenArguments<'a> {
-    /// The arguments of a field that stands on this type.
+    /// The arguments of a field that is on this type.
     pub fn of_field(
         parent: &'a NamedType,
         field: &'a Node<Field>,

@@ -1,17 +1,16 @@
 ghost use Rattle.std.specs.Prelude.{◌↔◌, IsTrue, All, Contains};
-ghost use Rattle.graphql_documents.specs.Arguments.{IsGiven, IsGivenIfRequired};
+ghost use Rattle.graphql_specification.specs.Arguments.{IsProvided, RequiredArgumentIsProvided};
 ghost use Rattle.graphql_diagnostics.specs.Diagnostics.{IsDiagnostic};
 ghost use Rattle.graphql_diagnostics.specs.Reports.{Checks};
 ghost use Rattle.graphql_values.specs.GivenArguments.{MissingArgumentReport};
 
 use super::owners::GivenArguments;
-use graphql_diagnostics::{Details, DiagnosticData, DiagnosticList, ValidationError};
-use graphql_documents::documents::{
-    Argument, InputValueDefinition, Name, Node, Value, argument_named,
-};
+use graphql_diagnostics::{Details, DiagnosticData, DiagnosticList};
+use graphql_documents::documents::{Argument, InputValueDefinition, Value, argument_named};
+use graphql_nodes::{Name, Node, ValidationError};
 
-/// Reports each required argument that is not given or is literally null, in order of the
-/// definitions, at the field or directive. The only error is want of memory.
+/// Reports each required argument that is not given or is literally null, in order of the definitions, at the
+/// field or directive. The only error is a failed allocation.
 ///
 /// Specification: 5.4.2.1 Required Arguments.
 pub fn validate_required_arguments(
@@ -19,7 +18,7 @@ pub fn validate_required_arguments(
     arguments: &GivenArguments,
 ) -> Result<(), ValidationError>
     ensures { Checks result
-        (All (IsGivenIfRequired arguments.now.given.now) arguments.now.definitions.now)
+        (All (RequiredArgumentIsProvided arguments.now.given.now) arguments.now.definitions.now)
         (IsDiagnostic (MissingArgumentReport arguments.now)) diagnostics.old diagnostics.new }
 {
     for definition in arguments.definitions {
@@ -34,7 +33,7 @@ fn validate_required_argument(
     definition: &Node<InputValueDefinition>,
 ) -> Result<(), ValidationError>
     requires { Contains arguments.now.definitions.now definition.now }
-    ensures { Checks result (IsGivenIfRequired arguments.now.given.now definition.now)
+    ensures { Checks result (RequiredArgumentIsProvided arguments.now.given.now definition.now)
         (IsDiagnostic (MissingArgumentReport arguments.now)) diagnostics.old diagnostics.new }
 {
     if !definition.value.is_required() || is_given(arguments.given, &definition.value.name) {
@@ -59,7 +58,7 @@ fn validate_required_argument(
 
 /// Whether the first argument with this name is there and not literally null.
 fn is_given(arguments: &[Node<Argument>], name: &Name) -> bool
-    ensures { IsTrue result ↔ IsGiven arguments.now name.now }
+    ensures { IsTrue result ↔ IsProvided arguments.now name.now }
 {
     match argument_named(arguments, name) {
         Some(argument) => !matches!(&*argument.value.value.value, Value::Null),

@@ -1,7 +1,8 @@
 ghost use Rattle.std.specs.Option.{MatchOption, option_copied};
 ghost use Rattle.std.specs.Prelude.{◌≡◌, ◌↔◌, All, Contains, IsTrue, List, None, Option, Some};
-ghost use Rattle.graphql_documents.specs.Arguments.{IsGivenIfRequired};
-ghost use Rattle.graphql_documents.specs.Directives.{IsRepeatable, directive_definition, directive_in};
+ghost use Rattle.graphql_specification.specs.Arguments.{RequiredArgumentIsProvided};
+ghost use Rattle.graphql_specification.specs.Directives.{IsRepeatable};
+ghost use Rattle.graphql_documents.specs.Directives.{directive_definition, directive_in};
 ghost use Rattle.graphql_documents.specs.declared.documents.directives.Directive.{Directive};
 ghost use Rattle.graphql_nodes.specs.declared.nodes.Node.{Node};
 ghost use Rattle.graphql_documents.specs.declared.documents.schemas.Schema.{Schema};
@@ -9,10 +10,9 @@ ghost use Rattle.graphql_values.specs.DirectiveSteps.{ChecksApplication, ChecksR
 ghost use Rattle.graphql_values.specs.GivenArguments.{GivenArgumentHolds};
 
 use crate::argument::{GivenArguments, validate_given_arguments, validate_required_arguments};
-use graphql_diagnostics::{Details, DiagnosticData, DiagnosticList, ValidationError};
-use graphql_documents::documents::{
-    Directive, DirectiveDefinition, DirectiveLocation, Name, Node, Schema, SourceSpan,
-};
+use graphql_diagnostics::{Details, DiagnosticData, DiagnosticList};
+use graphql_documents::documents::{Directive, DirectiveDefinition, Schema};
+use graphql_nodes::{DirectiveLocation, Name, Node, SourceSpan, ValidationError};
 use graphql_variables::VariablesByName;
 
 /// Reports a directive that repeats one applied before it, if it is not repeatable; a directive that is
@@ -123,7 +123,7 @@ fn validate_known(
     ensures { ChecksApplication result
         (Contains definition.now.value.value.locations.items location ×
         All (GivenArgumentHolds schema.now variables.now definition.now.value.value.arguments.items) directive.now.value.value.arguments.items ×
-        All (IsGivenIfRequired directive.now.value.value.arguments.items) definition.now.value.value.arguments.items)
+        All (RequiredArgumentIsProvided directive.now.value.value.arguments.items) definition.now.value.value.arguments.items)
         (Some schema.now) variables.now location directive.now diagnostics.old diagnostics.new }
 {
     check_location(diagnostics, definition, directive, location)?;

@@ -1,26 +1,24 @@
 ghost use Rattle.std.specs.Option.{option_copied};
 ghost use Rattle.std.specs.Prelude.{◌≡◌, ◌∷◌, ◌++◌, [], IfOk, IsFalse, List, None, OnOk, Some, map};
 ghost use Rattle.graphql_diagnostics.specs.Diagnostics.{IsDiagnostic};
-ghost use Rattle.graphql_documents.specs.Directives.{ApplicationsHold};
+ghost use Rattle.graphql_specification.specs.Directives.{ApplicationsHold};
 ghost use Rattle.graphql_diagnostics.specs.Reports.{Checks};
 ghost use Rattle.graphql_documents.specs.Schemas.{is_input_type, type_definition};
 ghost use Rattle.graphql_documents.specs.TypeReferences.{inner_named_type};
-ghost use Rattle.graphql_diagnostics.specs.VariableReports.{VariablesReport};
-ghost use Rattle.graphql_documents.specs.VariableUsage.{variable_named};
-ghost use Rattle.graphql_documents.specs.Variables.{DefaultHolds, HasInputType, VariableDefinitionsHold};
-ghost use Rattle.graphql_documents.specs.declared.documents.definitions.DirectiveLocation.TheVariants as at;
+ghost use Rattle.graphql_specification.specs.Variables.{VariablesReport, DefaultHolds, HasInputType, VariableDefinitionsHold};
+ghost use Rattle.graphql_documents.specs.Definitions.{variable_named};
+ghost use Rattle.graphql_nodes.specs.declared.directive_locations.DirectiveLocation.TheVariants as at;
 ghost use Rattle.graphql_documents.specs.declared.documents.definitions.VariableDefinition.{VariableDefinition};
 ghost use Rattle.graphql_nodes.specs.declared.nodes.Node.{Node};
 ghost use Rattle.graphql_documents.specs.declared.documents.schemas.Schema.{Schema};
 ghost use Rattle.graphql_variables.specs.FirstPlaces.{Remembers};
-ghost use Rattle.graphql_values.specs.VariableSteps.{ChecksNext, ChecksVariable, FollowsWell, IsNewName, TypeHolds, met_variable, variable_place_in};
+ghost use Rattle.graphql_values.specs.VariableSteps.{ChecksNext, ChecksVariable, FollowsWell, IsNewName, TypeHolds, visited_variable, variable_place_in};
 
 use super::check_each_directive;
 use crate::value::value_of_correct_type;
-use graphql_diagnostics::{Details, DiagnosticData, DiagnosticList, ValidationError};
-use graphql_documents::documents::{
-    DirectiveLocation, ExtendedType, Name, Node, Schema, SourceSpan, VariableDefinition,
-};
+use graphql_diagnostics::{Details, DiagnosticData, DiagnosticList};
+use graphql_documents::documents::{ExtendedType, Schema, VariableDefinition};
+use graphql_nodes::{DirectiveLocation, Name, Node, SourceSpan, ValidationError};
 use graphql_variables::VariablesByName;
 use graphql_variables::first_places::first_place;
 use std::collections::HashMap;
@@ -28,9 +26,9 @@ use std::collections::HashMap;
 /// Validates the definitions of the variables of an operation: their directives, their types and
 /// defaults where there is a schema, and that their names are distinct.
 ///
-/// Reports come variable by variable: those of its directives, where no variables are known; that its
-/// type is not defined or no input type, or what its default breaks; that it repeats a name. The only
-/// error is want of memory.
+/// Reports come variable by variable: those of its directives, where no variables are known; that its type is
+/// not defined or no input type, or what its default breaks; that it repeats a name. The only error is a
+/// failed allocation.
 ///
 /// Specification: 5.8.1 Variable Uniqueness; 5.8.2 Variables Are Input Types; 5.6 Values; 5.7
 /// Directives.
@@ -49,18 +47,18 @@ pub fn validate_variable_definitions(
     Ok(())
 }
 
-/// Validates the definition of one of the variables, behind those that were met.
+/// Validates the definition of one of the variables, behind those that were visited.
 fn validate_variable_definition<'a>(
     diagnostics: &mut DiagnosticList,
     schema: Option<&Schema>,
     variable: &'a Node<VariableDefinition>,
     seen: &mut HashMap<&'a Name, Option<SourceSpan>>,
 ) -> Result<(), ValidationError>
-    ensures checks { (before : List (Node VariableDefinition)) → Remembers seen.old (map met_variable before) →
+    ensures checks { (before : List (Node VariableDefinition)) → Remembers seen.old (map visited_variable before) →
         ChecksNext result (FollowsWell (option_copied schema.entry) before variable.now)
         (option_copied schema.entry) before variable.now diagnostics.old diagnostics.new }
-    ensures remembers { OnOk result ((before : List (Node VariableDefinition)) → Remembers seen.old (map met_variable before) →
-        Remembers seen.new (map met_variable (before ++ variable.now ∷ []))) }
+    ensures remembers { OnOk result ((before : List (Node VariableDefinition)) → Remembers seen.old (map visited_variable before) →
+        Remembers seen.new (map visited_variable (before ++ variable.now ∷ []))) }
 {
     validate_variable_directives(diagnostics, schema, variable)?;
     validate_variable_type(diagnostics, schema, variable)?;
@@ -171,8 +169,7 @@ fn report_undefined_type(
     )
 }
 
-/// Reports a variable that has the name of one before it. The first of them, if there is one, stands
-/// at `first`.
+/// Reports a variable that has the name of one before it. The first of them, if there is one, is at `first`.
 ///
 /// Specification: 5.8.1 Variable Uniqueness.
 fn check_name(

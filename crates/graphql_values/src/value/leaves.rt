@@ -1,5 +1,5 @@
 ghost use Rattle.std.specs.Prelude.{◌≡◌, ◌↔◌, ◌||◌, Some, IsTrue};
-ghost use Rattle.graphql_documents.specs.InputCoercion.{is_built_in_scalar, is_custom_scalar};
+ghost use Rattle.graphql_specification.specs.Values.{is_built_in_scalar, is_custom_scalar};
 ghost use Rattle.graphql_nodes.specs.Names.{SameName};
 ghost use Rattle.graphql_documents.specs.Schemas.{is_input_type, type_definition};
 ghost use Rattle.graphql_documents.specs.TypeReferences.{inner_named_type, is_list};
@@ -7,11 +7,12 @@ ghost use Rattle.graphql_documents.specs.declared.documents.schemas.Schema.{Sche
 ghost use Rattle.graphql_documents.specs.declared.documents.values.Value.TheVariants as literal;
 ghost use Rattle.graphql_values.specs.ValueSteps.{ChecksDefined, ChecksValue, is_other_scalar, takes_every_int, takes_other_scalar, written_at};
 
+use super::expected::ExpectedType;
 use super::reports::unsupported_type;
-use graphql_diagnostics::{Details, DiagnosticData, DiagnosticList, ValidationError};
-use graphql_documents::documents::{
-    ExtendedType, IntValue, Name, Node, SourceSpan, Type, Value, VariableDefinition,
-};
+use graphql_diagnostics::{Details, DiagnosticData, DiagnosticList};
+use graphql_documents::documents::{ExtendedType, Type, Value, VariableDefinition};
+use graphql_nodes::{Name, Node, SourceSpan, ValidationError};
+use graphql_numbers::IntValue;
 use graphql_variables::VariablesByName;
 
 /// Whether the type is a scalar that is not one of those that every schema has.
@@ -40,10 +41,10 @@ fn is_built_in_scalar(definition: &ExtendedType, name: &str) -> bool
 /// Whether lists are values of the type, if their items are: it is a list or a custom scalar.
 ///
 /// Specification: 3.11 List, Input Coercion.
-pub(super) fn takes_lists(definition: &ExtendedType, ty: &Type) -> bool
-    ensures { result ≡ (is_list ty.now || is_custom_scalar definition.now) }
+pub(super) fn takes_lists(expected: &ExpectedType<'_>) -> bool
+    ensures { result ≡ (is_list expected.now.ty.now || is_custom_scalar expected.now.definition.now) }
 {
-    ty.is_list() || is_custom_scalar(definition)
+    expected.ty.is_list() || is_custom_scalar(expected.definition)
 }
 
 /// Reports `null` for a type that does not take it.
@@ -51,18 +52,16 @@ pub(super) fn takes_lists(definition: &ExtendedType, ty: &Type) -> bool
 /// Specification: 3.12 Non-Null, Input Coercion.
 pub(super) fn check_null(
     diagnostics: &mut DiagnosticList,
-    definition: &ExtendedType,
-    ty: &Type,
-    location: Option<SourceSpan>,
+    expected: &ExpectedType<'_>,
     value: &Node<Value>,
 ) -> Result<(), ValidationError>
     requires { value.now.value.value ≡ literal.Null }
-    ensures { ChecksDefined result definition.now (written_at ty.now location) value.now diagnostics.old diagnostics.new }
+    ensures { ChecksDefined result expected.now.definition.now (written_at expected.now.ty.now expected.now.location) value.now diagnostics.old diagnostics.new }
 {
-    if !ty.is_non_null() {
+    if !expected.ty.is_non_null() {
         return Ok(());
     }
-    unsupported_type(diagnostics, ty, location, value)
+    unsupported_type(diagnostics, expected, value)
 }
 
 /// Reports an enum value that is not one of the type.
@@ -70,20 +69,18 @@ pub(super) fn check_null(
 /// Specification: 3.9 Enums, Input Coercion.
 pub(super) fn check_enum_value(
     diagnostics: &mut DiagnosticList,
-    definition: &ExtendedType,
-    ty: &Type,
-    location: Option<SourceSpan>,
+    expected: &ExpectedType<'_>,
     value: &Node<Value>,
     name: &Name,
 ) -> Result<(), ValidationError>
     requires { value.now.value.value ≡ literal.Enum name.now }
-    ensures { ChecksDefined result definition.now (written_at ty.now location) value.now diagnostics.old diagnostics.new }
+    ensures { ChecksDefined result expected.now.definition.now (written_at expected.now.ty.now expected.now.location) value.now diagnostics.old diagnostics.new }
 {
-    if is_custom_scalar(definition) {
+    if is_custom_scalar(expected.definition) {
         return Ok(());
     }
-    let ExtendedType::Enum(enum_type) = definition else {
-        return unsupported_type(diagnostics, ty, location, value);
+    let ExtendedType::Enum(enum_type) = expected.definition else {
+        return unsupported_type(diagnostics, expected, value);
     };
     if enum_type.value.values.contains_key(name) {
         return Ok(());
@@ -105,20 +102,18 @@ pub(super) fn check_enum_value(
 /// Specification: 3.5.1 Int, 3.5.2 Float and 3.5.5 ID, Input Coercion.
 pub(super) fn check_int(
     diagnostics: &mut DiagnosticList,
-    definition: &ExtendedType,
-    ty: &Type,
-    location: Option<SourceSpan>,
+    expected: &ExpectedType<'_>,
     value: &Node<Value>,
     number: &IntValue,
 ) -> Result<(), ValidationError>
     requires { value.now.value.value ≡ literal.Int number.now }
-    ensures { ChecksDefined result definition.now (written_at ty.now location) value.now diagnostics.old diagnostics.new }
+    ensures { ChecksDefined result expected.now.definition.now (written_at expected.now.ty.now expected.now.location) value.now diagnostics.old diagnostics.new }
 {
-    if takes_every_int(definition) {
+    if takes_every_int(expected.definition) {
         return Ok(());
     }
-    if !is_built_in_scalar(definition, "Int") {
-        return unsupported_type(diagnostics, ty, location, value);
+    if !is_built_in_scalar(expected.definition, "Int") {
+        return unsupported_type(diagnostics, expected, value);
     }
     if number.try_to_i32().is_some() {
         return Ok(());
@@ -144,18 +139,16 @@ fn takes_every_int(definition: &ExtendedType) -> bool
 /// Specification: 3.5.2 Float, 3.5.3 String, 3.5.4 Boolean and 3.5.5 ID, Input Coercion.
 pub(super) fn check_other_scalar(
     diagnostics: &mut DiagnosticList,
-    definition: &ExtendedType,
-    ty: &Type,
-    location: Option<SourceSpan>,
+    expected: &ExpectedType<'_>,
     value: &Node<Value>,
 ) -> Result<(), ValidationError>
     requires { IsTrue (is_other_scalar value.now.value.value) }
-    ensures { ChecksDefined result definition.now (written_at ty.now location) value.now diagnostics.old diagnostics.new }
+    ensures { ChecksDefined result expected.now.definition.now (written_at expected.now.ty.now expected.now.location) value.now diagnostics.old diagnostics.new }
 {
-    if takes_other_scalar(definition, &value.value) {
+    if takes_other_scalar(expected.definition, &value.value) {
         return Ok(());
     }
-    unsupported_type(diagnostics, ty, location, value)
+    unsupported_type(diagnostics, expected, value)
 }
 
 /// Whether the type is a scalar that takes this string, float or boolean.
@@ -183,16 +176,14 @@ fn takes_other_scalar(definition: &ExtendedType, value: &Value) -> bool
 /// Specification: 5.8.3 All Variable Uses Defined; 5.8.5 All Variable Usages Are Allowed.
 pub(super) fn check_variable(
     diagnostics: &mut DiagnosticList,
-    definition: &ExtendedType,
-    ty: &Type,
-    location: Option<SourceSpan>,
+    expected: &ExpectedType<'_>,
     value: &Node<Value>,
     name: &Name,
     variables: &VariablesByName,
 ) -> Result<(), ValidationError>
     requires { value.now.value.value ≡ literal.Variable name.now }
-    ensures { (schema : Schema) → type_definition schema (inner_named_type ty.now) ≡ Some definition.now →
-        ChecksValue result schema variables.now (written_at ty.now location) value.now diagnostics.old diagnostics.new }
+    ensures { (schema : Schema) → type_definition schema (inner_named_type expected.now.ty.now) ≡ Some expected.now.definition.now →
+        ChecksValue result schema variables.now (written_at expected.now.ty.now expected.now.location) value.now diagnostics.old diagnostics.new }
 {
     let Some(variable) = variables.find(name) else {
         let name = name.clone()?;
@@ -201,17 +192,18 @@ pub(super) fn check_variable(
             Details::Diagnostic(DiagnosticData::UndefinedVariable { name }),
         );
     };
-    if can_stand(definition, ty, &variable.value) {
+    if can_stand(expected, &variable.value) {
         return Ok(());
     }
-    unsupported_type(diagnostics, ty, location, value)
+    unsupported_type(diagnostics, expected, value)
 }
 
 /// Whether a variable can stand for a type: arguments may have it, and the innermost names are the same.
-fn can_stand(definition: &ExtendedType, ty: &Type, variable: &VariableDefinition) -> bool
+fn can_stand(expected: &ExpectedType<'_>, variable: &VariableDefinition) -> bool
     ensures { IsTrue result ↔
-        (IsTrue (is_input_type definition.now) ×
-        SameName (inner_named_type variable.now.ty.value.value) (inner_named_type ty.now)) }
+        (IsTrue (is_input_type expected.now.definition.now) ×
+        SameName (inner_named_type variable.now.ty.value.value) (inner_named_type expected.now.ty.now)) }
 {
-    definition.is_input_type() && variable.ty.value.inner_named_type() == ty.inner_named_type()
+    expected.definition.is_input_type()
+        && variable.ty.value.inner_named_type() == expected.ty.inner_named_type()
 }

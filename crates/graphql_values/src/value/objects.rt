@@ -1,12 +1,11 @@
 ghost use Rattle.std.specs.Prelude.{◌≡◌, ◌↔◌, List, All, Contains, IsSome, IsFalse, IsTrue, find};
 ghost use Rattle.std.specs.Option.{option_copied};
 ghost use Rattle.graphql_diagnostics.specs.Diagnostics.{IsDiagnostic};
-ghost use Rattle.graphql_documents.specs.InputCoercion.{HasNoNullEntry, IsFieldGiven, IsInputField};
+ghost use Rattle.graphql_specification.specs.Values.{HasNoNullEntry, IsFieldProvided, IsInputField, ValueReport};
 ghost use Rattle.graphql_nodes.specs.Names.{same_name};
 ghost use Rattle.graphql_diagnostics.specs.Reports.{Checks};
 ghost use Rattle.graphql_documents.specs.Schemas.{IsInputObject, is_required};
 ghost use Rattle.graphql_documents.specs.TypeReferences.{TypeReference, inner_named_type};
-ghost use Rattle.graphql_diagnostics.specs.ValueReports.{ValueReport};
 ghost use Rattle.graphql_documents.specs.Values.{entry_named};
 ghost use Rattle.graphql_documents.specs.declared.documents.definitions.VariableDefinition.{VariableDefinition};
 ghost use Rattle.graphql_nodes.specs.declared.nodes.Node.{Node};
@@ -14,10 +13,9 @@ ghost use Rattle.graphql_documents.specs.declared.documents.schemas.Schema.{Sche
 ghost use Rattle.graphql_values.specs.ValueSteps.{HasEntries};
 
 use graphql_coordinates::TypeAttributeCoordinate;
-use graphql_diagnostics::{Details, DiagnosticData, DiagnosticList, ValidationError};
-use graphql_documents::documents::{
-    Component, InputObjectType, InputValueDefinition, Name, Node, Value,
-};
+use graphql_diagnostics::{Details, DiagnosticData, DiagnosticList};
+use graphql_documents::documents::{Component, InputObjectType, InputValueDefinition, Value};
+use graphql_nodes::{Name, Node, ValidationError};
 
 /// Reports the first entry whose field the input object lacks.
 ///
@@ -66,7 +64,7 @@ pub(super) fn check_required_field(
     requires stands { Contains input_object.now.value.value.fields.entries (name.now, field.now) }
     ensures { (schema : Schema) (variables : List (Node VariableDefinition)) (ty : TypeReference) →
         IsInputObject schema (inner_named_type ty.ty) input_object.now →
-        Checks result (IsFieldGiven entries.now (name.now, field.now))
+        Checks result (IsFieldProvided entries.now (name.now, field.now))
         (IsDiagnostic (ValueReport schema variables ty value.now)) diagnostics.old diagnostics.new }
 {
     if is_satisfied(&field.node.value, entries, name) {

@@ -2,7 +2,7 @@ use Rattle.std.proofs.Common.{rules, inl}
 use Rattle.graphql_diagnostics.proofs.ReportLemmas.{checks-push}
 use Rattle.graphql_diagnostics.proofs.ReportWithinLemmas.{checks_within}
 use Rattle.graphql_diagnostics.specs.Diagnostics.{IsLimitEntry}
-use Rattle.graphql_diagnostics.specs.SchemaReports.{references_lead_back}
+use Rattle.graphql_specification.specs.DirectiveCycles.{references_lead_back}
 use Rattle.graphql_cycles.proofs.directives.report_cycle.Goals as goal
 
 pub returns : goal.returns

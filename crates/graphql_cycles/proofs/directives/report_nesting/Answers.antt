@@ -1,7 +1,7 @@
 use Rattle.std.proofs.Common.{rules, inr}
 use Rattle.graphql_diagnostics.proofs.ReportWithinLemmas.{checks_limit}
 use Rattle.graphql_diagnostics.specs.Diagnostics.{IsLimitEntry, limit_of_path}
-use Rattle.graphql_diagnostics.specs.Limits.{references_nest}
+use Rattle.graphql_specification.specs.DirectiveCycles.{references_nest}
 use Rattle.graphql_cycles.proofs.directives.report_nesting.Goals as goal
 
 pub returns : goal.returns

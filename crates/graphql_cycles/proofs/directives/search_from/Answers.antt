@@ -1,9 +1,9 @@
 -- What the search from the arguments of the definition says of it.
 use Rattle.std.proofs.Common.{◌≡◌, map, ap, ◌∙◌, subst}
 use Rattle.std.proofs.lemmas.Result.{MatchResult-weaker}
-use Rattle.graphql_documents.specs.SchemaReferences.{directive_part, references_of}
+use Rattle.graphql_specification.specs.DirectiveCycles.{directive_part, references_of}
 use Rattle.graphql_documents.specs.declared.documents.definitions.DirectiveDefinition.{DirectiveDefinition}
-use Rattle.graphql_cycles.proofs.DirectiveSearchLemmas.{begins_at_root, closes_from_root, stops_from_root}
+use Rattle.graphql_cycles.proofs.DirectiveSearchRootLemmas.{begins_at_root, closes_from_root, stops_from_root}
 use Rattle.graphql_cycles.specs.DirectiveSearches.{IsBeginning}
 use Rattle.graphql_cycles.specs.References.{reference_of}
 use Rattle.graphql_cycles.proofs.directives.search_from.Goals as goal

@@ -2,7 +2,7 @@ use Rattle.std.proofs.Common.{rules, inr}
 use Rattle.graphql_diagnostics.proofs.ReportLemmas.{kept}
 use Rattle.graphql_diagnostics.proofs.ReportWithinLemmas.{checks_limit, checks_refused_within}
 use Rattle.graphql_diagnostics.specs.Diagnostics.{IsLimitEntry, limit_of_path}
-use Rattle.graphql_diagnostics.specs.Limits.{spreads_nest}
+use Rattle.graphql_specification.specs.Fragments.{spreads_nest}
 use Rattle.graphql_cycles.proofs.fragments.report_nesting.Goals as goal
 
 pub returns-in_err-name : goal.returns-in_err-name

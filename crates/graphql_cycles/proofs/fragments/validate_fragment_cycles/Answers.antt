@@ -3,8 +3,7 @@ use Rattle.std.proofs.Common.{◌≡◌, ℕ, ◌+◌, List, [], ◌∷◌, ◌+
 use Rattle.graphql_diagnostics.proofs.ReportLemmas.{holds}
 use Rattle.graphql_diagnostics.proofs.ReportWithinLemmas.{within}
 use Rattle.graphql_diagnostics.specs.Diagnostics.{IsLimitEntry}
-use Rattle.graphql_documents.specs.FragmentSpreads.{SpreadsBack, SpreadsBy, fragment_of}
-use Rattle.graphql_diagnostics.specs.Limits.{fragment_bound}
+use Rattle.graphql_specification.specs.Fragments.{SpreadsBack, SpreadsBy, fragment_of, fragment_depth_limit}
 use Rattle.graphql_nodes.specs.Names.{HasDifferentNames, NameText}
 use Rattle.graphql_documents.specs.Selections.{fragments_of}
 use Rattle.graphql_documents.specs.declared.documents.executables.Fragment.{Fragment}
@@ -51,7 +50,7 @@ returns-in-Err-Limit c = λ schema.
     let limit = path_limit c.with_limit-path.result in
     let from_root : path ≡ own ∷ [] =
     c.with_limit-path.ensures.path ∙ c.in_ok-with_root.ensures.path ∙ ap (λ (n : NameText). n ∷ []) (c.in_ok-clone.ensures.cases ∙ ap (λ (f : Fragment). f.name) c.deref.ensures) in
-    let far : GoesFar SpreadsBy (fragment_of (fragments_of document)) (SpreadsBy d) (λ way. HasDifferentNames (fragment_bound + 1) (own ∷ map name_of way)) =
+    let far : GoesFar SpreadsBy (fragment_of (fragments_of document)) (SpreadsBy d) (λ way. HasDifferentNames (fragment_depth_limit + 1) (own ∷ map name_of way)) =
     subst (StopsOver document own (SpreadsBy d) (own ∷ []) 100) c.in-Err-Limit.field-0-is
     (subst (Stops own (SpreadsBy d) (own ∷ [])) c.with_limit-path.ensures.limit
     (subst (λ (names : List NameText). Stops own (SpreadsBy d) names limit) from_root

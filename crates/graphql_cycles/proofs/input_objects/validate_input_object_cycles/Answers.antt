@@ -3,9 +3,8 @@ use Rattle.std.proofs.Common.{◌≡◌, ◌+◌, List, [], ◌∷◌, ◌++◌,
 use Rattle.graphql_diagnostics.proofs.ReportLemmas.{holds}
 use Rattle.graphql_diagnostics.proofs.ReportWithinLemmas.{within}
 use Rattle.graphql_diagnostics.specs.Diagnostics.{IsLimitEntry}
-use Rattle.graphql_diagnostics.specs.Limits.{input_object_bound}
+use Rattle.graphql_specification.specs.InputObjectCycles.{input_object_depth_limit, RequiresBack, RequiresBy, input_object_of}
 use Rattle.graphql_nodes.specs.Names.{HasDifferentNames, NameText}
-use Rattle.graphql_documents.specs.SchemaReferences.{RequiresBack, RequiresBy, input_object_of}
 use Rattle.graphql_documents.specs.declared.documents.schemas.InputObjectType.{InputObjectType}
 use Rattle.graphql_guards.specs.Guards.{path_limit, path_of}
 use Rattle.graphql_cycles.proofs.CycleLemmas.{closed_no_way_back, cycle_of, long_path}
@@ -41,8 +40,8 @@ returns-in-Err-Limit c =
     let limit = path_limit c.in_ok-path.path in
     let from_root : path ≡ own ∷ [] =
     c.in_ok-path.ensures.path ∙ ap (λ (n : NameText). n ∷ []) (c.in_ok-clone.ensures.cases ∙ ap (λ (o : InputObjectType). o.name) c.deref.ensures) in
-    let far : GoesFar (RequiresBy schema) (input_object_of schema) (RequiresBy schema d) (λ way. HasDifferentNames (input_object_bound + 1) (own ∷ map name_of way)) =
-    subst (StopsOver schema own (RequiresBy schema d) (own ∷ []) input_object_bound) c.in-Err-Limit.field-0-is
+    let far : GoesFar (RequiresBy schema) (input_object_of schema) (RequiresBy schema d) (λ way. HasDifferentNames (input_object_depth_limit + 1) (own ∷ map name_of way)) =
+    subst (StopsOver schema own (RequiresBy schema d) (own ∷ []) input_object_depth_limit) c.in-Err-Limit.field-0-is
     (subst (λ n. StopsOver schema own (RequiresBy schema d) (own ∷ []) n c.in-Err-Limit.field-0) c.in_ok-path.ensures.limit
     (subst (λ (names : List NameText). StopsOver schema own (RequiresBy schema d) names limit c.in-Err-Limit.field-0) from_root
     (stops_from_root schema d c.deref.result.now c.deref.ensures path limit c.in-Err-Limit.field-0 c.in-Err-Limit.ensures.searches))) in

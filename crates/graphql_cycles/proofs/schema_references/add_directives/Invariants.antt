@@ -1,5 +1,5 @@
 use Rattle.std.proofs.Common.{◌≡◌, ◌++◌, map, take}
-use Rattle.graphql_documents.specs.SchemaReferences.{by_directive}
+use Rattle.graphql_specification.specs.DirectiveCycles.{by_directive}
 use Rattle.graphql_cycles.specs.References.{reference_of}
 use Rattle.graphql_cycles.proofs.schema_references.add_directives.Given as goal
 

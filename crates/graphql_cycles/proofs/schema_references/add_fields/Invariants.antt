@@ -1,6 +1,6 @@
 use Rattle.std.proofs.Common.{◌≡◌, ◌++◌, List, map}
 use Rattle.graphql_nodes.specs.Names.{NameText}
-use Rattle.graphql_documents.specs.SchemaReferences.{input_references}
+use Rattle.graphql_specification.specs.DirectiveCycles.{input_references}
 use Rattle.graphql_documents.specs.declared.documents.components.Component.{Component}
 use Rattle.graphql_documents.specs.declared.documents.definitions.InputValueDefinition.{InputValueDefinition}
 use Rattle.graphql_cycles.specs.References.{reference_of}

@@ -1,6 +1,6 @@
 use Rattle.std.proofs.Common.{◌≡◌, ◌++◌, List, map, flat_map}
 use Rattle.graphql_nodes.specs.Names.{NameText}
-use Rattle.graphql_documents.specs.SchemaReferences.{by_directive}
+use Rattle.graphql_specification.specs.DirectiveCycles.{by_directive}
 use Rattle.graphql_documents.specs.declared.documents.components.Component.{Component}
 use Rattle.graphql_documents.specs.declared.documents.definitions.EnumValueDefinition.{EnumValueDefinition}
 use Rattle.graphql_cycles.specs.References.{reference_of}

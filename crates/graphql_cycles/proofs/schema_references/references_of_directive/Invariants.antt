@@ -1,5 +1,5 @@
 use Rattle.std.proofs.Common.{◌≡◌, map, take}
-use Rattle.graphql_documents.specs.SchemaReferences.{input_references}
+use Rattle.graphql_specification.specs.DirectiveCycles.{input_references}
 use Rattle.graphql_cycles.specs.References.{reference_of}
 use Rattle.graphql_cycles.proofs.schema_references.references_of_directive.Given as goal
 

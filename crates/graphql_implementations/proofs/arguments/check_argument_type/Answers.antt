@@ -1,7 +1,7 @@
 use Rattle.std.proofs.Common.{◌≡◌, ◌∙◌, ap, false, refl, subst, sym, true≢false}
 use Rattle.std.specs.Prelude.{IsTrue}
 use Rattle.std.proofs.lemmas.Option.{same_Some}
-use Rattle.graphql_diagnostics.specs.ImplementationReports.{of_argument_type}
+use Rattle.graphql_specification.specs.Implementations.{of_argument_type}
 use Rattle.graphql_nodes.specs.Names.{NameText}
 use Rattle.graphql_nodes.specs.Nodes.{SameNode}
 use Rattle.graphql_documents.specs.TypeReferences.{same_type}
@@ -9,7 +9,7 @@ use Rattle.graphql_diagnostics.specs.declared.data.DiagnosticData.TheVariants as
 use Rattle.graphql_documents.specs.declared.documents.definitions.InputValueDefinition.{InputValueDefinition}
 use Rattle.graphql_nodes.specs.declared.nodes.Node.{Node}
 use Rattle.graphql_diagnostics.proofs.ReportLemmas.{checks-push, holds}
-use Rattle.graphql_implementations.specs.ImplementationSteps.{ArgumentsBreak, IsProvided, arguments_of}
+use Rattle.graphql_implementations.specs.ImplementationSteps.{ImplementedArgumentsReport, IsArgumentImplemented, arguments_of}
 use Rattle.graphql_implementations.proofs.arguments.check_argument_type.Goals as goal
 
 pub returns-then-is_same_type : goal.returns-then-is_same_type
@@ -32,11 +32,11 @@ returns c =
     let asked : c.is_same_type.result ≡ same_type w.value.value.ty.value.value o.value.value.ty.value.value =
     c.is_same_type.ensures ∙ ap (λ t. same_type t c.deref-4.result.now) w_is ∙ ap (same_type w.value.value.ty.value.value) o_is in
     let differ : same_type w.value.value.ty.value.value o.value.value.ty.value.value ≡ false = sym asked ∙ c.if-is_same_type.false in
-    let wrong : ¬ IsProvided (arguments_of f.own.now) w = λ (b, found, same).
+    let wrong : ¬ IsArgumentImplemented (arguments_of f.own.now) w = λ (b, found, same).
     true≢false (sym (subst (λ (x : Node InputValueDefinition). IsTrue (same_type w.value.value.ty.value.value x.value.value.ty.value.value))
     (same_Some b o (sym found ∙ c.requires.provided)) same) ∙ differ) in
     checks-push _ _ _ _ _ _ c.push.ensures.ok c.push.ensures.err wrong
-    (subst (λ (n : NameText). ArgumentsBreak f.implementer.now
+    (subst (λ (n : NameText). ImplementedArgumentsReport f.implementer.now
     (report.InvalidImplementationFieldArgumentType c.in_ok-name.name c.in_ok-interface.interface n c.in_ok-argument.argument
     c.in_ok-interface_type.interface_type c.in_ok-actual_type.actual_type o.location w.location)
     o.location)

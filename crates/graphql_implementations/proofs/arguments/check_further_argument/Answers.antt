@@ -1,6 +1,6 @@
 use Rattle.std.proofs.Common.{◌≡◌, ◌∙◌, ap, sym}
 use Rattle.std.specs.Prelude.{is_some}
-use Rattle.graphql_documents.specs.Arguments.{definition_named}
+use Rattle.graphql_documents.specs.Definitions.{definition_named}
 use Rattle.graphql_documents.specs.declared.documents.definitions.FieldDefinition.{FieldDefinition}
 use Rattle.graphql_documents.specs.declared.documents.definitions.InputValueDefinition.{InputValueDefinition}
 use Rattle.graphql_diagnostics.proofs.ReportLemmas.{holds}

@@ -2,7 +2,7 @@ use Rattle.std.proofs.Common.{◌∙◌, ap}
 use Rattle.graphql_diagnostics.specs.Diagnostics.{IsDiagnostic}
 use Rattle.graphql_documents.specs.declared.documents.definitions.FieldDefinition.{FieldDefinition}
 use Rattle.graphql_diagnostics.proofs.ReportLemmas.{checks-err, kept_by, kept_then, walked_all, walked_more, walked_none}
-use Rattle.graphql_implementations.specs.ImplementationSteps.{ArgumentsBreak, IsNoExtra, arguments_of}
+use Rattle.graphql_implementations.specs.ImplementationSteps.{ImplementedArgumentsReport, IsNoExtra, arguments_of}
 use Rattle.graphql_implementations.proofs.ImplementationLemmas.{stands_at}
 use Rattle.graphql_implementations.proofs.arguments.check_further_arguments.Goals as goal
 
@@ -21,13 +21,13 @@ returns-in_err-check_further_argument c =
 
 pub loop-argument-preserved : goal.loop-argument-preserved
 loop-argument-preserved c =
-    walked_more (IsNoExtra (arguments_of c.args.field.now.wanted.now)) (IsDiagnostic (ArgumentsBreak c.args.field.now.implementer.now))
+    walked_more (IsNoExtra (arguments_of c.args.field.now.wanted.now)) (IsDiagnostic (ImplementedArgumentsReport c.args.field.now.implementer.now))
     c.deref-argument-items.result.now c.loop-argument.argument-index c.argument-item.result _ _ _
     c.loop-argument-test.true c.argument-item.is c.loop-argument.invariant (c.in_ok-check_further_argument.ensures)
 
 pub returns : goal.returns
 returns c =
-    walked_all (IsNoExtra (arguments_of c.args.field.now.wanted.now)) (IsDiagnostic (ArgumentsBreak c.args.field.now.implementer.now))
+    walked_all (IsNoExtra (arguments_of c.args.field.now.wanted.now)) (IsDiagnostic (ImplementedArgumentsReport c.args.field.now.implementer.now))
     c.deref-argument-items.result.now c.loop-argument.argument-index _ _ _
     (c.deref-argument-items.ensures.value ∙ ap (λ (d : FieldDefinition). d.arguments.items) c.deref.ensures)
     c.loop-argument-test.false c.loop-argument.invariant

@@ -1,10 +1,10 @@
 use Rattle.std.proofs.Common.{All, take}
 use Rattle.graphql_diagnostics.specs.Diagnostics.{IsDiagnostic, entries}
 use Rattle.graphql_diagnostics.specs.Reports.{Reports}
-use Rattle.graphql_implementations.specs.ImplementationSteps.{ArgumentsBreak, IsNoExtra, arguments_of}
+use Rattle.graphql_implementations.specs.ImplementationSteps.{ImplementedArgumentsReport, IsNoExtra, arguments_of}
 use Rattle.graphql_implementations.proofs.arguments.check_further_arguments.Given as goal
 
 abbrev pub invariant-loop-argument : goal.invariant-loop-argument
 invariant-loop-argument l =
     Reports (All (IsNoExtra (arguments_of l.field.wanted.now)) (take l.argument-index l.argument-items))
-    (IsDiagnostic (ArgumentsBreak l.field.implementer.now)) (entries l.initial.diagnostics) (entries l.diagnostics)
+    (IsDiagnostic (ImplementedArgumentsReport l.field.implementer.now)) (entries l.initial.diagnostics) (entries l.diagnostics)

@@ -1,11 +1,10 @@
 use Rattle.std.proofs.Common.{◌∙◌, refl, subst, sym, true≢false}
-use Rattle.graphql_diagnostics.specs.ImplementationReports.{of_implementing_type}
-use Rattle.graphql_documents.specs.Implementations.{IsValidImplementationType}
+use Rattle.graphql_specification.specs.Implementations.{of_implementing_type, IsValidImplementationType}
 use Rattle.graphql_documents.specs.TypeReferences.{IsTypeCopy}
 use Rattle.graphql_diagnostics.specs.declared.data.DiagnosticData.TheVariants as report
 use Rattle.graphql_documents.specs.declared.documents.definitions.FieldDefinition.{FieldDefinition}
 use Rattle.graphql_diagnostics.proofs.ReportLemmas.{checks-push, holds}
-use Rattle.graphql_implementations.specs.ImplementationSteps.{TypeImplements, TypesBreak}
+use Rattle.graphql_implementations.specs.ImplementationSteps.{TypeImplements, ImplementedFieldTypesReport}
 use Rattle.graphql_implementations.proofs.types.check_type.Goals as goal
 
 pub returns-then-is_valid_implementation_field_type : goal.returns-then-is_valid_implementation_field_type
@@ -26,7 +25,7 @@ returns c =
     (subst (λ (d : FieldDefinition). IsValidImplementationType S d.ty f.own.now.node.value.value.ty) (sym c.deref.ensures) valid))) ∙
     c.if-is_valid_implementation_field_type.false) in
     checks-push _ _ _ _ _ _ c.push.ensures.ok c.push.ensures.err invalid
-    (subst (λ n. TypesBreak f.implementer.now (report.InvalidImplementationFieldType c.in_ok-name.name c.in_ok-interface.interface n c.in_ok-interface_type.interface_type c.in_ok-actual_type.actual_type f.own.now.node.location f.wanted.now.node.location) f.own.now.node.location)
+    (subst (λ n. ImplementedFieldTypesReport f.implementer.now (report.InvalidImplementationFieldType c.in_ok-name.name c.in_ok-interface.interface n c.in_ok-interface_type.interface_type c.in_ok-actual_type.actual_type f.own.now.node.location f.wanted.now.node.location) f.own.now.node.location)
     (sym c.in_ok-field_name.ensures.cases)
     (of_implementing_type (record {
       listed = f.listed.now;

@@ -1,4 +1,4 @@
-use Rattle.graphql_documents.proofs.ContentLemmas.{equality_of_field_definitions}
+use Rattle.graphql_documents.proofs.ValueContentLemmas.{equality_of_field_definitions}
 use Rattle.graphql_laws.proofs.field_contents.equality_of_field_definitions_is_of_contents.Goals as goal
 
 pub returns : goal.returns

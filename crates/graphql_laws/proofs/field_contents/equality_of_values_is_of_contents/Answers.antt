@@ -1,4 +1,4 @@
-use Rattle.graphql_documents.proofs.ContentLemmas.{equality_of_values}
+use Rattle.graphql_documents.proofs.ValueContentLemmas.{equality_of_values}
 use Rattle.graphql_laws.proofs.field_contents.equality_of_values_is_of_contents.Goals as goal
 
 pub returns : goal.returns

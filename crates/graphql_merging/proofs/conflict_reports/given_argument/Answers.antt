@@ -1,6 +1,6 @@
 use Rattle.std.proofs.Common.{◌∙◌, ap, subst}
 use Rattle.graphql_coordinates.specs.declared.coordinates.FieldArgumentCoordinate.{FieldArgumentCoordinate}
-use Rattle.graphql_diagnostics.specs.MergingReports.{IsArgumentValue}
+use Rattle.graphql_specification.specs.Merging.{IsArgumentValue}
 use Rattle.graphql_documents.specs.declared.documents.executables.Field.{Field}
 use Rattle.graphql_merging.proofs.conflict_reports.given_argument.Goals as goal
 

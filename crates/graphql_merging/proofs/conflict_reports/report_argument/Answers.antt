@@ -1,5 +1,5 @@
 use Rattle.std.proofs.Common.{◌∙◌, ap, refl}
-use Rattle.graphql_documents.specs.Expansion.{field_pass}
+use Rattle.graphql_specification.specs.Merging.{field_pass}
 use Rattle.graphql_merging.proofs.ConflictReportLemmas.{conflict_pushed, copied_name}
 use Rattle.graphql_merging.specs.FieldSelections.{selection_of}
 use Rattle.graphql_documents.specs.declared.documents.executables.Field.{Field}

@@ -1,6 +1,6 @@
 -- The conflict names the first argument on which the fields disagree.
 use Rattle.std.proofs.Common.{◌≡◌, ap, sym, ◌∙◌, subst}
-use Rattle.graphql_diagnostics.specs.MergingReports.{DisagreeFirstOn}
+use Rattle.graphql_specification.specs.Merging.{DisagreeFirstOn}
 use Rattle.graphql_documents.specs.declared.documents.directives.Argument.{Argument}
 use Rattle.graphql_nodes.specs.Names.{NameText}
 use Rattle.graphql_nodes.specs.declared.nodes.Node.{Node}
@@ -16,7 +16,7 @@ returns-in-FirstAlone c = λ schema conflicts.
     let named : c.deref.result.now.name ≡ h.1.argument.value.value.name =
     ap (λ (x : Argument). x.name) c.deref.ensures ∙ ap (λ (x : Node Argument). x.value.value.name) h.1.conflicts.0 in
     c.report_argument.ensures schema h.0
-    (subst (λ (name : NameText). DisagreeFirstOn name a b) (sym named) (disagree_alone a b h.1.argument h.1.reached h.1.conflicts.1))
+    (subst (λ (name : NameText). DisagreeFirstOn name a b) (sym named) (disagree_alone a b h.1.argument h.1.reachable h.1.conflicts.1))
 
 pub returns-in-SecondAlone : goal.returns-in-SecondAlone
 returns-in-SecondAlone c = λ schema conflicts.
@@ -37,4 +37,4 @@ returns-in-Both c = λ schema conflicts.
     ap (λ (x : Argument). x.name) c.deref-in-Both.ensures ∙ ap (λ (x : Node Argument). x.value.value.name) h.1.conflicts.0 in
     c.report_argument-in-Both.ensures schema h.0
     (subst (λ (name : NameText). DisagreeFirstOn name a b) (sym named)
-    (disagree_both a b h.1.argument h.1.reached c.in-Both.field-1.now h.1.conflicts.1 h.1.conflicts.2))
+    (disagree_both a b h.1.argument h.1.reachable c.in-Both.field-1.now h.1.conflicts.1 h.1.conflicts.2))

@@ -1,5 +1,5 @@
 use Rattle.std.proofs.Common.{◌∙◌, ap, refl}
-use Rattle.graphql_documents.specs.Expansion.{shape_pass}
+use Rattle.graphql_specification.specs.Merging.{shape_pass}
 use Rattle.graphql_documents.specs.Selections.{response_key}
 use Rattle.graphql_merging.proofs.ConflictReportLemmas.{conflict_pushed, copied_name}
 use Rattle.graphql_merging.specs.FieldSelections.{selection_of}

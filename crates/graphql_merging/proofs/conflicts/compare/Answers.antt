@@ -1,7 +1,7 @@
 use Rattle.std.proofs.Common.{◌∷◌, [], ◌∙◌, subst, sym}
 use Rattle.graphql_diagnostics.specs.Diagnostics.{entries}
-use Rattle.graphql_documents.specs.Expansion.{field_pass, shape_pass}
-use Rattle.graphql_diagnostics.specs.MergedGroups.{ConflictsWith}
+use Rattle.graphql_specification.specs.Merging.{field_pass, shape_pass}
+use Rattle.graphql_specification.specs.MergedSets.{ConflictsWith}
 use Rattle.graphql_diagnostics.specs.Reports.{Appends}
 use Rattle.graphql_merging.proofs.ConflictLemmas.{compared_alike, compared_apart}
 use Rattle.graphql_merging.specs.Conflicts.{ComparesField}

@@ -2,7 +2,7 @@ use Rattle.std.proofs.Common.{◌≡◌, ℕ, ◌+◌, ◌∷◌, ◌++◌, [], 
 use Rattle.std.proofs.lemmas.List.{length-append, map-append, take-append-drop, take_all}
 use Rattle.graphql_documents.proofs.ListLemmas.{more_is}
 use Rattle.graphql_diagnostics.specs.Diagnostics.{entries}
-use Rattle.graphql_diagnostics.specs.MergedGroups.{AreConflicts, ConflictsWith}
+use Rattle.graphql_specification.specs.MergedSets.{AreConflicts, ConflictsWith}
 use Rattle.graphql_diagnostics.specs.Reports.{Appends, KeepsReports}
 use Rattle.graphql_merging.proofs.ConflictLemmas.{compared_none, compared_then, empty_compared, group_compared, truly_compared}
 use Rattle.graphql_merging.proofs.PassLemmas.{counted_none, counted_then}

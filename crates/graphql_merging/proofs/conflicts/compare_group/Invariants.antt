@@ -1,6 +1,6 @@
 use Rattle.std.proofs.Common.{◌≡◌, length, take}
 use Rattle.graphql_diagnostics.specs.Diagnostics.{entries}
-use Rattle.graphql_diagnostics.specs.MergedGroups.{ConflictsWith}
+use Rattle.graphql_specification.specs.MergedSets.{ConflictsWith}
 use Rattle.graphql_diagnostics.specs.Reports.{Appends}
 use Rattle.graphql_merging.specs.FieldSelections.{listed, selection_of}
 use Rattle.graphql_merging.specs.Groups.{pass_of}

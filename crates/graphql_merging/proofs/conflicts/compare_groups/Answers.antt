@@ -6,9 +6,9 @@ use Rattle.std.specs.declared.alloc.Global.{Global}
 use Rattle.graphql_documents.proofs.ListLemmas.{more_is, stands_mapped}
 use Rattle.graphql_diagnostics.proofs.ReportLemmas.{kept, kept_then}
 use Rattle.graphql_diagnostics.specs.Diagnostics.{entries}
-use Rattle.graphql_documents.specs.Expansion.{Pass}
-use Rattle.graphql_diagnostics.specs.MergedGroups.{AreConflicts, no_groups}
-use Rattle.graphql_documents.specs.Merging as merging
+use Rattle.graphql_specification.specs.Merging.{Pass}
+use Rattle.graphql_specification.specs.MergedSets.{AreConflicts, no_groups}
+use Rattle.graphql_specification.specs.Merging as merging
 use Rattle.graphql_diagnostics.specs.Reports.{Appends, KeepsReports}
 use Rattle.graphql_diagnostics.specs.declared.lists.DiagnosticEntry.{DiagnosticEntry}
 use Rattle.graphql_documents.specs.declared.documents.schemas.Schema.{Schema}

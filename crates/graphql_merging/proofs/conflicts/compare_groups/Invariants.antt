@@ -1,7 +1,7 @@
 use Rattle.std.proofs.Common.{◌≡◌, ◌-◌, length, take}
 use Rattle.std.specs.Prelude.{sum_by}
 use Rattle.graphql_diagnostics.specs.Diagnostics.{entries}
-use Rattle.graphql_diagnostics.specs.MergedGroups.{AreConflicts}
+use Rattle.graphql_specification.specs.MergedSets.{AreConflicts}
 use Rattle.graphql_diagnostics.specs.Reports.{Appends, KeepsReports}
 use Rattle.graphql_merging.specs.FieldSelections.{lists_of}
 use Rattle.graphql_merging.specs.Groups.{pass_of}

@@ -1,8 +1,8 @@
 -- What is still in the queue, listed behind what was listed, is the expansion; and there is ever less left.
 use Rattle.std.proofs.Common.{◌≡◌, ◌++◌, List, map}
-use Rattle.graphql_documents.specs.Expansion.{Expansion, ExpandsFrom}
-use Rattle.graphql_documents.specs.Merging.{FieldSelection}
-use Rattle.graphql_merging.specs.ExpansionSteps.{fragments_in, met_names, queued}
+use Rattle.graphql_specification.specs.MergedSets.{Expansion, ExpandsFrom}
+use Rattle.graphql_specification.specs.Merging.{FieldSelection}
+use Rattle.graphql_merging.specs.ExpansionSteps.{fragments_in, visited_names, queued}
 use Rattle.graphql_merging.specs.FieldSelections.{listed}
 use Rattle.graphql_merging.proofs.ExpansionSizeLemmas.{left}
 use Rattle.graphql_merging.proofs.expansion.expand_selections.Given as goal
@@ -10,7 +10,7 @@ use Rattle.graphql_merging.proofs.expansion.expand_selections.Given as goal
 abbrev pub invariant-loop-set : goal.invariant-loop-set
 invariant-loop-set l = record {
   fragments : l.expansion.fragments.now ≡ l.fragments;
-  rest : (more : List FieldSelection) → ExpandsFrom (fragments_in l.fragments) (met_names l.expansion) (queued l.expansion) more →
+  rest : (more : List FieldSelection) → ExpandsFrom (fragments_in l.fragments) (visited_names l.expansion) (queued l.expansion) more →
       Expansion (fragments_in l.fragments) (map (λ set. set.now) l.fn.sets) (listed l.expansion.fields.items ++ more);
 }
 

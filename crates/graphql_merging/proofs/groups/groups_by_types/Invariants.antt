@@ -1,6 +1,6 @@
 use Rattle.std.proofs.Common.{◌≡◌, ◌++◌}
 use Rattle.std.specs.Prelude.{flat_map}
-use Rattle.graphql_diagnostics.specs.MergedGroups.{groups_on, objects_of}
+use Rattle.graphql_specification.specs.MergedSets.{groups_on, objects_of}
 use Rattle.graphql_merging.specs.FieldSelections.{listed, lists_of}
 use Rattle.graphql_merging.proofs.groups.groups_by_types.Given as goal
 

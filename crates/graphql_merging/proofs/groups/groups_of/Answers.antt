@@ -3,7 +3,7 @@ use Rattle.indexmap.specs.IndexMap.{values}
 use Rattle.graphql_merging.specs.FieldSelections.{listed, lists_of}
 use Rattle.graphql_merging.proofs.GroupLemmas.{lists_by_keys, lists_viewed}
 use Rattle.graphql_merging.specs.Groups.{pass_of}
-use Rattle.graphql_diagnostics.specs.MergedGroups.{groups_of}
+use Rattle.graphql_specification.specs.MergedSets.{groups_of}
 use Rattle.graphql_merging.proofs.groups.groups_of.Goals as goal
 
 pub returns-in-Shapes : goal.returns-in-Shapes

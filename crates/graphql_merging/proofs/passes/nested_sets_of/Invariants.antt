@@ -1,5 +1,5 @@
 use Rattle.std.proofs.Common.{◌≡◌, map, take}
-use Rattle.graphql_documents.specs.Expansion.{nested_sets}
+use Rattle.graphql_specification.specs.MergedSets.{nested_sets}
 use Rattle.graphql_merging.specs.FieldSelections.{listed}
 use Rattle.graphql_merging.proofs.passes.nested_sets_of.Given as goal
 

@@ -1,8 +1,8 @@
 use Rattle.std.proofs.Common.{[], ◌∙◌, refl, ap, subst, sym}
 use Rattle.std.specs.Borrow.{Bor}
 use Rattle.std.proofs.lemmas.List.{append-nil}
-use Rattle.graphql_documents.specs.Defer.{operations_of}
-use Rattle.graphql_diagnostics.specs.DocumentReports.{no_fragment, unused_fragment, used_fragment}
+use Rattle.graphql_documents.specs.Executables.{operations_of}
+use Rattle.graphql_specification.specs.FragmentsUsed.{no_fragment, unused_fragment, used_fragment}
 use Rattle.graphql_nodes.specs.Names.{NameText}
 use Rattle.graphql_diagnostics.specs.declared.data.DiagnosticData.TheVariants as report
 use Rattle.graphql_diagnostics.specs.declared.details.Details.TheVariants as details

@@ -4,7 +4,7 @@ use Rattle.std.proofs.lemmas.List.Elements.{Contains-append_left}
 use Rattle.std.proofs.lemmas.Result.{MatchResult-from_err}
 use Rattle.indexmap.specs.IndexMap.{values}
 use Rattle.graphql_diagnostics.specs.Diagnostics.{entries}
-use Rattle.graphql_diagnostics.specs.DocumentReports.{AreUnusedFragmentReports, FragmentUseReport, no_fragment}
+use Rattle.graphql_specification.specs.FragmentsUsed.{AreUnusedFragmentReports, FragmentUseReport, no_fragment}
 use Rattle.graphql_diagnostics.specs.Reports.{Appends, KeepsReports}
 use Rattle.graphql_documents.specs.declared.documents.executables.Fragment.{Fragment}
 use Rattle.graphql_nodes.specs.declared.nodes.Node.{Node}

@@ -1,8 +1,8 @@
 use Rattle.std.proofs.Common.{◌≡◌, ◌++◌, List}
 use Rattle.indexmap.specs.IndexMap.{values}
-use Rattle.graphql_documents.specs.Defer.{operations_of}
+use Rattle.graphql_documents.specs.Executables.{operations_of}
 use Rattle.graphql_diagnostics.specs.Diagnostics.{entries}
-use Rattle.graphql_diagnostics.specs.DocumentReports.{AreUnusedFragmentReports}
+use Rattle.graphql_specification.specs.FragmentsUsed.{AreUnusedFragmentReports}
 use Rattle.graphql_diagnostics.specs.Reports.{Appends}
 use Rattle.graphql_documents.specs.declared.documents.executables.Fragment.{Fragment}
 use Rattle.graphql_nodes.specs.declared.nodes.Node.{Node}

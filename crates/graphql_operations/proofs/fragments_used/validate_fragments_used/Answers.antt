@@ -4,9 +4,9 @@ use Rattle.std.specs.Borrow.{Bor}
 use Rattle.std.specs.Prelude.{MatchOption}
 use Rattle.indexmap.specs.IndexMap.{values}
 use mathlib.Core.Logic.{inr}
-use Rattle.graphql_documents.specs.Defer.{operations_of}
+use Rattle.graphql_documents.specs.Executables.{operations_of}
 use Rattle.graphql_diagnostics.specs.Diagnostics.{IsLimitEntry, limit_of_depth}
-use Rattle.graphql_diagnostics.specs.Limits.{fragment_walk_passes}
+use Rattle.graphql_specification.specs.FragmentsUsed.{fragment_walk_passes}
 use Rattle.graphql_documents.specs.declared.documents.executables.Operation.{Operation}
 use Rattle.graphql_nodes.specs.declared.nodes.Node.{Node}
 use Rattle.graphql_diagnostics.proofs.ReportWithinLemmas.{checks_limit}

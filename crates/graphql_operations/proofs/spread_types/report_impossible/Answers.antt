@@ -1,7 +1,7 @@
 use Rattle.std.proofs.Common.{Option, Some, refl, subst, sym}
 use Rattle.graphql_diagnostics.proofs.ReportLemmas.{checks-err, checks-push, kept}
 use Rattle.graphql_nodes.specs.Names.{NameText}
-use Rattle.graphql_diagnostics.specs.SelectionReports.{ImpossibleReport, impossible_use}
+use Rattle.graphql_specification.specs.Fragments.{ImpossibleReport, impossible_use}
 use Rattle.graphql_diagnostics.specs.declared.data.DiagnosticData.TheVariants as report
 use Rattle.graphql_operations.specs.FragmentUses.{name_of_use, place_of_fragment, place_of_use}
 use Rattle.graphql_operations.proofs.spread_types.report_impossible.Goals as goal

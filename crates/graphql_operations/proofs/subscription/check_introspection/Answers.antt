@@ -1,5 +1,5 @@
 use Rattle.std.proofs.Common.{◌≡◌, sym, ap, ◌∙◌, true}
-use Rattle.graphql_documents.specs.Subscriptions.{is_introspection}
+use Rattle.graphql_specification.specs.Subscriptions.{is_introspection}
 use Rattle.graphql_documents.specs.declared.documents.executables.Field.{Field}
 use Rattle.graphql_diagnostics.proofs.ReportLemmas.{checks-push}
 use Rattle.graphql_operations.proofs.SubscriptionLemmas.{introspects, says_introspection}

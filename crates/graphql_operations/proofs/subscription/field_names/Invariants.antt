@@ -1,5 +1,5 @@
 use Rattle.std.proofs.Common.{◌≡◌, map, take}
-use Rattle.graphql_documents.specs.Subscriptions.{fields_among}
+use Rattle.graphql_documents.specs.Selections.{fields_among}
 use Rattle.graphql_operations.proofs.subscription.field_names.Given as goal
 
 abbrev pub invariant-loop-selection : goal.invariant-loop-selection

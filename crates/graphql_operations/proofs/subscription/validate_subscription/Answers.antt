@@ -1,9 +1,9 @@
 use Rattle.std.proofs.Common.{◌≡◌, [], All, Bor, List, rules, map, sym, subst}
 use Rattle.std.proofs.lemmas.Result.{MatchResult-from_err}
-use Rattle.graphql_documents.specs.Selections.{Inside, fragments_of, selections_of}
-use Rattle.graphql_documents.specs.Subscriptions.{WalkedFields, fields_among}
+use Rattle.graphql_documents.specs.Selections.{InExpandedSet, fragments_of, selections_of, fields_among}
+use Rattle.graphql_specification.specs.Subscriptions.{WalkedFields}
 use Rattle.graphql_documents.specs.Walks.{HasListed, PassesDepth, root_walk}
-use Rattle.graphql_documents.specs.declared.documents.definitions.OperationType.TheVariants.{Subscription}
+use Rattle.graphql_nodes.specs.declared.operation_types.OperationType.TheVariants.{Subscription}
 use Rattle.graphql_documents.specs.declared.documents.executables.Operation.{Operation}
 use Rattle.graphql_documents.specs.declared.documents.executables.Selection.{Selection}
 use Rattle.graphql_diagnostics.proofs.ReportLemmas.{kept_wider}
@@ -16,12 +16,12 @@ returns-in_err-check_selections c =
     let o = c.args.operation.now in
     let xs = c.in_ok-walked.walked.selections.items in
     let is_one : o.value.value.operation_type ≡ Subscription = subst (λ (p : Operation). p.operation_type ≡ Subscription) c.deref.ensures (search rules) in
-    let listed = subst (λ (p : Operation). HasListed (Inside F p.selection_set) (PassesDepth F root_walk p.selection_set) (map (λ (s : Bor Selection). s.now) xs) c.in_ok-walked.walked.complete)
+    let listed = subst (λ (p : Operation). HasListed (InExpandedSet F p.selection_set) (PassesDepth F root_walk p.selection_set) (map (λ (s : Bor Selection). s.now) xs) c.in_ok-walked.walked.complete)
     c.deref-2.ensures c.in_ok-walked.ensures.listed in
     let inside = each_inside c.args.document.now o xs c.in_ok-walked.walked.complete listed in
     MatchResult-from_err _ _ _ c.from_residual-in_err-check_selections.ensures.0
     (λ y. kept_wider (says F o) (c.in_err-check_selections.ensures F is_one
-    (subst (λ (l : List (Bor Selection)). All (λ (s : Bor Selection). Inside F o.value.value.selection_set s.now) l) (sym c.deref-3.ensures.value) inside)))
+    (subst (λ (l : List (Bor Selection)). All (λ (s : Bor Selection). InExpandedSet F o.value.value.selection_set s.now) l) (sym c.deref-3.ensures.value) inside)))
 
 pub returns-then-walked : goal.returns-then-walked
 returns-then-walked c =
@@ -30,7 +30,7 @@ returns-then-walked c =
     let o = c.args.operation.now in
     let xs = c.in_ok-walked.walked.selections.items in
     let is_one : o.value.value.operation_type ≡ Subscription = subst (λ (p : Operation). p.operation_type ≡ Subscription) c.deref.ensures (search rules) in
-    let listed = subst (λ (p : Operation). HasListed (Inside F p.selection_set) (PassesDepth F root_walk p.selection_set) (map (λ (s : Bor Selection). s.now) xs) c.in_ok-walked.walked.complete)
+    let listed = subst (λ (p : Operation). HasListed (InExpandedSet F p.selection_set) (PassesDepth F root_walk p.selection_set) (map (λ (s : Bor Selection). s.now) xs) c.in_ok-walked.walked.complete)
     c.deref-2.ensures c.in_ok-walked.ensures.listed in
     let ordered = c.in_ok-walked.ensures.ordered c.if-walked.true in
     let walk = subst (λ (p : Operation). WalkedFields F [] (selections_of p.selection_set) (fields_among (map (λ (s : Bor Selection). s.now) xs)) ordered.0) c.deref-2.ensures ordered.1 in
@@ -46,7 +46,7 @@ returns c =
     let o = c.args.operation.now in
     let xs = c.in_ok-walked.walked.selections.items in
     let is_one : o.value.value.operation_type ≡ Subscription = subst (λ (p : Operation). p.operation_type ≡ Subscription) c.deref.ensures (search rules) in
-    let listed = subst (λ (p : Operation). HasListed (Inside F p.selection_set) (PassesDepth F root_walk p.selection_set) (map (λ (s : Bor Selection). s.now) xs) c.in_ok-walked.walked.complete)
+    let listed = subst (λ (p : Operation). HasListed (InExpandedSet F p.selection_set) (PassesDepth F root_walk p.selection_set) (map (λ (s : Bor Selection). s.now) xs) c.in_ok-walked.walked.complete)
     c.deref-2.ensures c.in_ok-walked.ensures.listed in
     let checked = roots_checked D o xs c.in_ok-walked.walked.complete listed c.deref-3.result.now c.deref-3.ensures.value _ _ (c.in_ok-check_selections.ensures F is_one) in
     bound_reported D o xs c.in_ok-walked.walked.complete listed is_one _ _ _ checked c.push.result c.if-walked.false c.push.ensures.ok c.push.ensures.err

@@ -1,7 +1,6 @@
 use Rattle.std.proofs.Common.{refl, sym, true≢false, ◌∙◌}
 use Rattle.graphql_diagnostics.proofs.ReportLemmas.{checks-err, checks-push, holds, kept}
-use Rattle.graphql_documents.specs.FragmentSpreads.{NamesComposite}
-use Rattle.graphql_diagnostics.specs.SelectionReports.{invalid_target}
+use Rattle.graphql_specification.specs.Fragments.{NamesComposite, invalid_target}
 use Rattle.graphql_operations.proofs.type_conditions.validate_fragment_type_condition.Goals as goal
 
 pub returns-then-names_composite : goal.returns-then-names_composite

@@ -6,7 +6,7 @@ use Rattle.graphql_documents.proofs.ListLemmas.{more_is}
 use Rattle.graphql_merging.specs.FieldSelections.{listed}
 use Rattle.graphql_merging.specs.Groups.{by_keys}
 use Rattle.graphql_validation.specs.declared.collect.FieldCollection.{FieldCollection}
-use Rattle.graphql_validation.specs.CollectionSteps.{WalksOver, met_of, walks_none}
+use Rattle.graphql_validation.specs.CollectionSteps.{WalksOver, visited_of, walks_none}
 use Rattle.graphql_validation.proofs.CollectionLemmas.{collected_over, over_then}
 use Rattle.graphql_validation.proofs.collect.collect_fields.Goals as goal
 
@@ -28,7 +28,7 @@ loop-set-preserved c =
     let further = ap (λ (l : List (Bor SelectionSet)). map (λ s. s.now) l) (more_is xs i x c.loop-set-test.true c.set-item.is) ∙ map-append (λ s. s.now) (take i xs) (x ∷ []) in
     record {
       fields = before.fields ++ m.fields;
-      walks = subst (λ l. WalksOver of l [] (before.fields ++ m.fields) (met_of c.collect_set.new.found)) (sym further) (over_then of x.now before.walks m.walks);
+      walks = subst (λ l. WalksOver of l [] (before.fields ++ m.fields) (visited_of c.collect_set.new.found)) (sym further) (over_then of x.now before.walks m.walks);
       appended = m.appended ∙ ap (λ l. l ++ m.fields) before.appended;
     }
 
@@ -37,7 +37,7 @@ returns c =
     let of : FieldCollection = record { schema = c.args.schema; document = c.args.document; object_type = c.args.object_type } in
     let before = c.loop-set.invariant in
     let all = ap (λ (l : List (Bor SelectionSet)). map (λ s. s.now) l) (take_all c.loop-set.set-index c.args.sets.now c.loop-set-test.false) in
-    let walks = subst (λ l. WalksOver of l [] before.fields (met_of c.loop-set.found)) all before.walks in
+    let walks = subst (λ l. WalksOver of l [] before.fields (visited_of c.loop-set.found)) all before.walks in
     MatchResult-weaker c.fields_by_key.result c.fields_by_key.ensures
     (λ found is. (before.fields, collected_over of walks, is ∙ ap by_keys (ap listed c.deref.ensures.value ∙ before.appended)))
     (λ e none. none)

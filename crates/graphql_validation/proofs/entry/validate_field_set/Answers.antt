@@ -4,7 +4,7 @@ use Rattle.graphql_diagnostics.proofs.ReportLemmas.{kept}
 use Rattle.graphql_diagnostics.specs.Diagnostics.{entries}
 use Rattle.graphql_documents.specs.Selections.{fragments_of, selections_of}
 use Rattle.graphql_documents.proofs.SelectionLemmas.{one_fragment_found}
-use Rattle.graphql_operations.specs.Contexts.{entered_names}
+use Rattle.graphql_operations.specs.Contexts.{visited_fragment_names}
 use Rattle.graphql_rules.specs.SelectionSteps.{Walks}
 use Rattle.graphql_rules.proofs.WalkLemmas.{walks_as}
 use Rattle.graphql_validation.proofs.FieldSetLemmas.{field_set_checked, field_set_has_no_limit, field_set_kept, has_no_fragments}
@@ -22,14 +22,14 @@ returns c =
     let set = c.args.field_set.now.selection_set in
     let D = c.empty_document-document.result in
     let r = c.validate_selection_set.result in
-    let new = entered_names c.validate_selection_set.new.context in
+    let new = visited_fragment_names c.validate_selection_set.new.context in
     let old = entries c.args.diagnostics.now in
     let further = entries c.validate_selection_set.new.diagnostics in
     let checked =
     MatchResult-weaker r
     (subst (λ F. Walks r (Some s) F [] (Some set.ty) (selections_of set) [] new old further) (has_no_fragments D c.empty_document-document.ensures)
     (walks_as (Some s) (fragments_of D) [] (one_fragment_found D) r new old further
-    c.new-context.ensures.schema (c.new-context.ensures.variables ∙ c.in_ok-variables.ensures) refl refl c.new-context.ensures.entered c.validate_selection_set.ensures.walks))
+    c.new-context.ensures.schema (c.new-context.ensures.variables ∙ c.in_ok-variables.ensures) refl refl c.new-context.ensures.visited_fragments c.validate_selection_set.ensures.walks))
     (λ _ w. field_set_checked s set w)
     (λ _ k. field_set_kept s set k) in
     record { checks = checked; limits = field_set_has_no_limit s set r checked }

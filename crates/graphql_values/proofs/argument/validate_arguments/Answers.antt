@@ -1,13 +1,13 @@
 -- Each argument is looked up among those before it, by what `seen` has of them.
 use Rattle.std.proofs.Common.{◌≡◌, None, take, sym, ap, ◌∙◌, subst, rules, arith}
 use Rattle.std.proofs.lemmas.List.{take_all}
-use Rattle.graphql_diagnostics.specs.ArgumentReports.{AreRepetitionReports, RepetitionReport}
-use Rattle.graphql_documents.specs.Arguments.{HasDistinctNames, argument_named}
+use Rattle.graphql_specification.specs.Arguments.{AreRepetitionReports, RepetitionReport, HasDistinctNames}
+use Rattle.graphql_documents.specs.Directives.{argument_named}
 use Rattle.graphql_diagnostics.specs.Diagnostics.{IsDiagnostic, entries}
 use Rattle.graphql_diagnostics.specs.Reports.{Appends, KeepsReports, Reports}
 use Rattle.graphql_diagnostics.proofs.ReportLemmas.{both, checks-err, holds, in_words, kept_by}
 use Rattle.graphql_documents.proofs.ListLemmas.{more_is}
-use Rattle.graphql_values.specs.Repetitions.{argument_name, argument_place_in, met_argument}
+use Rattle.graphql_values.specs.Repetitions.{argument_name, argument_place_in, visited_argument}
 use Rattle.graphql_variables.proofs.FirstPlaceLemmas.{place_of_first, remembers_next}
 use Rattle.graphql_values.proofs.RepetitionLemmas.{appends_more, appends_none, distinct_at, reports_more}
 use Rattle.graphql_values.proofs.argument.validate_arguments.Goals as goal
@@ -29,7 +29,7 @@ returns-in_err-check_repetition-clause-checks c =
     let before = take c.loop-argument.argument-index xs in
     let x = c.argument-item.result in
     let first_is : c.in_ok-first.first ≡ argument_place_in before (argument_name x) =
-    c.in_ok-first.ensures.found _ c.loop-argument.invariant.remembered ∙ place_of_first met_argument before c.deref.result.now.name ∙
+    c.in_ok-first.ensures.found _ c.loop-argument.invariant.remembered ∙ place_of_first visited_argument before c.deref.result.now.name ∙
     ap (λ a. argument_place_in before a.name) c.deref.ensures in
     checks-err _ _ _ _ _ c.from_residual-in_err-check_repetition.ensures.0
     (subst (KeepsReports (IsDiagnostic (RepetitionReport xs)) (entries c.args.diagnostics.now)) (sym (c.in_err-check_repetition.ensures before first_is))
@@ -50,7 +50,7 @@ loop-argument-preserved c =
     let new = entries c.check_repetition.new.diagnostics in
     let name_is : c.deref.result.now.name ≡ argument_name x = ap (λ a. a.name) c.deref.ensures in
     let first_is : c.in_ok-first.first ≡ argument_place_in before (argument_name x) =
-    c.in_ok-first.ensures.found _ c.loop-argument.invariant.remembered ∙ place_of_first met_argument before c.deref.result.now.name ∙
+    c.in_ok-first.ensures.found _ c.loop-argument.invariant.remembered ∙ place_of_first visited_argument before c.deref.result.now.name ∙
     ap (λ a. argument_place_in before a.name) c.deref.ensures in
     let report = c.in_ok-check_repetition.ensures before first_is in
     record {
@@ -58,7 +58,7 @@ loop-argument-preserved c =
       reported = in_words (distinct_at xs i x within item)
           (both c.loop-argument.invariant.reported (reports_more xs i x within item mid new report));
       remembered = rw (more_is xs i x within item)
-          (remembers_next met_argument before x (rw name_is at (c.in_ok-first.ensures.remembered _ c.loop-argument.invariant.remembered)));
+          (remembers_next visited_argument before x (rw name_is at (c.in_ok-first.ensures.remembered _ c.loop-argument.invariant.remembered)));
     }
 
 pub returns-clause-exact : goal.returns-clause-exact

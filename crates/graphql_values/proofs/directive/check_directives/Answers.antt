@@ -3,8 +3,7 @@ use Rattle.std.specs.Option.{option_copied}
 use Rattle.std.proofs.lemmas.List.{take_all}
 use Rattle.std.proofs.lemmas.List.Elements.{All-nil}
 use Rattle.graphql_diagnostics.specs.Diagnostics.{IsDiagnostic, entries}
-use Rattle.graphql_diagnostics.specs.DirectiveReports.{DirectivesBreak}
-use Rattle.graphql_documents.specs.Directives.{ApplicationsHold}
+use Rattle.graphql_specification.specs.Directives.{DirectivesReport, ApplicationsHold}
 use Rattle.graphql_diagnostics.specs.Reports.{Reports}
 use Rattle.graphql_diagnostics.proofs.ReportLemmas.{checks-err, holds, kept_by, kept_then}
 use Rattle.graphql_values.proofs.DirectiveLemmas.{application_checked}
@@ -45,6 +44,6 @@ pub returns : goal.returns
 returns c =
     let xs = c.args.directives.now in
     subst (λ l. Reports (ApplicationsHold (option_copied c.args.schema) c.args.variables.now c.args.location (referred l))
-    (IsDiagnostic (DirectivesBreak (option_copied c.args.schema) c.args.variables.now c.args.location (referred xs)))
+    (IsDiagnostic (DirectivesReport (option_copied c.args.schema) c.args.variables.now c.args.location (referred xs)))
     (entries c.args.diagnostics.now) (entries c.loop-directive.diagnostics))
     (take_all c.loop-directive.directive-index xs c.loop-directive-test.false) c.loop-directive.invariant.reported

@@ -1,10 +1,9 @@
 use Rattle.std.proofs.Common.{map, take}
 use Rattle.std.specs.Option.{option_copied}
 use Rattle.graphql_diagnostics.specs.Diagnostics.{IsDiagnostic, entries}
-use Rattle.graphql_diagnostics.specs.DirectiveReports.{DirectivesBreak}
-use Rattle.graphql_documents.specs.Directives.{ApplicationsHold}
+use Rattle.graphql_specification.specs.Directives.{DirectivesReport, ApplicationsHold}
 use Rattle.graphql_diagnostics.specs.Reports.{Reports}
-use Rattle.graphql_values.specs.DirectiveSteps.{met_directive}
+use Rattle.graphql_values.specs.DirectiveSteps.{visited_directive}
 use Rattle.graphql_variables.specs.FirstPlaces.{Remembers}
 use Rattle.graphql_values.proofs.directive.check_directives.Given as goal
 
@@ -12,7 +11,7 @@ use Rattle.graphql_values.proofs.directive.check_directives.Given as goal
 abbrev pub invariant-loop-directive : goal.invariant-loop-directive
 invariant-loop-directive l = record {
   reported : Reports (ApplicationsHold (option_copied l.schema) l.variables l.location (map (λ d. d.now) (take l.directive-index l.directives)))
-      (IsDiagnostic (DirectivesBreak (option_copied l.schema) l.variables l.location (map (λ d. d.now) l.directives)))
+      (IsDiagnostic (DirectivesReport (option_copied l.schema) l.variables l.location (map (λ d. d.now) l.directives)))
       (entries l.initial.diagnostics) (entries l.diagnostics);
-  remembered : Remembers l.seen (map met_directive (map (λ d. d.now) (take l.directive-index l.directives)));
+  remembered : Remembers l.seen (map visited_directive (map (λ d. d.now) (take l.directive-index l.directives)));
 }

@@ -2,10 +2,10 @@
 use Rattle.std.proofs.Common.{◌≡◌, ap, ◌∙◌}
 use Rattle.std.specs.Option.{option_copied}
 use Rattle.graphql_diagnostics.specs.Diagnostics.{IsDiagnostic}
-use Rattle.graphql_diagnostics.specs.DirectiveReports.{DirectivesBreak}
+use Rattle.graphql_specification.specs.Directives.{DirectivesReport}
 use Rattle.graphql_nodes.specs.Spans.{recompose}
 use Rattle.graphql_diagnostics.proofs.ReportLemmas.{checks-err, checks_after, kept_by, kept_then, kept_wider, wider}
-use Rattle.graphql_values.specs.DirectiveSteps.{head_in, head_place, met_directive}
+use Rattle.graphql_values.specs.DirectiveSteps.{head_in, head_place, visited_directive}
 use Rattle.graphql_values.proofs.DirectiveLemmas.{names_repetition}
 use Rattle.graphql_variables.proofs.FirstPlaceLemmas.{holds_on_ok, next_stands, place_of_first, remembers_next}
 use Rattle.graphql_values.proofs.directive.validate_directive.Goals as goal
@@ -37,7 +37,7 @@ returns-in_err-check_repetition-clause-checks c = λ before r directives next.
     let schema = option_copied c.args.schema in
     let arguments_are : c.deref-3.result.now ≡ d.value.value.arguments.items = c.deref-3.ensures.value ∙ ap (λ x. x.arguments.items) c.deref-2.ensures in
     let first_is : c.in_ok-first.first ≡ head_in before d.value.value.name =
-    c.in_ok-first.ensures.found _ r ∙ place_of_first met_directive before c.deref.result.now.name ∙ ap (λ x. head_in before x.name) c.deref.ensures in
+    c.in_ok-first.ensures.found _ r ∙ place_of_first visited_directive before c.deref.result.now.name ∙ ap (λ x. head_in before x.name) c.deref.ensures in
     checks-err _ _ _ _ _ c.from_residual-in_err-check_repetition.ensures.0
     (kept_then
     (kept_wider
@@ -49,10 +49,10 @@ pub returns-clause-checks : goal.returns-clause-checks
 returns-clause-checks c = λ before r directives next.
     let d = c.args.directive.now in
     let schema = option_copied c.args.schema in
-    let Q = IsDiagnostic (DirectivesBreak schema c.args.variables.now c.args.location directives) in
+    let Q = IsDiagnostic (DirectivesReport schema c.args.variables.now c.args.location directives) in
     let arguments_are : c.deref-3.result.now ≡ d.value.value.arguments.items = c.deref-3.ensures.value ∙ ap (λ x. x.arguments.items) c.deref-2.ensures in
     let first_is : c.in_ok-first.first ≡ head_in before d.value.value.name =
-    c.in_ok-first.ensures.found _ r ∙ place_of_first met_directive before c.deref.result.now.name ∙ ap (λ x. head_in before x.name) c.deref.ensures in
+    c.in_ok-first.ensures.found _ r ∙ place_of_first visited_directive before c.deref.result.now.name ∙ ap (λ x. head_in before x.name) c.deref.ensures in
     checks_after _ _ _ Q _ _ _
     (wider
     (names_repetition schema c.args.variables.now c.args.location directives d (next_stands next))
@@ -67,4 +67,4 @@ returns-clause-remembers c =
     let head_is : c.recompose-head.result ≡ head_place d =
     c.recompose-head.ensures ∙ ap (recompose d.location) (c.location.ensures ∙ ap (λ x. x.name.location) c.deref.ensures) in
     holds_on_ok c.validate_application.result _
-    (λ before r. remembers_next met_directive before d (rw (name_is, head_is) at (c.in_ok-first.ensures.remembered _ r)))
+    (λ before r. remembers_next visited_directive before d (rw (name_is, head_is) at (c.in_ok-first.ensures.remembered _ r)))

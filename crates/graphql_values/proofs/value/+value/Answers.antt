@@ -4,7 +4,7 @@ use Rattle.std.specs.Option.{option_map}
 use Rattle.std.proofs.lemmas.List.{append-nil, take_all}
 use Rattle.std.proofs.lemmas.List.Elements.{All-nil}
 use Rattle.std.proofs.lemmas.Option.{none-some}
-use Rattle.graphql_documents.specs.InputCoercion.{accepts_undefined, is_custom_scalar}
+use Rattle.graphql_specification.specs.Values.{accepts_undefined, is_custom_scalar, CannotStandFor, ValueReport}
 use Rattle.graphql_diagnostics.specs.Diagnostics.{IsDiagnostic, entries}
 use Rattle.graphql_nodes.specs.Names.{NameText, same_name}
 use Rattle.graphql_diagnostics.specs.Reports.{Reports}
@@ -15,7 +15,6 @@ use Rattle.graphql_nodes.specs.declared.nodes.Node.{Node}
 use Rattle.graphql_documents.specs.declared.documents.values.Value.{Value}
 use Rattle.graphql_documents.specs.Schemas.{IsInputObject, is_input_type, type_definition}
 use Rattle.graphql_documents.specs.TypeReferences.{inner_named_type, is_list, reference_of}
-use Rattle.graphql_diagnostics.specs.ValueReports.{CannotStandFor, ValueReport}
 use Rattle.graphql_diagnostics.proofs.ReportLemmas.{both, checks-err, done_more, holds, kept_by, kept_then, kept_wider, walked_all, walked_more, wider}
 use Rattle.graphql_documents.proofs.ListLemmas.{done_next, stands_next}
 use Rattle.graphql_values.proofs.WalkLemmas.{names_item, names_entry, entry_checked, no_list_cannot, no_input_cannot, custom_object_accepted, no_object_cannot, list_checked, object_checked}
@@ -28,86 +27,86 @@ check_value-returns-in_default t c =
     let missing : type_definition c.args.schema.now (inner_named_type c.args.ty.now) ≡ None = search rules in
     holds _ _ _ (accepts_undefined missing)
 
-pub check_value-check_list-requires : goal.check_value-check_list-requires
-check_value-check_list-requires t c =
+pub check_expected-check_list-requires : goal.check_expected-check_list-requires
+check_expected-check_list-requires t c =
     (search rules, (record { items = c.in-List.items; is_list = sym c.deref.ensures ∙ c.in-List.is; given_is = c.deref-in-List.ensures.value }, search rules))
 
-pub check_value-check_object-requires : goal.check_value-check_object-requires
-check_value-check_object-requires t c =
+pub check_expected-check_object-requires : goal.check_expected-check_object-requires
+check_expected-check_object-requires t c =
     (search rules, (record { entries = c.in-Object.entries; is_object = sym c.deref.ensures ∙ c.in-Object.is; given_is = c.deref-in-Object.ensures.value }, search rules))
 
 pub check_list-returns-then-not-takes_lists : goal.check_list-returns-then-not-takes_lists
 check_list-returns-then-not-takes_lists t c =
-    let none : IsFalse (is_list c.args.ty.now || is_custom_scalar c.args.definition.now) = search rules in
-    c.unsupported_type.ensures c.args.schema.now c.args.variables.now c.args.ty.now c.args.definition.now c.requires.defined
+    let none : IsFalse (is_list c.args.expected.now.ty.now || is_custom_scalar c.args.expected.now.definition.now) = search rules in
+    c.unsupported_type.ensures c.args.schema.now c.args.variables.now c.args.expected.now.ty.now c.args.expected.now.definition.now c.requires.defined
     (no_list_cannot c.requires.list none)
 
 pub check_list-returns-then-not-is_input_type : goal.check_list-returns-then-not-is_input_type
 check_list-returns-then-not-is_input_type t c =
-    let takes : IsTrue (is_list c.args.ty.now || is_custom_scalar c.args.definition.now) = search rules in
-    let none : IsFalse (is_input_type c.args.definition.now) = search rules in
-    c.unsupported_type-then-not-is_input_type.ensures c.args.schema.now c.args.variables.now c.args.ty.now c.args.definition.now c.requires.defined
-    (subst (CannotStandFor c.args.variables.now c.args.ty.now c.args.definition.now c.args.value.now.value.value) (sym c.item_type-item_type.ensures)
+    let takes : IsTrue (is_list c.args.expected.now.ty.now || is_custom_scalar c.args.expected.now.definition.now) = search rules in
+    let none : IsFalse (is_input_type c.args.expected.now.definition.now) = search rules in
+    c.unsupported_type-then-not-is_input_type.ensures c.args.schema.now c.args.variables.now c.args.expected.now.ty.now c.args.expected.now.definition.now c.requires.defined
+    (subst (CannotStandFor c.args.variables.now c.args.expected.now.ty.now c.args.expected.now.definition.now c.args.value.now.value.value) (sym c.item_type.ensures)
     (no_input_cannot c.requires.list takes none))
 
 pub check_list-returns : goal.check_list-returns
 check_list-returns t c =
-    let takes : IsTrue (is_list c.args.ty.now || is_custom_scalar c.args.definition.now) = search rules in
-    let input : IsTrue (is_input_type c.args.definition.now) = search rules in
-    list_checked c.args.schema.now c.args.variables.now (written_at c.args.ty.now c.args.location) c.check_items.result c.args.value.now c.item_type-item_type.result.now _ _
-    c.requires.defined (takes, input) c.requires.list c.item_type-item_type.ensures c.check_items.ensures
+    let takes : IsTrue (is_list c.args.expected.now.ty.now || is_custom_scalar c.args.expected.now.definition.now) = search rules in
+    let input : IsTrue (is_input_type c.args.expected.now.definition.now) = search rules in
+    list_checked c.args.schema.now c.args.variables.now (written_at c.args.expected.now.ty.now c.args.expected.now.location) c.check_items.result c.args.value.now c.item_type.result.now _ _
+    c.requires.defined (takes, input) c.requires.list c.item_type.ensures c.check_items.ensures
 
 pub check_object-returns-then-is_custom_scalar : goal.check_object-returns-then-is_custom_scalar
 check_object-returns-then-is_custom_scalar t c =
-    let custom : IsTrue (is_custom_scalar c.args.definition.now) = search rules in
+    let custom : IsTrue (is_custom_scalar c.args.expected.now.definition.now) = search rules in
     holds _ _ _ (custom_object_accepted c.requires.defined c.requires.object custom)
 
 pub check_object-returns-in_default : goal.check_object-returns-in_default
 check_object-returns-in_default t c =
-    let none : IsFalse (is_custom_scalar c.args.definition.now) = search rules in
-    c.unsupported_type.ensures c.args.schema.now c.args.variables.now c.args.ty.now c.args.definition.now c.requires.defined
+    let none : IsFalse (is_custom_scalar c.args.expected.now.definition.now) = search rules in
+    c.unsupported_type.ensures c.args.schema.now c.args.variables.now c.args.expected.now.ty.now c.args.expected.now.definition.now c.requires.defined
     (no_object_cannot c.requires.object none c.in_default.not-InputObject)
 
 pub check_object-returns : goal.check_object-returns
 check_object-returns t c =
     let o = c.in-InputObject.input_object in
-    let ty = written_at c.args.ty.now c.args.location in
-    let is : IsInputObject c.args.schema.now (inner_named_type c.args.ty.now) o = c.requires.defined ∙ ap Some c.in-InputObject.is in
+    let ty = written_at c.args.expected.now.ty.now c.args.expected.now.location in
+    let is : IsInputObject c.args.schema.now (inner_named_type c.args.expected.now.ty.now) o = c.requires.defined ∙ ap Some c.in-InputObject.is in
     object_checked c.args.schema.now c.args.variables.now ty o c.args.value.now c.args.entries.now is c.requires.object _ _ _ _
     (c.in_ok-check_known_entries.ensures c.args.schema.now c.args.variables.now ty is)
     (c.check_fields.ensures ty is)
 
 pub check_object-returns-in_err-check_known_entries : goal.check_object-returns-in_err-check_known_entries
 check_object-returns-in_err-check_known_entries t c =
-    let is : IsInputObject c.args.schema.now (inner_named_type c.args.ty.now) c.in-InputObject.input_object = c.requires.defined ∙ ap Some c.in-InputObject.is in
+    let is : IsInputObject c.args.schema.now (inner_named_type c.args.expected.now.ty.now) c.in-InputObject.input_object = c.requires.defined ∙ ap Some c.in-InputObject.is in
     checks-err _ _ _ _ _ c.from_residual.ensures.0
-    (c.in_err-check_known_entries.ensures c.args.schema.now c.args.variables.now (written_at c.args.ty.now c.args.location) is)
+    (c.in_err-check_known_entries.ensures c.args.schema.now c.args.variables.now (written_at c.args.expected.now.ty.now c.args.expected.now.location) is)
 
-pub check_items-returns-in_err-check_value : goal.check_items-returns-in_err-check_value
-check_items-returns-in_err-check_value t c =
+pub check_items-returns-in_err-check_expected : goal.check_items-returns-in_err-check_expected
+check_items-returns-in_err-check_expected t c =
     let xs = c.args.items.now in
     let x = c.item-item.result in
     let among : Contains xs x = (c.loop-item.item-index, c.loop-item-test.true, sym c.item-item.is) in
     checks-err _ _ _ _ _ c.from_residual.ensures.0
     (kept_then (kept_by c.loop-item.invariant)
-    (kept_wider (names_item c.args.schema.now c.args.variables.now (written_at c.args.item_type.now c.args.location) xs x among) c.in_err-check_value.ensures))
+    (kept_wider (names_item c.args.schema.now c.args.variables.now (written_at c.args.expected.now.ty.now c.args.expected.now.location) xs x among) c.in_err-check_expected.ensures))
 
 pub check_items-loop-item-preserved : goal.check_items-loop-item-preserved
 check_items-loop-item-preserved t c =
     let xs = c.args.items.now in
     let x = c.item-item.result in
-    let ty = written_at c.args.item_type.now c.args.location in
+    let ty = written_at c.args.expected.now.ty.now c.args.expected.now.location in
     let among : Contains xs x = (c.loop-item.item-index, c.loop-item-test.true, sym c.item-item.is) in
-    walked_more (AcceptsItem c.args.schema.now c.args.variables.now c.args.item_type.now)
+    walked_more (AcceptsItem c.args.schema.now c.args.variables.now c.args.expected.now.ty.now)
     (IsDiagnostic (ItemReport c.args.schema.now c.args.variables.now ty xs)) xs c.loop-item.item-index x _ _ _
     c.loop-item-test.true c.item-item.is c.loop-item.invariant
-    (wider (names_item c.args.schema.now c.args.variables.now ty xs x among) c.in_ok-check_value.ensures)
+    (wider (names_item c.args.schema.now c.args.variables.now ty xs x among) c.in_ok-check_expected.ensures)
 
 pub check_items-returns : goal.check_items-returns
 check_items-returns t c =
     let xs = c.args.items.now in
-    walked_all (AcceptsItem c.args.schema.now c.args.variables.now c.args.item_type.now)
-    (IsDiagnostic (ItemReport c.args.schema.now c.args.variables.now (written_at c.args.item_type.now c.args.location) xs)) xs c.loop-item.item-index xs _ _ refl
+    walked_all (AcceptsItem c.args.schema.now c.args.variables.now c.args.expected.now.ty.now)
+    (IsDiagnostic (ItemReport c.args.schema.now c.args.variables.now (written_at c.args.expected.now.ty.now c.args.expected.now.location) xs)) xs c.loop-item.item-index xs _ _ refl
     c.loop-item-test.false c.loop-item.invariant
 
 pub check_entry-returns-then-eq : goal.check_entry-returns-then-eq

@@ -4,7 +4,7 @@ use Rattle.graphql_nodes.specs.Names.{NameText, same_name}
 use Rattle.graphql_diagnostics.specs.Reports.{Reports}
 use Rattle.graphql_documents.specs.Schemas.{IsInputObject}
 use Rattle.graphql_documents.specs.TypeReferences.{TypeReference, inner_named_type}
-use Rattle.graphql_diagnostics.specs.ValueReports.{ValueReport}
+use Rattle.graphql_specification.specs.Values.{ValueReport}
 use Rattle.graphql_documents.specs.declared.documents.components.Component.{Component}
 use Rattle.graphql_documents.specs.declared.documents.definitions.InputValueDefinition.{InputValueDefinition}
 use Rattle.graphql_nodes.specs.declared.nodes.Node.{Node}
@@ -14,22 +14,25 @@ use Rattle.graphql_values.proofs.value.+value.Given as goal
 
 -- the items and the entries of a value are less deep than it is
 abbrev pub decreases-check_value : goal.decreases-check_value
-decreases-check_value l = 4 * goal.size-check_value l + 3
+decreases-check_value l = 5 * goal.size-check_value l + 4
+
+abbrev pub decreases-check_expected : goal.decreases-check_expected
+decreases-check_expected l = 5 * goal.size-check_expected l + 3
 
 abbrev pub decreases-check_list : goal.decreases-check_list
-decreases-check_list l = 4 * goal.size-check_list l + 2
+decreases-check_list l = 5 * goal.size-check_list l + 2
 
 abbrev pub decreases-check_object : goal.decreases-check_object
-decreases-check_object l = 4 * goal.size-check_object l + 2
+decreases-check_object l = 5 * goal.size-check_object l + 2
 
 abbrev pub decreases-check_items : goal.decreases-check_items
-decreases-check_items l = 4 * goal.size-check_items l + 4
+decreases-check_items l = 5 * goal.size-check_items l + 4
 
 abbrev pub decreases-check_fields : goal.decreases-check_fields
-decreases-check_fields l = 4 * goal.size-check_fields l + 1
+decreases-check_fields l = 5 * goal.size-check_fields l + 1
 
 abbrev pub decreases-check_entry : goal.decreases-check_entry
-decreases-check_entry l = 4 * goal.size-check_entry l + 4
+decreases-check_entry l = 5 * goal.size-check_entry l + 5
 
 abbrev pub invariant-check_entry-loop-key : goal.invariant-check_entry-loop-key
 invariant-check_entry-loop-key l = record {
@@ -50,5 +53,5 @@ invariant-check_fields-loop-name l = record {
 
 abbrev pub invariant-check_items-loop-item : goal.invariant-check_items-loop-item
 invariant-check_items-loop-item l =
-    Reports (All (AcceptsItem l.schema l.variables l.item_type) (take l.item-index l.items))
-    (IsDiagnostic (ItemReport l.schema l.variables (written_at l.item_type l.location) l.items)) (entries l.initial.diagnostics) (entries l.diagnostics)
+    Reports (All (AcceptsItem l.schema l.variables l.expected.ty.now) (take l.item-index l.items))
+    (IsDiagnostic (ItemReport l.schema l.variables (written_at l.expected.ty.now l.expected.location) l.items)) (entries l.initial.diagnostics) (entries l.diagnostics)

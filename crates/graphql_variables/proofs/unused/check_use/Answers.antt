@@ -3,9 +3,9 @@ use Rattle.std.specs.Borrow.{Bor}
 use Rattle.std.proofs.lemmas.List.{append-nil}
 use Rattle.graphql_nodes.specs.Names.{NameText}
 use Rattle.graphql_nodes.specs.Spans.{recompose}
-use Rattle.graphql_documents.specs.Variables.{UsesVariable}
+use Rattle.graphql_documents.specs.VariableUses.{UsesVariable}
 use Rattle.graphql_documents.specs.declared.documents.definitions.VariableDefinition.{VariableDefinition}
-use Rattle.graphql_diagnostics.specs.VariableReports.{no_name, unused_name}
+use Rattle.graphql_specification.specs.Variables.{no_name, unused_name}
 use Rattle.graphql_diagnostics.proofs.ReportLemmas.{appends_on_ok}
 use Rattle.graphql_variables.proofs.NameSetLemmas.{has_name, has_no_name}
 use Rattle.graphql_variables.proofs.UnusedLemmas.{unused_report, used_report}

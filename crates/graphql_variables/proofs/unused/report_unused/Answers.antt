@@ -4,7 +4,7 @@ use Rattle.std.proofs.lemmas.List.Elements.{All-contains}
 use Rattle.std.proofs.lemmas.Result.{MatchResult-from_err}
 use Rattle.graphql_diagnostics.specs.Diagnostics.{IsDiagnostic, entries}
 use Rattle.graphql_diagnostics.specs.Reports.{Appends, KeepsReports}
-use Rattle.graphql_diagnostics.specs.VariableReports.{AreUnusedReports, UsesReport, no_name}
+use Rattle.graphql_specification.specs.Variables.{AreUnusedReports, UsesReport, no_name}
 use Rattle.graphql_documents.proofs.ListLemmas.{done_next, stands_next}
 use Rattle.graphql_variables.proofs.NameSetLemmas.{entry_names}
 use Rattle.graphql_variables.proofs.UnusedLemmas.{IsLast, LastEntry, appends_kept, appends_then}

@@ -2,8 +2,8 @@ use Rattle.std.proofs.Common.{◌≡◌, ◌++◌, List, All}
 use Rattle.graphql_diagnostics.specs.Diagnostics.{entries}
 use Rattle.graphql_diagnostics.specs.Reports.{Appends}
 use Rattle.graphql_documents.specs.Selections.{Fragments}
-use Rattle.graphql_diagnostics.specs.VariableReports.{AreUnusedReports}
-use Rattle.graphql_documents.specs.Variables.{UsesVariable}
+use Rattle.graphql_specification.specs.Variables.{AreUnusedReports}
+use Rattle.graphql_documents.specs.VariableUses.{UsesVariable}
 use Rattle.graphql_documents.specs.declared.documents.executables.Operation.{Operation}
 use Rattle.graphql_variables.specs.Uses.{HasUsed}
 use Rattle.graphql_variables.proofs.NameSetLemmas.{entry_names}

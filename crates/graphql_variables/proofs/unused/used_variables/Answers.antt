@@ -1,7 +1,7 @@
 use Rattle.std.proofs.Common.{[], sym, subst}
 use Rattle.std.proofs.lemmas.List.{take_all}
 use Rattle.graphql_documents.specs.Selections.{fragments_of}
-use Rattle.graphql_documents.specs.Variables.{StandsInDirectives}
+use Rattle.graphql_documents.specs.VariableUses.{StandsInDirectives}
 use Rattle.graphql_variables.specs.Uses.{NamesAlso}
 use Rattle.graphql_variables.proofs.NameSetLemmas.{has_used_by}
 use Rattle.graphql_variables.proofs.OperationUseLemmas.{UsedBy, used_all, used_first, used_more}

@@ -1,7 +1,7 @@
 use Rattle.std.proofs.Common.{◌⊎◌, [], take}
 use Rattle.std.specs.List.{Any}
 use Rattle.graphql_documents.specs.Selections.{fragments_of}
-use Rattle.graphql_documents.specs.Variables.{StandsInDirectives}
+use Rattle.graphql_documents.specs.VariableUses.{StandsInDirectives}
 use Rattle.graphql_variables.specs.Uses.{NamesAlso, UsedAt}
 use Rattle.graphql_variables.proofs.unused.used_variables.Given as goal
 

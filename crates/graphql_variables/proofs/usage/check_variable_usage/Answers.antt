@@ -1,5 +1,5 @@
 use Rattle.std.proofs.Common.{rules}
-use Rattle.graphql_documents.specs.VariableUsage.{IsUsageAllowed, IsVariable}
+use Rattle.graphql_specification.specs.VariableUsages.{IsUsageAllowed, IsVariable}
 use Rattle.graphql_diagnostics.proofs.ReportLemmas.{checks-err, holds, in_words}
 use Rattle.graphql_variables.proofs.UsageLemmas.{only_variable}
 use Rattle.graphql_variables.proofs.usage.check_variable_usage.Goals as goal

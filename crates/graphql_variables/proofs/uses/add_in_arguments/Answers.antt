@@ -7,7 +7,7 @@ use Rattle.graphql_variables.specs.Uses.{AddsNames}
 use Rattle.graphql_variables.proofs.UseLemmas.{also_all, also_in_value, also_more, also_none_yet}
 use Rattle.graphql_variables.proofs.uses.add_in_arguments.Goals as goal
 
--- the variable stands in the value of the argument
+-- the variable is in the value of the argument
 abbrev In : NameText → Node Argument → Type 0
 In name a = StandsIn name a.value.value.value.value.value
 

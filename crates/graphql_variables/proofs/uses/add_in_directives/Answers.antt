@@ -1,13 +1,13 @@
 use Rattle.std.proofs.Common.{ap, ◌∙◌, subst}
 use Rattle.graphql_nodes.specs.Names.{NameText}
-use Rattle.graphql_documents.specs.Variables.{StandsInArguments}
+use Rattle.graphql_documents.specs.VariableUses.{StandsInArguments}
 use Rattle.graphql_documents.specs.declared.documents.directives.Directive.{Directive}
 use Rattle.graphql_nodes.specs.declared.nodes.Node.{Node}
 use Rattle.graphql_variables.specs.Uses.{NamesAlso}
 use Rattle.graphql_variables.proofs.UseLemmas.{also_all, also_more, also_none_yet}
 use Rattle.graphql_variables.proofs.uses.add_in_directives.Goals as goal
 
--- the variable stands in an argument of the directive
+-- the variable is in an argument of the directive
 abbrev In : NameText → Node Directive → Type 0
 In name d = StandsInArguments name d.value.value.arguments.items
 

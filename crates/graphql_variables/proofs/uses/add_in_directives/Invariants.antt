@@ -1,5 +1,5 @@
 use Rattle.std.proofs.Common.{take}
-use Rattle.graphql_documents.specs.Variables.{StandsInDirectives}
+use Rattle.graphql_documents.specs.VariableUses.{StandsInDirectives}
 use Rattle.graphql_variables.specs.Uses.{NamesAlso}
 use Rattle.graphql_variables.proofs.uses.add_in_directives.Given as goal
 

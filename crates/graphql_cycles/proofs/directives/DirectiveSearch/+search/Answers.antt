@@ -3,7 +3,7 @@ use Rattle.std.proofs.Common.{rules, ◌≡◌, [], ◌∷◌, map, refl, sym, a
 use Rattle.std.specs.List.{list_any}
 use Rattle.std.proofs.lemmas.Result.{MatchResult-weaker, err_from_is_err_and}
 use Rattle.graphql_nodes.specs.Names.{DifferentNames}
-use Rattle.graphql_documents.specs.SchemaReferences.{by_directive, by_type, directive_part, references_of, type_part}
+use Rattle.graphql_specification.specs.DirectiveCycles.{by_directive, by_type, directive_part, references_of, type_part}
 use Rattle.graphql_cycles.proofs.DirectiveRoomLemmas.{directive_falls, names_type, off_path_falls, reference_falls, type_falls}
 use Rattle.graphql_cycles.proofs.DirectiveSearchLemmas.{application_back, application_begins, application_closes, application_closes_at, application_of, application_stops, application_stops_below, begins_still, closes_next, keeps_then, stops_among, stops_on, type_begins, type_begins_off_path, type_closes, type_closes_at, type_stops, type_stops_below, type_stops_off_path}
 use Rattle.graphql_cycles.specs.DirectiveSearches.{StopsBy}
@@ -85,9 +85,9 @@ search_application-search_references-requires t c =
     let apart : DifferentNames c.deref.result.now.name c.deref-2.result.now.name = search rules in
     let deep : Progress = record { directive_path = c.enter.new.self; type_path = old.type_path; seen_directives = c.mark.new.seen; seen_types = old.seen_types } in
     let types = list_any names_type (map reference_of c.deref-3.result.now) in (
-      directive_falls old deep c.deref.result.now.name types t c.in_ok-enter.ensures.bound c.in_ok-enter.ensures.entered c.in_ok-enter.ensures.limit refl refl c.decreases,
+      directive_falls old deep c.deref.result.now.name types t c.in_ok-enter.ensures.bound c.in_ok-enter.ensures.visited_fragments c.in_ok-enter.ensures.limit refl refl c.decreases,
       application_begins self.schema.now self.root.now here old mid c.in_ok-mark.field-0 c.in_ok-mark.ensures.is_new c.in_ok-mark.ensures.names c.if-not-branch.false refl apart
-          self deep refl c.requires c.in_ok-enter.ensures.bound c.in_ok-enter.ensures.entered c.in_ok-enter.ensures.limit refl refl refl refl,
+          self deep refl c.requires c.in_ok-enter.ensures.bound c.in_ok-enter.ensures.visited_fragments c.in_ok-enter.ensures.limit refl refl refl refl,
     )
 
 pub search_application-returns-in-Ok-search_references-clause-searches : goal.search_application-returns-in-Ok-search_references-clause-searches
@@ -112,7 +112,7 @@ search_application-returns-clause-searches t c =
     let deep : Progress = record { directive_path = c.enter.new.self; type_path = old.type_path; seen_directives = c.mark.new.seen; seen_types = old.seen_types } in
     let same : map reference_of c.deref-3.result.now ≡ references_of (directive_part c.in-Some.definition.now) = ap (map reference_of) c.deref-3.ensures.value ∙ c.in-Ok.ensures in
     application_stops_below self.schema.now self.root.now here c.in-Some.definition.now (map reference_of c.deref-3.result.now) old deep c.in-Err.error c.trace_step-in-Err.result
-    c.in-Some.ensures.value same c.in_ok-enter.ensures.entered c.in_ok-enter.ensures.limit refl refl c.trace_step-in-Err.ensures c.in-Err.ensures.searches
+    c.in-Some.ensures.value same c.in_ok-enter.ensures.visited_fragments c.in_ok-enter.ensures.limit refl refl c.trace_step-in-Err.ensures c.in-Err.ensures.searches
 
 pub search_type-returns-in_default-clause-searches : goal.search_type-returns-in_default-clause-searches
 search_type-returns-in_default-clause-searches t c =
@@ -172,9 +172,9 @@ search_type-search_references-requires-2 t c =
     let mid : Progress = record { directive_path = old.directive_path; type_path = old.type_path; seen_directives = old.seen_directives; seen_types = c.mark.new.seen } in
     let deep : Progress = record { directive_path = old.directive_path; type_path = c.enter.new.self; seen_directives = old.seen_directives; seen_types = c.mark.new.seen } in
     let types = list_any names_type (map reference_of c.deref-2.result.now) in (
-      type_falls old deep name types t c.in_ok-enter.ensures.bound c.in_ok-enter.ensures.entered c.in_ok-enter.ensures.limit refl refl c.decreases,
+      type_falls old deep name types t c.in_ok-enter.ensures.bound c.in_ok-enter.ensures.visited_fragments c.in_ok-enter.ensures.limit refl refl c.decreases,
       type_begins self.schema.now self.root.now name old mid c.in_ok-mark.field-0 c.in_ok-mark.ensures.is_new c.in_ok-mark.ensures.names c.if-not-branch.false refl
-          self deep c.requires c.in_ok-enter.ensures.bound c.in_ok-enter.ensures.entered c.in_ok-enter.ensures.limit refl refl refl refl,
+          self deep c.requires c.in_ok-enter.ensures.bound c.in_ok-enter.ensures.visited_fragments c.in_ok-enter.ensures.limit refl refl refl refl,
     )
 
 pub search_type-returns-in_err-search_references-clause-searches : goal.search_type-returns-in_err-search_references-clause-searches
@@ -191,7 +191,7 @@ search_type-returns-in_err-search_references-clause-searches t c =
     let is_error : r.0 ≡ e = r.2 in
     rw r.1 (subst (StopsBy self.schema.now self.root.now (by_type name ∷ []) old) (sym is_error)
     (type_stops_below self.schema.now self.root.now name d references old deep e c.in-Some.ensures.value same
-    c.in_ok-enter.ensures.entered c.in_ok-enter.ensures.limit refl refl c.in_err-search_references.ensures.searches))
+    c.in_ok-enter.ensures.visited_fragments c.in_ok-enter.ensures.limit refl refl c.in_err-search_references.ensures.searches))
 
 pub search_type-returns-clause-searches : goal.search_type-returns-clause-searches
 search_type-returns-clause-searches t c =

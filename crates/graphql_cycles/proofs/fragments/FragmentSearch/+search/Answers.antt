@@ -1,7 +1,7 @@
 -- Each exit of the search.
 use Rattle.std.proofs.Common.{rules, ◌≡◌, ℕ, List, Some, None, refl, sym, ◌∙◌, ap, subst}
 use Rattle.std.proofs.lemmas.Result.{err_from_is_err_and}
-use Rattle.graphql_documents.specs.FragmentSpreads.{SpreadsBy, fragment_of}
+use Rattle.graphql_specification.specs.Fragments.{SpreadsBy, fragment_of}
 use Rattle.graphql_nodes.specs.Names.{DifferentNames, NameText, SameName}
 use Rattle.graphql_documents.specs.Selections.{fragments_of}
 use Rattle.graphql_documents.specs.declared.documents.executables.Fragment.{Fragment}
@@ -120,7 +120,7 @@ search_spread-search_set-requires t c =
     let new = c.mark.new.seen.keys in
     let m = marked_of p c.deref.result.now c.deref.ensures old new c.in_ok-mark.field-0 c.in_ok-mark.ensures.is_new c.in_ok-mark.ensures.names c.if-not-branch.false in
     let other : DifferentNames (name_of p) self.root.now = search rules in
-    let longer = longer_of p c.deref.result.now c.deref.ensures (path_of c.args.path.now) (path_of c.enter.new.self) c.in_ok-enter.ensures.entered in
+    let longer = longer_of p c.deref.result.now c.deref.ensures (path_of c.args.path.now) (path_of c.enter.new.self) c.in_ok-enter.ensures.visited_fragments in
     let found = found_of p c.deref.result.now c.deref.ensures self.document.now (Some c.in-Some.fragment.now) c.in-Some.ensures.value in (
       room_falls self.document.now (name_of p) c.in-Some.fragment.now c.deref-2.result.now c.args.path.now c.enter.new.self t
           c.deref-2.ensures found c.in_ok-enter.ensures.bound c.in_ok-enter.ensures.limit longer c.decreases,
@@ -148,7 +148,7 @@ search_spread-returns-in-Err-clause-searches t c =
     let d = c.in-Some.fragment.now in
     let e = c.in-Err.error in
     let Stops = λ (begins : Node FragmentSpread → Type 0) (path : List NameText) (limit : ℕ). StopsOver self.document.now self.root.now begins path limit e in
-    let longer = longer_of p c.deref.result.now c.deref.ensures (path_of c.args.path.now) (path_of c.enter.new.self) c.in_ok-enter.ensures.entered in
+    let longer = longer_of p c.deref.result.now c.deref.ensures (path_of c.args.path.now) (path_of c.enter.new.self) c.in_ok-enter.ensures.visited_fragments in
     let found = found_of p c.deref.result.now c.deref.ensures self.document.now (Some c.in-Some.fragment.now) c.in-Some.ensures.value in
     stops_before SpreadsBy (fragment_of (fragments_of self.document.now)) name_of self.root.now (λ q. q ≡ p) (path_of c.args.path.now) (path_limit c.args.path.now) p d
     e c.trace_step-in-Err.result refl found c.trace_step-in-Err.ensures

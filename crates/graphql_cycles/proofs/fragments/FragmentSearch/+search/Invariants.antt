@@ -1,4 +1,4 @@
--- The search goes from set to set, each less deep than the one before or gone into with a longer path;
+-- The search goes from set to set, each less deep than the one before or visited with a longer path;
 -- and it has searched what it has passed.
 use Rattle.std.proofs.Common.{◌≡◌, ◌+◌, ◌*◌, take}
 use Rattle.graphql_guards.specs.Guards.{path_limit, path_of}

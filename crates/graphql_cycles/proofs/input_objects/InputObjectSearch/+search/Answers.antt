@@ -38,9 +38,9 @@ search_field-search_fields-requires t c =
     let l = leads_to self.schema.now c.args.field.now c.deref.result.now c.deref-2.result.now c.in-NonNullNamed.name c.in-Some.input_object.now
     c.deref.ensures c.deref-2.ensures c.in-NonNullNamed.is c.in-Some.ensures in
     let apart : DifferentNames c.in-NonNullNamed.name self.root.now = search rules in (
-      room_falls c.args.path.now c.enter.new.self c.in-NonNullNamed.name t c.in_ok-enter.ensures.bound c.in_ok-enter.ensures.limit c.in_ok-enter.ensures.entered c.decreases,
+      room_falls c.args.path.now c.enter.new.self c.in-NonNullNamed.name t c.in_ok-enter.ensures.bound c.in_ok-enter.ensures.limit c.in_ok-enter.ensures.visited_fragments c.decreases,
       stands_below self.schema.now self.root.now l c.args.seen.now.keys c.mark.new.seen.keys c.in_ok-mark.field-0 c.in_ok-mark.ensures.is_new c.in_ok-mark.ensures.names c.if-not-branch.false apart
-          c.args.path.now c.enter.new.self c.requires c.in_ok-enter.ensures.bound c.in_ok-enter.ensures.entered c.in_ok-enter.ensures.limit,
+          c.args.path.now c.enter.new.self c.requires c.in_ok-enter.ensures.bound c.in_ok-enter.ensures.visited_fragments c.in_ok-enter.ensures.limit,
     )
 
 pub search_field-returns-in-Ok-clause-searches : goal.search_field-returns-in-Ok-clause-searches
@@ -58,7 +58,7 @@ search_field-returns-in-Err-clause-searches t c =
     let l = leads_to self.schema.now c.args.field.now c.deref.result.now c.deref-2.result.now c.in-NonNullNamed.name c.in-Some.input_object.now
     c.deref.ensures c.deref-2.ensures c.in-NonNullNamed.is c.in-Some.ensures in
     stops_below self.schema.now self.root.now l c.args.path.now c.enter.new.self c.in-Err.error c.trace_step-in-Err.result
-    c.in_ok-enter.ensures.entered c.in_ok-enter.ensures.limit c.trace_step-in-Err.ensures c.in-Err.ensures.searches
+    c.in_ok-enter.ensures.visited_fragments c.in_ok-enter.ensures.limit c.trace_step-in-Err.ensures c.in-Err.ensures.searches
 
 pub search_fields-loop-field-preserved : goal.search_fields-loop-field-preserved
 search_fields-loop-field-preserved t c =

@@ -1,7 +1,7 @@
 use Rattle.graphql_diagnostics.specs.Diagnostics.{IsDiagnostic}
 use Rattle.graphql_documents.specs.declared.documents.components.ComponentName.{ComponentName}
 use Rattle.graphql_diagnostics.proofs.ReportLemmas.{checks-err, kept_by, kept_then, walked_all, walked_more, walked_none}
-use Rattle.graphql_implementations.specs.ImplementationSteps.{ListingBreaks, NamesInterface}
+use Rattle.graphql_implementations.specs.ImplementationSteps.{ListingReport, NamesInterface}
 use Rattle.graphql_implementations.proofs.ImplementationLemmas.{stands_at}
 use Rattle.graphql_implementations.proofs.names.ListedInterfaces.check_defined.Goals as goal
 
@@ -19,12 +19,12 @@ returns-in_err-check_is_interface c =
 
 pub loop-listed-preserved : goal.loop-listed-preserved
 loop-listed-preserved c =
-    walked_more (λ (listed : ComponentName). NamesInterface c.args.self.now.schema.now listed.name) (IsDiagnostic (ListingBreaks c.args.self.now))
+    walked_more (λ (listed : ComponentName). NamesInterface c.args.self.now.schema.now listed.name) (IsDiagnostic (ListingReport c.args.self.now))
     c.as_slice-listed-items.result.now c.loop-listed.listed-index c.listed-item.result _ _ _
     c.loop-listed-test.true c.listed-item.is c.loop-listed.invariant (c.in_ok-check_is_interface.ensures)
 
 pub returns : goal.returns
 returns c =
-    walked_all (λ (listed : ComponentName). NamesInterface c.args.self.now.schema.now listed.name) (IsDiagnostic (ListingBreaks c.args.self.now))
+    walked_all (λ (listed : ComponentName). NamesInterface c.args.self.now.schema.now listed.name) (IsDiagnostic (ListingReport c.args.self.now))
     c.as_slice-listed-items.result.now c.loop-listed.listed-index _ _ _ c.as_slice-listed-items.ensures.keys
     c.loop-listed-test.false c.loop-listed.invariant

@@ -1,10 +1,10 @@
 use Rattle.std.proofs.Common.{◌≡◌, None, sym, ◌∙◌, subst}
-use Rattle.graphql_diagnostics.specs.ImplementationReports.{of_undefined_interface}
+use Rattle.graphql_specification.specs.Implementations.{of_undefined_interface}
 use Rattle.graphql_nodes.specs.Names.{NameText}
 use Rattle.graphql_documents.specs.Schemas.{interface_named}
 use Rattle.graphql_diagnostics.specs.declared.data.DiagnosticData.TheVariants as report
 use Rattle.graphql_diagnostics.proofs.ReportLemmas.{checks-push, holds}
-use Rattle.graphql_implementations.specs.ImplementationSteps.{ListingBreaks}
+use Rattle.graphql_implementations.specs.ImplementationSteps.{ListingReport}
 use Rattle.graphql_implementations.proofs.ImplementationLemmas.{interface_named_is, interface_not_named, no_interface}
 use Rattle.graphql_implementations.proofs.names.ListedInterfaces.check_is_interface.Goals as goal
 
@@ -19,5 +19,5 @@ returns c =
     interface_not_named c.args.self.now.schema.now c.args.listed.now.name c.get_interface.result c.get_interface.ensures (sym c.is_some.ensures ∙ c.if-is_some.false) in
     checks-push _ _ _ _ _ _ c.push.ensures.ok c.push.ensures.err
     (λ (d, is). no_interface c.args.self.now.schema.now c.args.listed.now.name none d is)
-    (subst (λ (n : NameText). ListingBreaks c.args.self.now (report.UndefinedDefinition n) c.location.result) (sym c.in_ok-name.ensures.cases)
+    (subst (λ (n : NameText). ListingReport c.args.self.now (report.UndefinedDefinition n) c.location.result) (sym c.in_ok-name.ensures.cases)
     (of_undefined_interface c.requires none c.location.ensures))

@@ -1,5 +1,5 @@
 use Rattle.std.proofs.Common.{refl, sym, ◌∙◌, true≢false}
-use Rattle.graphql_diagnostics.specs.ImplementationReports.{of_transitive_interface}
+use Rattle.graphql_specification.specs.Implementations.{of_transitive_interface}
 use Rattle.graphql_documents.specs.Schemas.{IsListed}
 use Rattle.graphql_diagnostics.proofs.ReportLemmas.{checks-push, holds}
 use Rattle.graphql_documents.proofs.SubtypeLemmas.{listed_asked}

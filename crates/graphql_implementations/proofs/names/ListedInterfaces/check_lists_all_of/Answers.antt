@@ -5,7 +5,7 @@ use Rattle.graphql_documents.specs.declared.documents.components.ComponentName.{
 use Rattle.graphql_nodes.specs.declared.nodes.Node.{Node}
 use Rattle.graphql_documents.specs.declared.documents.schemas.InterfaceType.{InterfaceType}
 use Rattle.graphql_diagnostics.proofs.ReportLemmas.{checks-err, in_words, kept_by, kept_then, walked_all, walked_more, walked_none}
-use Rattle.graphql_implementations.specs.ImplementationSteps.{ListingBreaks}
+use Rattle.graphql_implementations.specs.ImplementationSteps.{ListingReport}
 use Rattle.graphql_implementations.proofs.ImplementationLemmas.{interface_is, of_found, stands_at}
 use Rattle.graphql_implementations.proofs.names.ListedInterfaces.check_lists_all_of.Goals as goal
 
@@ -28,7 +28,7 @@ returns-in_err-check_is_listed c =
 
 pub loop-further-preserved : goal.loop-further-preserved
 loop-further-preserved c =
-    walked_more (λ (further : ComponentName). IsListed further.name c.args.self.now.names.now.keys) (IsDiagnostic (ListingBreaks c.args.self.now))
+    walked_more (λ (further : ComponentName). IsListed further.name c.args.self.now.names.now.keys) (IsDiagnostic (ListingReport c.args.self.now))
     c.as_slice-further-items.result.now c.loop-further.further-index c.further-item.result _ _ _
     c.loop-further-test.true c.further-item.is c.loop-further.invariant (c.in_ok-check_is_listed.ensures)
 
@@ -39,7 +39,7 @@ returns c =
     in_words
     (of_found c.args.self.now.schema.now c.args.listed.now.name c.in-Some.interface.now
     (λ (d : Node InterfaceType). All (λ (further : ComponentName). IsListed further.name keys) d.value.value.implements_interfaces.keys) found)
-    (walked_all (λ (further : ComponentName). IsListed further.name keys) (IsDiagnostic (ListingBreaks c.args.self.now))
+    (walked_all (λ (further : ComponentName). IsListed further.name keys) (IsDiagnostic (ListingReport c.args.self.now))
     c.as_slice-further-items.result.now c.loop-further.further-index _ _ _
     (c.as_slice-further-items.ensures.keys ∙ ap (λ (t : InterfaceType). t.implements_interfaces.keys) c.deref.ensures)
     c.loop-further-test.false c.loop-further.invariant)

@@ -1,5 +1,5 @@
 use Rattle.std.proofs.Common.{◌≡◌, None, Some, refl, sym, ap, ◌∙◌, subst}
-use Rattle.graphql_documents.specs.Arguments.{argument_named}
+use Rattle.graphql_documents.specs.Directives.{argument_named}
 use Rattle.graphql_documents.specs.Values.{SameValue}
 use Rattle.graphql_documents.specs.declared.documents.directives.Argument.{Argument}
 use Rattle.graphql_documents.specs.declared.documents.values.Value.{Value}

@@ -1,8 +1,8 @@
 use Rattle.std.proofs.Common.{◌≡◌, None, subst, inl, inr, take, rules}
 use Rattle.std.specs.Prelude.{IsSome}
 use Rattle.std.proofs.lemmas.List.{take_all}
-use Rattle.graphql_documents.specs.Arguments.{argument_named}
-use Rattle.graphql_merging.proofs.ArgumentComparisonLemmas.{more_among, reached_at}
+use Rattle.graphql_documents.specs.Directives.{argument_named}
+use Rattle.graphql_merging.proofs.ArgumentComparisonLemmas.{more_among, reachable_at}
 use Rattle.graphql_merging.specs.Comparisons.{StandAmong}
 use Rattle.graphql_merging.proofs.comparisons.arguments.conflict_of_arguments.Goals as goal
 
@@ -23,7 +23,7 @@ returns-in-Some c =
     let new : argument_named x.value.value.name (take c.loop-i.i c.args.arguments.now) ≡ None = search rules in
     record {
       argument = x;
-      reached = reached_at c.args.arguments.now c.loop-i.i x c.args.others.now c.loop-i-test.true c.index-arguments-i.is c.loop-i.invariant new;
+      reachable = reachable_at c.args.arguments.now c.loop-i.i x c.args.others.now c.loop-i-test.true c.index-arguments-i.is c.loop-i.invariant new;
       conflicts = c.in-Some.ensures;
     }
 

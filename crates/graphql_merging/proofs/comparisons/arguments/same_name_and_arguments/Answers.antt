@@ -1,12 +1,12 @@
 use Rattle.std.proofs.Common.{◌≡◌, List, None, Some, find, rules, sym, subst}
-use Rattle.graphql_documents.specs.Merging.{SameNameAndArguments}
+use Rattle.graphql_specification.specs.Merging.{SameNameAndArguments}
 use Rattle.graphql_nodes.specs.Names.{SameName}
 use Rattle.graphql_documents.specs.declared.documents.directives.Argument.{Argument}
 use Rattle.graphql_documents.specs.declared.documents.executables.Field.{Field}
 use Rattle.graphql_nodes.specs.declared.nodes.Node.{Node}
 use Rattle.graphql_merging.specs.Comparisons.{Conflicts, StandAmong}
 use Rattle.graphql_merging.specs.declared.comparisons.arguments.FieldConflict.TheVariants.{SecondAlone}
-use Rattle.graphql_merging.proofs.ArgumentComparisonLemmas.{lacks, missing_reached, same_arguments}
+use Rattle.graphql_merging.proofs.ArgumentComparisonLemmas.{lacks, missing_reachable, same_arguments}
 use Rattle.graphql_merging.proofs.comparisons.arguments.same_name_and_arguments.Goals as goal
 
 pub returns-in-Some-missing_argument : goal.returns-in-Some-missing_argument
@@ -21,7 +21,7 @@ returns-in-Some-missing_argument c =
     let found : find (lacks first.arguments.items) second.arguments.items ≡ Some y.now =
     subst (λ (l : List (Node Argument)). find (lacks first.arguments.items) l ≡ Some y.now) c.deref-in-None.ensures.value
     (subst (λ (l : List (Node Argument)). find (lacks l) c.deref-in-None.result.now ≡ Some y.now) c.deref-in-None-2.ensures.value (sym c.in-Some-missing_argument.ensures)) in
-    let missing = missing_reached second.arguments.items first.arguments.items y.now found in
+    let missing = missing_reachable second.arguments.items first.arguments.items y.now found in
     subst (λ (f : Field). Conflicts f c.args.b.field.now.value.value (SecondAlone y)) c.deref-first.ensures
     (subst (λ (f : Field). Conflicts first f (SecondAlone y)) c.deref-second.ensures (same, stand, missing.0, missing.1))
 

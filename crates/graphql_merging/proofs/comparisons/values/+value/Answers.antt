@@ -1,7 +1,6 @@
-use Rattle.std.proofs.Common.{◌↔◌, ap, sym, ◌∙◌, refl, subst}
+use Rattle.std.proofs.Common.{◌↔◌, ap, sym, ◌∙◌, refl, subst, List, inl, inr}
 use Rattle.graphql_documents.specs.declared.documents.values.Value.TheOpen as Open
 use Rattle.graphql_documents.specs.declared.documents.values.Value.TheVariants as literal
-use Rattle.std.proofs.Common.{List, inl, inr}
 use Rattle.std.proofs.lemmas.List.{take_all}
 use Rattle.std.specs.Prelude.{IsTrue, string_bytes}
 use Rattle.graphql_nodes.specs.Names.{NameText}

@@ -1,5 +1,5 @@
 use Rattle.std.proofs.Common.{◌≡◌, [], fold, take}
-use Rattle.graphql_documents.specs.Expansion.{is_abstract, with_parents}
+use Rattle.graphql_specification.specs.MergedSets.{is_abstract, with_parents}
 use Rattle.graphql_merging.specs.FieldSelections.{listed}
 use Rattle.graphql_merging.specs.Groups.{named_fields, with_owned}
 use Rattle.graphql_merging.proofs.groups.FieldsOnTypes.of.Given as goal

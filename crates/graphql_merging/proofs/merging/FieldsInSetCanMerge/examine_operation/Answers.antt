@@ -1,5 +1,6 @@
 use Rattle.std.proofs.Common.{[], ◌∷◌, subst}
-use Rattle.graphql_documents.specs.Expansion.{Expansion, field_pass, merged_operation, shape_pass}
+use Rattle.graphql_specification.specs.MergedSets.{Expansion, merged_operation}
+use Rattle.graphql_specification.specs.Merging.{field_pass, shape_pass}
 use Rattle.graphql_documents.specs.Selections.{fragments_of}
 use Rattle.graphql_documents.specs.declared.documents.executables.Operation.{Operation}
 use Rattle.graphql_documents.proofs.ListLemmas.{stands_first}

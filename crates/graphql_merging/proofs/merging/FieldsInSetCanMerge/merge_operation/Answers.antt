@@ -1,7 +1,7 @@
 use Rattle.std.proofs.Common.{◌↔◌, ◌<◌, ◌||◌, IsTrue, length, map, nat_lt, ◌∙◌, ap, inl}
 use Rattle.std.proofs.lemmas.List.{map-append}
 use Rattle.graphql_diagnostics.specs.Diagnostics.{entries}
-use Rattle.graphql_diagnostics.specs.MergingReports.{MergingReport}
+use Rattle.graphql_specification.specs.Merging.{MergingReport}
 use Rattle.graphql_diagnostics.specs.Reports.{Appends}
 use Rattle.graphql_diagnostics.specs.declared.lists.DiagnosticEntry.{DiagnosticEntry}
 use Rattle.graphql_documents.specs.Selections.{fragments_of}

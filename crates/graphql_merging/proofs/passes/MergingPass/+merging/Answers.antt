@@ -3,9 +3,7 @@ use Rattle.std.proofs.Common.{length, ◌+◌, ◌-◌, ◌<◌, ◌∷◌, ◌�
 use Rattle.std.proofs.lemmas.List.{take_all, map-append}
 use Rattle.std.specs.Prelude.{sum_by}
 use Rattle.graphql_diagnostics.specs.Diagnostics.{entries}
-use Rattle.graphql_documents.specs.Expansion.{Expansion, IsGroup, merged_below, nested_sets}
-use Rattle.graphql_diagnostics.specs.Limits.{merging_bound}
-use Rattle.graphql_diagnostics.specs.MergedGroups.{AreConflicts, comparisons_of, groups_of}
+use Rattle.graphql_specification.specs.MergedSets.{Expansion, IsGroup, merged_below, nested_sets, merging_depth_limit, AreConflicts, comparisons_of, groups_of}
 use Rattle.graphql_diagnostics.specs.Reports.{Appends}
 use Rattle.graphql_documents.specs.Selections.{fragments_of}
 use Rattle.graphql_diagnostics.proofs.ReportLemmas.{kept, kept_then}
@@ -16,8 +14,8 @@ use Rattle.graphql_merging.specs.FieldSelections.{listed, lists_of}
 use Rattle.graphql_merging.specs.Groups.{pass_of}
 use Rattle.graphql_merging.specs.Passes.{GoesBelow, IsConflict, counted}
 use Rattle.graphql_merging.specs.Stages.{examined_lists, stage_of}
-use Rattle.graphql_merging.proofs.PassLemmas.{below_cut, below_examined, below_known, below_leaves, below_none, below_then, list_examined}
-use Rattle.graphql_merging.proofs.PassStepLemmas.{conflicts_true, count_at_limit, count_below_limit, counted_groups, each_group, expansion_known, group_among, new_unknown, no_items, not_reached, some_items}
+use Rattle.graphql_merging.proofs.PassLemmas.{below_cut, below_examined, parent_known, below_leaves, below_none, below_then, list_examined}
+use Rattle.graphql_merging.proofs.PassStepLemmas.{conflicts_true, count_at_limit, count_below_limit, counted_groups, each_group, expansion_known, group_among, new_unknown, no_items, not_reachable, some_items}
 use Rattle.graphql_laws.proofs.FieldContentsLaws.{same_fields_itself}
 use Rattle.graphql_merging.proofs.passes.MergingPass.+merging.Goals as goal
 
@@ -122,7 +120,7 @@ examine_below-returns-then-knows-clause-examines t c =
     let group = listed c.args.group.now in
     let stage = stage_of c.args.examined.now c.args.depth.now c.args.diagnostics.now in
     let sets = ap (map (λ set. set.now)) c.deref.ensures.value ∙ c.in_ok-sets.ensures in
-    below_known self.schema.now F (pass_of self.pass) group stage c.args.examined.now.small
+    parent_known self.schema.now F (pass_of self.pass) group stage c.args.examined.now.small
     (expansion_known F stage.lists (nested_sets group) (listed c.in_ok-fields.fields.items) (subst (λ s. Expansion F s (listed c.in_ok-fields.fields.items)) sets c.in_ok-fields.ensures)
     (c.knows.ensures.0 c.if-knows.true))
 
@@ -139,7 +137,7 @@ examine_below-returns-then-check_and_increment-clause-examines t c =
     let sets = ap (map (λ set. set.now)) c.deref.ensures.value ∙ c.in_ok-sets.ensures in
     below_cut self.schema.now F (pass_of self.pass) group list old new c.args.examined.now.small
     (subst (λ n. n ≢ []) c.in_ok-sets.ensures (some_items (λ set. set.now) c.in_ok-sets.sets c.is_empty.result c.is_empty.ensures c.if-is_empty.false)) (subst (λ s. Expansion F s list) sets c.in_ok-fields.ensures) (new_unknown old.lists list (λ any. let known = c.knows.ensures.1 any in let no : ⊥ = cc in no))
-    (c.check_and_increment.ensures.reached.0 c.if-check_and_increment.true ∙ c.requires) refl refl at.0 (at.1 ∙ ap (λ n. n + 1) c.requires) refl
+    (c.check_and_increment.ensures.reachable.0 c.if-check_and_increment.true ∙ c.requires) refl refl at.0 (at.1 ∙ ap (λ n. n + 1) c.requires) refl
 
 pub examine_below-examine-requires : goal.examine_below-examine-requires
 examine_below-examine-requires t c =
@@ -148,7 +146,7 @@ examine_below-examine-requires t c =
     let below = count_below_limit c.check_and_increment.result old.depth down.depth (count_limit c.args.depth.now) old.highest down.highest
     c.check_and_increment.ensures.count c.check_and_increment.ensures.high c.if-check_and_increment.false in
     let step = below.0 in
-    let within : old.depth < merging_bound = not_reached c.check_and_increment.result old.depth (count_limit c.args.depth.now) c.check_and_increment.ensures.reached c.if-check_and_increment.false c.args.depth.now.within c.requires in (
+    let within : old.depth < merging_depth_limit = not_reachable c.check_and_increment.result old.depth (count_limit c.args.depth.now) c.check_and_increment.ensures.reachable c.if-check_and_increment.false c.args.depth.now.within c.requires in (
       omega (arith, step, within, c.decreases),
       (
         c.check_and_increment.ensures.limit ∙ c.requires,
@@ -181,7 +179,7 @@ examine_below-returns-clause-examines t c =
     let sets = ap (map (λ set. set.now)) c.deref.ensures.value ∙ c.in_ok-sets.ensures in
     let below = count_below_limit c.check_and_increment.result old.depth down.depth (count_limit c.args.depth.now) old.highest down.highest
     c.check_and_increment.ensures.count c.check_and_increment.ensures.high c.if-check_and_increment.false in
-    let within = not_reached c.check_and_increment.result old.depth (count_limit c.args.depth.now) c.check_and_increment.ensures.reached c.if-check_and_increment.false c.args.depth.now.within c.requires in
+    let within = not_reachable c.check_and_increment.result old.depth (count_limit c.args.depth.now) c.check_and_increment.ensures.reachable c.if-check_and_increment.false c.args.depth.now.within c.requires in
     below_examined self.schema.now F (pass_of self.pass) same_fields_itself group list old down up new
     (subst (λ n. n ≢ []) c.in_ok-sets.ensures (some_items (λ set. set.now) c.in_ok-sets.sets c.is_empty.result c.is_empty.ensures c.if-is_empty.false)) (subst (λ s. Expansion F s list) sets c.in_ok-fields.ensures) within refl refl below.0 below.1 refl c.in_ok-examine.ensures.examines
     refl refl c.decrement.ensures.count c.decrement.ensures.high refl

@@ -1,9 +1,8 @@
 -- Each step goes deeper, and the groups that were passed have been examined below.
 use Rattle.std.proofs.Common.{◌≡◌, ◌+◌, ◌*◌, ◌-◌, List, take, All}
 use Rattle.graphql_diagnostics.specs.Diagnostics.{entries}
-use Rattle.graphql_documents.specs.Expansion.{IsGroup, MergedSet}
-use Rattle.graphql_diagnostics.specs.Limits.{merging_bound}
-use Rattle.graphql_documents.specs.Merging as merging
+use Rattle.graphql_specification.specs.MergedSets.{IsGroup, MergedSet, merging_depth_limit}
+use Rattle.graphql_specification.specs.Merging as merging
 use Rattle.graphql_diagnostics.specs.Reports.{KeepsReports}
 use Rattle.graphql_documents.specs.Selections.{fragments_of}
 use Rattle.graphql_documents.specs.declared.documents.executables.Operation.{Operation}
@@ -16,10 +15,10 @@ use Rattle.graphql_merging.specs.Stages.{stage_of}
 use Rattle.graphql_merging.proofs.passes.MergingPass.+merging.Given as goal
 
 abbrev pub decreases-examine : goal.decreases-examine
-decreases-examine l = 2 * (merging_bound - count_of l.depth.now) + 1
+decreases-examine l = 2 * (merging_depth_limit - count_of l.depth.now) + 1
 
 abbrev pub decreases-examine_below : goal.decreases-examine_below
-decreases-examine_below l = 2 * (merging_bound - count_of l.depth.now)
+decreases-examine_below l = 2 * (merging_depth_limit - count_of l.depth.now)
 
 abbrev pub invariant-examine-loop-group : goal.invariant-examine-loop-group
 invariant-examine-loop-group l = record {

@@ -8,7 +8,7 @@ use Rattle.graphql_documents.specs.declared.documents.executables.InlineFragment
 use Rattle.graphql_nodes.specs.declared.nodes.Node.{Node}
 use Rattle.graphql_guards.specs.Guards.{depth_limit, depth_of}
 use Rattle.graphql_operations.specs.DeferLabels.{MeetsDefers}
-use Rattle.graphql_operations.proofs.WrittenDeferLemmas.{meets_all, meets_at, meets_cut, meets_entered, meets_field, meets_inline_fragment, meets_limit, meets_next, meets_none, meets_spread}
+use Rattle.graphql_operations.proofs.WrittenDeferLemmas.{meets_all, meets_at, meets_cut, meets_visited, meets_field, meets_inline_fragment, meets_limit, meets_next, meets_none, meets_spread}
 use Rattle.graphql_operations.proofs.defer.written.+written.Goals as goal
 
 pub walk_deeper-returns-in-Ok-clause-walks : goal.walk_deeper-returns-in-Ok-clause-walks
@@ -17,11 +17,11 @@ walk_deeper-returns-in-Ok-clause-walks t c =
     let depth = depth_of c.args.depth.now in
     let below = c.in-Ok.guard.counter.now in
     let refs = λ (l : List (Bor (Node Directive))). map (λ d. d.now) l in
-    let old = refs c.args.met.now.items in
-    let new = refs c.walk_set.new.met.items in
+    let old = refs c.args.visited.now.items in
+    let new = refs c.walk_set.new.visited.items in
     IfOk-weaker c.walk_set.result (λ complete. MeetsDefers (depth_limit below) (depth_of below) 1 (selections_of c.args.set.now) old new complete)
     (λ complete. MeetsDefers limit (depth + 1) 0 (selections_of c.args.set.now) old new complete)
-    (λ complete m. meets_entered limit depth c.in-Ok.ensures.bound
+    (λ complete m. meets_visited limit depth c.in-Ok.ensures.bound
     (meets_at limit (depth + 1) (depth_limit below) (depth_of below) c.in-Ok.ensures.limit c.in-Ok.ensures.depth m))
     c.walk_set.ensures.walks
 
@@ -34,10 +34,10 @@ walk_selection-returns-in-Field-clause-walks t c =
     let limit = depth_limit c.args.depth.now in
     let depth = depth_of c.args.depth.now in
     let refs = λ (l : List (Bor (Node Directive))). map (λ d. d.now) l in
-    let new = refs c.walk_deeper.new.met.items in
-    let mid = refs c.add_defers.new.met.items in
+    let new = refs c.walk_deeper.new.visited.items in
+    let mid = refs c.add_defers.new.visited.items in
     IfOk-weaker _ (λ complete. MeetsDefers limit (depth + 1) 0 (selections_of c.deref.result.now.selection_set) mid new complete)
-    (λ complete. MeetsDefers limit depth 1 (c.args.selection.now ∷ []) (refs c.args.met.now.items) new complete)
+    (λ complete. MeetsDefers limit depth 1 (c.args.selection.now ∷ []) (refs c.args.visited.now.items) new complete)
     (λ complete m. meets_field limit depth c.in-Field.field c.in-Field.is c.directives_of.result.now c.directives_of.ensures c.in_ok-add_defers.ensures
     (subst (λ (f : Field). MeetsDefers limit (depth + 1) 0 (selections_of f.selection_set) mid new complete) c.deref.ensures m))
     c.walk_deeper.ensures.walks
@@ -47,10 +47,10 @@ walk_selection-returns-in-InlineFragment-clause-walks t c =
     let limit = depth_limit c.args.depth.now in
     let depth = depth_of c.args.depth.now in
     let refs = λ (l : List (Bor (Node Directive))). map (λ d. d.now) l in
-    let new = refs c.walk_deeper-in-InlineFragment.new.met.items in
-    let mid = refs c.add_defers.new.met.items in
+    let new = refs c.walk_deeper-in-InlineFragment.new.visited.items in
+    let mid = refs c.add_defers.new.visited.items in
     IfOk-weaker _ (λ complete. MeetsDefers limit (depth + 1) 0 (selections_of c.deref-in-InlineFragment.result.now.selection_set) mid new complete)
-    (λ complete. MeetsDefers limit depth 1 (c.args.selection.now ∷ []) (refs c.args.met.now.items) new complete)
+    (λ complete. MeetsDefers limit depth 1 (c.args.selection.now ∷ []) (refs c.args.visited.now.items) new complete)
     (λ complete m. meets_inline_fragment limit depth c.in-InlineFragment.fragment c.in-InlineFragment.is c.directives_of.result.now c.directives_of.ensures c.in_ok-add_defers.ensures
     (subst (λ (i : InlineFragment). MeetsDefers limit (depth + 1) 0 (selections_of i.selection_set) mid new complete) c.deref-in-InlineFragment.ensures m))
     c.walk_deeper-in-InlineFragment.ensures.walks
@@ -73,7 +73,7 @@ walk_set-returns-then-not-branch-clause-walks t c =
     c.in_ok-walk_selection.ensures.walks in
     meets_cut limit depth c.deref-selection-items.result.now c.loop-selection.selection-index s c.loop-selection-test.true c.selection-item.is
     c.loop-selection.invariant.meets c.deref-selection-items.ensures.value
-    (subst (λ complete. MeetsDefers limit depth 1 (s ∷ []) (refs c.loop-selection.met.items) (refs c.walk_selection.new.met.items) complete) c.if-not-branch.true below)
+    (subst (λ complete. MeetsDefers limit depth 1 (s ∷ []) (refs c.loop-selection.visited.items) (refs c.walk_selection.new.visited.items) complete) c.if-not-branch.true below)
 
 pub walk_set-loop-selection-preserved : goal.walk_set-loop-selection-preserved
 walk_set-loop-selection-preserved t c =
@@ -88,7 +88,7 @@ walk_set-loop-selection-preserved t c =
       limit = search rules;
       meets = meets_next limit depth c.deref-selection-items.result.now c.loop-selection.selection-index s c.loop-selection-test.true c.selection-item.is
           c.loop-selection.invariant.meets
-          (subst (λ complete. MeetsDefers limit depth 1 (s ∷ []) (refs c.loop-selection.met.items) (refs c.walk_selection.new.met.items) complete) c.if-not-branch.false below);
+          (subst (λ complete. MeetsDefers limit depth 1 (s ∷ []) (refs c.loop-selection.visited.items) (refs c.walk_selection.new.visited.items) complete) c.if-not-branch.false below);
     }
 
 pub walk_set-returns-clause-walks : goal.walk_set-returns-clause-walks

@@ -1,4 +1,4 @@
--- The walk goes on while it is below its limit, and has met what it has passed.
+-- The walk goes on while it is below its limit, and has visited what it has passed.
 use Rattle.std.proofs.Common.{◌≡◌, ◌+◌, ◌-◌, ◌*◌, map, take, true}
 use Rattle.graphql_guards.specs.Guards.{depth_limit, depth_of}
 use Rattle.graphql_operations.specs.DeferLabels.{MeetsDefers}
@@ -18,5 +18,5 @@ invariant-walk_set-loop-selection l = record {
   depth : depth_of l.depth ≡ depth_of l.initial.depth;
   limit : depth_limit l.depth ≡ depth_limit l.initial.depth;
   meets : MeetsDefers (depth_limit l.initial.depth) (depth_of l.initial.depth) 1 (take l.selection-index l.selection-items)
-      (map (λ d. d.now) l.initial.met.items) (map (λ d. d.now) l.met.items) true;
+      (map (λ d. d.now) l.initial.visited.items) (map (λ d. d.now) l.visited.items) true;
 }

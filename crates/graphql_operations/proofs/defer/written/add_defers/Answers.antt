@@ -18,10 +18,10 @@ loop-directive-preserved c =
     elim c.if-eq.branch [
       | then-eq+in_ok-push w ↦
           defers_added c.args.directives.now c.loop-directive.directive-index x c.loop-directive-test.true c.directive-item.is
-          (nodes c.args.met.now.items) (nodes c.loop-directive.met.items) (nodes c.if-eq.met.items) (named ∙ w.if-eq.true) c.loop-directive.invariant
-          (ap (λ (v : Vec (Bor (Node Directive)) Global). nodes v.items) w.met-is ∙ ap nodes w.in_ok-push.ensures.items ∙ map-append (λ (d : Bor (Node Directive)). d.now) _ _)
+          (nodes c.args.visited.now.items) (nodes c.loop-directive.visited.items) (nodes c.if-eq.visited.items) (named ∙ w.if-eq.true) c.loop-directive.invariant
+          (ap (λ (v : Vec (Bor (Node Directive)) Global). nodes v.items) w.visited-is ∙ ap nodes w.in_ok-push.ensures.items ∙ map-append (λ (d : Bor (Node Directive)). d.now) _ _)
       | else-eq w ↦
           defers_kept c.args.directives.now c.loop-directive.directive-index x c.loop-directive-test.true c.directive-item.is
-          (nodes c.args.met.now.items) (nodes c.loop-directive.met.items) (nodes c.if-eq.met.items) (named ∙ w.if-eq.false) c.loop-directive.invariant
-          (ap (λ (v : Vec (Bor (Node Directive)) Global). nodes v.items) w.met-is)
+          (nodes c.args.visited.now.items) (nodes c.loop-directive.visited.items) (nodes c.if-eq.visited.items) (named ∙ w.if-eq.false) c.loop-directive.invariant
+          (ap (λ (v : Vec (Bor (Node Directive)) Global). nodes v.items) w.visited-is)
     ]

@@ -10,7 +10,7 @@ pub returns : goal.returns
 returns c =
     let set = c.args.set.now in
     let refs = λ (l : List (Bor (Node Directive))). map (λ d. d.now) l in
-    let new = refs c.walk_set.new.met.items in
+    let new = refs c.walk_set.new.visited.items in
     let complete = c.in_ok-complete.complete in
     meets_whole set new complete
     (subst (λ (old : List (Node Directive)). MeetsDefers 500 0 1 (selections_of set) old new complete) (ap refs c.new-applications.ensures.items)

@@ -5,7 +5,8 @@ use Rattle.graphql_documents.specs.Schemas.{type_field}
 use Rattle.graphql_diagnostics.proofs.ReportLemmas.{both, checks-err, checks_after, checks_words, in_words, kept_by, kept_then, kept_wider}
 use Rattle.graphql_documents.specs.declared.documents.executables.Field.{Field}
 use Rattle.graphql_operations.specs.Contexts.{parent_of, schema_of, variables_of}
-use Rattle.graphql_rules.specs.SelectionSteps.{DefinedFieldHolds, FieldSays, by_directives}
+use Rattle.graphql_rules.specs.SelectionSteps.{DefinedFieldHolds}
+use Rattle.graphql_specification.specs.Fields.{FieldReport, by_directives}
 use Rattle.graphql_rules.proofs.AppliedLemmas.{directives_kept, directives_reported}
 use Rattle.graphql_rules.proofs.FieldLemmas.{below_against, definition_against, distinct_reported, holds_defined, holds_undefined, lacks_place, names_against, names_repetition, parent_against, schema_against, undefined_at, unknown_below}
 use Rattle.graphql_rules.proofs.operations.fields.check_field.Goals as goal
@@ -27,7 +28,7 @@ returns-in_err-validate_arguments-clause-checks c =
     let same = c.deref-2.ensures.value ∙ ap (λ (f : Field). f.directives.items) c.deref.ensures in
     let given = c.deref-4.ensures.value ∙ ap (λ (f : Field). f.arguments.items) c.deref-3.ensures in
     checks-err _ _ _ _ _ c.from_residual-in_err-validate_arguments.ensures.0
-    (kept_then (kept_by (directives_reported (FieldSays schema variables parent f) (λ r at broken. by_directives broken) same c.in_ok-check_each_directive.ensures))
+    (kept_then (kept_by (directives_reported (FieldReport schema variables parent f) (λ r at broken. by_directives broken) same c.in_ok-check_each_directive.ensures))
     (kept_wider (names_repetition schema variables parent f _ given) c.in_err-validate_arguments.ensures.checks))
 
 pub returns-in_default-clause-checks : goal.returns-in_default-clause-checks
@@ -40,7 +41,7 @@ returns-in_default-clause-checks c =
     let given = c.deref-4.ensures.value ∙ ap (λ (f : Field). f.arguments.items) c.deref-3.ensures in
     in_words (holds_undefined schema variables parent f.value.value (undefined_at schema parent f.value.value.name (ap parent_of c.in_default.is)))
     (both
-    (directives_reported (FieldSays schema variables parent f) (λ r at broken. by_directives broken) same c.in_ok-check_each_directive.ensures)
+    (directives_reported (FieldReport schema variables parent f) (λ r at broken. by_directives broken) same c.in_ok-check_each_directive.ensures)
     (distinct_reported schema variables parent f _ given c.in_ok-validate_arguments.ensures.checks))
 
 pub returns-in_default-clause-below : goal.returns-in_default-clause-below
@@ -59,7 +60,7 @@ returns-in_default-type_field-clause-checks c =
     let none = definition_against schema c.args.against_type c.in-Some.schema c.in-Some.parent c.requires c.in-Some.is f.value.value.name ∙ ap result_ok lacks in
     in_words (holds_undefined schema variables parent f.value.value none)
     (both
-    (directives_reported (FieldSays schema variables parent f) (λ r at broken. by_directives broken) same c.in_ok-check_each_directive.ensures)
+    (directives_reported (FieldReport schema variables parent f) (λ r at broken. by_directives broken) same c.in_ok-check_each_directive.ensures)
     (distinct_reported schema variables parent f _ given c.in_ok-validate_arguments.ensures.checks))
 
 pub returns-in_default-type_field-clause-below : goal.returns-in_default-type_field-clause-below
@@ -80,7 +81,7 @@ returns-clause-checks c =
     let s = c.in-Some.schema.now in
     let p = c.in-Some.parent.now in
     let d = c.in-Ok.definition.now in
-    let Said = IsDiagnostic (FieldSays schema variables parent f) in
+    let Said = IsDiagnostic (FieldReport schema variables parent f) in
     let same = c.deref-2.ensures.value ∙ ap (λ (f : Field). f.directives.items) c.deref.ensures in
     let given = c.deref-4.ensures.value ∙ ap (λ (f : Field). f.arguments.items) c.deref-3.ensures in
     let has = schema_against schema c.args.against_type c.in-Some.schema c.in-Some.parent c.requires c.in-Some.is in
@@ -91,10 +92,10 @@ returns-clause-checks c =
     checks_words c.check_defined_field.result _ _ Said Said _ _ parts (λ e q. q)
     (checks_after c.check_defined_field.result _ _ Said _ _ _
     (both
-    (directives_reported (FieldSays schema variables parent f) (λ r at broken. by_directives broken) same c.in_ok-check_each_directive.ensures)
+    (directives_reported (FieldReport schema variables parent f) (λ r at broken. by_directives broken) same c.in_ok-check_each_directive.ensures)
     (distinct_reported schema variables parent f _ given c.in_ok-validate_arguments.ensures.checks))
     (checks_words c.check_defined_field.result (DefinedFieldHolds s variables f.value.value d.node.value.value) (DefinedFieldHolds s variables f.value.value d.node.value.value)
-    (IsDiagnostic (FieldSays (Some s) variables (Some p) f)) Said _ _ (λ x. x, λ x. x)
+    (IsDiagnostic (FieldReport (Some s) variables (Some p) f)) Said _ _ (λ x. x, λ x. x)
     (names_against schema variables parent s p f has is) c.check_defined_field.ensures.checks))
 
 pub returns-clause-below : goal.returns-clause-below

@@ -1,6 +1,5 @@
 use Rattle.std.proofs.Common.{Some, refl, rules}
-use Rattle.graphql_diagnostics.specs.FieldReports.{is_missing}
-use Rattle.graphql_documents.specs.Fields.{HasNeededSelection}
+use Rattle.graphql_specification.specs.Fields.{is_missing, HasNeededSelection}
 use Rattle.graphql_diagnostics.proofs.ReportLemmas.{broken, holds}
 use Rattle.graphql_rules.specs.SelectionSteps.{IsUnselected}
 use Rattle.graphql_rules.proofs.operations.fields.validate_leaf_field_selection.Goals as goal

@@ -6,7 +6,7 @@ use Rattle.graphql_diagnostics.proofs.ReportWithinLemmas.{checks_refused_within,
 use Rattle.graphql_documents.specs.Selections.{fragments_of}
 use Rattle.graphql_documents.specs.declared.documents.executables.Fragment.{Fragment}
 use Rattle.graphql_operations.specs.Contexts.{schema_of, variables_of}
-use Rattle.graphql_rules.specs.SelectionSteps.{FragmentSays, by_fragment_directives}
+use Rattle.graphql_specification.specs.Fragments.{FragmentReport, by_fragment_directives}
 use Rattle.graphql_rules.proofs.AppliedLemmas.{directives_kept, directives_reported}
 use Rattle.graphql_rules.proofs.FragmentLemmas.{both_hold, fragment_reported, kept_second, names_broken, names_cycle, names_said, none_added}
 use Rattle.graphql_rules.proofs.operations.fragments.check_fragment.Goals as goal
@@ -21,7 +21,7 @@ returns-in_err-check_each_directive-clause-checks c =
     let same = c.deref-2.ensures.value ∙ ap (λ (d : Fragment). d.directives.items) c.deref.ensures in
     checks_refused_within IsLimitEntry _ _ _ _ _ c.from_residual.ensures.0
     (kept_wider (names_said schema fragments variables d)
-    (directives_kept (FragmentSays schema fragments variables d) (λ r at broken. by_fragment_directives broken) same c.in_err-check_each_directive.ensures))
+    (directives_kept (FragmentReport schema fragments variables d) (λ r at broken. by_fragment_directives broken) same c.in_err-check_each_directive.ensures))
 
 pub returns-in_err-check_target-clause-checks : goal.returns-in_err-check_target-clause-checks
 returns-in_err-check_target-clause-checks c =
@@ -30,7 +30,7 @@ returns-in_err-check_target-clause-checks c =
     let fragments = fragments_of c.args.document.now in
     let d = c.args.fragment.now in
     let same = c.deref-2.ensures.value ∙ ap (λ (d : Fragment). d.directives.items) c.deref.ensures in
-    let directed = directives_reported (FragmentSays schema fragments variables d) (λ r at broken. by_fragment_directives broken) same c.in_ok-check_each_directive.ensures in
+    let directed = directives_reported (FragmentReport schema fragments variables d) (λ r at broken. by_fragment_directives broken) same c.in_ok-check_each_directive.ensures in
     checks_refused_within IsLimitEntry _ _ _ _ _ c.from_residual-in_err-check_target.ensures.0
     (kept_then (kept_wider (names_said schema fragments variables d) (kept_by directed))
     (kept_wider (names_broken schema fragments variables d) (c.in_err-check_target.ensures fragments)))
@@ -43,7 +43,7 @@ returns-in_err-validate_fragment_cycles-clause-checks c =
     let fragments = fragments_of c.args.document.now in
     let d = c.args.fragment.now in
     let same = c.deref-2.ensures.value ∙ ap (λ (d : Fragment). d.directives.items) c.deref.ensures in
-    let directed = directives_reported (FragmentSays schema fragments variables d) (λ r at broken. by_fragment_directives broken) same c.in_ok-check_each_directive.ensures in
+    let directed = directives_reported (FragmentReport schema fragments variables d) (λ r at broken. by_fragment_directives broken) same c.in_ok-check_each_directive.ensures in
     checks_refused_within IsLimitEntry _ _ _ _ _ c.from_residual-in_err-validate_fragment_cycles.ensures.0
     (kept_then
     (kept_then (kept_wider (names_said schema fragments variables d) (kept_by directed))
@@ -57,7 +57,7 @@ returns-clause-checks c =
     let fragments = fragments_of c.args.document.now in
     let d = c.args.fragment.now in
     let same = c.deref-2.ensures.value ∙ ap (λ (d : Fragment). d.directives.items) c.deref.ensures in
-    let directed = directives_reported (FragmentSays schema fragments variables d) (λ r at broken. by_fragment_directives broken) same c.in_ok-check_each_directive.ensures in
+    let directed = directives_reported (FragmentReport schema fragments variables d) (λ r at broken. by_fragment_directives broken) same c.in_ok-check_each_directive.ensures in
     fragment_reported schema fragments variables d directed (c.in_ok-check_target.ensures fragments) (c.in_ok-validate_fragment_cycles.ensures schema)
 
 pub returns-clause-answer : goal.returns-clause-answer

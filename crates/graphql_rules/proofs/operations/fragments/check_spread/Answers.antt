@@ -3,7 +3,7 @@ use Rattle.graphql_documents.specs.Selections.{fragments_of}
 use Rattle.graphql_diagnostics.proofs.ReportLemmas.{both, checks-err, in_words, kept_by, kept_then, kept_wider, wider}
 use Rattle.graphql_documents.specs.declared.documents.executables.FragmentSpread.{FragmentSpread}
 use Rattle.graphql_operations.specs.Contexts.{parent_of, schema_of, variables_of}
-use Rattle.graphql_rules.specs.SelectionSteps.{SpreadSays, by_spread_directives}
+use Rattle.graphql_specification.specs.Fragments.{SpreadReport, by_spread_directives}
 use Rattle.graphql_rules.proofs.AppliedLemmas.{directives_kept, directives_reported}
 use Rattle.graphql_rules.proofs.FragmentLemmas.{names_spread, names_undefined, spread_decides, undefined_decides}
 use Rattle.graphql_rules.proofs.operations.fragments.check_spread.Goals as goal
@@ -27,7 +27,7 @@ returns-in_err-report_undefined_fragment-clause-checks c =
     let none = ap (λ (p : FragmentSpread). fragments p.fragment_name) (sym c.deref-3.ensures) ∙ sym c.in_default.ensures.value in
     checks-err _ _ _ _ _ c.from_residual-in_err-report_undefined_fragment.ensures.0
     (kept_then
-    (kept_by (directives_reported (SpreadSays schema fragments variables parent p) (λ r at broken. by_spread_directives broken) same c.in_ok-check_each_directive.ensures))
+    (kept_by (directives_reported (SpreadReport schema fragments variables parent p) (λ r at broken. by_spread_directives broken) same c.in_ok-check_each_directive.ensures))
     (kept_wider (names_undefined schema fragments variables parent p none) c.in_err-report_undefined_fragment.ensures))
 
 pub returns-in_default-clause-checks : goal.returns-in_default-clause-checks
@@ -41,7 +41,7 @@ returns-in_default-clause-checks c =
     let none = ap (λ (p : FragmentSpread). fragments p.fragment_name) (sym c.deref-3.ensures) ∙ sym c.in_default.ensures.value in
     in_words (undefined_decides schema fragments variables parent p none)
     (both
-    (directives_reported (SpreadSays schema fragments variables parent p) (λ r at broken. by_spread_directives broken) same c.in_ok-check_each_directive.ensures)
+    (directives_reported (SpreadReport schema fragments variables parent p) (λ r at broken. by_spread_directives broken) same c.in_ok-check_each_directive.ensures)
     (wider (names_undefined schema fragments variables parent p none) c.in_ok-report_undefined_fragment.ensures))
 
 pub returns-in_err-check_possible-clause-checks : goal.returns-in_err-check_possible-clause-checks
@@ -55,7 +55,7 @@ returns-in_err-check_possible-clause-checks c =
     let found = ap (λ (p : FragmentSpread). fragments p.fragment_name) (sym c.deref-3.ensures) ∙ sym c.in-Some.ensures.value in
     checks-err _ _ _ _ _ c.from_residual-in_err-check_possible.ensures.0
     (kept_then
-    (kept_by (directives_reported (SpreadSays schema fragments variables parent p) (λ r at broken. by_spread_directives broken) same c.in_ok-check_each_directive.ensures))
+    (kept_by (directives_reported (SpreadReport schema fragments variables parent p) (λ r at broken. by_spread_directives broken) same c.in_ok-check_each_directive.ensures))
     (kept_wider (names_spread schema fragments variables parent p) (c.in_err-check_possible.ensures.checks fragments found)))
 
 pub returns-clause-checks : goal.returns-clause-checks
@@ -69,5 +69,5 @@ returns-clause-checks c =
     let found = ap (λ (p : FragmentSpread). fragments p.fragment_name) (sym c.deref-3.ensures) ∙ sym c.in-Some.ensures.value in
     in_words (spread_decides schema fragments variables parent p c.in-Some.fragment.now found)
     (both
-    (directives_reported (SpreadSays schema fragments variables parent p) (λ r at broken. by_spread_directives broken) same c.in_ok-check_each_directive.ensures)
+    (directives_reported (SpreadReport schema fragments variables parent p) (λ r at broken. by_spread_directives broken) same c.in_ok-check_each_directive.ensures)
     (wider (names_spread schema fragments variables parent p) (c.in_ok-check_possible.ensures.checks fragments found)))

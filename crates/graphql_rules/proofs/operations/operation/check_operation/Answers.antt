@@ -7,7 +7,7 @@ use Rattle.graphql_diagnostics.proofs.ReportLemmas.{both, kept_by, kept_then, ke
 use Rattle.graphql_diagnostics.proofs.ReportWithinLemmas.{both_within, in_words_within, kept_within, wider_within, within}
 use Rattle.graphql_documents.proofs.SelectionLemmas.{one_fragment_found}
 use Rattle.graphql_rules.proofs.WalkLemmas.{walks_as}
-use Rattle.graphql_operations.specs.Contexts.{entered_names, schema_of}
+use Rattle.graphql_operations.specs.Contexts.{visited_fragment_names, schema_of}
 use Rattle.graphql_rules.proofs.OperationLemmas.{directives_checked, directives_kept, of_its_selections, of_its_uses, operation_decides, uses_checked, variables_checked, variables_kept}
 use Rattle.graphql_rules.proofs.operations.operation.check_operation.Goals as goal
 
@@ -48,8 +48,8 @@ returns-clause-checks c =
     (variables_checked S D o _ _ _ c.deref-2.ensures.value c.in_ok-validate_variable_definitions.ensures)))
     (uses_checked S D o _ _ c.in_ok-validate_unused_variables.ensures.exact c.in_ok-validate_unused_variables.ensures.kept) in
     MatchResult-weaker c.validate_selection_set.result
-    (walks_as S (fragments_of D) o.variables.items (one_fragment_found D) c.validate_selection_set.result (entered_names c.validate_selection_set.new.context)
+    (walks_as S (fragments_of D) o.variables.items (one_fragment_found D) c.validate_selection_set.result (visited_fragment_names c.validate_selection_set.new.context)
     (entries c.validate_unused_variables.new.diagnostics) (entries c.validate_selection_set.new.diagnostics)
-    refl c.requires.variables c.root_of-root.ensures.root refl c.requires.entered c.validate_selection_set.ensures.walks)
+    refl c.requires.variables c.root_of-root.ensures.root refl c.requires.visited_fragments c.validate_selection_set.ensures.walks)
     (λ _ w. in_words_within IsLimitEntry (operation_decides S D o) (both_within IsLimitEntry before (wider_within IsLimitEntry (of_its_selections S D o) w.reports)))
     (λ _ s. kept_then (kept_within IsLimitEntry before) (kept_wider (of_its_selections S D o) s.reports))

@@ -1,21 +1,21 @@
 use Rattle.std.proofs.Common.{◌≡◌, List, All, Bor, Contains, map, refl, sym, ap, ◌∙◌, subst}
 use Rattle.std.proofs.lemmas.Result.{MatchResult-from_err}
 use Rattle.std.specs.Option.{option_copied}
-use Rattle.graphql_documents.specs.Defer.{operations_of}
+use Rattle.graphql_documents.specs.Executables.{operations_of}
 use Rattle.graphql_diagnostics.specs.Diagnostics.{IsLimitEntry, entries}
-use Rattle.graphql_documents.specs.Documents.{OperationHolds}
+use Rattle.graphql_specification.specs.Operations.{OperationHolds}
 use Rattle.graphql_documents.specs.declared.documents.executables.Operation.{Operation}
 use Rattle.graphql_nodes.specs.declared.nodes.Node.{Node}
 use Rattle.graphql_diagnostics.proofs.ReportLemmas.{kept_then}
 use Rattle.graphql_diagnostics.proofs.ReportWithinLemmas.{in_words_within, kept_within, walked_all_within, walked_more_within, walked_none_within}
-use Rattle.graphql_rules.proofs.OperationLemmas.{OperationsTruth, operation_checked, operation_kept}
+use Rattle.graphql_rules.proofs.OperationLemmas.{OperationsEntryReport, operation_checked, operation_kept}
 use Rattle.graphql_variables.proofs.ReferenceLemmas.{all_referred, stands_referred}
 use Rattle.graphql_rules.proofs.operations.operation.validate_operation_definitions.Goals as goal
 
 pub loop-operation-init : goal.loop-operation-init
 loop-operation-init c = record {
   checked = walked_none_within IsLimitEntry (λ (o : Bor (Node Operation)). OperationHolds (option_copied c.args.schema) c.args.document.now o.now.value.value)
-      (OperationsTruth (option_copied c.args.schema) c.args.document.now) c.deref-operation-items.result.now (entries c.args.diagnostics.now);
+      (OperationsEntryReport (option_copied c.args.schema) c.args.document.now) c.deref-operation-items.result.now (entries c.args.diagnostics.now);
   schema = c.new-context.ensures.schema;
 }
 
@@ -48,7 +48,7 @@ loop-operation-preserved c =
     subst (λ l. Contains l x.now) (ap (λ (l : List (Bor (Node Operation))). map (λ b. b.now) l) c.deref-operation-items.ensures.value ∙ c.in_ok-operations.ensures)
     (stands_referred xs i x c.loop-operation-test.true c.operation-item.is) in
     record {
-      checked = walked_more_within IsLimitEntry (λ (o : Bor (Node Operation)). OperationHolds S D o.now.value.value) (OperationsTruth S D) xs i x _ _ _
+      checked = walked_more_within IsLimitEntry (λ (o : Bor (Node Operation)). OperationHolds S D o.now.value.value) (OperationsEntryReport S D) xs i x _ _ _
           c.loop-operation-test.true c.operation-item.is c.loop-operation.invariant.checked
           (operation_checked D x.now among _ S _ _ _ schema c.deref-in-loop-operation-2.ensures c.in_ok-check_operation.ensures.checks);
       schema = c.in_ok-check_operation.ensures.schema ∙ schema;
@@ -64,5 +64,5 @@ returns c =
     ap (λ (l : List (Bor (Node Operation))). map (λ b. b.now) l) c.deref-operation-items.ensures.value ∙ c.in_ok-operations.ensures in
     let referred = all_referred P xs in
     in_words_within IsLimitEntry (λ all. subst (All P) same (referred.0 all), λ all. referred.1 (subst (All P) (sym same) all))
-    (walked_all_within IsLimitEntry (λ (o : Bor (Node Operation)). P o.now) (OperationsTruth S D) xs c.loop-operation.operation-index xs _ _ refl
+    (walked_all_within IsLimitEntry (λ (o : Bor (Node Operation)). P o.now) (OperationsEntryReport S D) xs c.loop-operation.operation-index xs _ _ refl
     c.loop-operation-test.false c.loop-operation.invariant.checked)

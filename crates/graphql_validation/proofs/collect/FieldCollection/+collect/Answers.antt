@@ -1,10 +1,9 @@
 -- Each exit of the walk, and each of its steps.
 use Rattle.std.proofs.Common.{arith, ◌≡◌, ◌∷◌, ◌++◌, ◌<◌, [], ap, get_or, inl, inr, length, refl, subst, sym, take, ◌∙◌}
 use Rattle.std.proofs.lemmas.List.{map-append, take_all}
-use Rattle.std.specs.Prelude.{Vec}
+use Rattle.std.specs.Prelude.{Vec, IfSome, IsFalse, IsTrue}
 use Rattle.std.specs.declared.alloc.Global.{Global}
-use Rattle.std.specs.Prelude.{IfSome, IsFalse, IsTrue}
-use Rattle.graphql_documents.specs.CollectFields.{AppliesTo}
+use Rattle.graphql_specification.specs.CollectFields.{AppliesTo}
 use Rattle.graphql_nodes.specs.Names.{stands_on}
 use Rattle.graphql_documents.specs.Selections.{fragments_of}
 use Rattle.graphql_documents.specs.declared.documents.executables.Fragment.{Fragment}
@@ -19,7 +18,7 @@ use Rattle.graphql_merging.specs.FieldSelections.{listed, selection_of}
 use Rattle.graphql_merging.specs.declared.field_selections.FieldSelection as Code
 use Rattle.graphql_operations.proofs.MeasureLemmas.{room_falls, room_stays, selection_is_smaller}
 use Rattle.graphql_cycles.proofs.SeenNameLemmas.{marked_grows, marked_is_seen, was_marked, was_seen}
-use Rattle.graphql_validation.specs.CollectionSteps.{CollectsMore, WalksAmong, WalksIn, met_of}
+use Rattle.graphql_validation.specs.CollectionSteps.{CollectsMore, WalksAmong, WalksIn, visited_of}
 use Rattle.graphql_validation.proofs.CollectingLemmas.{among_grows}
 use Rattle.graphql_validation.proofs.CollectionLemmas.{field_collected, inline_collected, inline_passed, more_then, nothing_more, set_collected, set_passed, spread_collected, spread_passed}
 use Rattle.graphql_validation.proofs.collect.FieldCollection.+collect.Goals as goal
@@ -58,8 +57,8 @@ pub collect_set-collect_selection-requires : goal.collect_set-collect_selection-
 collect_set-collect_selection-requires t c =
     let of = c.args.self.now in
     let set = c.args.set.now in
-    let old = met_of c.args.found.now in
-    let now = met_of c.loop-selection.found in
+    let old = visited_of c.args.found.now in
+    let now = visited_of c.loop-selection.found in
     let grows = among_grows of.schema.now (fragments_of of.document.now) of.object_type.now c.loop-selection.invariant.walks in
     let kept = room_stays old now grows of.document.now.fragments.entries in
     let falls : size-Selection c.selection-item.result < size-SelectionSet set =
@@ -95,9 +94,9 @@ collect_spread-returns-then-not-branch t c =
     let p = c.args.spread.now in
     let old = c.args.found.now in
     let name = c.deref.result.now.fragment_name in
-    let seen = was_seen name old.met.keys c.enter.new.self.met.keys c.in_ok-enter.field-0 c.in_ok-enter.ensures.is_new c.in_ok-enter.ensures.names c.if-not-branch.true in
+    let seen = was_seen name old.visited.keys c.enter.new.self.visited.keys c.in_ok-enter.field-0 c.in_ok-enter.ensures.is_new c.in_ok-enter.ensures.names c.if-not-branch.true in
     spread_passed c.args.self.now c.args.parent_type.now p
-    (inl (subst (λ (s : FragmentSpread). IsTrue (stands_on (met_of old) s.fragment_name)) c.deref.ensures seen.0)) seen.1 c.in_ok-enter.ensures.fields
+    (inl (subst (λ (s : FragmentSpread). IsTrue (stands_on (visited_of old) s.fragment_name)) c.deref.ensures seen.0)) seen.1 c.in_ok-enter.ensures.fields
 
 pub collect_spread-collect_set-requires : goal.collect_spread-collect_set-requires
 collect_spread-collect_set-requires t c =
@@ -106,8 +105,8 @@ collect_spread-collect_set-requires t c =
     let name = c.deref.result.now.fragment_name in
     let d = c.in-Some.fragment.now in
     let es = c.args.self.now.document.now.fragments.entries in
-    let m = was_marked name old.met.keys new.met.keys c.in_ok-enter.field-0 c.in_ok-enter.ensures.is_new c.in_ok-enter.ensures.names c.if-not-branch.false in
-    let falls = room_falls (met_of old) (met_of new) (marked_grows m) name d m.unseen (marked_is_seen m name (same_name_itself name)) es (sym c.in-Some.ensures.value) in
+    let m = was_marked name old.visited.keys new.visited.keys c.in_ok-enter.field-0 c.in_ok-enter.ensures.is_new c.in_ok-enter.ensures.names c.if-not-branch.false in
+    let falls = room_falls (visited_of old) (visited_of new) (marked_grows m) name d m.unseen (marked_is_seen m name (same_name_itself name)) es (sym c.in-Some.ensures.value) in
     let same_size : size-SelectionSet c.deref-2.result.now.selection_set ≡ size-SelectionSet d.value.value.selection_set =
     ap (λ (f : Fragment). size-SelectionSet f.selection_set) c.deref-2.ensures in
     omega (arith, falls, same_size, c.decreases)
@@ -120,12 +119,12 @@ collect_spread-returns t c =
     let new = c.enter.new.self in
     let name = c.deref.result.now.fragment_name in
     let d = c.in-Some.fragment.now in
-    let m = was_marked name old.met.keys new.met.keys c.in_ok-enter.field-0 c.in_ok-enter.ensures.is_new c.in_ok-enter.ensures.names c.if-not-branch.false in
+    let m = was_marked name old.visited.keys new.visited.keys c.in_ok-enter.field-0 c.in_ok-enter.ensures.is_new c.in_ok-enter.ensures.names c.if-not-branch.false in
     on_ok c.collect_set.result _ _
     (λ more. spread_collected of c.args.parent_type.now p d
-    (subst (λ (s : FragmentSpread). IsFalse (stands_on (met_of old) s.fragment_name)) c.deref.ensures m.unseen)
+    (subst (λ (s : FragmentSpread). IsFalse (stands_on (visited_of old) s.fragment_name)) c.deref.ensures m.unseen)
     (ap (λ (s : FragmentSpread). fragments_of of.document.now s.fragment_name) (sym c.deref.ensures) ∙ sym c.in-Some.ensures.value)
-    (m.names ∙ ap (λ (s : FragmentSpread). met_of old ++ s.fragment_name ∷ []) c.deref.ensures)
+    (m.names ∙ ap (λ (s : FragmentSpread). visited_of old ++ s.fragment_name ∷ []) c.deref.ensures)
     (ap (λ (f : Vec Code.FieldSelection Global). listed f.items) c.in_ok-enter.ensures.fields)
     (subst (λ (f : Fragment). CollectsMore new c.collect_set.new.found (WalksIn of f.selection_set)) c.deref-2.ensures more))
     c.collect_set.ensures

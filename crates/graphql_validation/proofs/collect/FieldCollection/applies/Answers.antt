@@ -1,6 +1,6 @@
 use Rattle.std.proofs.Common.{rules, ◌≡◌, Some, ap, refl, sym, ◌∙◌}
 use Rattle.std.specs.Prelude.{IsFalse}
-use Rattle.graphql_documents.specs.CollectFields.{applies_itself}
+use Rattle.graphql_specification.specs.CollectFields.{applies_itself}
 use Rattle.graphql_nodes.specs.Names.{SameName, same_name}
 use Rattle.graphql_documents.specs.Schemas.{type_definition}
 use Rattle.graphql_documents.specs.declared.documents.schemas.ExtendedType.TheVariants as types

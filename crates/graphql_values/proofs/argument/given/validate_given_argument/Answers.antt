@@ -1,7 +1,8 @@
--- The argument is not defined, or may not stand there, or its value decides.
+-- The argument is not defined, or is not allowed there, or its value decides.
 use Rattle.std.proofs.Common.{◌≡◌, Some, rules}
-use Rattle.graphql_documents.specs.Arguments.{IsDefined, definition_named}
-use Rattle.graphql_documents.specs.VariableUsage.{UsageHolds}
+use Rattle.graphql_specification.specs.Arguments.{IsDefined}
+use Rattle.graphql_documents.specs.Definitions.{definition_named}
+use Rattle.graphql_specification.specs.VariableUsages.{UsageHolds}
 use Rattle.graphql_diagnostics.proofs.ReportLemmas.{both, checks-err, checks_words, in_words, kept_by, kept_then, kept_wider, wider}
 use Rattle.graphql_values.proofs.GivenLemmas.{names_misuse, names_wrong_value, usage_needed, given_decides}
 use Rattle.graphql_values.proofs.argument.given.validate_given_argument.Goals as goal

@@ -1,5 +1,5 @@
 use Rattle.std.proofs.Common.{◌≡◌, true, refl, rules}
-use Rattle.graphql_documents.specs.Arguments.{IsGiven}
+use Rattle.graphql_specification.specs.Arguments.{IsProvided}
 use Rattle.graphql_documents.specs.Schemas.{is_required}
 use Rattle.graphql_diagnostics.proofs.ReportLemmas.{checks-push}
 use Rattle.graphql_values.specs.GivenArguments.{of_missing_argument}
@@ -8,7 +8,7 @@ use Rattle.graphql_values.proofs.argument.required.validate_required_argument.Go
 pub returns : goal.returns
 returns c =
     let required : is_required c.args.definition.now.value.value ≡ true = search rules in
-    let missing : ¬ IsGiven c.args.arguments.now.given.now c.args.definition.now.value.value.name = search rules in
+    let missing : ¬ IsProvided c.args.arguments.now.given.now c.args.definition.now.value.value.name = search rules in
     checks-push _ _ _ _ _ _ c.push.ensures.ok c.push.ensures.err (λ holds. missing (holds required))
     (of_missing_argument (record {
       definition = c.args.definition.now;

@@ -1,5 +1,5 @@
 use Rattle.std.proofs.Common.{refl}
-use Rattle.graphql_documents.specs.Arguments.{IsGivenIfRequired}
+use Rattle.graphql_specification.specs.Arguments.{RequiredArgumentIsProvided}
 use Rattle.graphql_diagnostics.specs.Diagnostics.{IsDiagnostic}
 use Rattle.graphql_diagnostics.proofs.ReportLemmas.{checks-err, kept_then, kept_by, walked_more, walked_all}
 use Rattle.graphql_values.specs.GivenArguments.{MissingArgumentReport}
@@ -12,12 +12,12 @@ returns-in_err-validate_required_argument c =
 
 pub loop-definition-preserved : goal.loop-definition-preserved
 loop-definition-preserved c =
-    walked_more (IsGivenIfRequired c.args.arguments.now.given.now) (IsDiagnostic (MissingArgumentReport c.args.arguments.now))
+    walked_more (RequiredArgumentIsProvided c.args.arguments.now.given.now) (IsDiagnostic (MissingArgumentReport c.args.arguments.now))
     c.args.arguments.now.definitions.now c.loop-definition.definition-index c.definition-item.result _ _ _
     c.loop-definition-test.true c.definition-item.is c.loop-definition.invariant (c.in_ok-validate_required_argument.ensures)
 
 pub returns : goal.returns
 returns c =
-    walked_all (IsGivenIfRequired c.args.arguments.now.given.now) (IsDiagnostic (MissingArgumentReport c.args.arguments.now))
+    walked_all (RequiredArgumentIsProvided c.args.arguments.now.given.now) (IsDiagnostic (MissingArgumentReport c.args.arguments.now))
     c.args.arguments.now.definitions.now c.loop-definition.definition-index _ _ _ refl
     c.loop-definition-test.false c.loop-definition.invariant

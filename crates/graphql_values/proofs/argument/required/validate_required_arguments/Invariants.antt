@@ -1,5 +1,5 @@
 use Rattle.std.proofs.Common.{All, take}
-use Rattle.graphql_documents.specs.Arguments.{IsGivenIfRequired}
+use Rattle.graphql_specification.specs.Arguments.{RequiredArgumentIsProvided}
 use Rattle.graphql_diagnostics.specs.Diagnostics.{IsDiagnostic, entries}
 use Rattle.graphql_diagnostics.specs.Reports.{Reports}
 use Rattle.graphql_values.specs.GivenArguments.{MissingArgumentReport}
@@ -7,5 +7,5 @@ use Rattle.graphql_values.proofs.argument.required.validate_required_arguments.G
 
 abbrev pub invariant-loop-definition : goal.invariant-loop-definition
 invariant-loop-definition l =
-    Reports (All (IsGivenIfRequired l.arguments.given.now) (take l.definition-index l.definition-items))
+    Reports (All (RequiredArgumentIsProvided l.arguments.given.now) (take l.definition-index l.definition-items))
     (IsDiagnostic (MissingArgumentReport l.arguments)) (entries l.initial.diagnostics) (entries l.diagnostics)

@@ -1,7 +1,7 @@
 use Rattle.std.proofs.Common.{◌∙◌, Contains, ap, refl, rules}
 use Rattle.std.specs.List.{each_same}
 use Rattle.graphql_diagnostics.proofs.ReportLemmas.{checks-push, holds}
-use Rattle.graphql_diagnostics.specs.DirectiveReports.{of_misplaced_directive}
+use Rattle.graphql_specification.specs.Directives.{of_misplaced_directive}
 use Rattle.graphql_values.proofs.directive.applications.check_location.Goals as goal
 
 pub returns-then-contains : goal.returns-then-contains

@@ -1,7 +1,7 @@
 use Rattle.std.proofs.Common.{◌≡◌, None, ◌∙◌, rules, sym}
 use Rattle.std.proofs.lemmas.Option.{none-some}
 use Rattle.std.specs.Option.{option_copied}
-use Rattle.graphql_documents.specs.Directives.{IsRepeatable}
+use Rattle.graphql_specification.specs.Directives.{IsRepeatable}
 use Rattle.graphql_diagnostics.proofs.ReportLemmas.{holds}
 use Rattle.graphql_values.specs.DirectiveSteps.{directive_named, head_place}
 use Rattle.graphql_variables.proofs.FirstPlaceLemmas.{first_found, none_mapped}

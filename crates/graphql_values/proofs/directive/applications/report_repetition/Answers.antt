@@ -1,6 +1,6 @@
 use Rattle.std.proofs.Common.{rules}
 use Rattle.graphql_diagnostics.proofs.ReportLemmas.{checks-err, checks-push, kept}
-use Rattle.graphql_diagnostics.specs.DirectiveReports.{of_repeated_directive}
+use Rattle.graphql_specification.specs.Directives.{of_repeated_directive}
 use Rattle.graphql_values.proofs.directive.applications.report_repetition.Goals as goal
 
 pub returns-in_err-name : goal.returns-in_err-name

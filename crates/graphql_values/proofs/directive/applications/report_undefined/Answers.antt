@@ -1,6 +1,6 @@
 use Rattle.std.proofs.Common.{rules}
 use Rattle.graphql_diagnostics.proofs.ReportLemmas.{checks-push}
-use Rattle.graphql_diagnostics.specs.DirectiveReports.{of_undefined_directive}
+use Rattle.graphql_specification.specs.Directives.{of_undefined_directive}
 use Rattle.graphql_values.proofs.directive.applications.report_undefined.Goals as goal
 
 pub returns : goal.returns

@@ -1,7 +1,7 @@
 use Rattle.std.proofs.Common.{sym, ◌∙◌}
 use Rattle.std.proofs.lemmas.Option.{none-some}
 use Rattle.graphql_diagnostics.proofs.ReportLemmas.{checks_words, holds}
-use Rattle.graphql_documents.specs.VariableUsage.{variable_named}
+use Rattle.graphql_documents.specs.Definitions.{variable_named}
 use Rattle.graphql_variables.proofs.FirstPlaceLemmas.{first_found, none_mapped}
 use Rattle.graphql_values.proofs.directive.variable_definitions.check_name.Goals as goal
 

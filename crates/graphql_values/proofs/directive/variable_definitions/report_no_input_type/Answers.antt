@@ -1,5 +1,5 @@
 use Rattle.std.proofs.Common.{refl, rules}
-use Rattle.graphql_diagnostics.specs.VariableReports.{of_no_input_type, of_variable}
+use Rattle.graphql_specification.specs.Variables.{of_no_input_type, of_variable}
 use Rattle.graphql_diagnostics.proofs.ReportLemmas.{checks-push}
 use Rattle.graphql_values.proofs.directive.variable_definitions.report_no_input_type.Goals as goal
 

@@ -1,5 +1,5 @@
 use Rattle.std.proofs.Common.{rules}
-use Rattle.graphql_diagnostics.specs.VariableReports.{of_repetition}
+use Rattle.graphql_specification.specs.Variables.{of_repetition}
 use Rattle.graphql_diagnostics.proofs.ReportLemmas.{checks-err, checks-push, kept}
 use Rattle.graphql_values.proofs.directive.variable_definitions.report_repetition.Goals as goal
 

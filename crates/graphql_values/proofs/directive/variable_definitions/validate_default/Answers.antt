@@ -1,11 +1,9 @@
 use Rattle.std.proofs.Common.{◌≡◌, [], Some, None, refl, rules, ap, sym, ◌∙◌, subst}
 use Rattle.std.proofs.lemmas.Option.{none-some, same_Some}
 use Rattle.graphql_diagnostics.specs.Diagnostics.{IsDiagnostic}
-use Rattle.graphql_documents.specs.InputCoercion.{Accepts}
+use Rattle.graphql_specification.specs.Values.{Accepts, ValueReport}
 use Rattle.graphql_documents.specs.TypeReferences.{reference_of}
-use Rattle.graphql_diagnostics.specs.ValueReports.{ValueReport}
-use Rattle.graphql_diagnostics.specs.VariableReports.{VariablesReport}
-use Rattle.graphql_documents.specs.Variables.{DefaultHolds}
+use Rattle.graphql_specification.specs.Variables.{VariablesReport, DefaultHolds}
 use Rattle.graphql_diagnostics.proofs.ReportLemmas.{checks_words, holds}
 use Rattle.graphql_values.proofs.VariableLemmas.{names_default}
 use Rattle.graphql_values.proofs.directive.variable_definitions.validate_default.Goals as goal

@@ -4,8 +4,7 @@ use Rattle.std.proofs.lemmas.List.{take_all}
 use Rattle.std.proofs.lemmas.List.Elements.{All-nil}
 use Rattle.graphql_diagnostics.specs.Diagnostics.{IsDiagnostic, entries}
 use Rattle.graphql_diagnostics.specs.Reports.{Reports}
-use Rattle.graphql_diagnostics.specs.VariableReports.{VariablesReport}
-use Rattle.graphql_documents.specs.Variables.{VariableDefinitionsHold}
+use Rattle.graphql_specification.specs.Variables.{VariablesReport, VariableDefinitionsHold}
 use Rattle.graphql_diagnostics.proofs.ReportLemmas.{checks-err, holds, kept_by, kept_then}
 use Rattle.graphql_documents.proofs.ListLemmas.{more_is}
 use Rattle.graphql_variables.proofs.FirstPlaceLemmas.{next_at}

@@ -5,9 +5,9 @@ use Rattle.graphql_values.proofs.value.leaves.check_other_scalar.Goals as goal
 
 pub returns-then-takes_other_scalar : goal.returns-then-takes_other_scalar
 returns-then-takes_other_scalar c = λ schema variables is.
-    holds _ _ _ (other_accepted schema variables c.args.ty.now c.args.definition.now _ is c.requires (search rules))
+    holds _ _ _ (other_accepted schema variables c.args.expected.now.ty.now c.args.expected.now.definition.now _ is c.requires (search rules))
 
 pub returns : goal.returns
 returns c = λ schema variables is.
-    c.unsupported_type.ensures schema variables c.args.ty.now c.args.definition.now is
-    (other_cannot schema variables c.args.ty.now c.args.definition.now _ is c.requires (search rules))
+    c.unsupported_type.ensures schema variables c.args.expected.now.ty.now c.args.expected.now.definition.now is
+    (other_cannot schema variables c.args.expected.now.ty.now c.args.expected.now.definition.now _ is c.requires (search rules))

@@ -1,8 +1,7 @@
 use Rattle.std.proofs.Common.{rules}
 use Rattle.graphql_diagnostics.proofs.ReportLemmas.{checks-push}
-use Rattle.graphql_documents.specs.InputCoercion.{IsInputField}
+use Rattle.graphql_specification.specs.Values.{IsInputField, within_itself}
 use Rattle.graphql_nodes.specs.Names.{NameText}
-use Rattle.graphql_diagnostics.specs.ValueReports.{within_itself}
 use Rattle.graphql_nodes.specs.declared.nodes.Node.{Node}
 use Rattle.graphql_documents.specs.declared.documents.values.Value.{Value}
 use Rattle.graphql_values.proofs.ObjectLemmas.{none_reported, not_all_known, unknown_entry}

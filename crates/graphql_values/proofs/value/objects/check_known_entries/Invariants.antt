@@ -1,6 +1,6 @@
 use Rattle.std.proofs.Common.{◌≡◌, All, take}
 use Rattle.graphql_diagnostics.specs.Diagnostics.{entries}
-use Rattle.graphql_documents.specs.InputCoercion.{IsInputField}
+use Rattle.graphql_specification.specs.Values.{IsInputField}
 use Rattle.graphql_values.proofs.value.objects.check_known_entries.Given as goal
 
 abbrev pub invariant-loop-name : goal.invariant-loop-name

@@ -4,7 +4,7 @@ use Rattle.std.proofs.Common.{◌≡◌, ◌+◌, ◌-◌, ◌*◌, [], take}
 use Rattle.graphql_guards.specs.Guards.{depth_limit, depth_of}
 use Rattle.graphql_documents.specs.Selections.{fragments_of}
 use Rattle.graphql_variables.specs.Searches.{Searched}
-use Rattle.graphql_variables.specs.WalkSteps.{GoesThrough, IsMet, ListsInOrder, StepOf}
+use Rattle.graphql_variables.specs.WalkSteps.{GoesThrough, IsVisited, ListsInOrder, StepOf}
 use Rattle.graphql_variables.specs.declared.walks.Extent.TheVariants as extent
 use Rattle.graphql_variables.proofs.walks.SelectionWalk.+walk.Given as goal
 
@@ -25,7 +25,7 @@ invariant-walk_set-loop-selection l = record {
   depth : depth_of l.depth ≡ depth_of l.initial.depth;
   limit : depth_limit l.depth ≡ depth_limit l.initial.depth;
   searched : Searched (StepOf l.self) (GoesThrough l.self (take l.selection-index l.selection-items))
-      (IsMet l.initial.met) (IsMet l.met);
-  ordered : l.self.extent ≡ extent.Inside →
-      ListsInOrder (fragments_of l.self.document.now) (take l.selection-index l.selection-items) [] l.initial.met l.met;
+      (IsVisited l.initial.visited) (IsVisited l.visited);
+  ordered : l.self.extent ≡ extent.InExpandedSet →
+      ListsInOrder (fragments_of l.self.document.now) (take l.selection-index l.selection-items) [] l.initial.visited l.visited;
 }

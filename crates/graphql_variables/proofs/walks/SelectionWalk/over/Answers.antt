@@ -5,15 +5,15 @@ use Rattle.graphql_variables.proofs.SelectionWalkLemmas.{walked_words}
 use Rattle.graphql_variables.proofs.WalkOrderLemmas.{ordered_from_nothing}
 use Rattle.graphql_variables.proofs.WalkedLemmas.{walk_has_listed, passes_bound}
 use Rattle.graphql_variables.specs.WalkSteps.{BeginsIn, HasWalked, PassesFrom}
-use Rattle.graphql_variables.specs.declared.walks.Met.{Met}
+use Rattle.graphql_variables.specs.declared.walks.Visited.{Visited}
 use Rattle.graphql_variables.proofs.walks.SelectionWalk.over.Goals as goal
 
 pub returns-clause-listed : goal.returns-clause-listed
 returns-clause-listed c =
     let walk = c.args.self.now in
     let set = c.args.set.now in
-    let begun : Met = record { entered = c.new.result; selections = c.new-2.result } in
-    let Bounded = λ (limit depth : ℕ). HasWalked walk (BeginsIn walk set) (PassesFrom walk begun limit depth set) begun c.walk_set.new.met c.in_ok-complete.complete in
+    let begun : Visited = record { visited_fragments = c.new.result; selections = c.new-2.result } in
+    let Bounded = λ (limit depth : ℕ). HasWalked walk (BeginsIn walk set) (PassesFrom walk begun limit depth set) begun c.walk_set.new.visited c.in_ok-complete.complete in
     let from_nothing : Bounded 500 0 =
     subst (λ limit. Bounded limit 0) c.with_limit-depth.ensures.limit
     (subst (Bounded (depth_limit c.with_limit-depth.result)) (c.with_limit-depth.ensures.depth ∙ c.new-3.ensures.depth) c.in_ok-complete.ensures.walks) in

@@ -10,7 +10,7 @@ pub returns : goal.returns
 returns c = λ directives stands.
     let d = c.args.directive.now in
     let deferred = sym c.is_defer.ensures ∙ c.if-not-is_defer.false in
-    let breaks : ¬ Meets c.args.self d = λ meets. not_false _ (c.is_met_by.ensures.1 meets) c.if-is_met_by.false in
+    let breaks : ¬ Meets c.args.self d = λ meets. not_false _ (c.is_visited_by.ensures.1 meets) c.if-is_visited_by.false in
     checks-push _ _ _ _ _ _ c.push.ensures.ok c.push.ensures.err (λ meets. breaks (meets deferred)) (record {
       d = d;
       deferred = kept_by_filter is_defer directives d stands deferred;

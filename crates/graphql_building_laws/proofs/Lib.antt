@@ -1,0 +1,2 @@
+pub mod OutputFieldLaws
+pub mod OwnNameLaws

@@ -1,3 +1,0 @@
-pub mod DefaultValueReports
-pub mod FieldDefinitionSteps
-pub mod RootSteps

@@ -1,0 +1,5 @@
+pub mod BuildsLemmas
+pub mod BuiltLemmas
+pub mod DocumentLemmas
+pub mod MeasureLemmas
+pub mod SaysLemmas

@@ -1,0 +1,53 @@
+-- What documents say, once they are built against a schema. Specification: 2.2 Document, 2.3 Operations, 2.8 Fragments.
+use Rattle.std.specs.Prelude.{◌≡◌, Ok, Some, option_to_list}
+use Rattle.std.specs.List.{AllZip}
+use Rattle.graphql_nodes.specs.Names.{NameText}
+use Rattle.graphql_nodes.specs.declared.nodes.Node.{Node}
+use Rattle.graphql_documents.specs.Schemas.{NamesKind, is_output_type, type_field}
+use Rattle.graphql_documents.specs.declared.documents.components.Component.{Component}
+use Rattle.graphql_documents.specs.declared.documents.definitions.FieldDefinition.{FieldDefinition}
+use Rattle.graphql_documents.specs.declared.documents.executables.ExecutableDocument.{ExecutableDocument}
+use Rattle.graphql_documents.specs.declared.documents.executables.Fragment.{Fragment}
+use Rattle.graphql_documents.specs.declared.documents.executables.Operation.{Operation}
+use Rattle.graphql_documents.specs.declared.documents.schemas.Schema.{Schema}
+use Rattle.graphql_trees.specs.declared.documents.Document.{Document}
+use Rattle.graphql_trees.specs.declared.executable.FragmentDefinition.{FragmentDefinition}
+use Rattle.graphql_trees.specs.declared.executable.OperationDefinition.{OperationDefinition}
+use Rattle.graphql_leaf_building.specs.Definitions.{VariablesSay}
+use Rattle.graphql_leaf_building.specs.Directives.{DirectivesSay}
+use Rattle.graphql_document_building.specs.Selections.{SelectionsSay}
+use Rattle.graphql_document_building.specs.Trees.{anonymous_operations_in, fragments_in, named_operations_in, root_name, type_below}
+
+-- the tree says this operation: its set is on the root type of its kind
+pub record OperationSays (schema : Schema) (x : OperationDefinition) (o : Node Operation) : Type 0 where
+  pub operation_type : o.value.value.operation_type ≡ x.operation_type
+  pub name : o.value.value.name ≡ x.name
+  pub variables : VariablesSay x.variables o.value.value.variables.items
+  pub directives : DirectivesSay x.directives o.value.value.directives.items
+  pub root : root_name schema x.operation_type ≡ Some o.value.value.selection_set.ty
+  pub selections : SelectionsSay schema o.value.value.selection_set.ty x.selection_set.selections o.value.value.selection_set.selections.items
+  pub location : o.location ≡ Some x.span
+
+-- the tree says this fragment: its set is on the type condition
+pub record FragmentSays (schema : Schema) (x : FragmentDefinition) (d : Node Fragment) : Type 0 where
+  pub name : d.value.value.name ≡ x.name
+  pub directives : DirectivesSay x.directives d.value.value.directives.items
+  pub type_condition : d.value.value.selection_set.ty ≡ x.type_condition
+  pub selections : SelectionsSay schema d.value.value.selection_set.ty x.selection_set.selections d.value.value.selection_set.selections.items
+  pub location : d.location ≡ Some x.span
+
+-- the tree of this name says what is under it
+abbrev pub SaysUnderName : {X Y : Type 0} → (X → Y → Type 0) → NameText × X → NameText × Y → Type 0
+SaysUnderName Says x y = (y.0 ≡ x.0) × Says x.1 y.1
+
+-- the tree says this document: its operations without a name, those with one and its fragments, in order, each under its
+-- name
+pub record DocumentSays (schema : Schema) (x : Document) (document : ExecutableDocument) : Type 0 where
+  pub anonymous : AllZip (OperationSays schema) (anonymous_operations_in x.definitions) (option_to_list document.operations.anonymous)
+  pub named : AllZip (SaysUnderName (OperationSays schema)) (named_operations_in x.definitions) document.operations.named.entries
+  pub fragments : AllZip (SaysUnderName (FragmentSays schema)) (fragments_in x.definitions) document.fragments.entries
+
+-- each field that a type has is of an output type. Specification: 3.6 Objects, 3.7 Interfaces
+abbrev pub HasOutputFields : Schema → Type 0
+HasOutputFields schema =
+    (parent field : NameText) (d : Component FieldDefinition) → type_field schema parent field ≡ Ok d → NamesKind schema is_output_type (type_below d)

@@ -1,0 +1,4 @@
+pub mod BuildingRules
+pub mod Documents
+pub mod Selections
+pub mod Trees

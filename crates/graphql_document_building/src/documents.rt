@@ -1,0 +1,199 @@
+//! Operations, fragments and documents.
+
+ghost use Rattle.std.specs.Prelude.{◌≡◌, [], ◌∷◌, ◌++◌, All, IfOk, None, OnOk, Some, map, option_to_list};
+ghost use Rattle.std.specs.List.{AllZip};
+ghost use Rattle.std.specs.Option.{option_copied, option_map};
+ghost use Rattle.indexmap.specs.IndexMap.{get};
+ghost use Rattle.graphql_nodes.specs.Names.{AreDistinct, same_name};
+ghost use Rattle.graphql_document_building.specs.BuildingRules.{AnonymousOperationIsAlone, DefinitionBuilds, DocumentBuilds, FragmentBuilds, OperationBuilds};
+ghost use Rattle.graphql_document_building.specs.Documents.{DocumentSays, FragmentSays, OperationSays, SaysUnderName};
+ghost use Rattle.graphql_document_building.specs.Trees.{anonymous_operations_in, as_anonymous_operation, as_fragment, as_named_operation, fragments_in, named_operations_in};
+
+use crate::selections::{build_selection_set, copy_of_name};
+use graphql_documents::documents::{ExecutableDocument, Fragment, Operation, OperationMap, Schema};
+use graphql_leaf_building::{build_directives, build_variables};
+use graphql_nodes::{Name, Node, ValidationError};
+use graphql_trees::{Definition, Document, FragmentDefinition, OperationDefinition};
+use indexmap::IndexMap;
+use std::alloc::Global;
+
+/// The document that the tree says, built against the schema: operations and fragments in the order of the
+/// text, each under its name. Fails only where an allocation fails.
+///
+/// Specification: 2.2 Document.
+pub fn build_document(
+    alloc: Global,
+    schema: &Schema,
+    tree: &Document,
+) -> Result<ExecutableDocument, ValidationError>
+    requires { DocumentBuilds schema.now tree.now }
+    ensures { IfOk result (DocumentSays schema.now tree.now) }
+{
+    let trees = tree.definitions.as_slice();
+    let anonymous = build_anonymous_operation(alloc, schema, trees)?;
+    let named = build_named_operations(alloc, schema, trees)?;
+    let fragments = build_fragments(alloc, schema, trees)?;
+    Ok(ExecutableDocument {
+        operations: OperationMap { anonymous, named },
+        fragments,
+    })
+}
+
+fn build_anonymous_operation(
+    alloc: Global,
+    schema: &Schema,
+    trees: &[Definition],
+) -> Result<Option<Node<Operation>>, ValidationError>
+    requires builds { All (DefinitionBuilds schema.now) trees.now }
+    requires alone { AnonymousOperationIsAlone trees.now }
+    ensures { IfOk result (λ found. AllZip (OperationSays schema.now) (anonymous_operations_in trees.now) (option_to_list found)) }
+{
+    for tree in trees {
+        if let Some(operation) = anonymous_operation(tree) {
+            let built = build_operation(alloc, schema, operation)?;
+            return Ok(Some(built));
+        }
+    }
+    Ok(None)
+}
+
+fn build_named_operations(
+    alloc: Global,
+    schema: &Schema,
+    trees: &[Definition],
+) -> Result<IndexMap<Name, Node<Operation>>, ValidationError>
+    requires builds { All (DefinitionBuilds schema.now) trees.now }
+    requires distinct { AreDistinct (map (λ p. p.0) (named_operations_in trees.now)) }
+    ensures { IfOk result (λ named. AllZip (SaysUnderName (OperationSays schema.now)) (named_operations_in trees.now) named.entries) }
+{
+    let mut operations = IndexMap::new(alloc);
+    for tree in trees {
+        let Some((name, operation)) = named_operation(tree) else {
+            continue;
+        };
+        let name = name.clone_in(alloc)?;
+        let built = build_operation(alloc, schema, operation)?;
+        insert_new(&mut operations, name, built)?;
+    }
+    Ok(operations)
+}
+
+fn build_fragments(
+    alloc: Global,
+    schema: &Schema,
+    trees: &[Definition],
+) -> Result<IndexMap<Name, Node<Fragment>>, ValidationError>
+    requires builds { All (DefinitionBuilds schema.now) trees.now }
+    requires distinct { AreDistinct (map (λ p. p.0) (fragments_in trees.now)) }
+    ensures { IfOk result (λ fragments. AllZip (SaysUnderName (FragmentSays schema.now)) (fragments_in trees.now) fragments.entries) }
+{
+    let mut fragments = IndexMap::new(alloc);
+    for tree in trees {
+        let Some(fragment) = fragment_definition(tree) else {
+            continue;
+        };
+        let name = fragment.name.clone_in(alloc)?;
+        let built = build_fragment(alloc, schema, fragment)?;
+        insert_new(&mut fragments, name, built)?;
+    }
+    Ok(fragments)
+}
+
+/// The operation without a name that the definition is.
+fn anonymous_operation(tree: &Definition) -> Option<&OperationDefinition>
+    ensures { option_copied result ≡ as_anonymous_operation tree.now }
+{
+    match tree {
+        Definition::Operation(operation) if operation.name.is_none() => Some(operation),
+        _ => None,
+    }
+}
+
+/// The operation with a name that the definition is, with that name.
+fn named_operation(tree: &Definition) -> Option<(&Name, &OperationDefinition)>
+    ensures { option_map (λ found. (found.0.now, found.1.now)) result ≡ as_named_operation tree.now }
+{
+    match tree {
+        Definition::Operation(operation) => match &operation.name {
+            Some(name) => Some((name, operation)),
+            None => None,
+        },
+        _ => None,
+    }
+}
+
+/// The fragment that the definition is.
+fn fragment_definition(tree: &Definition) -> Option<&FragmentDefinition>
+    ensures { option_map (λ found. (found.now.name, found.now)) result ≡ as_fragment tree.now }
+{
+    match tree {
+        Definition::Fragment(fragment) => Some(fragment),
+        _ => None,
+    }
+}
+
+/// Puts a node under a name under which none is, behind the others.
+fn insert_new<T: Drop>(
+    nodes: &mut IndexMap<Name, Node<T>>,
+    name: Name,
+    node: Node<T>,
+) -> Result<(), ValidationError>
+    requires { get same_name nodes.old name ≡ None }
+    ensures { OnOk result (nodes.new.entries ≡ nodes.old.entries ++ (name, node) ∷ []) }
+{
+    nodes.insert(name, node)?;
+    Ok(())
+}
+
+fn build_operation(
+    alloc: Global,
+    schema: &Schema,
+    tree: &OperationDefinition,
+) -> Result<Node<Operation>, ValidationError>
+    requires { OperationBuilds schema.now tree.now }
+    ensures { IfOk result (OperationSays schema.now tree.now) }
+{
+    let name = copy_of_name(alloc, &tree.name)?;
+    let variables = build_variables(alloc, tree.variables.as_slice())?;
+    let directives = build_directives(alloc, tree.directives.as_slice())?;
+    let root = match schema.root_operation(tree.operation_type) {
+        Some(root) => root,
+        None => unreachable!(),
+    };
+    let selection_set = build_selection_set(
+        alloc,
+        schema,
+        root,
+        tree.selection_set.selections.as_slice(),
+    )?;
+    let operation = Operation {
+        operation_type: tree.operation_type,
+        name,
+        variables,
+        directives,
+        selection_set,
+    };
+    let node = Node::new_located(alloc, operation, tree.span)?;
+    Ok(node)
+}
+
+fn build_fragment(
+    alloc: Global,
+    schema: &Schema,
+    tree: &FragmentDefinition,
+) -> Result<Node<Fragment>, ValidationError>
+    requires { FragmentBuilds schema.now tree.now }
+    ensures { IfOk result (FragmentSays schema.now tree.now) }
+{
+    let name = tree.name.clone_in(alloc)?;
+    let directives = build_directives(alloc, tree.directives.as_slice())?;
+    let trees = tree.selection_set.selections.as_slice();
+    let selection_set = build_selection_set(alloc, schema, &tree.type_condition, trees)?;
+    let fragment = Fragment {
+        name,
+        directives,
+        selection_set,
+    };
+    let node = Node::new_located(alloc, fragment, tree.span)?;
+    Ok(node)
+}

@@ -1,0 +1,3 @@
+pub mod DefinitionReports
+pub mod DocumentReports
+pub mod Reports

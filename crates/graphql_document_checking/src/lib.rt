@@ -1,0 +1,10 @@
+//! Whether an executable document can be built against a schema, checked on its syntax tree.
+#![tactic(auto)]
+
+pub mod definitions;
+pub mod documents;
+pub mod selections;
+
+pub use definitions::check_definitions;
+pub use documents::check_document;
+pub use selections::check_selections;

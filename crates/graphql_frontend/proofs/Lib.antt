@@ -1,0 +1,5 @@
+mod DocumentLemmas
+mod MetaFieldLemmas
+mod ReportLemmas
+mod SchemaLemmas
+mod TextLemmas

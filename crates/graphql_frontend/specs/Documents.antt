@@ -1,0 +1,49 @@
+-- What a text comes to as an executable document. Specification: 5 Validation.
+use Rattle.std.specs.Prelude.{◌≡◌, ◌≢◌, List, [], ◌∷◌, Option, None, Some, All, Vec}
+use Rattle.std.specs.declared.alloc.Global.{Global}
+use Rattle.graphql_diagnostics.specs.Diagnostics.{IsLimitEntry, entries}
+use Rattle.graphql_diagnostics.specs.declared.lists.DiagnosticEntry.{DiagnosticEntry}
+use Rattle.graphql_documents.specs.Built.{IsBuilt}
+use Rattle.graphql_documents.specs.declared.documents.executables.ExecutableDocument.{ExecutableDocument}
+use Rattle.graphql_documents.specs.declared.documents.schemas.Schema.{Schema}
+use Rattle.graphql_parser.specs.declared.bounds.Bounds.{Bounds}
+use Rattle.graphql_specification.specs.Documents.{DocumentHolds, DocumentLimit, DocumentReport}
+use Rattle.graphql_trees.specs.declared.documents.Document.{Document}
+use Rattle.graphql_building_reports.specs.Checks.{reports_of}
+use Rattle.graphql_building_reports.specs.declared.lists.BuildingReportList.{BuildingReportList}
+use Rattle.graphql_document_building.specs.BuildingRules.{DocumentBuilds}
+use Rattle.graphql_document_building.specs.Documents.{DocumentSays}
+use Rattle.graphql_document_checking.specs.DocumentReports.{DocumentBuildingReport}
+use Rattle.graphql_frontend.specs.Texts.{IsDocumentOf, IsSyntaxReport}
+use Rattle.graphql_frontend.specs.declared.reports.Reports.{Reports}
+use Rattle.graphql_frontend.specs.declared.reports.Reports.TheVariants.{Syntax, Building, Rules}
+use Rattle.graphql_frontend.specs.declared.texts.SourceText.{SourceText}
+use Rattle.graphql_frontend.specs.declared.texts.SyntaxReport.{SyntaxReport}
+
+-- the diagnostic names a rule that the document breaks; or it is of a limit that is passed
+pub record IsDocumentEntry (schema : Schema) (document : ExecutableDocument) (e : DiagnosticEntry) : Type 0 where
+  pub report : ¬ IsLimitEntry e → DocumentReport (Some schema) document e.details e.location
+  pub limit : IsLimitEntry e → DocumentLimit (Some schema) document e.details e.location
+
+-- what a document that was built comes to: nothing is reported only where every rule holds; where something is, and no limit,
+-- some rule does not
+abbrev pub JudgesDocument : Schema → ExecutableDocument → Option Reports → Type 0
+JudgesDocument schema document None = IsBuilt schema document → DocumentHolds (Some schema) document
+JudgesDocument schema document (Some (Rules list)) =
+    (entries list ≢ []) × All (IsDocumentEntry schema document) (entries list) ×
+    (IsBuilt schema document → All (λ e. ¬ IsLimitEntry e) (entries list) → ¬ DocumentHolds (Some schema) document)
+JudgesDocument schema document (Some _) = ⊥
+
+-- what the tree of a document comes to
+pub data JudgesTree (schema : Schema) (tree : Document) : Option Reports → Type 0 where
+  does_not_build : {list : BuildingReportList} → ¬ DocumentBuilds schema tree → reports_of list ≢ [] → All (DocumentBuildingReport schema tree) (reports_of list) →
+      JudgesTree schema tree (Some (Building list))
+  is_built : {reports : Option Reports} (document : ExecutableDocument) → DocumentBuilds schema tree → DocumentSays schema tree document →
+      IsBuilt schema document → JudgesDocument schema document reports → JudgesTree schema tree reports
+
+-- what a text comes to as a document
+pub data ValidatesDocument (bounds : Bounds) (schema : Schema) (source : SourceText) : Option Reports → Type 0 where
+  is_no_document : {errors : Vec SyntaxReport Global} → errors.items ≢ [] → All (IsSyntaxReport bounds (source ∷ [])) errors.items →
+      ValidatesDocument bounds schema source (Some (Syntax errors))
+  is_document : {reports : Option Reports} (tree : Document) → IsDocumentOf bounds source tree → JudgesTree schema tree reports →
+      ValidatesDocument bounds schema source reports

@@ -1,0 +1,5 @@
+pub mod BuildErrorMessages
+pub mod Documents
+pub mod Schemas
+pub mod Texts
+pub mod Verdicts

@@ -1,0 +1,65 @@
+-- What texts come to as a schema. Specification: 3 Type System.
+use Rattle.std.specs.Prelude.{◌≡◌, ◌≢◌, List, [], All, Vec}
+use Rattle.std.specs.List.{AllZip}
+use Rattle.std.specs.declared.alloc.Global.{Global}
+use Rattle.graphql_diagnostics.specs.Diagnostics.{IsLimitEntry, entries}
+use Rattle.graphql_diagnostics.specs.Reports.{ReportsWithin}
+use Rattle.graphql_documents.specs.Built.{StandsUnderOwnNames}
+use Rattle.graphql_documents.specs.declared.documents.schemas.Schema.{Schema}
+use Rattle.graphql_parser.specs.declared.bounds.Bounds.{Bounds}
+use Rattle.graphql_specification.specs.BuiltInScalars.{SchemaRetainsUsedBuiltInScalars}
+use Rattle.graphql_specification.specs.DefaultValues.{DefaultValuesHold}
+use Rattle.graphql_specification.specs.Schemas.{SchemaHolds}
+use Rattle.graphql_schemas.specs.SchemaChecks.{SchemaEntryReport}
+use Rattle.graphql_trees.specs.declared.documents.Document.{Document}
+use Rattle.graphql_building_laws.specs.MetaFieldTypes.{HasTypesOfMetaFields}
+use Rattle.graphql_building_reports.specs.Checks.{reports_of}
+use Rattle.graphql_building_reports.specs.declared.lists.BuildingReportList.{BuildingReportList}
+use Rattle.graphql_document_building.specs.Documents.{HasOutputFields}
+use Rattle.graphql_schema_building.specs.SchemaSays.{SchemaSays}
+use Rattle.graphql_schema_checking.specs.SchemaBuilds.{SchemaBuilds}
+use Rattle.graphql_schema_checking.specs.SchemaReports.{SchemaBuildingReport}
+use Rattle.graphql_frontend.specs.Texts.{IsDocumentOf, IsSyntaxReport}
+use Rattle.graphql_frontend.specs.declared.reports.Reports.TheVariants.{Syntax, Building, Rules}
+use Rattle.graphql_frontend.specs.declared.schemas.SchemaReading.{SchemaReading}
+use Rattle.graphql_frontend.specs.declared.schemas.SchemaReading.TheVariants.{Accepted, Rejected, LacksIntrospection}
+use Rattle.graphql_frontend.specs.declared.texts.SourceText.{SourceText}
+use Rattle.graphql_frontend.specs.declared.texts.SyntaxReport.{SyntaxReport}
+
+-- every rule of schemas holds of the first, and the second is the first with its used built-in scalars retained
+pub record IsAccepted (schema retained : Schema) : Type 0 where
+  pub holds : SchemaHolds schema
+  pub retains : SchemaRetainsUsedBuiltInScalars schema retained
+  pub defaults : DefaultValuesHold retained
+  pub meta_fields : HasTypesOfMetaFields retained
+
+-- what a schema that was built comes to
+abbrev pub Judges : Schema → SchemaReading → Type 0
+Judges schema (Accepted retained) = IsAccepted schema retained
+Judges schema (Rejected (Rules list)) =
+    (entries list ≢ []) × (retained : Schema) × SchemaRetainsUsedBuiltInScalars schema retained ×
+    ReportsWithin IsLimitEntry (SchemaHolds schema × DefaultValuesHold retained) (SchemaEntryReport schema) [] (entries list)
+Judges schema (Rejected _) = ⊥
+Judges schema LacksIntrospection = (retained : Schema) × SchemaRetainsUsedBuiltInScalars schema retained × ¬ HasTypesOfMetaFields retained
+
+-- what documents come to as a schema
+pub data JudgesTrees (trees : List Document) : SchemaReading → Type 0 where
+  does_not_build : {list : BuildingReportList} → ¬ SchemaBuilds trees → reports_of list ≢ [] → All (SchemaBuildingReport trees) (reports_of list) →
+      JudgesTrees trees (Rejected (Building list))
+  is_built : {reading : SchemaReading} (schema : Schema) → SchemaBuilds trees → SchemaSays trees schema → Judges schema reading → JudgesTrees trees reading
+
+-- what texts come to as a schema
+pub data ReadsSchema (bounds : Bounds) (sources : List SourceText) : SchemaReading → Type 0 where
+  not_all_are_documents : {errors : Vec SyntaxReport Global} → errors.items ≢ [] → All (IsSyntaxReport bounds sources) errors.items →
+      ReadsSchema bounds sources (Rejected (Syntax errors))
+  are_documents : {reading : SchemaReading} (trees : List Document) → AllZip (IsDocumentOf bounds) sources trees → JudgesTrees trees reading →
+      ReadsSchema bounds sources reading
+
+-- documents can be validated against the schema, if there is one: what `validate_document` asks of it
+pub record IsUsable (schema : Schema) : Type 0 where
+  pub names : StandsUnderOwnNames schema
+  pub output_fields : HasOutputFields schema
+
+abbrev pub AcceptsOnlyUsableSchemas : SchemaReading → Type 0
+AcceptsOnlyUsableSchemas (Accepted schema) = IsUsable schema
+AcceptsOnlyUsableSchemas _ = Unit {0}

@@ -1,0 +1,20 @@
+//! GraphQL from texts to a verdict: texts are parsed, built into typed data, and validated. Each stage reports all that it
+//! finds, and where it reports something the next one does not begin.
+#![tactic(auto)]
+
+pub mod build_error_messages;
+pub mod documents;
+mod meta_fields;
+pub mod reports;
+pub mod rule_names;
+pub mod schemas;
+pub mod shown;
+pub mod texts;
+pub mod verdicts;
+
+pub use documents::validate_document;
+pub use reports::Reports;
+pub use schemas::{SchemaReading, read_schema};
+pub use shown::{ShownReport, shown_reports};
+pub use texts::{SourceText, SyntaxReport};
+pub use verdicts::{Verdict, validate};

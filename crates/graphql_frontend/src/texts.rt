@@ -1,0 +1,99 @@
+//! Texts, and the documents that they are.
+
+ghost use Rattle.std.specs.Prelude.{◌≡◌, ◌↔◌, ◌++◌, ◌∷◌, [], IfOk, IsTrue, OnOk};
+ghost use Rattle.graphql_frontend.specs.Texts.{ParsesOneMore, ParsesTexts};
+
+use graphql_nodes::{FileId, ValidationError};
+use graphql_parser::{Bounds, SyntaxError, parse_document};
+use graphql_trees::Document;
+use std::alloc::Global;
+
+/// A text, with the number of its file, which its reports name.
+#[derive(Clone, Copy)]
+pub struct SourceText<'a> {
+    pub file_id: FileId,
+    pub text: &'a str,
+}
+
+/// A text that is no GraphQL document: its file, and why.
+#[derive(Debug, Drop)]
+pub struct SyntaxReport {
+    pub file_id: FileId,
+    pub error: SyntaxError,
+}
+
+/// The documents that texts are, and the errors of those that are none, in order.
+#[derive(Drop)]
+pub(crate) struct Parsed {
+    pub(crate) documents: Vec<Document>,
+    pub(crate) errors: Vec<SyntaxReport>,
+}
+
+/// Parses texts. The only error is a failed allocation.
+///
+/// Specification: 2.2 Document.
+pub(crate) fn parse_texts(
+    alloc: Global,
+    sources: &[SourceText<'_>],
+    bounds: Bounds,
+) -> Result<Parsed, ValidationError>
+    ensures { IfOk result (λ parsed. ParsesTexts bounds sources.now parsed.documents.items parsed.errors.items) }
+{
+    let mut documents = Vec::new(alloc);
+    let mut errors = Vec::new(alloc);
+    for source in sources {
+        parse_text(
+            alloc,
+            source.file_id,
+            source.text,
+            bounds,
+            &mut documents,
+            &mut errors,
+        )?;
+    }
+    Ok(Parsed { documents, errors })
+}
+
+/// Adds the document that this text is, or its error.
+fn parse_text(
+    alloc: Global,
+    file_id: FileId,
+    text: &str,
+    bounds: Bounds,
+    documents: &mut Vec<Document>,
+    errors: &mut Vec<SyntaxReport>,
+) -> Result<(), ValidationError>
+    ensures { OnOk result (ParsesOneMore bounds (record { file_id = file_id; text = text.entry }) documents.old.items documents.new.items errors.old.items errors.new.items) }
+{
+    match parse_document(alloc, file_id, text, bounds) {
+        Ok(document) => {
+            documents.push(document)?;
+            Ok(())
+        }
+        Err(error) => {
+            if is_out_of_memory(error) {
+                return Err(ValidationError::OutOfMemory);
+            }
+            add_error(file_id, error, errors)
+        }
+    }
+}
+
+/// Whether the parser lacked memory.
+pub(crate) fn is_out_of_memory(error: SyntaxError) -> bool
+    ensures { IsTrue result ↔ (error ≡ SyntaxError.OutOfMemory) }
+{
+    matches!(error, SyntaxError::OutOfMemory)
+}
+
+/// Adds the error of a text.
+fn add_error(
+    file_id: FileId,
+    error: SyntaxError,
+    errors: &mut Vec<SyntaxReport>,
+) -> Result<(), ValidationError>
+    ensures { OnOk result (errors.new.items ≡ errors.old.items ++ record { file_id = file_id; error = error } ∷ []) }
+{
+    errors.push(SyntaxReport { file_id, error })?;
+    Ok(())
+}

@@ -1,0 +1,8 @@
+use Rattle.graphql_diagnostics.proofs.ReportLemmas.{checks_words}
+use Rattle.graphql_implementations.proofs.ImplementationLemmas.{arguments_decide}
+use Rattle.graphql_implementations.proofs.listed_fields.validate_implementation_field_arguments.Goals as goal
+
+pub returns : goal.returns
+returns c =
+    checks_words c.check_listed.result _ _ _ _ _ _ (arguments_decide c.args.schema.now c.args.interfaces.now.keys c.args.fields.now.entries)
+    (λ e said. said) c.check_listed.ensures

@@ -1,0 +1,4 @@
+pub mod DocumentLemmas
+pub mod PlaceLemmas
+pub mod SelectionLemmas
+pub mod ValueLemmas

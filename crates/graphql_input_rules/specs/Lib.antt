@@ -1,0 +1,3 @@
+pub mod InputFields
+pub mod Selections
+pub mod ValuesWritten

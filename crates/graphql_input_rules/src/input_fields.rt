@@ -1,0 +1,185 @@
+//! The input fields of the object values in a document.
+
+ghost use Rattle.std.specs.Prelude.{Any, option_to_list};
+ghost use Rattle.indexmap.specs.IndexMap.{values};
+ghost use Rattle.graphql_input_rules.specs.Selections.{FieldWrites, InlineFragmentWrites, OperationsWrite, SelectionWrites};
+ghost use Rattle.graphql_input_rules.specs.InputFields.{Checks, FieldReport, FieldsAreUnique, InputFieldReport, InputFieldsAreUnique};
+ghost use Rattle.graphql_input_rules.specs.ValuesWritten.{DefaultWrites, FragmentWrites, OperationWrites, SetWrites, VariableWrites};
+
+use crate::reports::InputFieldRepetition;
+use crate::values::{check_arguments, check_directives, check_value};
+use graphql_documents::documents::{
+    ExecutableDocument, Field, Fragment, InlineFragment, Operation, OperationMap, Selection,
+    SelectionSet, Value, VariableDefinition,
+};
+use graphql_nodes::{Name, Node, ValidationError};
+use indexmap::IndexMap;
+
+/// Reports each input field that an object value in the document gives again: in the arguments of fields and directives and in
+/// the default values of variables, at any depth. Nothing is reported exactly where every such value gives each of its fields
+/// once.
+///
+/// The operations come first, the one without a name before the others, and then the fragments, each in the order of the text.
+/// Old reports stay. The only error is a failed allocation.
+///
+/// Specification: 5.6.3 Input Object Field Uniqueness.
+pub fn check_input_fields(
+    reports: &mut Vec<InputFieldRepetition>,
+    document: &ExecutableDocument,
+) -> Result<(), ValidationError>
+    ensures { Checks result (InputFieldsAreUnique document.now) (InputFieldReport document.now) reports.old reports.new }
+{
+    check_operations(reports, &document.operations)?;
+    check_fragments(reports, &document.fragments)
+}
+
+fn check_operations(
+    reports: &mut Vec<InputFieldRepetition>,
+    operations: &OperationMap,
+) -> Result<(), ValidationError>
+    ensures { Checks result (FieldsAreUnique (OperationsWrite operations.now)) (FieldReport (OperationsWrite operations.now)) reports.old reports.new }
+{
+    check_anonymous_operation(reports, &operations.anonymous)?;
+    check_named_operations(reports, &operations.named)
+}
+
+fn check_anonymous_operation(
+    reports: &mut Vec<InputFieldRepetition>,
+    operation: &Option<Node<Operation>>,
+) -> Result<(), ValidationError>
+    ensures { Checks result (FieldsAreUnique (λ v. Any (λ o. OperationWrites o.value.value v) (option_to_list operation.now))) (FieldReport (λ v. Any (λ o. OperationWrites o.value.value v) (option_to_list operation.now))) reports.old reports.new }
+{
+    match operation {
+        Some(operation) => check_operation(reports, &operation.value),
+        None => Ok(()),
+    }
+}
+
+fn check_named_operations(
+    reports: &mut Vec<InputFieldRepetition>,
+    operations: &IndexMap<Name, Node<Operation>>,
+) -> Result<(), ValidationError>
+    ensures { Checks result (FieldsAreUnique (λ v. Any (λ o. OperationWrites o.value.value v) (values operations.now))) (FieldReport (λ v. Any (λ o. OperationWrites o.value.value v) (values operations.now))) reports.old reports.new }
+{
+    for operation in operations.values() {
+        check_operation(reports, &operation.value)?;
+    }
+    Ok(())
+}
+
+fn check_fragments(
+    reports: &mut Vec<InputFieldRepetition>,
+    fragments: &IndexMap<Name, Node<Fragment>>,
+) -> Result<(), ValidationError>
+    ensures { Checks result (FieldsAreUnique (λ v. Any (λ f. FragmentWrites f.value.value v) (values fragments.now))) (FieldReport (λ v. Any (λ f. FragmentWrites f.value.value v) (values fragments.now))) reports.old reports.new }
+{
+    for fragment in fragments.values() {
+        check_fragment(reports, &fragment.value)?;
+    }
+    Ok(())
+}
+
+fn check_operation(
+    reports: &mut Vec<InputFieldRepetition>,
+    operation: &Operation,
+) -> Result<(), ValidationError>
+    ensures { Checks result (FieldsAreUnique (OperationWrites operation.now)) (FieldReport (OperationWrites operation.now)) reports.old reports.new }
+{
+    check_variables(reports, &operation.variables)?;
+    check_directives(reports, &operation.directives)?;
+    check_selection_set(reports, &operation.selection_set)
+}
+
+fn check_fragment(
+    reports: &mut Vec<InputFieldRepetition>,
+    fragment: &Fragment,
+) -> Result<(), ValidationError>
+    ensures { Checks result (FieldsAreUnique (FragmentWrites fragment.now)) (FieldReport (FragmentWrites fragment.now)) reports.old reports.new }
+{
+    check_directives(reports, &fragment.directives)?;
+    check_selection_set(reports, &fragment.selection_set)
+}
+
+fn check_variables(
+    reports: &mut Vec<InputFieldRepetition>,
+    variables: &[Node<VariableDefinition>],
+) -> Result<(), ValidationError>
+    ensures { Checks result (FieldsAreUnique (λ v. Any (λ x. VariableWrites x.value.value v) variables.now)) (FieldReport (λ v. Any (λ x. VariableWrites x.value.value v) variables.now)) reports.old reports.new }
+{
+    for variable in variables {
+        check_variable(reports, &variable.value)?;
+    }
+    Ok(())
+}
+
+fn check_variable(
+    reports: &mut Vec<InputFieldRepetition>,
+    variable: &VariableDefinition,
+) -> Result<(), ValidationError>
+    ensures { Checks result (FieldsAreUnique (VariableWrites variable.now)) (FieldReport (VariableWrites variable.now)) reports.old reports.new }
+{
+    check_default_value(reports, &variable.default_value)?;
+    check_directives(reports, &variable.directives)
+}
+
+fn check_default_value(
+    reports: &mut Vec<InputFieldRepetition>,
+    default_value: &Option<Node<Value>>,
+) -> Result<(), ValidationError>
+    ensures { Checks result (FieldsAreUnique (DefaultWrites default_value.now)) (FieldReport (DefaultWrites default_value.now)) reports.old reports.new }
+{
+    match default_value {
+        Some(value) => check_value(reports, &value.value),
+        None => Ok(()),
+    }
+}
+
+#[cycle(selection)]
+fn check_selection_set(
+    reports: &mut Vec<InputFieldRepetition>,
+    set: &SelectionSet,
+) -> Result<(), ValidationError>
+    ensures { Checks result (FieldsAreUnique (SetWrites set.now)) (FieldReport (SetWrites set.now)) reports.old reports.new }
+{
+    for selection in &set.selections {
+        check_selection(reports, selection)?;
+    }
+    Ok(())
+}
+
+#[cycle(selection)]
+fn check_selection(
+    reports: &mut Vec<InputFieldRepetition>,
+    selection: &Selection,
+) -> Result<(), ValidationError>
+    ensures { Checks result (FieldsAreUnique (SelectionWrites selection.now)) (FieldReport (SelectionWrites selection.now)) reports.old reports.new }
+{
+    match selection {
+        Selection::Field(field) => check_field(reports, &field.value),
+        Selection::FragmentSpread(spread) => check_directives(reports, &spread.value.directives),
+        Selection::InlineFragment(fragment) => check_inline_fragment(reports, &fragment.value),
+    }
+}
+
+#[cycle(selection)]
+fn check_field(
+    reports: &mut Vec<InputFieldRepetition>,
+    field: &Field,
+) -> Result<(), ValidationError>
+    ensures { Checks result (FieldsAreUnique (FieldWrites field.now)) (FieldReport (FieldWrites field.now)) reports.old reports.new }
+{
+    check_arguments(reports, &field.arguments)?;
+    check_directives(reports, &field.directives)?;
+    check_selection_set(reports, &field.selection_set)
+}
+
+#[cycle(selection)]
+fn check_inline_fragment(
+    reports: &mut Vec<InputFieldRepetition>,
+    fragment: &InlineFragment,
+) -> Result<(), ValidationError>
+    ensures { Checks result (FieldsAreUnique (InlineFragmentWrites fragment.now)) (FieldReport (InlineFragmentWrites fragment.now)) reports.old reports.new }
+{
+    check_directives(reports, &fragment.directives)?;
+    check_selection_set(reports, &fragment.selection_set)
+}

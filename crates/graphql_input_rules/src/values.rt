@@ -1,0 +1,134 @@
+//! The input fields of object values: in a value, in arguments and in directives.
+
+ghost use Rattle.std.specs.Prelude.{◌≡◌, ◌∷◌, ◌++◌, [], Any, List, None, OnOk, Some, find, map};
+ghost use Rattle.graphql_nodes.specs.Names.{AreDistinct, NameText, same_name};
+ghost use Rattle.graphql_variables.specs.FirstPlaces.{IsNext, Remembers};
+ghost use Rattle.graphql_repetitions.specs.Repetitions.{met_name};
+ghost use Rattle.graphql_input_rules.specs.InputFields.{Checks, FieldReport, FieldsAreUnique, RepetitionReport, entry_names};
+ghost use Rattle.graphql_input_rules.specs.ValuesWritten.{InArguments, InDirectives, ValueWritten};
+
+use crate::reports::InputFieldRepetition;
+use graphql_documents::documents::{Argument, Directive, Value};
+use graphql_nodes::{Name, Node, SourceSpan, ValidationError};
+use graphql_variables::first_places::first_place;
+use std::collections::HashMap;
+
+/// Reports the input fields that the object values in a value repeat.
+#[cycle(value)]
+pub(crate) fn check_value(
+    reports: &mut Vec<InputFieldRepetition>,
+    value: &Value,
+) -> Result<(), ValidationError>
+    ensures { Checks result (FieldsAreUnique (ValueWritten value.now)) (FieldReport (ValueWritten value.now)) reports.old reports.new }
+{
+    match value {
+        Value::List(items) => check_items(reports, items),
+        Value::Object(entries) => {
+            check_names(reports, entries)?;
+            check_entries(reports, entries)
+        }
+        _ => Ok(()),
+    }
+}
+
+#[cycle(value)]
+fn check_items(
+    reports: &mut Vec<InputFieldRepetition>,
+    items: &[Node<Value>],
+) -> Result<(), ValidationError>
+    ensures { Checks result (FieldsAreUnique (λ v. Any (λ i. ValueWritten i.value.value v) items.now)) (FieldReport (λ v. Any (λ i. ValueWritten i.value.value v) items.now)) reports.old reports.new }
+{
+    for item in items {
+        check_value(reports, &item.value)?;
+    }
+    Ok(())
+}
+
+#[cycle(value)]
+fn check_entries(
+    reports: &mut Vec<InputFieldRepetition>,
+    entries: &[(Name, Node<Value>)],
+) -> Result<(), ValidationError>
+    ensures { Checks result (FieldsAreUnique (λ v. Any (λ e. ValueWritten e.1.value.value v) entries.now)) (FieldReport (λ v. Any (λ e. ValueWritten e.1.value.value v) entries.now)) reports.old reports.new }
+{
+    for (_, entry) in entries {
+        check_value(reports, &entry.value)?;
+    }
+    Ok(())
+}
+
+/// Reports each name that repeats an earlier one, with the place of the first of that name.
+fn check_names(
+    reports: &mut Vec<InputFieldRepetition>,
+    entries: &[(Name, Node<Value>)],
+) -> Result<(), ValidationError>
+    ensures { Checks result (AreDistinct (entry_names entries.now)) (RepetitionReport (entry_names entries.now)) reports.old reports.new }
+{
+    let mut seen: HashMap<&Name, Option<SourceSpan>> = HashMap::new(*reports.allocator());
+    for (name, _) in entries {
+        check_name(reports, &mut seen, name)?;
+    }
+    Ok(())
+}
+
+/// Reports a name that repeats one of those before it.
+fn check_name<'a>(
+    reports: &mut Vec<InputFieldRepetition>,
+    seen: &mut HashMap<&'a Name, Option<SourceSpan>>,
+    name: &'a Name,
+) -> Result<(), ValidationError>
+    ensures checks { (all before : List NameText) → IsNext all before name.now → Remembers seen.old (map met_name before) →
+        Checks result (find (λ n. same_name n name.now) before ≡ None) (RepetitionReport all) reports.old reports.new }
+    ensures remembered { OnOk result ((before : List NameText) → Remembers seen.old (map met_name before) →
+        Remembers seen.new (map met_name (before ++ name.now ∷ []))) }
+{
+    match first_place(seen, name, name.location())? {
+        Some(original) => report_repetition(reports, name, original),
+        None => Ok(()),
+    }
+}
+
+fn report_repetition(
+    reports: &mut Vec<InputFieldRepetition>,
+    name: &Name,
+    original: Option<SourceSpan>,
+) -> Result<(), ValidationError>
+    ensures { (all before : List NameText) (first : NameText) → IsNext all before name.now →
+        find (λ n. same_name n name.now) before ≡ Some first → original ≡ first.location →
+        Checks result ⊥ (RepetitionReport all) reports.old reports.new }
+{
+    let location = name.location();
+    let name = name.clone()?;
+    reports.push(InputFieldRepetition {
+        name,
+        original,
+        location,
+    })?;
+    Ok(())
+}
+
+/// The same in the values of arguments.
+pub(crate) fn check_arguments(
+    reports: &mut Vec<InputFieldRepetition>,
+    arguments: &[Node<Argument>],
+) -> Result<(), ValidationError>
+    ensures { Checks result (FieldsAreUnique (InArguments arguments.now)) (FieldReport (InArguments arguments.now)) reports.old reports.new }
+{
+    for argument in arguments {
+        check_value(reports, &argument.value.value.value)?;
+    }
+    Ok(())
+}
+
+/// The same in the arguments of directives.
+pub(crate) fn check_directives(
+    reports: &mut Vec<InputFieldRepetition>,
+    directives: &[Node<Directive>],
+) -> Result<(), ValidationError>
+    ensures { Checks result (FieldsAreUnique (InDirectives directives.now)) (FieldReport (InDirectives directives.now)) reports.old reports.new }
+{
+    for directive in directives {
+        check_arguments(reports, &directive.value.arguments)?;
+    }
+    Ok(())
+}

@@ -1,0 +1,8 @@
+use Rattle.graphql_leaf_building.proofs.ListLemmas.{zip_more}
+use Rattle.graphql_leaf_building.specs.Definitions.{InputValueSays}
+use Rattle.graphql_leaf_building.proofs.definitions.build_input_values.Goals as goal
+
+pub loop-tree-preserved : goal.loop-tree-preserved
+loop-tree-preserved c =
+    zip_more InputValueSays c.args.trees.now c.loop-tree.tree-index c.tree-item.result c.loop-tree.definitions.items c.push.new.self.items c.in_ok-definition.definition
+    c.loop-tree-test.true c.tree-item.is c.loop-tree.invariant c.in_ok-definition.ensures c.in_ok-push.ensures.items

@@ -1,0 +1,4 @@
+pub mod Definitions
+pub mod Directives
+pub mod Types
+pub mod Values

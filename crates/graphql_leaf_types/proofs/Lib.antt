@@ -1,4 +1,0 @@
-pub mod BuiltInScalarLemmas
-pub mod ExtensionLemmas
-pub mod TypeLemmas
-pub mod TypeMapLemmas

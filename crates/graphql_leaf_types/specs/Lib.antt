@@ -1,3 +1,0 @@
-pub mod BuiltInScalarUses
-pub mod TypeMapChanges
-pub mod TypeSteps

@@ -1,0 +1,2 @@
+pub mod ReferenceLemmas
+pub mod WalkLemmas

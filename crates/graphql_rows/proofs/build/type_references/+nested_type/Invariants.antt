@@ -1,4 +1,0 @@
-use Rattle.graphql_rows.proofs.build.type_references.+nested_type.Given as goal
-
-abbrev pub decreases-nested_type : goal.decreases-nested_type
-decreases-nested_type l = l.depth

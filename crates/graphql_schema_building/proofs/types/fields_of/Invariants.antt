@@ -1,0 +1,9 @@
+use Rattle.std.proofs.Common.{take}
+use Rattle.graphql_leaf_building.specs.Definitions.{FieldDefinitionSays}
+use Rattle.graphql_schema_building.specs.Parts.{EntriesSay, listed_by}
+use Rattle.graphql_schema_building.specs.TypeParts.{originated}
+use Rattle.graphql_schema_building.specs.TypesSay.{written_fields}
+use Rattle.graphql_schema_building.proofs.types.fields_of.Given as goal
+
+abbrev pub invariant-loop-part : goal.invariant-loop-part
+invariant-loop-part l = EntriesSay (λ x. x.name) FieldDefinitionSays (listed_by written_fields (originated (take l.part-index l.parts))) l.fields.entries

@@ -1,0 +1,2 @@
+pub mod ByNameLemmas
+pub mod RuleLemmas

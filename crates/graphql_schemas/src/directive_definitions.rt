@@ -1,0 +1,71 @@
+ghost use Rattle.std.specs.Prelude.{All, OnOk, flat_map};
+ghost use Rattle.graphql_diagnostics.specs.Diagnostics.{IsDiagnostic};
+ghost use Rattle.graphql_specification.specs.DirectiveCycles.{DirectiveLimit, DirectivesLimit};
+ghost use Rattle.graphql_diagnostics.specs.Reports.{ChecksWithin};
+ghost use Rattle.graphql_specification.specs.DirectiveDefinitions.{DirectiveDefinitionReport, DirectiveDefinitionsReport, DirectiveDefinitionHolds};
+ghost use Rattle.graphql_specification.specs.BuiltInScalars.{argument_types};
+ghost use Rattle.graphql_schemas.specs.BuiltInScalarUses.{Keeps, Records};
+
+use crate::built_in_scalars::BuiltInScalars;
+use crate::input_values::{each_argument, validate_argument_definitions};
+use crate::names::validate_type_system_name;
+use graphql_cycles::directives::validate_directive_cycles;
+use graphql_diagnostics::DiagnosticList;
+use graphql_documents::documents::{DirectiveDefinition, Schema};
+use graphql_nodes::{DirectiveLocation, Node, ValidationError};
+
+/// Validates a directive definition: its name, its arguments, and that it does not lead back to itself. Where
+/// a path of references from it goes through more than 32 directives, or more than 32 types, before that is
+/// known, this is reported instead. Types that it refers to are recorded. The only error is a failed
+/// allocation.
+///
+/// Specification: 3.13 Directives.
+pub fn validate_directive_definition(
+    diagnostics: &mut DiagnosticList,
+    schema: &Schema,
+    built_in_scalars: &mut BuiltInScalars,
+    definition: &Node<DirectiveDefinition>,
+) -> Result<(), ValidationError>
+    ensures checks { ChecksWithin result (DirectiveDefinitionHolds schema.now definition.now)
+        (IsDiagnostic (DirectiveDefinitionReport schema.now definition.now))
+        (λ e. DirectiveLimit schema.now definition.now e.details e.location) diagnostics.old diagnostics.new }
+    ensures records { OnOk result (Records built_in_scalars.old built_in_scalars.new (argument_types definition.now.value.value.arguments.items)) }
+    ensures keeps { Keeps built_in_scalars.old built_in_scalars.new }
+{
+    let arguments = each_argument(diagnostics.allocator(), &definition.value.arguments)?;
+    validate_type_system_name(
+        diagnostics,
+        &definition.value.name,
+        "a directive definition",
+    )?;
+    validate_argument_definitions(
+        diagnostics,
+        schema,
+        built_in_scalars,
+        &arguments,
+        DirectiveLocation::ArgumentDefinition,
+    )?;
+    validate_directive_cycles(diagnostics, schema, definition)
+}
+
+/// Validates the directive definitions of a schema, in order. The only error is a failed allocation.
+///
+/// Specification: 3.13 Directives.
+pub fn validate_directive_definitions(
+    diagnostics: &mut DiagnosticList,
+    schema: &Schema,
+    built_in_scalars: &mut BuiltInScalars,
+) -> Result<(), ValidationError>
+    ensures checks { ChecksWithin result
+        (All (λ entry. DirectiveDefinitionHolds schema.now entry.1) schema.now.directive_definitions.entries)
+        (IsDiagnostic (DirectiveDefinitionsReport schema.now))
+        (λ e. DirectivesLimit schema.now e.details e.location) diagnostics.old diagnostics.new }
+    ensures records { OnOk result (Records built_in_scalars.old built_in_scalars.new
+        (flat_map (λ entry. argument_types entry.1.value.value.arguments.items) schema.now.directive_definitions.entries)) }
+    ensures keeps { Keeps built_in_scalars.old built_in_scalars.new }
+{
+    for (_, definition) in &schema.directive_definitions {
+        validate_directive_definition(diagnostics, schema, built_in_scalars, definition)?;
+    }
+    Ok(())
+}

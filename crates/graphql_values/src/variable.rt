@@ -1,7 +1,0 @@
-//! Variables: where they may stand, and which of them are used.
-
-pub use graphql_variables::{
-    VariablesByName, Walked, check_variable_usage, is_variable_usage_allowed,
-    validate_unused_variables, validate_variable_usage, variables_in_value, walk_open_selections,
-    walk_selections, walk_selections_with_deduped_fragments,
-};
