@@ -19,6 +19,9 @@ module _ {Entry : Type 0} where
   pub broken : (H : Type 0) (Q : Entry → Type 0) (old new : List Entry) → Reports H Q old new → old ≡ [] → new ≢ [] → ¬ H
   broken H Q old new r none full h = full (added_is old r.added new r.appended none ∙ r.silent.1 h)
 
+  pub decides : (H : Type 0) (Q : Entry → Type 0) (old new : List Entry) → Reports H Q old new → old ≡ [] → (new ≡ []) ↔ H
+  decides H Q old new r none = (silent H Q old new r none, λ h. added_is old r.added new r.appended none ∙ r.silent.1 h)
+
   pub each_true : (H : Type 0) (Q : Entry → Type 0) (old new : List Entry) → Reports H Q old new → old ≡ [] → All Q new
   each_true H Q old new r none = subst (All Q) (sym (added_is old r.added new r.appended none)) r.each
 

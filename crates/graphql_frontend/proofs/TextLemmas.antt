@@ -1,8 +1,10 @@
 -- Texts that are parsed one after another.
-use Rattle.std.proofs.Common.{◌≡◌, ◌≢◌, ℕ, ◌+◌, ◌<◌, ◌≤◌, List, [], ◌∷◌, ◌++◌, length, get_or, take, take_all, refl, sym, subst, ◌∙◌, All, Contains}
-use Rattle.std.specs.Prelude.{Ok, Err, OnOk, Result}
+use Rattle.std.proofs.Common.{rules, ◌≡◌, ◌≢◌, ℕ, ◌+◌, ◌<◌, ◌≤◌, List, [], ◌∷◌, ◌++◌, ap, length, get_or, take, take_all, refl, sym, subst, ◌∙◌, All, Contains}
+use Rattle.std.specs.Prelude.{Bool, true, false, ◌==◌, Ok, Err, OnOk, Result, Vec}
+use Rattle.std.specs.Vec.{vec_len}
+use Rattle.std.specs.declared.alloc.Global.{Global}
 use Rattle.std.specs.List.{AllZip}
-use Rattle.std.proofs.lemmas.List.{take_more}
+use Rattle.std.proofs.lemmas.List.{nil_from_length, take_more}
 use Rattle.std.proofs.lemmas.List.Elements.{All-append, All-cons, All-nil}
 use Rattle.graphql_documents.proofs.ListLemmas.{stands_first}
 use Rattle.graphql_leaf_building.proofs.ListLemmas.{zip_pushed}
@@ -13,6 +15,16 @@ use Rattle.graphql_trees.specs.declared.documents.Document.{Document}
 use Rattle.graphql_frontend.specs.Texts.{IsDocumentOf, IsSyntaxReport, ParsesAmong, ParsesOneMore, ParsesTexts, is_document, is_no_document}
 use Rattle.graphql_frontend.specs.declared.texts.SourceText.{SourceText}
 use Rattle.graphql_frontend.specs.declared.texts.SyntaxReport.{SyntaxReport}
+
+-- a vector that says that it is empty has no items, and another has
+pub no_items : {X : Type 0} (v : Vec X Global) (answer : Bool) → answer ≡ (vec_len v == 0) → answer ≡ true → v.items ≡ []
+no_items v answer is empty = nil_from_length v.items (search rules)
+
+pub some_items : {X : Type 0} (v : Vec X Global) (answer : Bool) → answer ≡ (vec_len v == 0) → answer ≡ false → v.items ≢ []
+some_items v answer is filled none =
+    let short : length v.items ≡ 0 = ap length none in
+    let answered : answer ≡ true = search rules in
+    let no : ⊥ = cc in no
 
 -- the error of one text
 pub one_error : (bounds : Bounds) (source : SourceText) (error : SyntaxError) (items : List SyntaxReport) →

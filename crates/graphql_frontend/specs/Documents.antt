@@ -1,5 +1,6 @@
 -- What a text comes to as an executable document. Specification: 5 Validation.
-use Rattle.std.specs.Prelude.{◌≡◌, ◌≢◌, List, [], ◌∷◌, Option, None, Some, All, Vec}
+use Rattle.std.specs.Prelude.{◌≡◌, ◌≢◌, ◌↔◌, List, [], ◌∷◌, Option, None, Some, All, Vec, flat_map}
+use Rattle.std.specs.List.{AllZip}
 use Rattle.std.specs.declared.alloc.Global.{Global}
 use Rattle.graphql_diagnostics.specs.Diagnostics.{IsLimitEntry, entries}
 use Rattle.graphql_diagnostics.specs.declared.lists.DiagnosticEntry.{DiagnosticEntry}
@@ -14,9 +15,11 @@ use Rattle.graphql_building_reports.specs.declared.lists.BuildingReportList.{Bui
 use Rattle.graphql_document_building.specs.BuildingRules.{DocumentBuilds}
 use Rattle.graphql_document_building.specs.Documents.{DocumentSays}
 use Rattle.graphql_document_checking.specs.DocumentReports.{DocumentBuildingReport}
+use Rattle.graphql_input_rules.specs.InputFields.{InputFieldReport, InputFieldsAreUnique}
 use Rattle.graphql_frontend.specs.Texts.{IsDocumentOf, IsSyntaxReport}
 use Rattle.graphql_frontend.specs.declared.reports.Reports.{Reports}
-use Rattle.graphql_frontend.specs.declared.reports.Reports.TheVariants.{Syntax, Building, Rules}
+use Rattle.graphql_frontend.specs.declared.reports.Reports.TheVariants.{Syntax, Building, DocumentRules}
+use Rattle.graphql_frontend.specs.declared.reports.DocumentReports.{DocumentReports}
 use Rattle.graphql_frontend.specs.declared.texts.SourceText.{SourceText}
 use Rattle.graphql_frontend.specs.declared.texts.SyntaxReport.{SyntaxReport}
 
@@ -25,13 +28,25 @@ pub record IsDocumentEntry (schema : Schema) (document : ExecutableDocument) (e 
   pub report : ¬ IsLimitEntry e → DocumentReport (Some schema) document e.details e.location
   pub limit : IsLimitEntry e → DocumentLimit (Some schema) document e.details e.location
 
--- what a document that was built comes to: nothing is reported only where every rule holds; where something is, and no limit,
--- some rule does not
+-- every rule of documents holds: those of validation, and that object values give each input field once
+pub record EveryRuleHolds (schema : Schema) (document : ExecutableDocument) : Type 0 where
+  pub rules : DocumentHolds (Some schema) document
+  pub input_fields : InputFieldsAreUnique document
+
+-- nothing is among the reports
+abbrev pub ReportsNothing : DocumentReports → Type 0
+ReportsNothing reports = (entries reports.rules ≡ []) × (reports.input_fields.items ≡ [])
+
+-- each report is true of the document; and where no limit is passed, there is none exactly where every rule holds
+pub record AreReportsOf (schema : Schema) (document : ExecutableDocument) (reports : DocumentReports) : Type 0 where
+  pub each_rule : All (IsDocumentEntry schema document) (entries reports.rules)
+  pub each_input_field : All (InputFieldReport document) reports.input_fields.items
+  pub decides : IsBuilt schema document → All (λ e. ¬ IsLimitEntry e) (entries reports.rules) → ReportsNothing reports ↔ EveryRuleHolds schema document
+
+-- what a document that was built comes to: nothing is reported only where every rule holds, and what is reported is true of it
 abbrev pub JudgesDocument : Schema → ExecutableDocument → Option Reports → Type 0
-JudgesDocument schema document None = IsBuilt schema document → DocumentHolds (Some schema) document
-JudgesDocument schema document (Some (Rules list)) =
-    (entries list ≢ []) × All (IsDocumentEntry schema document) (entries list) ×
-    (IsBuilt schema document → All (λ e. ¬ IsLimitEntry e) (entries list) → ¬ DocumentHolds (Some schema) document)
+JudgesDocument schema document None = IsBuilt schema document → EveryRuleHolds schema document
+JudgesDocument schema document (Some (DocumentRules reports)) = ¬ ReportsNothing reports × AreReportsOf schema document reports
 JudgesDocument schema document (Some _) = ⊥
 
 -- what the tree of a document comes to
@@ -47,3 +62,14 @@ pub data ValidatesDocument (bounds : Bounds) (schema : Schema) (source : SourceT
       ValidatesDocument bounds schema source (Some (Syntax errors))
   is_document : {reports : Option Reports} (tree : Document) → IsDocumentOf bounds source tree → JudgesTree schema tree reports →
       ValidatesDocument bounds schema source reports
+
+-- the document has the definitions of these, in their order
+abbrev pub HasDefinitionsOf : List Document → Document → Type 0
+HasDefinitionsOf trees tree = tree.definitions ≡ flat_map (λ (t : Document). t.definitions) trees
+
+-- what texts come to as one document
+pub data ValidatesDocuments (bounds : Bounds) (schema : Schema) (sources : List SourceText) : Option Reports → Type 0 where
+  are_not_all_documents : {errors : Vec SyntaxReport Global} → errors.items ≢ [] → All (IsSyntaxReport bounds sources) errors.items →
+      ValidatesDocuments bounds schema sources (Some (Syntax errors))
+  are_documents : {reports : Option Reports} (trees : List Document) (tree : Document) → AllZip (IsDocumentOf bounds) sources trees →
+      HasDefinitionsOf trees tree → JudgesTree schema tree reports → ValidatesDocuments bounds schema sources reports

@@ -1,21 +1,30 @@
 //! Executable documents, from their texts.
 
 ghost use Rattle.std.specs.Prelude.{IfOk};
-ghost use Rattle.graphql_frontend.specs.Documents.{JudgesDocument, JudgesTree, ValidatesDocument};
+ghost use Rattle.graphql_frontend.specs.Documents.{AreReportsOf, HasDefinitionsOf, JudgesDocument, JudgesTree, ValidatesDocument, ValidatesDocuments};
 ghost use Rattle.graphql_frontend.specs.Schemas.{IsUsable};
 
-use crate::reports::Reports;
-use crate::texts::{SourceText, SyntaxReport, is_out_of_memory};
+use crate::reports::{DocumentReports, Reports};
+use crate::texts::{Parsed, SourceText, SyntaxReport, is_out_of_memory, parse_texts};
 use graphql_building_reports::BuildingReportList;
 use graphql_diagnostics::DiagnosticList;
 use graphql_document_building::build_document;
 use graphql_document_checking::check_document;
 use graphql_documents::documents::{ExecutableDocument, Schema};
-use graphql_nodes::ValidationError;
+use graphql_input_rules::check_input_fields;
+use graphql_nodes::{FileId, SourceSpan, ValidationError};
 use graphql_parser::{Bounds, parse_document};
 use graphql_trees::Document;
 use graphql_validation::entry::validate_executable_document;
+use sqlite_items::Items;
 use std::alloc::Global;
+
+/// The place of a document of several texts, which no report names.
+const NOWHERE: SourceSpan = SourceSpan {
+    file_id: FileId::BUILT_IN,
+    start: 0,
+    end: 0,
+};
 
 /// Validates the document that a text is against a schema that was read, and answers what is reported, if anything is: its
 /// first error, where it is no document; or the rules that keep it from being built; or the rules that it breaks.
@@ -50,6 +59,43 @@ pub fn validate_document(
     }
 }
 
+/// Validates the one document that texts are together, fragments in files of their own among them: the document with the
+/// definitions of each text, in the order of the texts. Answers what is reported as `validate_document` does: first the
+/// texts that are no documents, each with its first error.
+///
+/// Specification: 2.2 Document; 5 Validation.
+pub fn validate_documents(
+    alloc: Global,
+    schema: &Schema,
+    sources: &[SourceText<'_>],
+    bounds: Bounds,
+) -> Result<Option<Reports>, ValidationError>
+    requires { IsUsable schema.now }
+    ensures { IfOk result (ValidatesDocuments bounds schema.now sources.now) }
+{
+    let Parsed { documents, errors } = parse_texts(alloc, sources, bounds)?;
+    if errors.is_empty() {
+        let document = joined(alloc, documents)?;
+        validate_tree(alloc, schema, &document)
+    } else {
+        Ok(Some(Reports::Syntax(errors)))
+    }
+}
+
+/// The document that has the definitions of these, in their order.
+fn joined(alloc: Global, documents: Vec<Document>) -> Result<Document, ValidationError>
+    ensures { IfOk result (HasDefinitionsOf documents.items) }
+{
+    let mut definitions = Items::new(alloc);
+    for document in documents {
+        definitions.append(document.definitions)?;
+    }
+    Ok(Document {
+        definitions,
+        span: NOWHERE,
+    })
+}
+
 /// Validates the document of a tree.
 fn validate_tree(
     alloc: Global,
@@ -77,11 +123,28 @@ fn validate_built(
 ) -> Result<Option<Reports>, ValidationError>
     ensures { IfOk result (JudgesDocument schema.now document.now) }
 {
-    let mut diagnostics = DiagnosticList::new(alloc);
-    validate_executable_document(&mut diagnostics, schema, document)?;
-    if diagnostics.is_empty() {
+    let reports = document_reports(alloc, schema, document)?;
+    if reports.is_empty() {
         Ok(None)
     } else {
-        Ok(Some(Reports::Rules(diagnostics)))
+        Ok(Some(Reports::DocumentRules(reports)))
     }
+}
+
+/// What the rules of validation report of a document, and those of its input fields.
+fn document_reports(
+    alloc: Global,
+    schema: &Schema,
+    document: &ExecutableDocument,
+) -> Result<DocumentReports, ValidationError>
+    ensures { IfOk result (AreReportsOf schema.now document.now) }
+{
+    let mut rules = DiagnosticList::new(alloc);
+    validate_executable_document(&mut rules, schema, document)?;
+    let mut input_fields = Vec::new(alloc);
+    check_input_fields(&mut input_fields, document)?;
+    Ok(DocumentReports {
+        rules,
+        input_fields,
+    })
 }

@@ -12,8 +12,8 @@ pub mod shown;
 pub mod texts;
 pub mod verdicts;
 
-pub use documents::validate_document;
-pub use reports::Reports;
+pub use documents::{validate_document, validate_documents};
+pub use reports::{DocumentReports, Reports};
 pub use schemas::{SchemaReading, read_schema};
 pub use shown::{ShownReport, shown_reports};
 pub use texts::{SourceText, SyntaxReport};

@@ -1,8 +1,12 @@
 //! What is reported of texts.
 
+ghost use Rattle.std.specs.Prelude.{◌↔◌, IsTrue};
+ghost use Rattle.graphql_frontend.specs.Documents.{ReportsNothing};
+
 use crate::texts::SyntaxReport;
 use graphql_building_reports::BuildingReportList;
 use graphql_diagnostics::DiagnosticList;
+use graphql_input_rules::InputFieldRepetition;
 
 /// What is reported of texts, by the first stage that reports something.
 #[derive(Debug, Drop)]
@@ -11,8 +15,19 @@ pub enum Reports {
     Syntax(Vec<SyntaxReport>),
     /// Rules that the texts break, so that nothing is built of them.
     Building(BuildingReportList),
-    /// Rules that the schema or the document breaks.
+    /// Rules that the schema breaks.
     Rules(DiagnosticList),
+    /// Rules that the document breaks.
+    DocumentRules(DocumentReports),
+}
+
+/// What is reported of a document that was built.
+#[derive(Debug, Drop)]
+pub struct DocumentReports {
+    /// Rules of validation.
+    pub rules: DiagnosticList,
+    /// Input fields that object values give again.
+    pub input_fields: Vec<InputFieldRepetition>,
 }
 
 impl Reports {
@@ -22,6 +37,21 @@ impl Reports {
             Reports::Syntax(errors) => errors.len(),
             Reports::Building(list) => list.iter().len(),
             Reports::Rules(list) => list.len(),
+            Reports::DocumentRules(reports) => {
+                reports
+                    .rules
+                    .len()
+                    .saturating_add(reports.input_fields.len())
+            }
         }
+    }
+}
+
+impl DocumentReports {
+    /// Whether there is none.
+    pub fn is_empty(&self) -> bool
+        ensures { IsTrue result ↔ ReportsNothing self.now }
+    {
+        self.rules.is_empty() && self.input_fields.is_empty()
     }
 }

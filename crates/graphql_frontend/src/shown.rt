@@ -1,11 +1,12 @@
 //! Reports as they are shown: with a message, a rule and places.
 
 use crate::build_error_messages::BuildErrorMessage;
-use crate::reports::Reports;
+use crate::reports::{DocumentReports, Reports};
 use crate::rule_names::{building_rule, details_rule};
 use crate::texts::{SourceText, SyntaxReport};
 use graphql_building_reports::{BuildingReport, BuildingRule};
 use graphql_diagnostics::{BuildError, Details, DiagnosticData, DiagnosticEntry};
+use graphql_input_rules::InputFieldRepetition;
 use graphql_nodes::{SourceSpan, ValidationError};
 use graphql_parser::{Bounds, SyntaxError};
 use graphql_syntax_messages::refused::refused;
@@ -49,8 +50,38 @@ pub fn shown_reports(
                 shown.push(shown_entry(alloc, entry)?)?;
             }
         }
+        Reports::DocumentRules(reports) => push_document(alloc, reports, most, &mut shown)?,
     }
     Ok(shown)
+}
+
+/// Adds the reports of a document: the rules of validation first.
+fn push_document(
+    alloc: Global,
+    reports: &DocumentReports,
+    most: usize,
+    shown: &mut Vec<ShownReport>,
+) -> Result<(), ValidationError> {
+    for entry in reports.rules.iter().take(most) {
+        shown.push(shown_entry(alloc, entry)?)?;
+    }
+    let left = most.saturating_sub(reports.rules.len());
+    for repetition in reports.input_fields.iter().take(left) {
+        shown.push(shown_repetition(alloc, repetition)?)?;
+    }
+    Ok(())
+}
+
+fn shown_repetition(
+    alloc: Global,
+    repetition: &InputFieldRepetition,
+) -> Result<ShownReport, ValidationError> {
+    Ok(ShownReport {
+        location: repetition.location,
+        rule: "UniqueInputField",
+        message: repetition.to_string(alloc)?,
+        original: repetition.original,
+    })
 }
 
 fn shown_syntax(

@@ -11,7 +11,7 @@ struct Repetition<'a> {
 }
 
 /// The text with each repetition `<first-last: text>` written out.
-pub(super) fn written_out(alloc: Global, text: &str) -> Result<String, ExampleError> {
+pub fn written_out(alloc: Global, text: &str) -> Result<String, ExampleError> {
     let mut whole = String::new(alloc);
     push_pieces(&mut whole, text).and(Ok(whole))
 }

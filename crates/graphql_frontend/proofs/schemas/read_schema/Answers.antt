@@ -1,15 +1,16 @@
-use Rattle.std.proofs.Common.{◌≡◌, ◌≢◌, [], sym, subst, rules}
+use Rattle.std.proofs.Common.{sym, subst}
 use Rattle.std.specs.List.{AllZip}
 use Rattle.graphql_frontend.specs.Schemas.{AcceptsOnlyUsableSchemas, JudgesTrees, ReadsSchema, are_documents, not_all_are_documents}
 use Rattle.graphql_frontend.specs.Texts.{IsDocumentOf}
 use Rattle.graphql_frontend.proofs.ReportLemmas.{if_ok}
 use Rattle.graphql_frontend.proofs.SchemaLemmas.{usable}
+use Rattle.graphql_frontend.proofs.TextLemmas.{no_items, some_items}
 use Rattle.graphql_frontend.proofs.schemas.read_schema.Goals as goal
 
 pub returns-then-is_empty-clause-reads : goal.returns-then-is_empty-clause-reads
 returns-then-is_empty-clause-reads c =
     let trees = c.deref.result.now in
-    let none : c.in_ok-documents.field-0.errors.items ≡ [] = search rules in
+    let none = no_items c.in_ok-documents.field-0.errors c.is_empty.result c.is_empty.ensures c.if-is_empty.true in
     if_ok (JudgesTrees trees) (ReadsSchema c.args.bounds c.args.sources.now)
     (λ reading judged. are_documents trees
     (subst (AllZip (IsDocumentOf c.args.bounds) c.args.sources.now) (sym c.deref.ensures.value) (c.in_ok-documents.ensures.documents none)) judged)
@@ -22,5 +23,5 @@ returns-then-is_empty-clause-usable c =
 
 pub returns-clause-reads : goal.returns-clause-reads
 returns-clause-reads c =
-    let some : c.in_ok-documents.field-0.errors.items ≢ [] = search rules in
+    let some = some_items c.in_ok-documents.field-0.errors c.is_empty.result c.is_empty.ensures c.if-is_empty.false in
     not_all_are_documents some c.in_ok-documents.ensures.each_error

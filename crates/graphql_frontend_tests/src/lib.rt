@@ -1,0 +1,7 @@
+//! Tests of the way from texts to a verdict: what each stage reports, and where.
+#![tactic(auto)]
+
+#[cfg(test)]
+mod documents;
+#[cfg(test)]
+mod verdicts;
