@@ -1,2 +1,4 @@
 pub mod PlaceLemmas
+pub mod SelectionLemmas
+pub mod UsageLemmas
 pub mod ValueLemmas

@@ -1,14 +1,14 @@
 -- How checks of usages compose over the places where variables are used.
-use Rattle.std.proofs.Common.{◌≡◌, ◌↔◌, ℕ, ◌+◌, ◌<◌, ◌≤◌, List, [], ◌∷◌, ◌++◌, length, get_or, take, refl, sym, ◌∙◌, subst, All, Contains, Option, None, Some}
+use Rattle.std.proofs.Common.{◌≡◌, ◌↔◌, ℕ, ◌+◌, ◌<◌, ◌≤◌, List, length, get_or, take, refl, sym, ◌∙◌, subst, All, Contains, Option, None, Some}
 use Rattle.std.specs.Prelude.{Any, Result, IsErr, ◌⊎◌}
-use Rattle.std.proofs.lemmas.List.Elements.{All-contains, All-nil}
+use Rattle.std.proofs.lemmas.List.Elements.{All-contains}
 use Rattle.std.proofs.lemmas.Option.{same_Some}
 use mathlib.Core.Logic.{inl, inr}
 use Rattle.graphql_nodes.specs.declared.nodes.Node.{Node}
 use Rattle.graphql_documents.specs.declared.documents.definitions.VariableDefinition.{VariableDefinition}
 use Rattle.graphql_documents.proofs.ListLemmas.{each_standing}
 use Rattle.graphql_diagnostics.specs.Reports.{KeepsReports, Reports}
-use Rattle.graphql_diagnostics.proofs.ReportLemmas.{ChecksList, checks-err, checks_after, checks_words, done_more, holds, in_words, kept_by, kept_then, kept_wider, walked_all, walked_more, walked_none, wider}
+use Rattle.graphql_diagnostics.proofs.ReportLemmas.{ChecksList, checks-err, checks_after, checks_words, holds, in_words, kept_by, kept_then, kept_wider, walked_all, walked_more, walked_none, wider}
 use Rattle.graphql_variables.proofs.FirstPlaceLemmas.{next_at, next_stands}
 use Rattle.graphql_variables.proofs.UseLemmas.{any_has, has_any}
 use Rattle.graphql_usage_rules.specs.Parts.{InFound}

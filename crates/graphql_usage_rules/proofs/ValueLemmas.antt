@@ -1,13 +1,11 @@
 -- The usages in a value, kind by kind.
-use Rattle.std.proofs.Common.{◌≡◌, ◌↔◌, refl, sym, ap, ◌∙◌, subst, Contains, Vec, Option, None, Some, true, false}
-use Rattle.std.specs.Prelude.{Any, IsTrue}
+use Rattle.std.proofs.Common.{◌≡◌, ◌↔◌, refl, sym, ap, ◌∙◌, subst, Contains, Vec, Option, None, Some}
 use Rattle.std.specs.declared.alloc.Global.{Global}
-use Rattle.std.specs.Option.{option_and_then}
 use Rattle.indexmap.specs.IndexMap.{get}
 use Rattle.graphql_nodes.specs.Names.{NameText, same_name}
 use Rattle.graphql_nodes.specs.declared.nodes.Node.{Node}
 use Rattle.graphql_documents.specs.Schemas.{input_object_named}
-use Rattle.graphql_documents.specs.TypeReferences.{inner_named_type, is_list}
+use Rattle.graphql_documents.specs.TypeReferences.{inner_named_type}
 use Rattle.graphql_documents.specs.declared.documents.components.Component.{Component}
 use Rattle.graphql_documents.specs.declared.documents.definitions.InputValueDefinition.{InputValueDefinition}
 use Rattle.graphql_documents.specs.declared.documents.schemas.InputObjectType.{InputObjectType}
@@ -17,7 +15,7 @@ use Rattle.graphql_documents.specs.declared.documents.values.Value.TheOpen as Op
 use Rattle.graphql_documents.specs.declared.documents.values.Value.TheVariants as literal
 use Rattle.graphql_variables.proofs.UseLemmas.{any_has, has_any}
 use Rattle.graphql_usage_rules.specs.Parts.{UsedInEntry, UsedInItem, UsedInList, UsedInObject}
-use Rattle.graphql_usage_rules.specs.Usages.{Location, Usage, UsedIn, input_field_at, item_location, location_of, used_in_entry, used_in_item, used_itself}
+use Rattle.graphql_usage_rules.specs.Usages.{Location, Usage, UsedIn, input_field_at, item_location, used_in_entry, used_in_item, used_itself}
 
 -- a value is of one kind
 variable_no_list : (name : NameText) (items : Vec (Node Value) Global) → ¬ (literal.Variable name ≡ literal.List items)

@@ -3,11 +3,15 @@ use Rattle.std.specs.Prelude.{◌≡◌, ◌⊎◌, IsTrue, List, Any, Option, S
 use Rattle.indexmap.specs.IndexMap.{get}
 use Rattle.graphql_nodes.specs.Names.{NameText, same_name}
 use Rattle.graphql_nodes.specs.declared.nodes.Node.{Node}
+use Rattle.graphql_documents.specs.Definitions.{definition_named}
+use Rattle.graphql_documents.specs.Directives.{directive_definition}
 use Rattle.graphql_documents.specs.Selections.{Written}
 use Rattle.graphql_documents.specs.Schemas.{input_object_named}
 use Rattle.graphql_documents.specs.TypeReferences.{inner_named_type, is_list}
 use Rattle.graphql_documents.specs.declared.documents.components.Component.{Component}
 use Rattle.graphql_documents.specs.declared.documents.definitions.InputValueDefinition.{InputValueDefinition}
+use Rattle.graphql_documents.specs.declared.documents.directives.Argument.{Argument}
+use Rattle.graphql_documents.specs.declared.documents.directives.Directive.{Directive}
 use Rattle.graphql_documents.specs.declared.documents.executables.Field.{Field}
 use Rattle.graphql_documents.specs.declared.documents.executables.Fragment.{Fragment}
 use Rattle.graphql_documents.specs.declared.documents.executables.InlineFragment.{InlineFragment}
@@ -49,26 +53,44 @@ abbrev pub UsedInObject : Schema → Location → List (NameText × Node Value) 
 UsedInObject schema location entries usage =
     InFound (input_object_named schema (inner_named_type location.ty)) (λ d usage. Any (λ entry. UsedInEntry schema d entry usage) entries) usage
 
--- in a field: in its arguments, its directives or its set
-abbrev pub SetUses : Schema → SelectionSet → Usage → Type 0
-SetUses schema set usage = (s : Selection) × Written set s × UsedAtSelection schema s usage
+-- in the value of an argument, by the definition of its name
+abbrev pub UsedInArgument : Schema → List (Node InputValueDefinition) → Argument → Usage → Type 0
+UsedInArgument schema definitions a usage =
+    InFound (definition_named a.name definitions) (λ d. UsedIn schema (location_of d.value.value) a.value.value.value) usage
 
+-- in the arguments of a directive, by their definitions
+abbrev pub UsedInDirective : Schema → Directive → Usage → Type 0
+UsedInDirective schema applied usage =
+    InFound (directive_definition schema applied.name) (λ d. UsedInArguments schema d.value.value.arguments.items applied.arguments.items) usage
+
+-- something holds of a selection that is in the set or at any depth below it, spreads not followed
+abbrev pub SetHas : {X : Type 0} → (Selection → X → Type 0) → SelectionSet → X → Type 0
+SetHas Itself set x = (s : Selection) × Written set s × Itself s x
+
+-- it holds of the selection itself, or of one below it
+pub data SelectionHas {X : Type 0} (Itself : Selection → X → Type 0) (s : Selection) (x : X) : Type 0 where
+  has_itself : Itself s x → SelectionHas Itself s x
+  has_below_field : (f : Node Field) → s ≡ kind.Field f → SetHas Itself f.value.value.selection_set x → SelectionHas Itself s x
+  has_below_inline_fragment : (i : Node InlineFragment) →
+      s ≡ kind.InlineFragment i → SetHas Itself i.value.value.selection_set x → SelectionHas Itself s x
+
+-- the selections of a set use the variable
+abbrev pub SetUses : Schema → SelectionSet → Usage → Type 0
+SetUses schema = SetHas (UsedAtSelection schema)
+
+abbrev pub SelectionUses : Schema → Selection → Usage → Type 0
+SelectionUses schema = SelectionHas (UsedAtSelection schema)
+
+-- a field does: in its arguments, its directives or its set
 abbrev pub FieldUses : Schema → Field → Usage → Type 0
 FieldUses schema f usage =
     UsedInArguments schema f.definition.value.value.arguments.items f.arguments.items usage ⊎
     (UsedInDirectives schema f.directives.items usage ⊎ SetUses schema f.selection_set usage)
 
--- in an inline fragment: in its directives or its set
+-- an inline fragment: in its directives or its set
 abbrev pub InlineFragmentUses : Schema → InlineFragment → Usage → Type 0
 InlineFragmentUses schema i usage = UsedInDirectives schema i.directives.items usage ⊎ SetUses schema i.selection_set usage
 
--- in the definition of a fragment
+-- the definition of a fragment
 abbrev pub FragmentUses : Schema → Fragment → Usage → Type 0
 FragmentUses schema d usage = UsedInDirectives schema d.directives.items usage ⊎ SetUses schema d.selection_set usage
-
--- at the selection itself, or at one below it
-pub data SelectionUses (schema : Schema) (s : Selection) (usage : Usage) : Type 0 where
-  uses_itself : UsedAtSelection schema s usage → SelectionUses schema s usage
-  below_field : (f : Node Field) → s ≡ kind.Field f → SetUses schema f.value.value.selection_set usage → SelectionUses schema s usage
-  below_inline_fragment : (i : Node InlineFragment) →
-      s ≡ kind.InlineFragment i → SetUses schema i.value.value.selection_set usage → SelectionUses schema s usage

@@ -4,11 +4,10 @@ ghost use Rattle.std.specs.Prelude.{◌≡◌, Any, List, Some};
 ghost use Rattle.indexmap.specs.IndexMap.{get};
 ghost use Rattle.graphql_nodes.specs.Names.{same_name};
 ghost use Rattle.graphql_nodes.specs.declared.nodes.Node.{Node};
-ghost use Rattle.graphql_documents.specs.Definitions.{definition_named, variable_named};
-ghost use Rattle.graphql_documents.specs.Directives.{directive_definition};
+ghost use Rattle.graphql_documents.specs.Definitions.{variable_named};
 ghost use Rattle.graphql_documents.specs.declared.documents.definitions.VariableDefinition.{VariableDefinition};
-ghost use Rattle.graphql_usage_rules.specs.Parts.{InFound, UsedInEntry, UsedInField, UsedInItem, UsedInList, UsedInObject, location_at};
-ghost use Rattle.graphql_usage_rules.specs.Usages.{Usage, UsedIn, UsedInArguments, UsedInDirectives, location_of};
+ghost use Rattle.graphql_usage_rules.specs.Parts.{InFound, UsedInArgument, UsedInDirective, UsedInEntry, UsedInField, UsedInItem, UsedInList, UsedInObject, location_at};
+ghost use Rattle.graphql_usage_rules.specs.Usages.{UsedIn, UsedInArguments, UsedInDirectives};
 ghost use Rattle.graphql_usage_rules.specs.VariableMisuses.{Checks, ChecksUsages, IsAllowedAt, MisuseReport};
 
 use crate::allowed::is_allowed_at;
@@ -195,8 +194,7 @@ fn check_argument(
     definitions: &[Node<InputValueDefinition>],
     argument: &Argument,
 ) -> Result<(), ValidationError>
-    ensures { ChecksUsages result variables.now (InFound (definition_named argument.now.name definitions.now)
-        (λ d. UsedIn schema.now (location_of d.value.value) argument.now.value.value.value)) reports.old reports.new }
+    ensures { ChecksUsages result variables.now (UsedInArgument schema.now definitions.now argument.now) reports.old reports.new }
 {
     match definition_named(definitions, &argument.name) {
         Some(definition) => {
@@ -228,8 +226,7 @@ fn check_directive(
     variables: &VariablesByName,
     directive: &Directive,
 ) -> Result<(), ValidationError>
-    ensures { ChecksUsages result variables.now (InFound (directive_definition schema.now directive.now.name)
-        (λ d. UsedInArguments schema.now d.value.value.arguments.items directive.now.arguments.items)) reports.old reports.new }
+    ensures { ChecksUsages result variables.now (UsedInDirective schema.now directive.now) reports.old reports.new }
 {
     match schema.directive_definitions.get(&directive.name) {
         Some(definition) => check_arguments(
