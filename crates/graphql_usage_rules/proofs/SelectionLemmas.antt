@@ -1,9 +1,9 @@
 -- What holds of selections at any depth, set by set and kind by kind.
-use Rattle.std.proofs.Common.{◌≡◌, ◌↔◌, [], refl, sym, subst, Contains}
+use Rattle.std.proofs.Common.{◌≡◌, ◌↔◌, ◌∙◌, [], ap, refl, sym, subst, Contains}
 use Rattle.std.specs.Prelude.{Any, ◌⊎◌}
 use mathlib.Core.Logic.{inl, inr}
 use Rattle.graphql_nodes.specs.declared.nodes.Node.{Node}
-use Rattle.graphql_documents.proofs.SelectionLemmas.{not_inline, not_spread, same_field, same_inline, spread_not_inline}
+use Rattle.graphql_documents.proofs.SelectionLemmas.{not_inline, not_spread, same_field, same_inline, same_spread, spread_not_inline}
 use Rattle.graphql_documents.specs.Selections.{SetWritten, arguments_of, directives_of, selections_of, set_in_field, set_in_inline_fragment, set_itself}
 use Rattle.graphql_documents.specs.declared.documents.executables.Field.{Field}
 use Rattle.graphql_documents.specs.declared.documents.executables.FragmentSpread.{FragmentSpread}
@@ -14,6 +14,8 @@ use Rattle.graphql_documents.specs.declared.documents.executables.SelectionSet.{
 use Rattle.graphql_documents.specs.declared.documents.schemas.Schema.{Schema}
 use Rattle.graphql_variables.proofs.UseLemmas.{any_has, has_any, none_in_none}
 use Rattle.graphql_usage_rules.specs.Parts.{FieldUses, InlineFragmentUses, SelectionHas, SelectionUses, SetHas, SetUses, has_below_field, has_below_inline_fragment, has_itself}
+use Rattle.graphql_nodes.specs.Names.{NameText}
+use Rattle.graphql_usage_rules.specs.Reached.{SpreadsName}
 use Rattle.graphql_usage_rules.specs.Usages.{Usage, UsedAtSelection, UsedInArguments, UsedInDirectives, argument_definitions_of}
 
 module _ {X : Type 0} (Itself : Selection → X → Type 0) where
@@ -120,3 +122,21 @@ module _ (schema : Schema) where
     back : UsedAtSelection schema (kind.InlineFragment i) u ⊎ SetUses schema i.value.value.selection_set u → InlineFragmentUses schema i.value.value u
     back (inl w) = inl (apart (subst (λ T. T) own w))
     back (inr w) = inr w
+
+-- the spreads of each kind
+pub field_spreads : (f : Node Field) (name : NameText) → SetHas SpreadsName f.value.value.selection_set name ↔ SelectionHas SpreadsName (kind.Field f) name
+field_spreads f name = (λ w. (in_field SpreadsName f name).0 (inr w), λ w. back ((in_field SpreadsName f name).1 w)) where
+  back : SpreadsName (kind.Field f) name ⊎ SetHas SpreadsName f.value.value.selection_set name → SetHas SpreadsName f.value.value.selection_set name
+  back (inl (p, e, is)) = absurd (not_spread f p (sym e))
+  back (inr w) = w
+
+pub inline_spreads : (i : Node InlineFragment) (name : NameText) → SetHas SpreadsName i.value.value.selection_set name ↔ SelectionHas SpreadsName (kind.InlineFragment i) name
+inline_spreads i name = (λ w. (in_inline SpreadsName i name).0 (inr w), λ w. back ((in_inline SpreadsName i name).1 w)) where
+  back : SpreadsName (kind.InlineFragment i) name ⊎ SetHas SpreadsName i.value.value.selection_set name → SetHas SpreadsName i.value.value.selection_set name
+  back (inl (p, e, is)) = absurd (spread_not_inline i p (sym e))
+  back (inr w) = w
+
+pub spread_spreads : (p : Node FragmentSpread) (name : NameText) → (name ≡ p.value.value.fragment_name) ↔ SelectionHas SpreadsName (kind.FragmentSpread p) name
+spread_spreads p name = (λ is. (in_spread SpreadsName p name).0 (p, refl, is), λ w. back ((in_spread SpreadsName p name).1 w)) where
+  back : SpreadsName (kind.FragmentSpread p) name → name ≡ p.value.value.fragment_name
+  back (q, e, is) = is ∙ ap (λ (x : Node FragmentSpread). x.value.value.fragment_name) (sym (same_spread p q e))

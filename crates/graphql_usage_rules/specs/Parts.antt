@@ -5,7 +5,7 @@ use Rattle.graphql_nodes.specs.Names.{NameText, same_name}
 use Rattle.graphql_nodes.specs.declared.nodes.Node.{Node}
 use Rattle.graphql_documents.specs.Definitions.{definition_named}
 use Rattle.graphql_documents.specs.Directives.{directive_definition}
-use Rattle.graphql_documents.specs.Selections.{Written}
+use Rattle.graphql_documents.specs.Selections.{Fragments, Written}
 use Rattle.graphql_documents.specs.Schemas.{input_object_named}
 use Rattle.graphql_documents.specs.TypeReferences.{inner_named_type, is_list}
 use Rattle.graphql_documents.specs.declared.documents.components.Component.{Component}
@@ -94,3 +94,7 @@ InlineFragmentUses schema i usage = UsedInDirectives schema i.directives.items u
 -- the definition of a fragment
 abbrev pub FragmentUses : Schema → Fragment → Usage → Type 0
 FragmentUses schema d usage = UsedInDirectives schema d.directives.items usage ⊎ SetUses schema d.selection_set usage
+
+-- the definition of the fragment of this name
+abbrev pub UsedInFragment : Schema → Fragments → NameText → Usage → Type 0
+UsedInFragment schema fragments name usage = InFound (fragments name) (λ d. FragmentUses schema d.value.value) usage

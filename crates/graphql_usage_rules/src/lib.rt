@@ -4,8 +4,11 @@
 
 mod allowed;
 mod locations;
+mod reached;
 pub mod reports;
 mod selections;
 mod values;
+pub mod variable_usages;
 
 pub use reports::VariableMisuse;
+pub use variable_usages::check_variable_usages;
