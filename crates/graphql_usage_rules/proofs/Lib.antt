@@ -1,3 +1,4 @@
+pub mod DocumentLemmas
 pub mod PlaceLemmas
 pub mod ReachedLemmas
 pub mod ScopeLemmas
@@ -6,3 +7,4 @@ pub mod SelectionLemmas
 pub mod SpreadLemmas
 pub mod UsageLemmas
 pub mod ValueLemmas
+pub mod WalkLemmas

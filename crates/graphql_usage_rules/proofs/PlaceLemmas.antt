@@ -112,10 +112,10 @@ module _ (variables : List (Node VariableDefinition)) where
     abbrev pub WalkedTo : List X → List VariableMisuse → List VariableMisuse → Type 0
     WalkedTo done old new = Reports (All (λ x. UsagesAreAllowed variables (In x)) done) (MisuseReport variables Among) old new
 
-    among : (x : X) → Contains xs x → (u : Usage) → In x u → Among u
+    pub among : (x : X) → Contains xs x → (u : Usage) → In x u → Among u
     among x stands u p = has_any (λ x. In x u) xs x stands p
 
-    all_allowed : All (λ x. UsagesAreAllowed variables (In x)) xs ↔ UsagesAreAllowed variables Among
+    pub all_allowed : All (λ x. UsagesAreAllowed variables (In x)) xs ↔ UsagesAreAllowed variables Among
     all_allowed = (
       λ all u any.
           let h = any_has (λ x. In x u) xs any in

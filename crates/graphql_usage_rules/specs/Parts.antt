@@ -15,6 +15,7 @@ use Rattle.graphql_documents.specs.declared.documents.directives.Directive.{Dire
 use Rattle.graphql_documents.specs.declared.documents.executables.Field.{Field}
 use Rattle.graphql_documents.specs.declared.documents.executables.Fragment.{Fragment}
 use Rattle.graphql_documents.specs.declared.documents.executables.InlineFragment.{InlineFragment}
+use Rattle.graphql_documents.specs.declared.documents.executables.Operation.{Operation}
 use Rattle.graphql_documents.specs.declared.documents.executables.Selection.{Selection}
 use Rattle.graphql_documents.specs.declared.documents.executables.Selection.TheVariants as kind
 use Rattle.graphql_documents.specs.declared.documents.executables.SelectionSet.{SelectionSet}
@@ -98,3 +99,12 @@ FragmentUses schema d usage = UsedInDirectives schema d.directives.items usage �
 -- the definition of the fragment of this name
 abbrev pub UsedInFragment : Schema → Fragments → NameText → Usage → Type 0
 UsedInFragment schema fragments name usage = InFound (fragments name) (λ d. FragmentUses schema d.value.value) usage
+
+-- one of those of these names
+abbrev pub UsedInFragments : Schema → Fragments → List NameText → Usage → Type 0
+UsedInFragments schema fragments names usage = Any (λ name. UsedInFragment schema fragments name usage) names
+
+-- the directives of an operation do, its own selections, or one of the fragments of these names
+abbrev pub UsedInParts : Schema → Fragments → Operation → List NameText → Usage → Type 0
+UsedInParts schema fragments o names usage =
+    UsedInDirectives schema o.directives.items usage ⊎ (SetUses schema o.selection_set usage ⊎ UsedInFragments schema fragments names usage)

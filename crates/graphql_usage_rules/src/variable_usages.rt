@@ -3,7 +3,7 @@
 ghost use Rattle.std.specs.Prelude.{All, Any, option_to_list};
 ghost use Rattle.indexmap.specs.IndexMap.{values};
 ghost use Rattle.graphql_documents.specs.Selections.{fragments_of};
-ghost use Rattle.graphql_usage_rules.specs.Parts.{UsedInFragment};
+ghost use Rattle.graphql_usage_rules.specs.Parts.{UsedInFragment, UsedInFragments, UsedInParts};
 ghost use Rattle.graphql_usage_rules.specs.Reached.{names_at};
 ghost use Rattle.graphql_usage_rules.specs.VariableMisuses.{Checks, ChecksUsages, DocumentMisuseReport, OperationMisuseReport, OperationUsagesAreAllowed, VariableUsagesAreAllowed};
 
@@ -81,9 +81,23 @@ fn check_operation(
     let alloc = *reports.allocator();
     let variables = VariablesByName::new(alloc, &operation.variables)?;
     let reached = reached_fragments(alloc, document, &operation.selection_set)?;
-    check_directives(reports, schema, &variables, &operation.directives)?;
-    check_selection_set(reports, schema, &variables, &operation.selection_set)?;
-    check_fragments(reports, schema, &variables, document, &reached)
+    check_scope(reports, schema, &variables, document, operation, &reached)
+}
+
+/// The same, where the variables and the fragments that the operation reaches are given.
+fn check_scope(
+    reports: &mut Vec<VariableMisuse>,
+    schema: &Schema,
+    variables: &VariablesByName,
+    document: &ExecutableDocument,
+    operation: &Operation,
+    reached: &IndexSet<&Name>,
+) -> Result<(), ValidationError>
+    ensures { ChecksUsages result variables.now (UsedInParts schema.now (fragments_of document.now) operation.now (names_at reached.now.keys)) reports.old reports.new }
+{
+    check_directives(reports, schema, variables, &operation.directives)?;
+    check_selection_set(reports, schema, variables, &operation.selection_set)?;
+    check_fragments(reports, schema, variables, document, reached)
 }
 
 /// The same in the definitions of the fragments of these names.
@@ -94,7 +108,7 @@ fn check_fragments(
     document: &ExecutableDocument,
     names: &IndexSet<&Name>,
 ) -> Result<(), ValidationError>
-    ensures { ChecksUsages result variables.now (λ usage. Any (λ name. UsedInFragment schema.now (fragments_of document.now) name usage) (names_at names.now.keys)) reports.old reports.new }
+    ensures { ChecksUsages result variables.now (UsedInFragments schema.now (fragments_of document.now) (names_at names.now.keys)) reports.old reports.new }
 {
     for name in names {
         check_fragment_named(reports, schema, variables, document, name)?;
