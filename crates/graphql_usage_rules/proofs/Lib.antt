@@ -1,4 +1,5 @@
 pub mod DocumentLemmas
+pub mod LocationLaws
 pub mod PlaceLemmas
 pub mod ReachedLemmas
 pub mod ScopeLemmas

@@ -1,18 +1,16 @@
 -- What selections reach through fragments.
-use Rattle.std.proofs.Common.{◌≡◌, ◌↔◌, List, [], ◌∷◌, ◌++◌, Option, None, Some, refl, sym, ap, ◌∙◌, subst, true, Contains, IsTrue}
-use Rattle.std.specs.Prelude.{◌⊎◌, Any, IsSome}
-use Rattle.std.proofs.lemmas.List.Elements.{All-contains}
+use Rattle.std.proofs.Common.{◌≡◌, List, Some, refl, sym, ◌∙◌, subst, true, Contains, IsTrue}
+use Rattle.std.specs.Prelude.{◌⊎◌, IsSome}
 use Rattle.std.proofs.lemmas.List.Folds.{Any-from_list_any}
 use mathlib.Core.Logic.{inl, inr}
-use Rattle.graphql_nodes.specs.Names.{NameText, SameName, same_name, stands_on}
+use Rattle.graphql_nodes.specs.Names.{NameText, same_name, stands_on}
 use Rattle.graphql_nodes.specs.declared.nodes.Node.{Node}
 use Rattle.graphql_documents.proofs.SelectionLemmas.{includes_then, one_fragment_found}
-use Rattle.graphql_documents.specs.Selections.{Fragments, InExpandedSet, Includes, Reachable, SetWritten, Written, fragments_of, includes_inline_fragment, includes_itself, includes_spread, reachable_below, reachable_inside, selections_of, set_in_field, set_in_inline_fragment, set_itself}
+use Rattle.graphql_documents.specs.Selections.{Fragments, Includes, Reachable, SetWritten, Written, fragments_of, includes_inline_fragment, includes_itself, includes_spread, reachable_below, reachable_inside, selections_of, set_in_field, set_in_inline_fragment, set_itself}
 use Rattle.graphql_documents.specs.declared.documents.executables.ExecutableDocument.{ExecutableDocument}
 use Rattle.graphql_documents.specs.declared.documents.executables.Field.{Field}
 use Rattle.graphql_documents.specs.declared.documents.executables.Fragment.{Fragment}
 use Rattle.graphql_documents.specs.declared.documents.executables.FragmentSpread.{FragmentSpread}
-use Rattle.graphql_documents.specs.declared.documents.executables.InlineFragment.{InlineFragment}
 use Rattle.graphql_documents.specs.declared.documents.executables.Selection.{Selection}
 use Rattle.graphql_documents.specs.declared.documents.executables.Selection.TheVariants as kind
 use Rattle.graphql_documents.specs.declared.documents.executables.SelectionSet.{SelectionSet}

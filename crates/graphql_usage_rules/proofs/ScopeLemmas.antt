@@ -1,6 +1,6 @@
 -- The usages in the scope of an operation: in its directives, its own selections, and the fragments that it reaches.
-use Rattle.std.proofs.Common.{◌≡◌, ◌↔◌, List, Some, refl, sym, ap, ◌∙◌, subst, Contains}
-use Rattle.std.specs.Prelude.{◌⊎◌, Any, IsSome}
+use Rattle.std.proofs.Common.{◌≡◌, ◌↔◌, List, Some, refl, subst}
+use Rattle.std.specs.Prelude.{IsSome}
 use Rattle.std.proofs.lemmas.List.Elements.{All-contains}
 use mathlib.Core.Logic.{inl, inr}
 use Rattle.graphql_nodes.specs.Names.{NameText}
@@ -10,14 +10,13 @@ use Rattle.graphql_documents.specs.declared.documents.executables.ExecutableDocu
 use Rattle.graphql_documents.specs.declared.documents.executables.Fragment.{Fragment}
 use Rattle.graphql_documents.specs.declared.documents.executables.FragmentSpread.{FragmentSpread}
 use Rattle.graphql_documents.specs.declared.documents.executables.Operation.{Operation}
-use Rattle.graphql_documents.specs.declared.documents.executables.Selection.{Selection}
 use Rattle.graphql_documents.specs.declared.documents.executables.Selection.TheVariants as kind
 use Rattle.graphql_documents.specs.declared.documents.schemas.Schema.{Schema}
 use Rattle.graphql_variables.proofs.UseLemmas.{any_has, has_any}
 use Rattle.graphql_usage_rules.specs.Parts.{FragmentUses, UsedInFragment, UsedInFragments, UsedInParts}
 use Rattle.graphql_usage_rules.specs.Reached.{IsSpreadFrom, ReachesNames}
-use Rattle.graphql_usage_rules.specs.Usages.{Usage, UsedAtSelection, UsedInDirectives, UsedInScope, at_selection, in_fragment_definition, in_operation}
-use Rattle.graphql_usage_rules.proofs.ReachedLemmas.{ReachedWritten, reach_spread, reach_written, split_reached, stands_for}
+use Rattle.graphql_usage_rules.specs.Usages.{Usage, UsedInScope, at_selection, in_fragment_definition, in_operation}
+use Rattle.graphql_usage_rules.proofs.ReachedLemmas.{reach_spread, reach_written, split_reached, stands_for}
 
 module _ (schema : Schema) (document : ExecutableDocument) (o : Operation) (names : List NameText) where
   module _ (reaches : ReachesNames (fragments_of document) o.selection_set names) where

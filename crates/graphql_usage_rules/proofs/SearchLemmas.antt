@@ -1,6 +1,6 @@
 -- The search for the fragments that a set reaches: what it keeps, and what it has found at its end.
 use Rattle.std.proofs.Common.{◌≡◌, ℕ, ◌+◌, ◌<◌, List, [], ◌∷◌, ◌++◌, Bor, Some, arith, length, refl, sym, ap, ◌∙◌, subst, All, Contains, IsTrue}
-use Rattle.std.specs.Prelude.{◌⊎◌, IsSome}
+use Rattle.std.specs.Prelude.{◌⊎◌}
 use Rattle.std.proofs.lemmas.List.{length-append, length-map}
 use Rattle.std.proofs.lemmas.List.Elements.{All-append, All-weaker, Contains-append_cases, Contains-append_left, Contains-append_right}
 use mathlib.Core.Logic.{inl, inr}
@@ -8,13 +8,13 @@ use Rattle.graphql_nodes.specs.Names.{NameText, stands_on}
 use Rattle.graphql_nodes.specs.declared.nodes.Node.{Node}
 use Rattle.graphql_documents.proofs.ListLemmas.{All-append_left, All-append_right, none_stands, only_one}
 use Rattle.std.proofs.lemmas.List.Elements.{All-head}
-use Rattle.graphql_documents.specs.Selections.{Reachable, fragments_of, selections_of}
+use Rattle.graphql_documents.specs.Selections.{fragments_of, selections_of}
 use Rattle.graphql_documents.specs.declared.documents.executables.ExecutableDocument.{ExecutableDocument}
 use Rattle.graphql_documents.specs.declared.documents.executables.Fragment.{Fragment}
 use Rattle.graphql_documents.specs.declared.documents.executables.Selection.TheVariants as kind
 use Rattle.graphql_documents.specs.declared.documents.executables.SelectionSet.{SelectionSet}
 use Rattle.graphql_usage_rules.specs.Parts.{SetHas}
-use Rattle.graphql_usage_rules.specs.Reached.{AddsSpreads, IsSpreadFrom, ReachesNames, SpreadsInFragment, SpreadsName, names_at, pending_names, reached_names, unreached}
+use Rattle.graphql_usage_rules.specs.Reached.{AddsSpreads, IsSpreadFrom, ReachesNames, SpreadsInFragment, SpreadsName, pending_names, reached_names, unreached}
 use Rattle.graphql_usage_rules.specs.declared.reached.Reached.{Reached}
 use Rattle.graphql_usage_rules.proofs.ReachedLemmas.{Covers, covers_reached, reach_spread, reach_written}
 use Rattle.graphql_usage_rules.proofs.SpreadLemmas.{still_stands}
@@ -28,8 +28,15 @@ pub less_left : (document : ExecutableDocument) (P : NameText → Type 0) (poppe
 less_left document P popped new x a =
     let text : Bor NameText → NameText = λ reference. reference.now in
     let grown : length (pending_names new) ≡ length (pending_names popped ++ a.added) = ap length a.waiting in
-    omega (arith, grown, length-append (pending_names popped) a.added, length-map new.pending.items text, length-map popped.pending.items text,
-    length-append popped.pending.items (x ∷ []), a.counted)
+    omega (
+      arith,
+      grown,
+      length-append (pending_names popped) a.added,
+      length-map new.pending.items text,
+      length-map popped.pending.items text,
+      length-append popped.pending.items (x ∷ []),
+      a.counted,
+    )
 
 module _ (document : ExecutableDocument) (set : SelectionSet) where
   -- each name that was reached is spread; what the set spreads was reached, and what the fragment of a name that was reached does, unless it waits
@@ -46,9 +53,12 @@ module _ (document : ExecutableDocument) (set : SelectionSet) where
 
   spread_from : (name spread : NameText) → IsSpreadFrom (fragments_of document) set name → SpreadsInFragment (fragments_of document) name spread →
       IsSpreadFrom (fragments_of document) set spread
-  spread_from name spread (p, reached, is) (d, found, (s, (inner, written, stands), (q, e, names))) =
-      (q, reach_spread (fragments_of document) p d (kind.FragmentSpread q) reached (subst (λ n. fragments_of document n ≡ Some d) is found)
-      (reach_written (fragments_of document) (kind.FragmentSpread q) written (subst (Contains (selections_of inner)) e stands)), names)
+  spread_from name spread (p, reached, is) (d, found, (s, (inner, written, stands), (q, e, names))) = (
+    q,
+    reach_spread (fragments_of document) p d (kind.FragmentSpread q) reached (subst (λ n. fragments_of document n ≡ Some d) is found)
+        (reach_written (fragments_of document) (kind.FragmentSpread q) written (subst (Contains (selections_of inner)) e stands)),
+    names,
+  )
 
   still_covers : (names more new : List NameText) (inside : SelectionSet) → new ≡ names ++ more → Covers document names inside → Covers document new inside
   still_covers names more new inside grown covers name has defined =

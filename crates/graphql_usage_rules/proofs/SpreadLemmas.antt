@@ -1,6 +1,6 @@
 -- How the fragments that are reached grow, and that the search for them comes to its end.
-use Rattle.std.proofs.Common.{◌≡◌, ◌↔◌, ℕ, ◌+◌, ◌<◌, ◌≤◌, Bool, true, false, List, [], ◌∷◌, ◌++◌, Option, None, Some, arith, if◌then◌else◌, length, get_or, take, refl, sym, ap, ◌∙◌, subst, All, Contains, IsTrue}
-use Rattle.std.specs.Prelude.{◌⊎◌, ◌||◌, Any, IsFalse, IsSome, is_some, not, Result, Ok, Err, OnOk}
+use Rattle.std.proofs.Common.{◌≡◌, ◌↔◌, ◌+◌, ◌≤◌, Bool, true, false, List, [], ◌∷◌, ◌++◌, Option, None, Some, arith, if◌then◌else◌, refl, sym, ap, ◌∙◌, subst, IsTrue}
+use Rattle.std.specs.Prelude.{◌⊎◌, ◌||◌, IsFalse, IsSome, is_some, not, Result, Ok, Err, OnOk}
 use Rattle.std.specs.List.{list_any}
 use Rattle.std.specs.Map.{lookup}
 use Rattle.std.proofs.lemmas.List.{append-nil, append_assoc, length-append}

@@ -85,9 +85,11 @@ module _ (schema : Schema) where
   in_list : {location : Location} {value : Value} {usage : Usage} → UsedIn schema location value usage → (items : Vec (Node Value) Global) → value ≡ literal.List items →
       UsedInList schema location items.items usage
   in_list (used_itself {name = name}) items e = absurd (variable_no_list name items e)
-  in_list {location = location} {usage = usage} (used_in_item found item listed stands more) items e =
-      (listed, has_any (λ x. UsedInItem schema (item_location location) x usage) items.items item
-      (subst (λ (l : Vec (Node Value) Global). Contains l.items item) (same_items found items e) stands) more)
+  in_list {location = location} {usage = usage} (used_in_item found item listed stands more) items e = (
+    listed,
+    has_any (λ x. UsedInItem schema (item_location location) x usage) items.items item
+        (subst (λ (l : Vec (Node Value) Global). Contains l.items item) (same_items found items e) stands) more,
+  )
   in_list (used_in_entry entries entry field stands defined more) items e = absurd (object_no_list entries items e)
 
   pub list_words : (location : Location) (items : Vec (Node Value) Global) (usage : Usage) →
@@ -105,9 +107,12 @@ module _ (schema : Schema) where
   in_object (used_itself {name = name}) entries e = absurd (variable_no_object name entries e)
   in_object (used_in_item items item listed stands more) entries e = absurd (object_no_list entries items (sym e))
   in_object {location = location} {usage = usage} (used_in_entry found entry field stands defined more) entries e =
-      let object = object_found schema location entry.0 field defined in
-      (object.0, object.1, has_any (λ x. UsedInEntry schema object.0 x usage) entries.items entry
-      (subst (λ (l : Vec (NameText × Node Value) Global). Contains l.items entry) (same_entries found entries e) stands) (field, object.2, more))
+      let object = object_found schema location entry.0 field defined in (
+        object.0,
+        object.1,
+        has_any (λ x. UsedInEntry schema object.0 x usage) entries.items entry
+            (subst (λ (l : Vec (NameText × Node Value) Global). Contains l.items entry) (same_entries found entries e) stands) (field, object.2, more),
+      )
 
   pub object_words : (location : Location) (entries : Vec (NameText × Node Value) Global) (usage : Usage) →
       UsedInObject schema location entries.items usage ↔ UsedIn schema location (literal.Object entries) usage

@@ -1,5 +1,5 @@
 -- The fragments that selections reach by spreads, for the contracts of the search for them.
-use Rattle.std.specs.Prelude.{◌≡◌, ◌⊎◌, ℕ, ◌+◌, ◌≤◌, List, [], ◌∷◌, ◌++◌, All, IsSome, IsTrue, Some, if◌then◌else◌, length, map}
+use Rattle.std.specs.Prelude.{◌≡◌, ℕ, ◌+◌, ◌≤◌, List, [], ◌∷◌, ◌++◌, All, IsSome, IsTrue, Some, if◌then◌else◌, length, map}
 use Rattle.std.specs.Borrow.{Bor}
 use Rattle.graphql_nodes.specs.Names.{NameText, stands_on}
 use Rattle.graphql_nodes.specs.declared.nodes.Node.{Node}
