@@ -1,0 +1,29 @@
+use Rattle.std.proofs.Common.{refl, rules, subst, sym}
+use Rattle.graphql_diagnostics.specs.Reports.{KeepsReports}
+use Rattle.graphql_diagnostics.proofs.ReportLemmas.{broken, checks-err, kept}
+use Rattle.graphql_usage_rules.specs.Parts.{location_at}
+use Rattle.graphql_usage_rules.specs.VariableMisuses.{MisuseReport}
+use Rattle.graphql_usage_rules.proofs.UsageLemmas.{IsThis}
+use Rattle.graphql_usage_rules.proofs.values.report_misuse.Goals as goal
+
+pub returns-in_err-push : goal.returns-in_err-push
+returns-in_err-push c = λ variables is.
+    let Report = MisuseReport variables (IsThis variables c.args.name.now (location_at c.args.location)) in
+    let old = c.args.reports.now.items in
+    checks-err c.from_residual-in_err-push.result ⊥ Report old c.push.new.self.items c.from_residual-in_err-push.ensures.0
+    (subst (λ l. KeepsReports Report old l) (sym c.in_err-push.ensures.items) (kept Report old))
+
+pub returns : goal.returns
+returns c = λ variables is.
+    broken _ _ _ _ _ c.in_ok-push.ensures.items (λ x. x) (record {
+      usage = _;
+      used = refl;
+      v = c.args.variable.now;
+      is_variable = is;
+      disallowed = c.requires;
+      name_is = search rules;
+      variable_type_is = search rules;
+      location_type_is = search rules;
+      definition_location_is = refl;
+      location_is = search rules;
+    })

@@ -1,0 +1,4 @@
+pub mod Parts
+pub mod Reached
+pub mod Usages
+pub mod VariableMisuses

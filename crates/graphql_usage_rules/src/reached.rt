@@ -1,0 +1,105 @@
+//! The fragments that an operation reaches by spreads.
+
+ghost use Rattle.std.specs.Prelude.{◌≡◌, IfOk, OnOk};
+ghost use Rattle.graphql_documents.specs.Selections.{fragments_of};
+ghost use Rattle.graphql_usage_rules.specs.Parts.{SelectionHas, SetHas};
+ghost use Rattle.graphql_usage_rules.specs.Reached.{AddsSpreads, ReachesNames, SpreadsInFragment, SpreadsName, names_at};
+
+use graphql_documents::documents::{ExecutableDocument, Selection, SelectionSet};
+use graphql_nodes::{Name, ValidationError};
+use indexmap::IndexSet;
+use std::alloc::Global;
+
+/// The names of the defined fragments that a set reaches by spreads, in its own selections or in those of a fragment that it
+/// reaches, at any depth: each once. The only error is a failed allocation.
+pub(crate) fn reached_fragments<'doc>(
+    alloc: Global,
+    document: &'doc ExecutableDocument,
+    set: &'doc SelectionSet,
+) -> Result<IndexSet<&'doc Name>, ValidationError>
+    ensures { IfOk result (λ names. ReachesNames (fragments_of document.now) set.now (names_at names.keys)) }
+{
+    let mut reached = Reached {
+        names: IndexSet::new(alloc),
+        pending: Vec::new(alloc),
+    };
+    reached.add_in_set(document, set)?;
+    while let Some(name) = reached.pending.pop() {
+        reached.add_in_fragment(document, name)?;
+    }
+    Ok(reached.names)
+}
+
+/// The names of the fragments that were reached, and those of them whose own spreads were not followed yet.
+#[derive(Drop)]
+struct Reached<'doc> {
+    names: IndexSet<&'doc Name>,
+    pending: Vec<&'doc Name>,
+}
+
+impl<'doc> Reached<'doc> {
+    /// Adds what the fragment of this name spreads.
+    fn add_in_fragment(
+        &mut self,
+        document: &'doc ExecutableDocument,
+        name: &Name,
+    ) -> Result<(), ValidationError>
+        ensures { OnOk result (AddsSpreads document.now (SpreadsInFragment (fragments_of document.now) name.now) self.old self.new) }
+    {
+        match document.fragments.get(name) {
+            Some(fragment) => self.add_in_set(document, &fragment.value.selection_set),
+            None => Ok(()),
+        }
+    }
+
+    /// Adds what the selections of a set spread, at any depth.
+    #[cycle(selection)]
+    fn add_in_set(
+        &mut self,
+        document: &'doc ExecutableDocument,
+        set: &'doc SelectionSet,
+    ) -> Result<(), ValidationError>
+        ensures { OnOk result (AddsSpreads document.now (SetHas SpreadsName set.now) self.old self.new) }
+    {
+        for selection in &set.selections {
+            self.add_in_selection(document, selection)?;
+        }
+        Ok(())
+    }
+
+    #[cycle(selection)]
+    fn add_in_selection(
+        &mut self,
+        document: &'doc ExecutableDocument,
+        selection: &'doc Selection,
+    ) -> Result<(), ValidationError>
+        ensures { OnOk result (AddsSpreads document.now (SelectionHas SpreadsName selection.now) self.old self.new) }
+    {
+        match selection {
+            Selection::Field(field) => self.add_in_set(document, &field.value.selection_set),
+            Selection::FragmentSpread(spread) => {
+                self.add_spread(document, &spread.value.fragment_name)
+            }
+            Selection::InlineFragment(fragment) => {
+                self.add_in_set(document, &fragment.value.selection_set)
+            }
+        }
+    }
+
+    /// Adds the name of a fragment, if it is defined and was not reached before.
+    fn add_spread(
+        &mut self,
+        document: &ExecutableDocument,
+        name: &'doc Name,
+    ) -> Result<(), ValidationError>
+        ensures { OnOk result (AddsSpreads document.now (λ spread. spread ≡ name.now) self.old self.new) }
+    {
+        if !document.fragments.contains_key(name) {
+            return Ok(());
+        }
+        if self.names.insert(name)? {
+            self.pending.push(name)?;
+        }
+        Ok(())
+    }
+}
