@@ -1,9 +1,10 @@
 -- One usage of a variable.
-use Rattle.std.proofs.Common.{◌≡◌, List, None, Some, refl, sym, ◌∙◌, subst}
+use Rattle.std.proofs.Common.{◌≡◌, List, Option, None, Some, refl, sym, ◌∙◌, subst}
 use Rattle.std.specs.Prelude.{Result}
 use Rattle.std.proofs.lemmas.Option.{same_Some}
 use Rattle.graphql_nodes.specs.Names.{NameText}
 use Rattle.graphql_nodes.specs.declared.nodes.Node.{Node}
+use Rattle.graphql_nodes.specs.declared.spans.SourceSpan.{SourceSpan}
 use Rattle.graphql_documents.specs.Definitions.{variable_named}
 use Rattle.graphql_documents.specs.declared.documents.definitions.VariableDefinition.{VariableDefinition}
 use Rattle.graphql_diagnostics.proofs.ReportLemmas.{ChecksList, checks_words}
@@ -12,10 +13,10 @@ use Rattle.graphql_usage_rules.specs.VariableMisuses.{IsAllowedAt, MisuseReport,
 use Rattle.graphql_usage_rules.specs.declared.reports.VariableMisuse.{VariableMisuse}
 use Rattle.graphql_usage_rules.proofs.PlaceLemmas.{Checked}
 
-module _ (variables : List (Node VariableDefinition)) (name : NameText) (location : Location) where
+module _ (variables : List (Node VariableDefinition)) (name : NameText) (place : Option SourceSpan) (location : Location) where
   -- the usage and no other
   abbrev pub IsThis : Usage → Type 0
-  IsThis usage = usage ≡ record { name = name; location = location }
+  IsThis usage = usage ≡ record { name = name; place = place; location = location }
 
   -- allowed by the first definition of its name
   pub is_allowed : (v : Node VariableDefinition) → variable_named name variables ≡ Some v → IsAllowedAt v.value.value location → UsagesAreAllowed variables IsThis
@@ -36,4 +37,4 @@ module _ (variables : List (Node VariableDefinition)) (name : NameText) (locatio
       ChecksList r ⊥ (MisuseReport variables IsThis) old new → Checked variables r IsThis old new
   disallowed v is not_allowed r old new c =
       checks_words r ⊥ (UsagesAreAllowed variables IsThis) (MisuseReport variables IsThis) (MisuseReport variables IsThis) old new
-      (λ no. absurd no, λ all. not_allowed (all (record { name = name; location = location }) refl v is)) (λ x q. q) c
+      (λ no. absurd no, λ all. not_allowed (all (record { name = name; place = place; location = location }) refl v is)) (λ x q. q) c

@@ -67,66 +67,66 @@ found_object schema location name field d is has = rw is has
 
 module _ (schema : Schema) where
   -- a variable is the one usage in it
-  in_variable : {location : Location} {value : Value} {usage : Usage} → UsedIn schema location value usage → (name : NameText) → value ≡ literal.Variable name →
-      usage ≡ record { name = name; location = location }
-  in_variable {location = location} (used_itself {name = found}) name e =
-      ap (λ (n : NameText). let u : Usage = record { name = n; location = location } in u) (same_variable found name e)
-  in_variable (used_in_item items item listed stands more) name e = absurd (variable_no_list name items (sym e))
-  in_variable (used_in_entry entries entry field stands defined more) name e = absurd (variable_no_object name entries (sym e))
+  in_variable : {location : Location} {value : Node Value} {usage : Usage} → UsedIn schema location value usage → (name : NameText) → value.value.value ≡ literal.Variable name →
+      usage ≡ record { name = name; place = value.location; location = location }
+  in_variable {location = location} {value = value} (used_itself found is) name e =
+      ap (λ (n : NameText). let u : Usage = record { name = n; place = value.location; location = location } in u) (same_variable found name (sym is ∙ e))
+  in_variable (used_in_item items item is listed stands more) name e = absurd (variable_no_list name items (sym e ∙ is))
+  in_variable (used_in_entry entries entry field is stands defined more) name e = absurd (variable_no_object name entries (sym e ∙ is))
 
-  pub variable_words : (location : Location) (name : NameText) (usage : Usage) →
-      (usage ≡ record { name = name; location = location }) ↔ UsedIn schema location (literal.Variable name) usage
-  variable_words location name usage = (
-    λ e. subst (UsedIn schema location (literal.Variable name)) (sym e) used_itself,
-    λ used. in_variable used name refl,
+  pub variable_words : (location : Location) (value : Node Value) (name : NameText) → value.value.value ≡ literal.Variable name → (usage : Usage) →
+      (usage ≡ record { name = name; place = value.location; location = location }) ↔ UsedIn schema location value usage
+  variable_words location value name is usage = (
+    λ e. subst (UsedIn schema location value) (sym e) (used_itself name is),
+    λ used. in_variable used name is,
   )
 
   -- a list value has the usages in its items
-  in_list : {location : Location} {value : Value} {usage : Usage} → UsedIn schema location value usage → (items : Vec (Node Value) Global) → value ≡ literal.List items →
-      UsedInList schema location items.items usage
-  in_list (used_itself {name = name}) items e = absurd (variable_no_list name items e)
-  in_list {location = location} {usage = usage} (used_in_item found item listed stands more) items e = (
+  in_list : {location : Location} {value : Node Value} {usage : Usage} → UsedIn schema location value usage → (items : Vec (Node Value) Global) →
+      value.value.value ≡ literal.List items → UsedInList schema location items.items usage
+  in_list (used_itself name is) items e = absurd (variable_no_list name items (sym is ∙ e))
+  in_list {location = location} {usage = usage} (used_in_item found item is listed stands more) items e = (
     listed,
     has_any (λ x. UsedInItem schema (item_location location) x usage) items.items item
-        (subst (λ (l : Vec (Node Value) Global). Contains l.items item) (same_items found items e) stands) more,
+        (subst (λ (l : Vec (Node Value) Global). Contains l.items item) (same_items found items (sym is ∙ e)) stands) more,
   )
-  in_list (used_in_entry entries entry field stands defined more) items e = absurd (object_no_list entries items e)
+  in_list (used_in_entry entries entry field is stands defined more) items e = absurd (object_no_list entries items (sym is ∙ e))
 
-  pub list_words : (location : Location) (items : Vec (Node Value) Global) (usage : Usage) →
-      UsedInList schema location items.items usage ↔ UsedIn schema location (literal.List items) usage
-  list_words location items usage = (
+  pub list_words : (location : Location) (value : Node Value) (items : Vec (Node Value) Global) → value.value.value ≡ literal.List items → (usage : Usage) →
+      UsedInList schema location items.items usage ↔ UsedIn schema location value usage
+  list_words location value items is usage = (
     λ (listed, any).
         let h = any_has (λ x. UsedInItem schema (item_location location) x usage) items.items any in
-        used_in_item items h.0 listed h.1 h.2,
-    λ used. in_list used items refl,
+        used_in_item items h.0 is listed h.1 h.2,
+    λ used. in_list used items is,
   )
 
   -- an object value has the usages in its entries
-  in_object : {location : Location} {value : Value} {usage : Usage} → UsedIn schema location value usage → (entries : Vec (NameText × Node Value) Global) →
-      value ≡ literal.Object entries → UsedInObject schema location entries.items usage
-  in_object (used_itself {name = name}) entries e = absurd (variable_no_object name entries e)
-  in_object (used_in_item items item listed stands more) entries e = absurd (object_no_list entries items (sym e))
-  in_object {location = location} {usage = usage} (used_in_entry found entry field stands defined more) entries e =
+  in_object : {location : Location} {value : Node Value} {usage : Usage} → UsedIn schema location value usage → (entries : Vec (NameText × Node Value) Global) →
+      value.value.value ≡ literal.Object entries → UsedInObject schema location entries.items usage
+  in_object (used_itself name is) entries e = absurd (variable_no_object name entries (sym is ∙ e))
+  in_object (used_in_item items item is listed stands more) entries e = absurd (object_no_list entries items (sym e ∙ is))
+  in_object {location = location} {usage = usage} (used_in_entry found entry field is stands defined more) entries e =
       let object = object_found schema location entry.0 field defined in (
         object.0,
         object.1,
         has_any (λ x. UsedInEntry schema object.0 x usage) entries.items entry
-            (subst (λ (l : Vec (NameText × Node Value) Global). Contains l.items entry) (same_entries found entries e) stands) (field, object.2, more),
+            (subst (λ (l : Vec (NameText × Node Value) Global). Contains l.items entry) (same_entries found entries (sym is ∙ e)) stands) (field, object.2, more),
       )
 
-  pub object_words : (location : Location) (entries : Vec (NameText × Node Value) Global) (usage : Usage) →
-      UsedInObject schema location entries.items usage ↔ UsedIn schema location (literal.Object entries) usage
-  object_words location entries usage = (
-    λ (d, is, any).
+  pub object_words : (location : Location) (value : Node Value) (entries : Vec (NameText × Node Value) Global) → value.value.value ≡ literal.Object entries → (usage : Usage) →
+      UsedInObject schema location entries.items usage ↔ UsedIn schema location value usage
+  object_words location value entries is usage = (
+    λ (d, found, any).
         let h = any_has (λ x. UsedInEntry schema d x usage) entries.items any in
-        used_in_entry entries h.0 h.2.0 h.1 (found_object schema location h.0.0 h.2.0 d is h.2.1) h.2.2,
-    λ used. in_object used entries refl,
+        used_in_entry entries h.0 h.2.0 is h.1 (found_object schema location h.0.0 h.2.0 d found h.2.1) h.2.2,
+    λ used. in_object used entries is,
   )
 
   -- no other value uses a variable
-  pub not_in_others : {location : Location} {value : Value} {usage : Usage} → UsedIn schema location value usage →
-      ((name : NameText) → value ≡ literal.Variable name → ⊥) → ((items : Vec (Node Value) Global) → value ≡ literal.List items → ⊥) →
-      ((entries : Vec (NameText × Node Value) Global) → value ≡ literal.Object entries → ⊥) → ⊥
-  not_in_others (used_itself {name = name}) no_variable no_list no_object = no_variable name refl
-  not_in_others (used_in_item items item listed stands more) no_variable no_list no_object = no_list items refl
-  not_in_others (used_in_entry entries entry field stands defined more) no_variable no_list no_object = no_object entries refl
+  pub not_in_others : {location : Location} {value : Node Value} {usage : Usage} → UsedIn schema location value usage →
+      ((name : NameText) → value.value.value ≡ literal.Variable name → ⊥) → ((items : Vec (Node Value) Global) → value.value.value ≡ literal.List items → ⊥) →
+      ((entries : Vec (NameText × Node Value) Global) → value.value.value ≡ literal.Object entries → ⊥) → ⊥
+  not_in_others (used_itself name is) no_variable no_list no_object = no_variable name is
+  not_in_others (used_in_item items item is listed stands more) no_variable no_list no_object = no_list items is
+  not_in_others (used_in_entry entries entry field is stands defined more) no_variable no_list no_object = no_object entries is

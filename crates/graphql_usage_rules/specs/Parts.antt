@@ -35,19 +35,19 @@ InFound {X = X} found In usage = (x : X) × (found ≡ Some x) × In x usage
 
 -- in the item of a list
 abbrev pub UsedInItem : Schema → Location → Node Value → Usage → Type 0
-UsedInItem schema location item usage = UsedIn schema location item.value.value usage
+UsedInItem schema location item usage = UsedIn schema location item usage
 
 -- in one of the items, where a list is expected
 abbrev pub UsedInList : Schema → Location → List (Node Value) → Usage → Type 0
 UsedInList schema location items usage = IsTrue (is_list location.ty) × Any (λ item. UsedInItem schema (item_location location) item usage) items
 
 -- in the value of an input field
-abbrev pub UsedInField : Schema → Value → Component InputValueDefinition → Usage → Type 0
+abbrev pub UsedInField : Schema → Node Value → Component InputValueDefinition → Usage → Type 0
 UsedInField schema value field usage = UsedIn schema (location_of field.node.value.value) value usage
 
 -- in an entry of an object value, where an input object of this definition is expected
 abbrev pub UsedInEntry : Schema → Node InputObjectType → NameText × Node Value → Usage → Type 0
-UsedInEntry schema d entry usage = InFound (get same_name d.value.value.fields entry.0) (UsedInField schema entry.1.value.value) usage
+UsedInEntry schema d entry usage = InFound (get same_name d.value.value.fields entry.0) (UsedInField schema entry.1) usage
 
 -- in one of the entries, where an input object is expected
 abbrev pub UsedInObject : Schema → Location → List (NameText × Node Value) → Usage → Type 0
@@ -57,7 +57,7 @@ UsedInObject schema location entries usage =
 -- in the value of an argument, by the definition of its name
 abbrev pub UsedInArgument : Schema → List (Node InputValueDefinition) → Argument → Usage → Type 0
 UsedInArgument schema definitions a usage =
-    InFound (definition_named a.name definitions) (λ d. UsedIn schema (location_of d.value.value) a.value.value.value) usage
+    InFound (definition_named a.name definitions) (λ d. UsedIn schema (location_of d.value.value) a.value) usage
 
 -- in the arguments of a directive, by their definitions
 abbrev pub UsedInDirective : Schema → Directive → Usage → Type 0

@@ -5,6 +5,7 @@ use Rattle.std.specs.declared.alloc.Global.{Global}
 use Rattle.indexmap.specs.IndexMap.{get}
 use Rattle.graphql_nodes.specs.Names.{NameText, same_name}
 use Rattle.graphql_nodes.specs.declared.nodes.Node.{Node}
+use Rattle.graphql_nodes.specs.declared.spans.SourceSpan.{SourceSpan}
 use Rattle.graphql_documents.specs.Definitions.{definition_named}
 use Rattle.graphql_documents.specs.Directives.{directive_definition}
 use Rattle.graphql_documents.specs.Schemas.{input_object_named}
@@ -39,9 +40,10 @@ location_of d = record { ty = d.ty.value.value; has_default = is_some d.default_
 abbrev pub item_location : Location → Location
 item_location location = record { ty = item_type location.ty; has_default = false }
 
--- a use of a variable: its name as it is written there, and what the place expects
+-- a use of a variable: its name, where it is, and what is expected there
 pub record Usage : Type 0 where
   pub name : NameText
+  pub place : Option SourceSpan
   pub location : Location
 
 -- the input field of this name, in values of a type that is an input object inside its wrappers. Specification: 3.10 Input Objects; 3.11 List, Input
@@ -51,22 +53,22 @@ input_field_at schema ty name = option_and_then (λ d. get same_name d.value.val
 
 -- the variable is so used in the value at this location: it is the value, or is in an item of a list value where a list is expected, or in an entry of
 -- an object value that an input field of the name defines
-pub data UsedIn (schema : Schema) : Location → Value → Usage → Type 0 where
-  used_itself : {location : Location} {name : NameText} →
-      UsedIn schema location (literal.Variable name) (record { name = name; location = location })
-  used_in_item : {location : Location} (items : Vec (Node Value) Global) (item : Node Value) {usage : Usage} →
-      IsTrue (is_list location.ty) → Contains items.items item →
-      UsedIn schema (item_location location) item.value.value usage → UsedIn schema location (literal.List items) usage
-  used_in_entry : {location : Location} (entries : Vec (NameText × Node Value) Global) (entry : NameText × Node Value)
+pub data UsedIn (schema : Schema) : Location → Node Value → Usage → Type 0 where
+  used_itself : {location : Location} {value : Node Value} (name : NameText) → value.value.value ≡ literal.Variable name →
+      UsedIn schema location value (record { name = name; place = value.location; location = location })
+  used_in_item : {location : Location} {value : Node Value} (items : Vec (Node Value) Global) (item : Node Value) {usage : Usage} →
+      value.value.value ≡ literal.List items → IsTrue (is_list location.ty) → Contains items.items item →
+      UsedIn schema (item_location location) item usage → UsedIn schema location value usage
+  used_in_entry : {location : Location} {value : Node Value} (entries : Vec (NameText × Node Value) Global) (entry : NameText × Node Value)
       (field : Component InputValueDefinition) {usage : Usage} →
-      Contains entries.items entry → input_field_at schema location.ty entry.0 ≡ Some field →
-      UsedIn schema (location_of field.node.value.value) entry.1.value.value usage → UsedIn schema location (literal.Object entries) usage
+      value.value.value ≡ literal.Object entries → Contains entries.items entry → input_field_at schema location.ty entry.0 ≡ Some field →
+      UsedIn schema (location_of field.node.value.value) entry.1 usage → UsedIn schema location value usage
 
 -- it is so used in the value of one of these arguments, by the definition of its name; one that is not defined uses nothing
 abbrev pub UsedInArguments : Schema → List (Node InputValueDefinition) → List (Node Argument) → Usage → Type 0
 UsedInArguments schema definitions arguments usage =
     Any (λ a. (d : Node InputValueDefinition) × (definition_named a.value.value.name definitions ≡ Some d) ×
-    UsedIn schema (location_of d.value.value) a.value.value.value.value.value usage) arguments
+    UsedIn schema (location_of d.value.value) a.value.value.value usage) arguments
 
 -- in the arguments of one of these directives; one that is not defined uses nothing
 abbrev pub UsedInDirectives : Schema → List (Node Directive) → Usage → Type 0

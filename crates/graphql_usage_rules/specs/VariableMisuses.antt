@@ -48,7 +48,7 @@ pub record MisuseReport (variables : List (Node VariableDefinition)) (IsUsed : U
   pub variable_type_is : IsTypeCopy v.value.value.ty.value.value report.variable_type
   pub location_type_is : IsTypeCopy usage.location.ty report.location_type
   pub definition_location_is : report.definition_location ≡ v.location
-  pub location_is : report.location ≡ usage.name.location
+  pub location_is : report.location ≡ usage.place
 
 -- it is one in the scope of the operation
 abbrev pub OperationMisuseReport : Schema → ExecutableDocument → Operation → VariableMisuse → Type 0

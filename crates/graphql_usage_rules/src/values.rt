@@ -17,7 +17,7 @@ use graphql_documents::documents::{
     Argument, Directive, InputObjectType, InputValueDefinition, Schema, Value, VariableDefinition,
     definition_named,
 };
-use graphql_nodes::{Name, Node, ValidationError};
+use graphql_nodes::{Name, Node, SourceSpan, ValidationError};
 use graphql_variables::VariablesByName;
 
 /// Reports the variables in a value that may not be where they are used.
@@ -27,12 +27,12 @@ pub(crate) fn check_value(
     schema: &Schema,
     variables: &VariablesByName,
     location: UsageLocation<'_>,
-    value: &Value,
+    value: &Node<Value>,
 ) -> Result<(), ValidationError>
     ensures { ChecksUsages result variables.now (UsedIn schema.now (location_at location.entry) value.now) reports.old reports.new }
 {
-    match value {
-        Value::Variable(name) => check_usage(reports, variables, location, name),
+    match &*value.value {
+        Value::Variable(name) => check_usage(reports, variables, location, name, value.location),
         Value::List(items) => check_list(reports, schema, variables, location, items),
         Value::Object(entries) => check_object(reports, schema, variables, location, entries),
         _ => Ok(()),
@@ -69,7 +69,7 @@ fn check_items(
     ensures { ChecksUsages result variables.now (λ usage. Any (λ item. UsedInItem schema.now (location_at location.entry) item usage) items.now) reports.old reports.new }
 {
     for item in items {
-        check_value(reports, schema, variables, location, &item.value)?;
+        check_value(reports, schema, variables, location, item)?;
     }
     Ok(())
 }
@@ -104,7 +104,7 @@ fn check_entries(
     ensures { ChecksUsages result variables.now (λ usage. Any (λ entry. UsedInEntry schema.now input_object.now entry usage) entries.now) reports.old reports.new }
 {
     for (name, entry) in entries {
-        check_entry(reports, schema, variables, input_object, name, &entry.value)?;
+        check_entry(reports, schema, variables, input_object, name, entry)?;
     }
     Ok(())
 }
@@ -116,7 +116,7 @@ fn check_entry(
     variables: &VariablesByName,
     input_object: &Node<InputObjectType>,
     name: &Name,
-    value: &Value,
+    value: &Node<Value>,
 ) -> Result<(), ValidationError>
     ensures { ChecksUsages result variables.now (InFound (get same_name input_object.now.value.value.fields name.now) (UsedInField schema.now value.now)) reports.old reports.new }
 {
@@ -135,12 +135,13 @@ fn check_usage(
     variables: &VariablesByName,
     location: UsageLocation<'_>,
     name: &Name,
+    place: Option<SourceSpan>,
 ) -> Result<(), ValidationError>
-    ensures { ChecksUsages result variables.now (λ usage. usage ≡ record { name = name.now; location = location_at location.entry }) reports.old reports.new }
+    ensures { ChecksUsages result variables.now (λ usage. usage ≡ record { name = name.now; place = place; location = location_at location.entry }) reports.old reports.new }
 {
     match variables.find(name) {
         Some(variable) if !is_allowed_at(&variable.value, location) => {
-            report_misuse(reports, variable, location, name)
+            report_misuse(reports, variable, location, name, place)
         }
         _ => Ok(()),
     }
@@ -151,13 +152,13 @@ fn report_misuse(
     variable: &Node<VariableDefinition>,
     location: UsageLocation<'_>,
     name: &Name,
+    place: Option<SourceSpan>,
 ) -> Result<(), ValidationError>
     requires { ¬ IsAllowedAt variable.now.value.value (location_at location) }
     ensures { (variables : List (Node VariableDefinition)) → variable_named name.now variables ≡ Some variable.now →
-        Checks result ⊥ (MisuseReport variables (λ usage. usage ≡ record { name = name.now; location = location_at location.entry })) reports.old reports.new }
+        Checks result ⊥ (MisuseReport variables (λ usage. usage ≡ record { name = name.now; place = place; location = location_at location.entry })) reports.old reports.new }
 {
     let definition_location = variable.location;
-    let use_location = name.location();
     let name = name.clone()?;
     let variable_type = (*variable.value.ty.value).clone()?;
     let location_type = location.ty.clone()?;
@@ -166,7 +167,7 @@ fn report_misuse(
         variable_type,
         location_type,
         definition_location,
-        location: use_location,
+        location: place,
     })?;
     Ok(())
 }
@@ -199,7 +200,7 @@ fn check_argument(
     match definition_named(definitions, &argument.name) {
         Some(definition) => {
             let location = UsageLocation::of(&definition.value);
-            check_value(reports, schema, variables, location, &argument.value.value)
+            check_value(reports, schema, variables, location, &argument.value)
         }
         None => Ok(()),
     }

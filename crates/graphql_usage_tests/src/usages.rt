@@ -20,50 +20,50 @@ const DOCUMENTS: &[(&str, &str)] = &[
     // items of lists
     (
         "query($v: Int) { f(l: [$v]) }",
-        "24 7 variable `$v` of type `Int` used in position expecting type `Int!`\n",
+        "23 6 variable `$v` of type `Int` used in position expecting type `Int!`\n",
     ),
     ("query($v: Int!) { f(l: [1, $v]) }", ""),
     ("query($v: Int = 3) { f(l: [$v]) }", ""),
     (
         "query($v: Int = null) { f(l: [$v]) }",
-        "31 7 variable `$v` of type `Int` used in position expecting type `Int!`\n",
+        "30 6 variable `$v` of type `Int` used in position expecting type `Int!`\n",
     ),
     ("query($v: Int) { f(n: [$v]) }", ""),
     (
         "query($v: [Int]) { f(n: [$v]) }",
-        "26 7 variable `$v` of type `[Int]` used in position expecting type `Int`\n",
+        "25 6 variable `$v` of type `[Int]` used in position expecting type `Int`\n",
     ),
     (
         "query($v: Int!) { f(m: [$v]) }",
-        "25 7 variable `$v` of type `Int!` used in position expecting type `[Int!]!`\n",
+        "24 6 variable `$v` of type `Int!` used in position expecting type `[Int!]!`\n",
     ),
     (
         "query($v: Int, $w: [Int!]!) { f(m: [[1, $v], $w]) }",
-        "41 7 variable `$v` of type `Int` used in position expecting type `Int!`\n",
+        "40 6 variable `$v` of type `Int` used in position expecting type `Int!`\n",
     ),
     // entries of objects
     (
         "query($v: Int) { f(o: {x: $v}) }",
-        "27 7 variable `$v` of type `Int` used in position expecting type `Int!`\n",
+        "26 6 variable `$v` of type `Int` used in position expecting type `Int!`\n",
     ),
     ("query($v: Int) { f(o: {x: 1, d: $v, n: $v}) }", ""),
     (
         "query($v: Int) { f(o: {x: 1, o: {x: $v, l: [$v]}}) }",
-        "37 7 variable `$v` of type `Int` used in position expecting type `Int!`\n45 7 variable `$v` of type `Int` used in position expecting type `Int!`\n",
+        "36 6 variable `$v` of type `Int` used in position expecting type `Int!`\n44 6 variable `$v` of type `Int` used in position expecting type `Int!`\n",
     ),
     (
         "query($v: Int) { f(os: {x: $v}) }",
-        "28 7 variable `$v` of type `Int` used in position expecting type `Int!`\n",
+        "27 6 variable `$v` of type `Int` used in position expecting type `Int!`\n",
     ),
     // whole values
     (
         "query($v: Int) { f(x: $v) }",
-        "23 7 variable `$v` of type `Int` used in position expecting type `Int!`\n",
+        "22 6 variable `$v` of type `Int` used in position expecting type `Int!`\n",
     ),
     ("query($v: Int) { f(d: $v) }", ""),
     (
         "query($v: String) { f(d: $v) }",
-        "26 7 variable `$v` of type `String` used in position expecting type `Int!`\n",
+        "25 6 variable `$v` of type `String` used in position expecting type `Int!`\n",
     ),
     // no place is known
     ("query($v: String) { f(x: [$v], j: [$v, {a: $v}]) }", ""),
@@ -75,16 +75,16 @@ const DOCUMENTS: &[(&str, &str)] = &[
     // directives
     (
         "query($v: Int) @on(l: [$v]) { q @on(o: {x: $v}) { f } }",
-        "24 7 variable `$v` of type `Int` used in position expecting type `Int!`\n44 7 variable `$v` of type `Int` used in position expecting type `Int!`\n",
+        "23 6 variable `$v` of type `Int` used in position expecting type `Int!`\n43 6 variable `$v` of type `Int` used in position expecting type `Int!`\n",
     ),
     (
         "query($v: Int) { ... F @on(l: [$v]) ... on Query @on(l: [$v]) { q { f(l: [$v]) } } } fragment F on Query @on(l: [$v]) { f }",
-        "32 7 variable `$v` of type `Int` used in position expecting type `Int!`\n58 7 variable `$v` of type `Int` used in position expecting type `Int!`\n75 7 variable `$v` of type `Int` used in position expecting type `Int!`\n114 7 variable `$v` of type `Int` used in position expecting type `Int!`\n",
+        "31 6 variable `$v` of type `Int` used in position expecting type `Int!`\n57 6 variable `$v` of type `Int` used in position expecting type `Int!`\n74 6 variable `$v` of type `Int` used in position expecting type `Int!`\n113 6 variable `$v` of type `Int` used in position expecting type `Int!`\n",
     ),
     // fragments, each once for each operation that reaches it
     (
         "query A($v: Int) { ...F ...F } query B($v: Int!) { ...F } query C($v: [Int]) { q { ...G } } fragment F on Query { f(l: [$v]) ...G } fragment G on Query { q { ...F } f(n: [$v]) }",
-        "121 9 variable `$v` of type `Int` used in position expecting type `Int!`\n172 67 variable `$v` of type `[Int]` used in position expecting type `Int`\n121 67 variable `$v` of type `[Int]` used in position expecting type `Int!`\n",
+        "120 8 variable `$v` of type `Int` used in position expecting type `Int!`\n171 66 variable `$v` of type `[Int]` used in position expecting type `Int`\n120 66 variable `$v` of type `[Int]` used in position expecting type `Int!`\n",
     ),
     (
         "query($v: Int) { q { f } } fragment F on Query { f(l: [$v]) }",

@@ -4,9 +4,9 @@ use Rattle.indexmap.specs.IndexMap.{get}
 use Rattle.graphql_nodes.specs.Names.{same_name}
 use Rattle.graphql_documents.specs.Schemas.{input_object_named}
 use Rattle.graphql_documents.specs.TypeReferences.{inner_named_type, is_list}
-use Rattle.graphql_usage_rules.specs.Parts.{InFound, UsedInEntry, UsedInField, UsedInItem, UsedInList, UsedInObject, location_at}
+use Rattle.graphql_usage_rules.specs.Parts.{UsedInEntry, UsedInField, UsedInItem, UsedInList, UsedInObject, location_at}
 use Rattle.graphql_usage_rules.specs.Usages.{UsedIn, item_location, location_of}
-use Rattle.graphql_usage_rules.proofs.PlaceLemmas.{Among, Checked, Kept, Reported, found_checked, in_places, not_found, nothing_used, place_refused, places_all, places_more}
+use Rattle.graphql_usage_rules.proofs.PlaceLemmas.{Among, Checked, found_checked, in_places, not_found, nothing_used, place_refused, places_all, places_more}
 use Rattle.graphql_usage_rules.proofs.UsageLemmas.{IsThis}
 use Rattle.graphql_usage_rules.proofs.ValueLemmas.{list_words, not_in_others, object_words, variable_words}
 use Rattle.graphql_usage_rules.proofs.values.+value.Goals as goal
@@ -14,40 +14,42 @@ use Rattle.graphql_usage_rules.proofs.values.+value.Goals as goal
 -- a value
 pub check_value-returns-in-Variable : goal.check_value-returns-in-Variable
 check_value-returns-in-Variable t c =
-    let r = c.check_usage.result in
+    let v = c.args.variables.now in
     let at = location_at c.args.location in
-    let old = c.args.reports.now.items in
-    let new = c.check_usage.new.reports.items in
-    let name = c.in-Variable.name in
-    subst (λ v. Checked c.args.variables.now r (UsedIn c.args.schema.now at v) old new) (sym c.in-Variable.is)
-    (in_places c.args.variables.now r (IsThis c.args.variables.now name at) _ old new (variable_words c.args.schema.now at name) c.check_usage.ensures)
+    let value = c.args.value.now in
+    in_places v c.check_usage.result (IsThis v c.in-Variable.name value.location at) (UsedIn c.args.schema.now at value) c.args.reports.now.items
+    c.check_usage.new.reports.items (variable_words c.args.schema.now at value c.in-Variable.name (sym c.deref.ensures ∙ c.in-Variable.is)) c.check_usage.ensures
 
 pub check_value-returns-in-List : goal.check_value-returns-in-List
 check_value-returns-in-List t c =
+    let v = c.args.variables.now in
+    let s = c.args.schema.now in
     let r = c.check_list.result in
     let at = location_at c.args.location in
+    let value = c.args.value.now in
     let old = c.args.reports.now.items in
     let new = c.check_list.new.reports.items in
-    let items = c.in-List.items in
-    subst (λ v. Checked c.args.variables.now r (UsedIn c.args.schema.now at v) old new) (sym c.in-List.is)
-    (in_places c.args.variables.now r (UsedInList c.args.schema.now at items.items) _ old new (list_words c.args.schema.now at items)
-    (subst (λ l. Checked c.args.variables.now r (UsedInList c.args.schema.now at l) old new) c.deref.ensures.value c.check_list.ensures))
+    in_places v r (UsedInList s at c.in-List.items.items) (UsedIn s at value) old new (list_words s at value c.in-List.items (sym c.deref.ensures ∙ c.in-List.is))
+    (subst (λ l. Checked v r (UsedInList s at l) old new) c.deref-in-List.ensures.value c.check_list.ensures)
 
 pub check_value-returns-in-Object : goal.check_value-returns-in-Object
 check_value-returns-in-Object t c =
+    let v = c.args.variables.now in
+    let s = c.args.schema.now in
     let r = c.check_object.result in
     let at = location_at c.args.location in
+    let value = c.args.value.now in
     let old = c.args.reports.now.items in
     let new = c.check_object.new.reports.items in
-    let entries = c.in-Object.entries in
-    subst (λ v. Checked c.args.variables.now r (UsedIn c.args.schema.now at v) old new) (sym c.in-Object.is)
-    (in_places c.args.variables.now r (UsedInObject c.args.schema.now at entries.items) _ old new (object_words c.args.schema.now at entries)
-    (subst (λ l. Checked c.args.variables.now r (UsedInObject c.args.schema.now at l) old new) c.deref-in-Object.ensures.value c.check_object.ensures))
+    in_places v r (UsedInObject s at c.in-Object.entries.items) (UsedIn s at value) old new
+    (object_words s at value c.in-Object.entries (sym c.deref.ensures ∙ c.in-Object.is))
+    (subst (λ l. Checked v r (UsedInObject s at l) old new) c.deref-in-Object.ensures.value c.check_object.ensures)
 
 pub check_value-returns-in_default : goal.check_value-returns-in_default
 check_value-returns-in_default t c =
     nothing_used c.args.variables.now (UsedIn c.args.schema.now (location_at c.args.location) c.args.value.now) _
-    (λ u used. not_in_others c.args.schema.now used c.in_default.not-Variable c.in_default.not-List c.in_default.not-Object)
+    (λ u used. not_in_others c.args.schema.now used (λ name is. c.in_default.not-Variable name (c.deref.ensures ∙ is))
+    (λ items is. c.in_default.not-List items (c.deref.ensures ∙ is)) (λ entries is. c.in_default.not-Object entries (c.deref.ensures ∙ is)))
 
 -- a list
 pub check_list-returns : goal.check_list-returns
@@ -70,7 +72,7 @@ check_items-returns-in_err-check_value t c =
     let new = c.check_value.new.reports.items in
     place_refused v (UsedInItem c.args.schema.now at) c.args.items.now c.from_residual.result c.loop-item.item-index c.item-item.result c.args.reports.now.items mid new
     c.from_residual.ensures.0 c.loop-item-test.true c.item-item.is c.loop-item.invariant
-    (subst (λ x. Kept v (UsedIn c.args.schema.now at x) mid new) c.deref.ensures c.in_err-check_value.ensures)
+    c.in_err-check_value.ensures
 
 pub check_items-loop-item-preserved : goal.check_items-loop-item-preserved
 check_items-loop-item-preserved t c =
@@ -80,7 +82,7 @@ check_items-loop-item-preserved t c =
     let new = c.check_value.new.reports.items in
     places_more v (UsedInItem c.args.schema.now at) c.args.items.now c.loop-item.item-index c.item-item.result c.args.reports.now.items mid new
     c.loop-item-test.true c.item-item.is c.loop-item.invariant
-    (subst (λ x. Reported v (UsedIn c.args.schema.now at x) mid new) c.deref.ensures c.in_ok-check_value.ensures)
+    c.in_ok-check_value.ensures
 
 pub check_items-returns : goal.check_items-returns
 check_items-returns t c =
@@ -127,8 +129,7 @@ check_entries-returns-in_err-check_entry t c =
     let new = c.check_entry.new.reports.items in
     place_refused v In c.args.entries.now c.from_residual.result c.loop-name.name-index entry c.args.reports.now.items mid new
     c.from_residual.ensures.0 c.loop-name-test.true c.loop-name-item.is c.loop-name.invariant
-    (subst (λ x. Kept v (InFound (get same_name c.args.input_object.now.value.value.fields entry.0) (UsedInField c.args.schema.now x)) mid new) c.deref.ensures
-    c.in_err-check_entry.ensures)
+    c.in_err-check_entry.ensures
 
 pub check_entries-loop-name-preserved : goal.check_entries-loop-name-preserved
 check_entries-loop-name-preserved t c =
@@ -139,8 +140,7 @@ check_entries-loop-name-preserved t c =
     let new = c.check_entry.new.reports.items in
     places_more v In c.args.entries.now c.loop-name.name-index entry c.args.reports.now.items mid new
     c.loop-name-test.true c.loop-name-item.is c.loop-name.invariant
-    (subst (λ x. Reported v (InFound (get same_name c.args.input_object.now.value.value.fields entry.0) (UsedInField c.args.schema.now x)) mid new) c.deref.ensures
-    c.in_ok-check_entry.ensures)
+    c.in_ok-check_entry.ensures
 
 pub check_entries-returns : goal.check_entries-returns
 check_entries-returns t c =

@@ -15,15 +15,14 @@ returns-in-Some c =
     let new = c.check_value.new.reports.items in
     let a = c.args.argument.now in
     let d = c.in-Some.definition.now in
-    let In : Node InputValueDefinition → Usage → Type 0 = λ d. UsedIn c.args.schema.now (location_of d.value.value) a.value.value.value in
+    let In : Node InputValueDefinition → Usage → Type 0 = λ d. UsedIn c.args.schema.now (location_of d.value.value) a.value in
     let is : definition_named a.name c.args.definitions.now ≡ Some d = search rules in
     let place : location_at c.of-location.result ≡ location_of d.value.value = c.of-location.ensures ∙ ap (λ (x : InputValueDefinition). location_of x) c.deref.ensures in
     found_checked v r (definition_named a.name c.args.definitions.now) In d old new is
-    (subst (λ l. Checked v r (UsedIn c.args.schema.now l a.value.value.value) old new) place
-    (subst (λ x. Checked v r (UsedIn c.args.schema.now (location_at c.of-location.result) x) old new) c.deref-in-Some.ensures c.check_value.ensures))
+    (subst (λ l. Checked v r (UsedIn c.args.schema.now l a.value) old new) place c.check_value.ensures)
 
 pub returns-in-None : goal.returns-in-None
 returns-in-None c =
     let a = c.args.argument.now in
-    let In : Node InputValueDefinition → Usage → Type 0 = λ d. UsedIn c.args.schema.now (location_of d.value.value) a.value.value.value in
+    let In : Node InputValueDefinition → Usage → Type 0 = λ d. UsedIn c.args.schema.now (location_of d.value.value) a.value in
     not_found c.args.variables.now (definition_named a.name c.args.definitions.now) In c.args.reports.now.items (search rules)

@@ -10,11 +10,11 @@ pub returns-in-Some : goal.returns-in-Some
 returns-in-Some c =
     let is : variable_named c.args.name.now c.args.variables.now ≡ Some c.in-Some.variable.now = search rules in
     let not_allowed : ¬ IsAllowedAt c.in-Some.variable.now.value.value (location_at c.args.location) = search rules in
-    disallowed c.args.variables.now c.args.name.now (location_at c.args.location) c.in-Some.variable.now is not_allowed
+    disallowed c.args.variables.now c.args.name.now c.args.place (location_at c.args.location) c.in-Some.variable.now is not_allowed
     c.report_misuse.result c.args.reports.now.items c.report_misuse.new.reports.items (c.report_misuse.ensures c.args.variables.now is)
 
 pub returns-in_default : goal.returns-in_default
 returns-in_default c =
     let is : variable_named c.args.name.now c.args.variables.now ≡ Some c.in-Some.variable.now = search rules in
     let allowed : IsAllowedAt c.in-Some.variable.now.value.value (location_at c.args.location) = search rules in
-    holds _ _ _ (is_allowed c.args.variables.now c.args.name.now (location_at c.args.location) c.in-Some.variable.now is allowed)
+    holds _ _ _ (is_allowed c.args.variables.now c.args.name.now c.args.place (location_at c.args.location) c.in-Some.variable.now is allowed)

@@ -8,7 +8,7 @@ use Rattle.graphql_usage_rules.proofs.values.report_misuse.Goals as goal
 
 pub returns-in_err-push : goal.returns-in_err-push
 returns-in_err-push c = λ variables is.
-    let Report = MisuseReport variables (IsThis variables c.args.name.now (location_at c.args.location)) in
+    let Report = MisuseReport variables (IsThis variables c.args.name.now c.args.place (location_at c.args.location)) in
     let old = c.args.reports.now.items in
     checks-err c.from_residual-in_err-push.result ⊥ Report old c.push.new.self.items c.from_residual-in_err-push.ensures.0
     (subst (λ l. KeepsReports Report old l) (sym c.in_err-push.ensures.items) (kept Report old))
