@@ -1,7 +1,9 @@
+use crate::check::{Paths, check};
 use crate::faults::{Fault, fault_of_output, fault_of_words};
-use crate::sources::{STANDARD_INPUT, SourceError, source};
+use crate::schemas::check_schema;
 use crate::statuses::Status;
-use crate::syntax::report_syntax;
+use crate::syntax::check_syntax;
+use gqlvalidate_words::{Refusal, Request, parse};
 use std::io;
 use std::io::{Read, Write};
 use std::rt::Files;
@@ -16,7 +18,7 @@ pub fn run<R: Files + AllocGlobal, I: Read, O: Write, F: Write>(
     faults: &mut F,
 ) -> Status {
     let ended = match words {
-        Ok(words) => answer(rt, &words, input, output, faults),
+        Ok(words) => run_words(rt, &words, input, output, faults),
         Err(error) => Err(fault_of_words(error)),
     };
     match ended {
@@ -28,67 +30,60 @@ pub fn run<R: Files + AllocGlobal, I: Read, O: Write, F: Write>(
     }
 }
 
-fn answer<R: Files + AllocGlobal, I: Read, O: Write, F: Write>(
+fn run_words<R: Files + AllocGlobal, I: Read, O: Write, F: Write>(
     rt: &R,
     words: &[String],
     input: &mut I,
     output: &mut O,
     faults: &mut F,
 ) -> Result<Status, Fault> {
-    let paths = match words {
-        [word, paths @ ..] if word.as_str() == "syntax" => paths,
-        _ => return Err(Fault::BadArguments),
+    let status = match parse(rt.alloc(), words) {
+        Ok(request) => answer(rt, &request, input, output, faults)?,
+        Err(refusal) => refuse(&refusal, output, faults)?,
     };
-    if paths.is_empty() || inputs(paths) > 1 {
-        return Err(Fault::BadArguments);
-    }
-    let status = answer_files(rt, paths, input, output, faults)?;
     output.flush().map_err(fault_of_output)?;
     Ok(status)
 }
 
-/// How many of the words name standard input.
-fn inputs(paths: &[String]) -> usize {
-    paths
-        .iter()
-        .filter(|path| path.as_str() == STANDARD_INPUT)
-        .count()
-}
-
-fn answer_files<R: Files + AllocGlobal, I: Read, O: Write, F: Write>(
+/// Does what is asked for.
+fn answer<R: Files + AllocGlobal, I: Read, O: Write, F: Write>(
     rt: &R,
-    paths: &[String],
+    request: &Request<'_>,
     input: &mut I,
     output: &mut O,
     faults: &mut F,
 ) -> Result<Status, Fault> {
-    let mut status = Status::Accepted;
-    for path in paths {
-        status = status.with(answer_file(rt, path.as_str(), input, output, faults)?);
-    }
-    Ok(status)
-}
-
-fn answer_file<R: Files + AllocGlobal, I: Read, O: Write, F: Write>(
-    rt: &R,
-    path: &str,
-    input: &mut I,
-    output: &mut O,
-    faults: &mut F,
-) -> Result<Status, Fault> {
-    match source(rt, path, input) {
-        Ok(text) => {
-            let reported = report_syntax(rt.alloc(), path, text.as_str(), output)?;
-            Ok(if reported {
-                Status::Reported
-            } else {
-                Status::Accepted
-            })
+    match request {
+        Request::Check {
+            schema,
+            documents,
+            reporting,
+        } => {
+            let paths = Paths { schema, documents };
+            check(rt, paths, *reporting, input, output, faults)
         }
-        Err(SourceError::OutOfMemory) => Err(Fault::OutOfMemory),
-        Err(error) => {
-            error.explain(path, faults);
-            Ok(Status::Unreadable)
+        Request::Schema { schema, reporting } => {
+            check_schema(rt, schema, *reporting, input, output, faults)
+        }
+        Request::Syntax { files } => check_syntax(rt, files, input, output, faults),
+    }
+}
+
+/// Says why no run is asked for: help and the version are no faults.
+fn refuse<O: Write, F: Write>(
+    refusal: &Refusal,
+    output: &mut O,
+    faults: &mut F,
+) -> Result<Status, Fault> {
+    match refusal {
+        Refusal::OutOfMemory => Err(Fault::OutOfMemory),
+        Refusal::Asked(text) => {
+            output.write_all(text.as_bytes()).map_err(fault_of_output)?;
+            Ok(Status::Accepted)
+        }
+        Refusal::Wrong(text) => {
+            let _ = faults.write_all(text.as_bytes());
+            Ok(Status::BadArguments)
         }
     }
 }

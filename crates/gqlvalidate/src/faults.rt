@@ -1,4 +1,6 @@
 use crate::statuses::Status;
+use graphql_nodes::ValidationError;
+use std::alloc::{AllocError, AllocFailed};
 use std::io;
 use std::io::Write;
 use thiserror::Error;
@@ -6,10 +8,13 @@ use thiserror::Error;
 /// Why a run ended early.
 #[derive(Clone, Copy, Debug, PartialEq, Eq, Error)]
 pub enum Fault {
-    #[error("usage: gqlvalidate syntax FILE..")]
-    BadArguments,
+    #[error("error: a word of the command line is not UTF-8")]
+    WordsNotUtf8,
     #[error("out of memory")]
     OutOfMemory,
+    /// This can not be, since they are among the texts of each schema.
+    #[error("error: the definitions that every schema has are missing")]
+    LacksIntrospection,
     #[error("a write to standard output failed")]
     OutputFailed,
 }
@@ -18,7 +23,8 @@ impl Fault {
     /// The status of a run that this ended.
     pub fn status(self) -> Status {
         match self {
-            Fault::BadArguments => Status::BadArguments,
+            Fault::WordsNotUtf8 => Status::BadArguments,
+            Fault::LacksIntrospection => Status::Reported,
             Fault::OutOfMemory => Status::OutOfMemory,
             Fault::OutputFailed => Status::OutputFailed,
         }
@@ -33,11 +39,29 @@ impl Fault {
     }
 }
 
+impl From<AllocError> for Fault {
+    fn from(_refusal: AllocError) -> Fault {
+        Fault::OutOfMemory
+    }
+}
+
+impl<T: Drop> From<AllocFailed<T>> for Fault {
+    fn from(_refusal: AllocFailed<T>) -> Fault {
+        Fault::OutOfMemory
+    }
+}
+
+impl From<ValidationError> for Fault {
+    fn from(_refusal: ValidationError) -> Fault {
+        Fault::OutOfMemory
+    }
+}
+
 /// The fault of words that could not be read: one is no UTF-8, or there was no memory for them.
 pub fn fault_of_words(error: io::Error) -> Fault {
     match error.kind() {
         io::ErrorKind::OutOfMemory => Fault::OutOfMemory,
-        _ => Fault::BadArguments,
+        _ => Fault::WordsNotUtf8,
     }
 }
 

@@ -1,11 +1,20 @@
-//! Reads GraphQL documents from files, and prints a line for each fault that it finds.
+//! Validates GraphQL schemas and documents from files, and prints what is wrong with them.
 #![tactic(auto)]
 
+mod accounts;
+mod check;
 pub mod command;
+mod excerpts;
 mod faults;
+mod github_format;
+mod json_format;
+mod named_texts;
+mod schema_files;
+mod schemas;
 mod sources;
 pub mod statuses;
 mod syntax;
+mod text_format;
 
 use command::run;
 use std::process::ExitCode;

@@ -1,13 +1,12 @@
 //! The texts of files.
 
+use crate::faults::Fault;
+use gqlvalidate_words::requests::STANDARD_INPUT;
 use graphql_places::Place;
 use std::alloc::Global;
 use std::io::{Read, Write};
 use std::rt::Files;
 use std::{fs, io};
-
-/// The word that stands for standard input.
-pub const STANDARD_INPUT: &str = "-";
 
 /// What a line calls a file.
 pub fn shown_path(path: &str) -> &str {
@@ -20,7 +19,7 @@ pub fn shown_path(path: &str) -> &str {
 
 /// Why a file has no text.
 #[derive(Drop)]
-pub enum SourceError {
+enum SourceError {
     OutOfMemory,
     /// It could not be read.
     NotRead(io::Error),
@@ -30,7 +29,7 @@ pub enum SourceError {
 
 impl SourceError {
     /// Says on standard error what is wrong with the file. That this fails changes nothing.
-    pub fn explain<F: Write>(&self, path: &str, faults: &mut F) {
+    fn explain<F: Write>(&self, path: &str, faults: &mut F) {
         let path = shown_path(path);
         let _ = match self {
             SourceError::OutOfMemory => Ok(()),
@@ -44,8 +43,25 @@ impl SourceError {
     }
 }
 
+/// The text of a file, if it has one. If not, it is said on standard error why.
+pub fn text_or_said<R: Files + AllocGlobal, I: Read, F: Write>(
+    rt: &R,
+    path: &str,
+    input: &mut I,
+    faults: &mut F,
+) -> Result<Option<String>, Fault> {
+    match source(rt, path, input) {
+        Ok(text) => Ok(Some(text)),
+        Err(SourceError::OutOfMemory) => Err(Fault::OutOfMemory),
+        Err(error) => {
+            error.explain(path, faults);
+            Ok(None)
+        }
+    }
+}
+
 /// The text of a file, or of standard input where the path is `-`.
-pub fn source<R: Files + AllocGlobal, I: Read>(
+fn source<R: Files + AllocGlobal, I: Read>(
     rt: &R,
     path: &str,
     input: &mut I,

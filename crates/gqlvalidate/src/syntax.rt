@@ -5,19 +5,48 @@ ghost use Rattle.graphql_parser.specs.Parses.{ParsesDocument};
 ghost use Rattle.graphql_trees.specs.declared.documents.Document.{Document};
 
 use crate::faults::{Fault, fault_of_output};
-use crate::sources::shown_path;
+use crate::sources::{shown_path, text_or_said};
+use crate::statuses::Status;
 use graphql_nodes::FileId;
 use graphql_parser::{Bounds, SyntaxError, parse_document};
 use graphql_places::Place;
 use graphql_syntax_messages::refused::refused;
 use std::alloc::Global;
-use std::io::Write;
+use std::io::{Read, Write};
+use std::rt::Files;
 
 /// The number of the one file that is read at a time.
 const FILE: FileId = FileId(1);
 
+/// Tells which of these files are no documents: one that cannot be read does not end the run.
+pub fn check_syntax<R: Files + AllocGlobal, I: Read, O: Write, F: Write>(
+    rt: &R,
+    paths: &[&str],
+    input: &mut I,
+    output: &mut O,
+    faults: &mut F,
+) -> Result<Status, Fault> {
+    let mut status = Status::Accepted;
+    for path in paths {
+        let checked = match text_or_said(rt, path, input, faults)? {
+            Some(text) => status_of(report_syntax(rt.alloc(), path, text.as_str(), output)?),
+            None => Status::Unreadable,
+        };
+        status = status.with(checked);
+    }
+    Ok(status)
+}
+
+fn status_of(reported: bool) -> Status {
+    if reported {
+        Status::Reported
+    } else {
+        Status::Accepted
+    }
+}
+
 /// Prints a line if the text of the file is no document. Whether it did.
-pub fn report_syntax<O: Write>(
+fn report_syntax<O: Write>(
     alloc: Global,
     path: &str,
     text: &str,

@@ -3,7 +3,49 @@ use std::alloc::Global;
 use std::io::ErrorKind;
 use std::process::Abort;
 
-const USAGE: &str = "usage: gqlvalidate syntax FILE..\n";
+mod shelf;
+
+use shelf::{Failing, Refusing, Shelf};
+
+/// What a run is to print on standard output and on standard error, and its status.
+#[derive(Clone, Copy)]
+struct Ended<'a> {
+    status: u8,
+    printed: &'a str,
+    said: &'a str,
+}
+
+/// The files of the tests.
+const FILES: &[(&str, &[u8])] = &[
+    (
+        "schema",
+        b"type Query { pet(id: ID!): Pet }\n\ntype Pet { name: String }\n",
+    ),
+    ("more", b"extend type Pet { age: Int }\n"),
+    ("valid", b"{ pet(id: 1) { name } }\n"),
+    ("aged", b"{ pet(id: 1) { name age } }\n"),
+    (
+        "unsupported",
+        b"query {\n  pet(id: 1, size: 2) {\n    name\n  }\n}\n",
+    ),
+    ("repeated", b"{\n\tpet(id: 1,\r\n\tid: 2) { name }\n}\n"),
+    ("unknown", b"{ pet(id: 1) { name colour } }\n"),
+    ("unclosed", b"{ pet(id: 1) { name }"),
+    (
+        "wide",
+        b"{ pet(id: 1, name: \"\xE7\x8C\xAB\xE3\x81\x82\") { name } }\n",
+    ),
+    ("twice", b"type Query { a: Int }\ntype Query { b: Int }\n"),
+    ("rootless", b"type Pet { name: String }\n"),
+    ("binary", b"{ a\n \xC3\xA9\xFF }"),
+];
+
+fn shelf_of(alloc: Global) -> Shelf {
+    Shelf {
+        alloc,
+        files: FILES,
+    }
+}
 
 fn words_of(rt: &impl Abort, alloc: Global, texts: &[&str]) -> Vec<String> {
     let mut words = Vec::new(alloc);
@@ -14,50 +56,228 @@ fn words_of(rt: &impl Abort, alloc: Global, texts: &[&str]) -> Vec<String> {
     words
 }
 
-/// What a run is to print on standard output and on standard error, and its status.
-#[derive(Clone, Copy)]
-struct Ended<'a> {
-    status: u8,
-    printed: &'a str,
-    said: &'a str,
-}
-
 /// With these bytes on standard input the words end so.
-fn ends<R: Files + AllocGlobal + Abort>(rt: &R, texts: &[&str], input: &[u8], wanted: Ended<'_>) {
+fn ends<R: AllocGlobal + Abort>(rt: &R, texts: &[&str], input: &[u8], wanted: Ended<'_>) {
     let alloc = rt.alloc();
     let words = Ok(words_of(rt, alloc, texts));
     let mut input = input;
     let mut output = Vec::new(alloc);
     let mut faults = Vec::new(alloc);
-    let status = run(rt, words, &mut input, &mut output, &mut faults);
-    assert_eq!(rt; output.as_slice(), wanted.printed.as_bytes());
-    assert_eq!(rt; faults.as_slice(), wanted.said.as_bytes());
+    let status = run(
+        &shelf_of(alloc),
+        words,
+        &mut input,
+        &mut output,
+        &mut faults,
+    );
+    assert_text(rt, &output, wanted.printed);
+    assert_text(rt, &faults, wanted.said);
     assert_eq!(rt; status.number(), wanted.status);
 }
 
-/// Standard input with these bytes ends so.
-fn reads<R: Files + AllocGlobal + Abort>(
-    rt: &R,
-    input: &[u8],
-    status: u8,
-    printed: &str,
-    said: &str,
-) {
+fn assert_text(rt: &impl Abort, bytes: &[u8], wanted: &str) {
+    assert_eq!(rt; std::str::from_utf8(bytes).unwrap_or("no text"), wanted);
+}
+
+/// The words, with nothing on standard input, end so.
+fn run_ends<R: AllocGlobal + Abort>(rt: &R, texts: &[&str], status: u8, printed: &str, said: &str) {
     let wanted = Ended {
         status,
         printed,
         said,
     };
-    ends(rt, &["syntax", "-"], input, wanted);
+    ends(rt, texts, b"", wanted);
+}
+
+/// Words whose run has nothing to report, and what it prints.
+const ACCEPTED: &[(&[&str], &str)] = &[
+    (&["check", "--schema", "schema", "valid"], ""),
+    (
+        &[
+            "check", "--schema", "schema", "--schema", "more", "valid", "aged",
+        ],
+        "",
+    ),
+    (&["schema", "more", "schema"], ""),
+    (
+        &["check", "--format", "github", "--schema", "schema", "valid"],
+        "",
+    ),
+    (
+        &["check", "--format", "json", "--schema", "schema", "valid"],
+        "{\"errors\":[]}\n",
+    ),
+    (
+        &["schema", "--format", "json", "schema"],
+        "{\"errors\":[]}\n",
+    ),
+    (&["syntax", "schema", "unsupported"], ""),
+    (&["--version"], "gqlvalidate 0.1.0\n"),
+];
+
+#[test]
+fn what_holds_is_accepted(rt: HostRuntime) {
+    for (texts, printed) in ACCEPTED {
+        run_ends(&rt, texts, 0, printed, "");
+    }
+}
+
+/// Documents, and what is printed of them as text.
+const AS_TEXT: &[(&str, &str)] = &[
+    (
+        "unsupported",
+        "unsupported:2:14: error: the argument `size` is not supported by `Query.pet`
+  |
+2 |   pet(id: 1, size: 2) {
+  |              ^^^^^^^
+",
+    ),
+    (
+        "repeated",
+        "repeated:3:2: error: the argument `id` is provided multiple times
+  |
+3 |     id: 2) { name }
+  |     ^^^^^
+repeated:2:6: note: first here
+",
+    ),
+    (
+        "unknown",
+        "unknown:1:21: error: type `Pet` does not have a field `colour`
+  |
+1 | { pet(id: 1) { name colour } }
+  |                     ^^^^^^
+",
+    ),
+    (
+        "unclosed",
+        "unclosed:1:22: error: expected `}`, found the end of the text
+  |
+1 | { pet(id: 1) { name }
+  |                      ^
+",
+    ),
+    (
+        "wide",
+        "wide:1:14: error: the argument `name` is not supported by `Query.pet`
+  |
+1 | { pet(id: 1, name: \"\u{732b}\u{3042}\") { name } }
+  |              ^^^^^^^^^^^^
+",
+    ),
+];
+
+#[test]
+fn reports_are_shown_in_their_lines(rt: HostRuntime) {
+    for (document, printed) in AS_TEXT {
+        let texts = ["check", "--schema", "schema", document];
+        let said = "1 report in 1 of 1 document\n";
+        run_ends(&rt, texts.as_slice(), 1, printed, said);
+    }
+}
+
+const AS_JSON: &str = "{\"errors\":[\
+    {\"message\":\"the argument `size` is not supported by `Query.pet`\",\
+    \"locations\":[{\"line\":2,\"column\":14}],\
+    \"extensions\":{\"file\":\"unsupported\",\"rule\":\"UndefinedArgument\",\"span\":{\"start\":21,\"end\":28}}},\
+    {\"message\":\"the argument `id` is provided multiple times\",\
+    \"locations\":[{\"line\":3,\"column\":2},{\"line\":2,\"column\":6}],\
+    \"extensions\":{\"file\":\"repeated\",\"rule\":\"UniqueArgument\",\"span\":{\"start\":16,\"end\":21}}}\
+    ]}\n";
+
+#[test]
+fn a_run_is_one_object(rt: HostRuntime) {
+    let texts = [
+        "check",
+        "--format",
+        "json",
+        "--schema",
+        "schema",
+        "unsupported",
+        "valid",
+        "repeated",
+    ];
+    run_ends(
+        &rt,
+        texts.as_slice(),
+        1,
+        AS_JSON,
+        "2 reports in 2 of 3 documents\n",
+    );
 }
 
 #[test]
-fn documents_are_accepted(rt: HostRuntime) {
-    reads(&rt, b"{ a }", 0, "", "");
-    reads(&rt, b"type A", 0, "", "");
+fn a_report_is_one_annotation(rt: HostRuntime) {
+    let texts = [
+        "check",
+        "--format",
+        "github",
+        "--schema",
+        "schema",
+        "unsupported",
+    ];
+    let line =
+        "::error file=unsupported,line=2,endLine=2,col=14,endColumn=21,title=UndefinedArgument::the argument `size` is not supported by `Query.pet`\n";
+    run_ends(
+        &rt,
+        texts.as_slice(),
+        1,
+        line,
+        "1 report in 1 of 1 document\n",
+    );
 }
 
-/// Texts, and the line that is printed of them.
+/// Schemas, and what is printed of them as text.
+const SCHEMAS: &[(&str, &str)] = &[
+    (
+        "twice",
+        "twice:2:6: error: the type `Query` is defined multiple times in the schema
+  |
+2 | type Query { b: Int }
+  |      ^^^^^
+twice:1:6: note: first here
+",
+    ),
+    (
+        "rootless",
+        "rootless: error: missing query root operation type in schema definition\n",
+    ),
+];
+
+#[test]
+fn a_schema_that_does_not_hold_ends_the_run(rt: HostRuntime) {
+    for (schema, printed) in SCHEMAS {
+        let said = "1 report in the schema\n";
+        run_ends(&rt, ["schema", schema].as_slice(), 1, printed, said);
+        let texts = ["check", "--schema", schema, "unknown", "missing"];
+        run_ends(&rt, texts.as_slice(), 1, printed, said);
+    }
+}
+
+/// Two reports, of which one may be printed.
+const CUT: &[&str] = &[
+    "check",
+    "--max-reports",
+    "1",
+    "--schema",
+    "schema",
+    "unclosed",
+    "unsupported",
+    "repeated",
+];
+
+#[test]
+fn what_is_not_shown_is_counted(rt: HostRuntime) {
+    let printed = "unclosed:1:22: error: expected `}`, found the end of the text
+  |
+1 | { pet(id: 1) { name }
+  |                      ^
+";
+    let said = "3 reports in 3 of 3 documents, 2 not shown\n";
+    run_ends(&rt, CUT, 1, printed, said);
+}
+
+/// Texts on standard input, and the line that `syntax` prints of them.
 const REFUSED: &[(&str, &str)] = &[
     (
         "",
@@ -81,82 +301,91 @@ const REFUSED: &[(&str, &str)] = &[
         "fragment on",
         "<stdin>:1:10: error: expected a fragment name, found `on`\n",
     ),
+    (
+        "{ a } aaaaaaaaaabbbbbbbbbbccccccccccddddddddddeeee",
+        "<stdin>:1:7: error: expected a definition, found `aaaaaaaaaabbbbbbbbbbccccccccccdddddddddd`\n",
+    ),
+    (
+        "{ \"\"\"a\nb\"\"\" }",
+        "<stdin>:1:3: error: expected a selection, found `\"\"\"a`\n",
+    ),
 ];
 
 #[test]
-fn what_is_wrong_is_said(rt: HostRuntime) {
-    for (text, line) in REFUSED {
-        reads(&rt, text.as_bytes(), 1, line, "");
+fn what_is_no_document_is_said(rt: HostRuntime) {
+    for (text, printed) in REFUSED {
+        let wanted = Ended {
+            status: 1,
+            printed,
+            said: "",
+        };
+        ends(&rt, &["syntax", "-"], text.as_bytes(), wanted);
     }
 }
 
-/// What a message shows of a token ends with its first line, and behind 40 characters.
-#[test]
-fn tokens_are_shown_in_part(rt: HostRuntime) {
-    let long = b"{ a } aaaaaaaaaabbbbbbbbbbccccccccccddddddddddeeee";
-    let line =
-        "<stdin>:1:7: error: expected a definition, found `aaaaaaaaaabbbbbbbbbbccccccccccdddddddddd`\n";
-    reads(&rt, long, 1, line, "");
-    let lines = b"{ \"\"\"a\nb\"\"\" }";
-    let line = "<stdin>:1:3: error: expected a selection, found `\"\"\"a`\n";
-    reads(&rt, lines, 1, line, "");
-}
-
-#[test]
-fn what_is_no_text_cannot_be_read(rt: HostRuntime) {
-    reads(
-        &rt,
-        b"{ a\n\xC3\xA9\xFF }",
-        5,
+/// Words of runs with a file that cannot be read, what they print, and what they say.
+const UNREADABLE: &[(&[&str], &str, &str)] = &[
+    (
+        &["syntax", "missing", "-"],
+        "<stdin>:1:1: error: expected a definition, found the end of the text\n",
+        "missing: error: entity not found\n",
+    ),
+    (
+        &[
+            "check", "--format", "json", "--schema", "schema", "binary", "valid",
+        ],
+        "{\"errors\":[]}\n",
+        "binary:2:3: error: not UTF-8\n",
+    ),
+    (
+        &[
+            "check", "--format", "github", "--schema", "schema", "missing", "unclosed",
+        ],
+        "::error file=unclosed,line=1,endLine=1,col=22,endColumn=22,title=Syntax::expected `}`, found the end of the text\n",
+        "missing: error: entity not found\n1 report in 1 of 2 documents\n",
+    ),
+    (
+        &[
+            "check", "--schema", "missing", "--schema", "binary", "unclosed",
+        ],
         "",
-        "<stdin>:2:2: error: not UTF-8\n",
-    );
-}
+        "missing: error: entity not found\nbinary:2:3: error: not UTF-8\n",
+    ),
+    (
+        &["schema", "missing"],
+        "",
+        "missing: error: entity not found\n",
+    ),
+];
 
-/// Words that ask for nothing that there is.
-const BAD_ARGUMENTS: &[&[&str]] = &[&[], &["syntax"], &["other", "-"], &["syntax", "-", "-"]];
+/// A file that cannot be read is graver than one that is refused, and the other documents are checked.
+#[test]
+fn other_documents_are_checked_behind_one_that_cannot_be_read(rt: HostRuntime) {
+    for (texts, printed, said) in UNREADABLE {
+        run_ends(&rt, texts, 5, printed, said);
+    }
+}
 
 #[test]
 fn bad_arguments_are_refused(rt: HostRuntime) {
-    let wanted = Ended {
-        status: 2,
-        printed: "",
-        said: USAGE,
-    };
-    for texts in BAD_ARGUMENTS {
-        ends(&rt, texts, b"", wanted);
-    }
-}
-
-/// A file that cannot be read is graver than one that is refused, and the others are read.
-#[test]
-fn other_files_are_read_behind_one_that_is_missing(rt: HostRuntime) {
-    let wanted = Ended {
-        status: 5,
-        printed: "<stdin>:1:2: error: expected a selection, found the end of the text\n",
-        said: "missing/a: error: No such file or directory (os error 2)\n",
-    };
-    ends(&rt, &["syntax", "missing/a", "-"], b"{", wanted);
-    ends(&rt, &["syntax", "-", "missing/a"], b"{", wanted);
-}
-
-/// A reader that fails.
-#[derive(Drop)]
-struct Failing(ErrorKind);
-
-impl Read for Failing {
-    fn read(&mut self, _buf: &mut [u8]) -> io::Result<usize> {
-        Err(io::Error::from(self.0))
-    }
+    let said = "error: standard input, `-`, is named more than once\n";
+    run_ends(&rt, &["syntax", "-", "-"], 2, "", said);
 }
 
 /// A run whose standard input fails in this way ends with this status.
-fn fails<R: Files + AllocGlobal + Abort>(rt: &R, kind: ErrorKind, status: u8) {
+fn fails<R: AllocGlobal + Abort>(rt: &R, kind: ErrorKind, status: u8) {
     let alloc = rt.alloc();
     let words = Ok(words_of(rt, alloc, &["syntax", "-"]));
     let mut output = Vec::new(alloc);
     let mut faults = Vec::new(alloc);
-    let ended = run(rt, words, &mut Failing(kind), &mut output, &mut faults);
+    let mut input = Failing(kind);
+    let ended = run(
+        &shelf_of(alloc),
+        words,
+        &mut input,
+        &mut output,
+        &mut faults,
+    );
     assert_eq!(rt; ended.number(), status);
     assert!(rt; output.is_empty());
     assert!(rt; !faults.is_empty());
@@ -168,26 +397,26 @@ fn failed_reads_are_told_from_want_of_memory(rt: HostRuntime) {
     fails(&rt, ErrorKind::PermissionDenied, 5);
 }
 
-/// A writer that refuses each write.
-#[derive(Drop)]
-struct Refusing;
-
-impl Write for Refusing {
-    fn write(&mut self, _buf: &[u8]) -> io::Result<usize> {
-        Err(io::Error::from(ErrorKind::BrokenPipe))
-    }
-
-    fn flush(&mut self) -> io::Result<()> {
-        Ok(())
-    }
-}
+/// Words of runs that print something.
+const PRINTING: &[&[&str]] = &[
+    &["syntax", "unclosed", "missing"],
+    &["check", "--schema", "schema", "unclosed", "missing"],
+    &[
+        "check", "--format", "github", "--schema", "schema", "unclosed", "missing",
+    ],
+    &["check", "--format", "json", "--schema", "schema", "valid"],
+    &["--version"],
+];
 
 #[test]
 fn a_failed_write_ends_the_run(rt: HostRuntime) {
-    let words = Ok(words_of(&rt, rt.alloc(), &["syntax", "-", "missing/a"]));
-    let mut input: &[u8] = b"{";
-    let mut faults = Vec::new(rt.alloc());
-    let ended = run(&rt, words, &mut input, &mut Refusing, &mut faults);
-    assert_eq!(rt; ended.number(), 4);
-    assert!(rt; faults.is_empty());
+    for texts in PRINTING {
+        let words = Ok(words_of(&rt, rt.alloc(), texts));
+        let mut input: &[u8] = b"";
+        let mut faults = Vec::new(rt.alloc());
+        let files = shelf_of(rt.alloc());
+        let ended = run(&files, words, &mut input, &mut Refusing, &mut faults);
+        assert_eq!(rt; ended.number(), 4);
+        assert!(rt; faults.is_empty());
+    }
 }

@@ -1,0 +1,193 @@
+//! What a run reports, and how many.
+
+use crate::faults::{Fault, fault_of_output};
+use crate::named_texts::Subject;
+use crate::{github_format, json_format, text_format};
+use gqlvalidate_words::{Format, Reporting};
+use graphql_frontend::{Reports, ShownReport, shown_reports};
+use graphql_parser::Bounds;
+use json::Writer;
+use std::alloc::{AllocError, Global};
+use std::fmt;
+use std::io::Write;
+
+/// What a run has reported until now.
+#[derive(Drop)]
+pub struct Account {
+    reporting: Reporting,
+    /// What is to be printed at the end, as JSON.
+    json: Writer,
+    tally: Tally,
+}
+
+/// How many reports there are.
+#[derive(Clone, Copy)]
+pub struct Tally {
+    pub reports: usize,
+    /// How many of them are printed.
+    pub shown: usize,
+    /// How many files they are about.
+    pub files: usize,
+}
+
+/// What a run validates.
+#[derive(Clone, Copy)]
+pub enum Whole {
+    Schema,
+    /// So many documents.
+    Documents(usize),
+}
+
+impl Account {
+    /// Nothing is reported yet.
+    pub fn new(alloc: Global, reporting: Reporting) -> Result<Account, AllocError> {
+        let mut json = Writer::new(Vec::new(alloc));
+        if reporting.format == Format::Json {
+            json_format::begin(&mut json)?;
+        }
+        Ok(Account {
+            reporting,
+            json,
+            tally: Tally {
+                reports: 0,
+                shown: 0,
+                files: 0,
+            },
+        })
+    }
+
+    /// Reports what is wrong with one subject.
+    pub fn report<O: Write>(
+        &mut self,
+        alloc: Global,
+        reports: &Reports,
+        subject: Subject<'_>,
+        output: &mut O,
+    ) -> Result<(), Fault> {
+        let most = self.reporting.max_reports.saturating_sub(self.tally.shown);
+        let shown = shown_reports(alloc, reports, subject.sources, Bounds::DEFAULT, most)?;
+        self.tally.add(reports.len(), shown.len());
+        match self.reporting.format {
+            Format::Text => print(text_of(alloc, &shown, subject)?, output),
+            Format::Github => print(annotations_of(alloc, &shown, subject)?, output),
+            Format::Json => add_all(&mut self.json, &shown, subject),
+        }
+    }
+
+    /// Prints what is left to print, and says on standard error how many reports there are, if any.
+    pub fn end<O: Write, F: Write>(
+        self,
+        whole: Whole,
+        output: &mut O,
+        faults: &mut F,
+    ) -> Result<(), Fault> {
+        let Account {
+            reporting,
+            json,
+            tally,
+        } = self;
+        match reporting.format {
+            Format::Json => print_object(json, output)?,
+            Format::Text | Format::Github => drop(json),
+        }
+        if tally.reports > 0 {
+            let summary = Summary { tally, whole };
+            let _ = writeln!(faults, "{summary}");
+        }
+        Ok(())
+    }
+}
+
+fn text_of(
+    alloc: Global,
+    shown: &[ShownReport],
+    subject: Subject<'_>,
+) -> Result<String, AllocError> {
+    let mut text = String::new(alloc);
+    for report in shown {
+        text_format::push_report(&mut text, report, subject, alloc)?;
+    }
+    Ok(text)
+}
+
+fn annotations_of(
+    alloc: Global,
+    shown: &[ShownReport],
+    subject: Subject<'_>,
+) -> Result<String, AllocError> {
+    let mut text = String::new(alloc);
+    for report in shown {
+        github_format::push_report(&mut text, report, subject)?;
+    }
+    Ok(text)
+}
+
+fn add_all(json: &mut Writer, shown: &[ShownReport], subject: Subject<'_>) -> Result<(), Fault> {
+    for report in shown {
+        json_format::add_report(json, report, subject)?;
+    }
+    Ok(())
+}
+
+fn print<O: Write>(text: String, output: &mut O) -> Result<(), Fault> {
+    output.write_all(text.as_bytes()).map_err(fault_of_output)
+}
+
+/// Prints the object as a line.
+fn print_object<O: Write>(mut json: Writer, output: &mut O) -> Result<(), Fault> {
+    json_format::end(&mut json)?;
+    let mut object = json.into_inner();
+    object.push(b'\n')?;
+    output.write_all(object.as_slice()).map_err(fault_of_output)
+}
+
+impl Tally {
+    /// Counts the reports of one more file.
+    fn add(&mut self, reports: usize, shown: usize) {
+        self.reports = self.reports.saturating_add(reports);
+        self.shown = self.shown.saturating_add(shown);
+        self.files = self.files.saturating_add(1);
+    }
+}
+
+/// The last line on standard error.
+#[derive(Clone, Copy)]
+struct Summary {
+    tally: Tally,
+    whole: Whole,
+}
+
+impl fmt::Display for Summary {
+    fn fmt<W: fmt::Write>(&self, f: &mut fmt::Formatter<W>) -> fmt::Result {
+        let reports = Counted(self.tally.reports, "report");
+        match self.whole {
+            Whole::Schema => write!(f, "{reports} in the schema")?,
+            Whole::Documents(count) => {
+                let files = self.tally.files;
+                let documents = Counted(count, "document");
+                write!(f, "{reports} in {files} of {documents}")?;
+            }
+        }
+        let left_out = self.tally.reports.saturating_sub(self.tally.shown);
+        if left_out > 0 {
+            write!(f, ", {left_out} not shown")?;
+        }
+        Ok(())
+    }
+}
+
+/// A number of things of this name.
+#[derive(Clone, Copy)]
+struct Counted(usize, &'static str);
+
+impl fmt::Display for Counted {
+    fn fmt<W: fmt::Write>(&self, f: &mut fmt::Formatter<W>) -> fmt::Result {
+        let count = self.0;
+        let name = self.1;
+        if count == 1 {
+            write!(f, "{count} {name}")
+        } else {
+            write!(f, "{count} {name}s")
+        }
+    }
+}

@@ -1,0 +1,150 @@
+//! Documents, each validated against one schema.
+
+ghost use Rattle.std.specs.Prelude.{◌≡◌, None, Some, Ok};
+ghost use Rattle.graphql_frontend.specs.Documents.{ValidatesDocument};
+ghost use Rattle.graphql_frontend.specs.Schemas.{IsUsable};
+
+use crate::accounts::{Account, Whole};
+use crate::faults::Fault;
+use crate::named_texts::{NamedText, Subject};
+use crate::schema_files::{named_schema, named_text, schema_subject, schema_texts, sources_of};
+use crate::schemas::reject;
+use crate::sources::text_or_said;
+use crate::statuses::Status;
+use gqlvalidate_words::Reporting;
+use graphql_documents::documents::Schema;
+use graphql_frontend::{Reports, SchemaReading, read_schema, validate_document};
+use graphql_parser::Bounds;
+use std::alloc::Global;
+use std::io::{Read, Write};
+use std::rt::Files;
+
+/// The paths of a run.
+#[derive(Clone, Copy)]
+pub struct Paths<'a> {
+    pub schema: &'a [&'a str],
+    pub documents: &'a [&'a str],
+}
+
+/// Validates the schema, and the documents against it, if it holds.
+pub fn check<R: Files + AllocGlobal, I: Read, O: Write, F: Write>(
+    rt: &R,
+    paths: Paths<'_>,
+    reporting: Reporting,
+    input: &mut I,
+    output: &mut O,
+    faults: &mut F,
+) -> Result<Status, Fault> {
+    let Some(texts) = schema_texts(rt, paths.schema, input, faults)? else {
+        return Ok(Status::Unreadable);
+    };
+    let named = named_schema(rt.alloc(), paths.schema, &texts)?;
+    check_against(rt, &named, paths, reporting, input, output, faults)
+}
+
+/// Validates the schema of these texts, and the documents against it, if it holds.
+fn check_against<R: Files + AllocGlobal, I: Read, O: Write, F: Write>(
+    rt: &R,
+    named: &[NamedText<'_>],
+    paths: Paths<'_>,
+    reporting: Reporting,
+    input: &mut I,
+    output: &mut O,
+    faults: &mut F,
+) -> Result<Status, Fault> {
+    let sources = sources_of(rt.alloc(), named)?;
+    match read_schema(rt.alloc(), &sources, Bounds::DEFAULT)? {
+        SchemaReading::Accepted(schema) => {
+            check_documents(rt, &schema, paths, reporting, input, output, faults)
+        }
+        SchemaReading::Rejected(reports) => {
+            let subject = schema_subject(named, &sources);
+            reject(rt.alloc(), &reports, subject, reporting, output, faults)
+        }
+        SchemaReading::LacksIntrospection => Err(Fault::LacksIntrospection),
+    }
+}
+
+/// Validates the documents against the schema, and says how many reports there are.
+fn check_documents<R: Files + AllocGlobal, I: Read, O: Write, F: Write>(
+    rt: &R,
+    schema: &Schema,
+    paths: Paths<'_>,
+    reporting: Reporting,
+    input: &mut I,
+    output: &mut O,
+    faults: &mut F,
+) -> Result<Status, Fault>
+    requires { IsUsable schema.now }
+{
+    let mut account = Account::new(rt.alloc(), reporting)?;
+    let status = check_each(rt, schema, paths, &mut account, input, output, faults)?;
+    account.end(Whole::Documents(paths.documents.len()), output, faults)?;
+    Ok(status)
+}
+
+/// Validates the documents one after another: one that cannot be read does not end the run.
+fn check_each<R: Files + AllocGlobal, I: Read, O: Write, F: Write>(
+    rt: &R,
+    schema: &Schema,
+    paths: Paths<'_>,
+    account: &mut Account,
+    input: &mut I,
+    output: &mut O,
+    faults: &mut F,
+) -> Result<Status, Fault>
+    requires { IsUsable schema.now }
+{
+    let mut status = Status::Accepted;
+    for (position, path) in paths.documents.iter().enumerate() {
+        let checked = match text_or_said(rt, path, input, faults)? {
+            Some(text) => {
+                let position = position.saturating_add(paths.schema.len());
+                let document = named_text(position, path, text.as_str());
+                check_text(rt.alloc(), schema, document, account, output)?
+            }
+            None => Status::Unreadable,
+        };
+        status = status.with(checked);
+    }
+    Ok(status)
+}
+
+/// Validates one document, and reports what is wrong with it.
+fn check_text<O: Write>(
+    alloc: Global,
+    schema: &Schema,
+    document: NamedText<'_>,
+    account: &mut Account,
+    output: &mut O,
+) -> Result<Status, Fault>
+    requires { IsUsable schema.now }
+    ensures accepted { result ≡ Ok Status.Accepted → ValidatesDocument Bounds.DEFAULT schema.now document.entry.source None }
+    ensures reported { result ≡ Ok Status.Reported → (reports : Reports) × ValidatesDocument Bounds.DEFAULT schema.now document.entry.source (Some reports) }
+{
+    match validate_document(alloc, schema, document.source, Bounds::DEFAULT)? {
+        None => Ok(Status::Accepted),
+        Some(reports) => {
+            report_document(alloc, &reports, document, account, output)?;
+            Ok(Status::Reported)
+        }
+    }
+}
+
+/// Reports what is wrong with a document.
+fn report_document<O: Write>(
+    alloc: Global,
+    reports: &Reports,
+    document: NamedText<'_>,
+    account: &mut Account,
+    output: &mut O,
+) -> Result<(), Fault> {
+    let texts = [document];
+    let sources = [document.source];
+    let subject = Subject {
+        path: document.path,
+        texts: texts.as_slice(),
+        sources: sources.as_slice(),
+    };
+    account.report(alloc, reports, subject, output)
+}

@@ -1,0 +1,102 @@
+//! What is shown of a line of a text.
+
+use std::alloc::{AllocError, Global};
+
+/// As many characters of each part of a line are shown at most.
+const SHOWN: usize = 80;
+
+/// What stands for characters that are left out.
+const LEFT_OUT: &str = "...";
+
+/// A tab is shown as these spaces.
+const TAB: &str = "    ";
+
+/// The line that a part of a text begins on, cut around what of the part is on it.
+#[derive(Clone, Copy)]
+pub struct Line<'a> {
+    pub before: &'a str,
+    pub marked: &'a str,
+    pub behind: &'a str,
+}
+
+impl<'a> Line<'a> {
+    /// The line of the bytes from `start` up to `end`.
+    pub fn of(text: &'a str, start: usize, end: usize) -> Line<'a> {
+        let head = text.get(..start).unwrap_or("");
+        let rest = first_line(text.get(start..).unwrap_or(""));
+        let marked = rest.get(..end.saturating_sub(start)).unwrap_or(rest);
+        Line {
+            before: last_line(head),
+            marked,
+            behind: rest.get(marked.len()..).unwrap_or(""),
+        }
+    }
+}
+
+/// The text up to the first line terminator.
+fn first_line(text: &str) -> &str {
+    match text.find(['\n', '\r']) {
+        Some(at) => text.get(..at).unwrap_or(text),
+        None => text,
+    }
+}
+
+/// The text behind the last line terminator.
+fn last_line(text: &str) -> &str {
+    match text.rsplit(['\n', '\r']).next() {
+        Some(line) => line,
+        None => text,
+    }
+}
+
+/// The end of a text as it is shown.
+pub fn shown_end(alloc: Global, text: &str) -> Result<String, AllocError> {
+    let mut shown = String::new(alloc);
+    let end = last_characters(text);
+    if end.len() < text.len() {
+        shown.push_str(LEFT_OUT)?;
+    }
+    push_shown(&mut shown, end)?;
+    Ok(shown)
+}
+
+/// The beginning of a text as it is shown.
+pub fn shown_beginning(alloc: Global, text: &str) -> Result<String, AllocError> {
+    let mut shown = String::new(alloc);
+    let beginning = first_characters(text);
+    push_shown(&mut shown, beginning)?;
+    if beginning.len() < text.len() {
+        shown.push_str(LEFT_OUT)?;
+    }
+    Ok(shown)
+}
+
+/// The last 80 characters.
+fn last_characters(text: &str) -> &str {
+    match text.char_indices().rev().nth(SHOWN - 1) {
+        Some((at, _)) => text.get(at..).unwrap_or(text),
+        None => text,
+    }
+}
+
+/// The first 80 characters.
+fn first_characters(text: &str) -> &str {
+    match text.char_indices().nth(SHOWN) {
+        Some((at, _)) => text.get(..at).unwrap_or(text),
+        None => text,
+    }
+}
+
+/// Adds a text with spaces for tabs, and a replacement character for what else controls a terminal.
+fn push_shown(shown: &mut String, text: &str) -> Result<(), AllocError> {
+    for character in text.chars() {
+        if character == '\t' {
+            shown.push_str(TAB)?;
+        } else if character.is_control() {
+            shown.push('\u{fffd}')?;
+        } else {
+            shown.push(character)?;
+        }
+    }
+    Ok(())
+}

@@ -1,0 +1,73 @@
+//! Reports as workflow commands of GitHub Actions, a line a report, which become annotations.
+
+use crate::named_texts::{Subject, locate};
+use graphql_frontend::ShownReport;
+use std::alloc::AllocError;
+use std::fmt;
+
+/// Adds the line of a report.
+pub fn push_report(
+    out: &mut String,
+    report: &ShownReport,
+    subject: Subject<'_>,
+) -> Result<(), AllocError> {
+    let title = Property(report.rule);
+    let message = Message(report.message.as_str());
+    match locate(report.location, subject.texts) {
+        Some(located) => {
+            let path = Property(located.path);
+            let line = located.start.line;
+            let column = located.start.column;
+            let end = located.end();
+            let end_line = end.line;
+            let end_column = end.column;
+            writeln!(
+                out,
+                "::error file={path},line={line},endLine={end_line},col={column},endColumn={end_column},title={title}::{message}"
+            )
+        }
+        None => {
+            let path = Property(subject.path);
+            writeln!(out, "::error file={path},title={title}::{message}")
+        }
+    }
+}
+
+/// A value of a property, with escapes.
+#[derive(Clone, Copy)]
+struct Property<'a>(&'a str);
+
+impl fmt::Display for Property<'_> {
+    fn fmt<W: fmt::Write>(&self, f: &mut fmt::Formatter<W>) -> fmt::Result {
+        for character in self.0.chars() {
+            match character {
+                ':' => f.write_str("%3A")?,
+                ',' => f.write_str("%2C")?,
+                _ => write_data(f, character)?,
+            }
+        }
+        Ok(())
+    }
+}
+
+/// A message, with escapes.
+#[derive(Clone, Copy)]
+struct Message<'a>(&'a str);
+
+impl fmt::Display for Message<'_> {
+    fn fmt<W: fmt::Write>(&self, f: &mut fmt::Formatter<W>) -> fmt::Result {
+        for character in self.0.chars() {
+            write_data(f, character)?;
+        }
+        Ok(())
+    }
+}
+
+fn write_data<W: fmt::Write>(f: &mut fmt::Formatter<W>, character: char) -> fmt::Result {
+    match character {
+        '%' => f.write_str("%25"),
+        '\r' => f.write_str("%0D"),
+        '\n' => f.write_str("%0A"),
+        _ => f.write_char(character),
+    }
+}

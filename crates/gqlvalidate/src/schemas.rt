@@ -1,0 +1,77 @@
+//! A schema that is validated for itself.
+
+use crate::accounts::{Account, Whole};
+use crate::faults::Fault;
+use crate::named_texts::{NamedText, Subject};
+use crate::schema_files::{named_schema, schema_subject, schema_texts, sources_of};
+use crate::statuses::Status;
+use gqlvalidate_words::Reporting;
+use graphql_frontend::{Reports, SchemaReading, read_schema};
+use graphql_parser::Bounds;
+use std::alloc::Global;
+use std::io::{Read, Write};
+use std::rt::Files;
+
+/// Validates the schema of these files.
+pub fn check_schema<'a, R: Files + AllocGlobal, I: Read, O: Write, F: Write>(
+    rt: &R,
+    paths: &'a [&'a str],
+    reporting: Reporting,
+    input: &mut I,
+    output: &mut O,
+    faults: &mut F,
+) -> Result<Status, Fault> {
+    let Some(texts) = schema_texts(rt, paths, input, faults)? else {
+        return Ok(Status::Unreadable);
+    };
+    let named = named_schema(rt.alloc(), paths, &texts)?;
+    check_texts(rt.alloc(), &named, reporting, output, faults)
+}
+
+/// Validates the schema of these texts.
+fn check_texts<O: Write, F: Write>(
+    alloc: Global,
+    named: &[NamedText<'_>],
+    reporting: Reporting,
+    output: &mut O,
+    faults: &mut F,
+) -> Result<Status, Fault> {
+    let sources = sources_of(alloc, named)?;
+    match read_schema(alloc, &sources, Bounds::DEFAULT)? {
+        SchemaReading::Accepted(schema) => {
+            drop(schema);
+            accept(alloc, reporting, output, faults)
+        }
+        SchemaReading::Rejected(reports) => {
+            let subject = schema_subject(named, &sources);
+            reject(alloc, &reports, subject, reporting, output, faults)
+        }
+        SchemaReading::LacksIntrospection => Err(Fault::LacksIntrospection),
+    }
+}
+
+/// Ends a run that has nothing to report of a schema.
+fn accept<O: Write, F: Write>(
+    alloc: Global,
+    reporting: Reporting,
+    output: &mut O,
+    faults: &mut F,
+) -> Result<Status, Fault> {
+    Account::new(alloc, reporting)?.end(Whole::Schema, output, faults)?;
+    Ok(Status::Accepted)
+}
+
+/// Ends a run with the reports of a schema.
+pub fn reject<O: Write, F: Write>(
+    alloc: Global,
+    reports: &Reports,
+    subject: Subject<'_>,
+    reporting: Reporting,
+    output: &mut O,
+    faults: &mut F,
+) -> Result<Status, Fault> {
+    let mut account = Account::new(alloc, reporting)?;
+    account.report(alloc, reports, subject, output)?;
+    account.end(Whole::Schema, output, faults)?;
+    Ok(Status::Reported)
+}

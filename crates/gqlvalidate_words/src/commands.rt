@@ -1,0 +1,123 @@
+//! The commands and their arguments.
+
+use clap::{Arg, ArgAction, Command, Error, value_parser};
+use std::alloc::Global;
+
+/// The names of the arguments.
+pub const SCHEMA: &str = "schema";
+
+pub const FILES: &str = "files";
+
+pub const FORMAT: &str = "format";
+
+pub const MAX_REPORTS: &str = "max-reports";
+
+/// The names of the commands.
+pub const CHECK: &str = "check";
+
+pub const SYNTAX: &str = "syntax";
+
+/// The names of the formats.
+pub const TEXT: &str = "text";
+
+pub const JSON: &str = "json";
+
+pub const GITHUB: &str = "github";
+
+static FORMATS: [&str; 3] = [TEXT, JSON, GITHUB];
+
+/// What the help of the program and of its commands ends with.
+const STATUSES: &str = "A FILE is `-` for standard input, at most once.
+
+Status:
+  0  nothing is reported
+  1  something is reported
+  2  bad arguments
+  3  out of memory
+  4  standard output cannot be written
+  5  a file cannot be read";
+
+/// The program with its commands.
+pub fn program<'a>(alloc: Global) -> Result<Command<'a>, Error> {
+    let program = Command::new(alloc, "gqlvalidate")
+        .version("0.1.0")
+        .about("Validates GraphQL schemas and documents")
+        .after_help(STATUSES)
+        .no_binary_name(true)
+        .subcommand_required(true)
+        .bin_name("gqlvalidate")?;
+    let with_check = program.subcommand(check(alloc)?)?;
+    let with_schema = with_check.subcommand(schema(alloc)?)?;
+    Ok(with_schema.subcommand(syntax(alloc)?)?)
+}
+
+fn check<'a>(alloc: Global) -> Result<Command<'a>, Error> {
+    let command = Command::new(alloc, CHECK)
+        .about("Validates documents against a schema, each for itself")
+        .after_help(STATUSES);
+    let command = command.arg(schema_files(alloc))?;
+    let command = with_reporting(alloc, command)?;
+    Ok(command.arg(files(alloc, "DOCUMENT", "Executable documents"))?)
+}
+
+fn schema<'a>(alloc: Global) -> Result<Command<'a>, Error> {
+    let command = Command::new(alloc, SCHEMA)
+        .about("Validates a schema")
+        .after_help(STATUSES);
+    let command = with_reporting(alloc, command)?;
+    Ok(command.arg(files(
+        alloc,
+        "FILE",
+        "The files of the schema, which are one schema together",
+    ))?)
+}
+
+fn syntax<'a>(alloc: Global) -> Result<Command<'a>, Error> {
+    let command = Command::new(alloc, SYNTAX)
+        .about("Tells which files are no GraphQL documents, of either kind")
+        .after_help(STATUSES);
+    Ok(command.arg(files(alloc, "FILE", "The files, each for itself"))?)
+}
+
+fn with_reporting<'a>(alloc: Global, command: Command<'a>) -> Result<Command<'a>, Error> {
+    let command = command.arg(format(alloc))?;
+    Ok(command.arg(max_reports(alloc))?)
+}
+
+/// The paths that a command takes, one at least.
+fn files<'a>(alloc: Global, name: &'a str, help: &'a str) -> Arg<'a> {
+    Arg::new(alloc, FILES)
+        .value_name(name)
+        .help(help)
+        .required(true)
+        .num_args(1..)
+        .action(ArgAction::Append)
+}
+
+fn schema_files<'a>(alloc: Global) -> Arg<'a> {
+    Arg::new(alloc, SCHEMA)
+        .long(SCHEMA)
+        .value_name("FILE")
+        .help("A file of the schema; several are one schema, each behind a `--schema` of its own")
+        .required(true)
+        .action(ArgAction::Append)
+}
+
+fn format<'a>(alloc: Global) -> Arg<'a> {
+    Arg::new(alloc, FORMAT)
+        .long(FORMAT)
+        .value_name("FORMAT")
+        .help("How reports are written")
+        .value_parser(FORMATS.as_slice())
+        .default_value(TEXT)
+        .action(ArgAction::Set)
+}
+
+fn max_reports<'a>(alloc: Global) -> Arg<'a> {
+    Arg::new(alloc, MAX_REPORTS)
+        .long(MAX_REPORTS)
+        .value_name("N")
+        .help("How many reports are written at most [default: 100 as text, all otherwise]")
+        .value_parser(value_parser!(usize))
+        .action(ArgAction::Set)
+}

@@ -1,0 +1,126 @@
+//! From words to a request.
+
+use crate::commands::{CHECK, FILES, FORMAT, GITHUB, JSON, MAX_REPORTS, SCHEMA, SYNTAX, program};
+use crate::requests::{Format, Refusal, Reporting, Request, STANDARD_INPUT};
+use clap::error::ErrorKind;
+use clap::{ArgMatches, Error};
+use std::alloc::{AllocError, Global};
+
+/// What the words behind the program's name ask for.
+pub fn parse<'a>(alloc: Global, words: &'a [String]) -> Result<Request<'a>, Refusal> {
+    match matches(alloc, words) {
+        Ok(matches) => request(alloc, &matches),
+        Err(error) => Err(refusal_of(alloc, &error)),
+    }
+}
+
+fn matches<'a>(alloc: Global, words: &'a [String]) -> Result<ArgMatches<'a>, Error> {
+    program(alloc)?.try_get_matches_from(words)
+}
+
+/// Why there are no matches.
+fn refusal_of(alloc: Global, error: &Error) -> Refusal {
+    if error.kind() == ErrorKind::OutOfMemory {
+        return Refusal::OutOfMemory;
+    }
+    match error.to_string(alloc) {
+        Ok(text) => {
+            if error.use_stderr() {
+                Refusal::Wrong(text)
+            } else {
+                Refusal::Asked(text)
+            }
+        }
+        Err(_refused) => Refusal::OutOfMemory,
+    }
+}
+
+/// What the matches ask for.
+fn request<'a>(alloc: Global, matches: &ArgMatches<'a>) -> Result<Request<'a>, Refusal> {
+    let Some((command, given)) = matches.subcommand() else {
+        return Err(wrong(alloc, "error: no command is given\n"));
+    };
+    if inputs(given, SCHEMA).saturating_add(inputs(given, FILES)) > 1 {
+        return Err(wrong(
+            alloc,
+            "error: standard input, `-`, is named more than once\n",
+        ));
+    }
+    match request_of(alloc, command, given) {
+        Ok(request) => Ok(request),
+        Err(_refused) => Err(Refusal::OutOfMemory),
+    }
+}
+
+/// What a command with these arguments asks for.
+fn request_of<'a>(
+    alloc: Global,
+    command: &str,
+    given: &ArgMatches<'a>,
+) -> Result<Request<'a>, AllocError> {
+    let files = paths(alloc, given, FILES)?;
+    if command == CHECK {
+        let schema = paths(alloc, given, SCHEMA)?;
+        Ok(Request::Check {
+            schema,
+            documents: files,
+            reporting: reporting(given),
+        })
+    } else if command == SYNTAX {
+        Ok(Request::Syntax { files })
+    } else {
+        Ok(Request::Schema {
+            schema: files,
+            reporting: reporting(given),
+        })
+    }
+}
+
+fn wrong(alloc: Global, text: &str) -> Refusal {
+    match String::from_str(alloc, text) {
+        Ok(text) => Refusal::Wrong(text),
+        Err(_refused) => Refusal::OutOfMemory,
+    }
+}
+
+fn reporting(given: &ArgMatches<'_>) -> Reporting {
+    Reporting::new(
+        format_of(given.get_str(FORMAT)),
+        given.get_one::<usize>(MAX_REPORTS),
+    )
+}
+
+/// The format of this name. No other is accepted but these, and text is the default.
+fn format_of(name: Option<&str>) -> Format {
+    match name {
+        Some(name) if name == JSON => Format::Json,
+        Some(name) if name == GITHUB => Format::Github,
+        _ => Format::Text,
+    }
+}
+
+/// The paths of an argument, in order.
+fn paths<'a>(
+    alloc: Global,
+    given: &ArgMatches<'a>,
+    argument: &str,
+) -> Result<Vec<&'a str>, AllocError> {
+    let mut paths = Vec::new(alloc);
+    for path in given.get_strs(argument).unwrap_or(&[]) {
+        paths.push(*path)?;
+    }
+    Ok(paths)
+}
+
+/// How many paths of an argument name standard input.
+fn inputs(given: &ArgMatches<'_>, argument: &str) -> usize {
+    given
+        .get_strs(argument)
+        .unwrap_or(&[])
+        .iter()
+        .filter(|path| **path == STANDARD_INPUT)
+        .count()
+}
+
+#[cfg(test)]
+mod tests;

@@ -1,0 +1,67 @@
+use super::*;
+use std::process::Abort;
+
+/// Words, and what they ask for as its `Debug` shows it, or what is wrong with them.
+const READ: &[(&[&str], &str)] = &[
+    (&["syntax", "a", "-"], "Syntax { files: [\"a\", \"-\"] }"),
+    (
+        &["check", "--schema", "s", "a", "--schema=t", "b"],
+        "Check { schema: [\"s\", \"t\"], documents: [\"a\", \"b\"], reporting: Reporting { format: Text, max_reports: 100 } }",
+    ),
+    (
+        &["schema", "--format", "json", "--max-reports", "7", "s"],
+        "Schema { schema: [\"s\"], reporting: Reporting { format: Json, max_reports: 7 } }",
+    ),
+    (
+        &["schema", "--format=github", "s"],
+        "Schema { schema: [\"s\"], reporting: Reporting { format: Github, max_reports: 18446744073709551615 } }",
+    ),
+    (
+        &["check", "--schema", "-", "-"],
+        "error: standard input, `-`, is named more than once\n",
+    ),
+    (
+        &["schema", "--format", "xml", "s"],
+        "error: invalid value 'xml' for '--format <FORMAT>'\n  [possible values: text, json, github]\n\nFor more information, try '--help'.\n",
+    ),
+    (&["--version"], "gqlvalidate 0.1.0\n"),
+];
+
+#[test]
+fn requests_are_read(rt: HostRuntime) {
+    for (texts, wanted) in READ {
+        asks(&rt, texts, wanted);
+    }
+}
+
+fn asks<R: AllocGlobal + Abort>(rt: &R, texts: &[&str], wanted: &str) {
+    let words = words_of(rt, rt.alloc(), texts);
+    match parse(rt.alloc(), &words) {
+        Ok(request) => {
+            let shown = format!(in rt.alloc(); "{request:?}").expect(rt, "memory for a text");
+            assert_eq!(rt; shown.as_str(), wanted);
+        }
+        Err(Refusal::Asked(text)) | Err(Refusal::Wrong(text)) => assert_eq!(rt;
+            text.as_str(),
+            wanted
+        ),
+        Err(Refusal::OutOfMemory) => panic!(rt; "out of memory"),
+    }
+}
+
+fn words_of(rt: &impl Abort, alloc: Global, texts: &[&str]) -> Vec<String> {
+    let mut words = Vec::new(alloc);
+    for text in texts {
+        let word = String::from_str(alloc, text).expect(rt, "memory for a word");
+        words.push(word).expect(rt, "memory for a word");
+    }
+    words
+}
+
+/// Help is asked for, and no fault.
+#[test]
+fn help_is_asked_for(rt: HostRuntime) {
+    let words = words_of(&rt, rt.alloc(), &["check", "--help"]);
+    let refusal = parse(rt.alloc(), &words);
+    assert!(rt; matches!(&refusal, Err(Refusal::Asked(_))));
+}

@@ -1,0 +1,87 @@
+//! What a command line asks for.
+
+ghost use Rattle.std.specs.Prelude.{◌≡◌, ℕ, None, Some};
+
+/// The path that stands for standard input.
+pub const STANDARD_INPUT: &str = "-";
+
+/// As many reports are written as text, unless a number is given.
+pub const TEXT_REPORTS: usize = 100;
+
+/// How reports are written.
+#[derive(Clone, Copy, Debug, PartialEq, Eq)]
+pub enum Format {
+    /// Lines for people, with the part of the source that a report is about.
+    Text,
+    /// One JSON object.
+    Json,
+    /// Workflow commands of GitHub Actions, which makes annotations of them.
+    Github,
+}
+
+/// Which reports are written, and how.
+#[derive(Clone, Copy, Debug, PartialEq, Eq)]
+pub struct Reporting {
+    pub format: Format,
+    /// As many are written at most, in all files together.
+    pub max_reports: usize,
+}
+
+impl Reporting {
+    /// With the number that was given, if one was. Otherwise text ends behind 100 reports, and the formats for
+    /// machines have no bound.
+    pub fn new(format: Format, max_reports: Option<usize>) -> Reporting
+        ensures format { result.format ≡ format }
+        ensures given { (most : ℕ) → max_reports ≡ Some most → result.max_reports ≡ most }
+        ensures text { max_reports ≡ None → format ≡ Format.Text → result.max_reports ≡ 100 }
+    {
+        let max_reports = match max_reports {
+            Some(most) => most,
+            None => most_of(format),
+        };
+        Reporting {
+            format,
+            max_reports,
+        }
+    }
+}
+
+/// How many reports are written in a format, if no number is given.
+fn most_of(format: Format) -> usize
+    ensures { format ≡ Format.Text → result ≡ 100 }
+{
+    match format {
+        Format::Text => TEXT_REPORTS,
+        Format::Json | Format::Github => usize::MAX,
+    }
+}
+
+/// What a command line asks for. Paths are in the order of the command line.
+#[derive(Debug, Drop)]
+pub enum Request<'a> {
+    /// To validate documents against the schema of these files.
+    Check {
+        schema: Vec<&'a str>,
+        documents: Vec<&'a str>,
+        reporting: Reporting,
+    },
+    /// To validate the schema of these files.
+    Schema {
+        schema: Vec<&'a str>,
+        reporting: Reporting,
+    },
+    /// To test whether these files are GraphQL documents, each for itself.
+    Syntax {
+        files: Vec<&'a str>,
+    },
+}
+
+/// Why a command line asks for no run.
+#[derive(Debug, Drop)]
+pub enum Refusal {
+    OutOfMemory,
+    /// It asks for this text, which is its help or the version.
+    Asked(String),
+    /// This is wrong with it.
+    Wrong(String),
+}
