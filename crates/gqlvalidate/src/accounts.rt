@@ -2,8 +2,9 @@
 
 use crate::faults::{Fault, fault_of_output};
 use crate::named_texts::Subject;
+use crate::presentations::{Palette, Presentation};
 use crate::{github_format, json_format, text_format};
-use gqlvalidate_words::{Format, Reporting};
+use gqlvalidate_words::Format;
 use graphql_frontend::{Reports, ShownReport, shown_reports};
 use graphql_parser::Bounds;
 use json::Writer;
@@ -14,7 +15,7 @@ use std::io::Write;
 /// What a run has reported until now.
 #[derive(Drop)]
 pub struct Account {
-    reporting: Reporting,
+    presentation: Presentation,
     /// What is to be printed at the end, as JSON.
     json: Writer,
     tally: Tally,
@@ -40,13 +41,13 @@ pub enum Whole {
 
 impl Account {
     /// Nothing is reported yet.
-    pub fn new(alloc: Global, reporting: Reporting) -> Result<Account, AllocError> {
+    pub fn new(alloc: Global, presentation: Presentation) -> Result<Account, AllocError> {
         let mut json = Writer::new(Vec::new(alloc));
-        if reporting.format == Format::Json {
+        if presentation.reporting.format == Format::Json {
             json_format::begin(&mut json)?;
         }
         Ok(Account {
-            reporting,
+            presentation,
             json,
             tally: Tally {
                 reports: 0,
@@ -64,11 +65,12 @@ impl Account {
         subject: Subject<'_>,
         output: &mut O,
     ) -> Result<(), Fault> {
-        let most = self.reporting.max_reports.saturating_sub(self.tally.shown);
+        let Presentation { reporting, palette } = self.presentation;
+        let most = reporting.max_reports.saturating_sub(self.tally.shown);
         let shown = shown_reports(alloc, reports, subject.sources, Bounds::DEFAULT, most)?;
         self.tally.add(reports.len(), shown.len());
-        match self.reporting.format {
-            Format::Text => print(text_of(alloc, &shown, subject)?, output),
+        match reporting.format {
+            Format::Text => print(text_of(alloc, &shown, subject, palette)?, output),
             Format::Github => print(annotations_of(alloc, &shown, subject)?, output),
             Format::Json => add_all(&mut self.json, &shown, subject),
         }
@@ -82,11 +84,11 @@ impl Account {
         faults: &mut F,
     ) -> Result<(), Fault> {
         let Account {
-            reporting,
+            presentation,
             json,
             tally,
         } = self;
-        match reporting.format {
+        match presentation.reporting.format {
             Format::Json => print_object(json, output)?,
             Format::Text | Format::Github => drop(json),
         }
@@ -102,10 +104,11 @@ fn text_of(
     alloc: Global,
     shown: &[ShownReport],
     subject: Subject<'_>,
+    palette: Palette,
 ) -> Result<String, AllocError> {
     let mut text = String::new(alloc);
     for report in shown {
-        text_format::push_report(&mut text, report, subject, alloc)?;
+        text_format::push_report(&mut text, report, subject, palette, alloc)?;
     }
     Ok(text)
 }

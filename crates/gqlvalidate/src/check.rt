@@ -7,11 +7,12 @@ ghost use Rattle.graphql_frontend.specs.Schemas.{IsUsable};
 use crate::accounts::{Account, Whole};
 use crate::faults::Fault;
 use crate::named_texts::{NamedText, Subject};
-use crate::schema_files::{named_schema, named_text, schema_subject, schema_texts, sources_of};
+use crate::one_document::check_together;
+use crate::presentations::Presentation;
+use crate::schema_files::{named_schema, named_text, schema_subject, sources_of, texts_of};
 use crate::schemas::reject;
 use crate::sources::text_or_said;
 use crate::statuses::Status;
-use gqlvalidate_words::Reporting;
 use graphql_documents::documents::Schema;
 use graphql_frontend::{Reports, SchemaReading, read_schema, validate_document};
 use graphql_parser::Bounds;
@@ -24,22 +25,35 @@ use std::rt::Files;
 pub struct Paths<'a> {
     pub schema: &'a [&'a str],
     pub documents: &'a [&'a str],
+    /// The documents are one document together.
+    pub one_document: bool,
+}
+
+impl Paths<'_> {
+    /// How many documents there are.
+    fn count(&self) -> usize {
+        if self.one_document {
+            1
+        } else {
+            self.documents.len()
+        }
+    }
 }
 
 /// Validates the schema, and the documents against it, if it holds.
 pub fn check<R: Files + AllocGlobal, I: Read, O: Write, F: Write>(
     rt: &R,
     paths: Paths<'_>,
-    reporting: Reporting,
+    presentation: Presentation,
     input: &mut I,
     output: &mut O,
     faults: &mut F,
 ) -> Result<Status, Fault> {
-    let Some(texts) = schema_texts(rt, paths.schema, input, faults)? else {
+    let Some(texts) = texts_of(rt, paths.schema, input, faults)? else {
         return Ok(Status::Unreadable);
     };
     let named = named_schema(rt.alloc(), paths.schema, &texts)?;
-    check_against(rt, &named, paths, reporting, input, output, faults)
+    check_against(rt, &named, paths, presentation, input, output, faults)
 }
 
 /// Validates the schema of these texts, and the documents against it, if it holds.
@@ -47,7 +61,7 @@ fn check_against<R: Files + AllocGlobal, I: Read, O: Write, F: Write>(
     rt: &R,
     named: &[NamedText<'_>],
     paths: Paths<'_>,
-    reporting: Reporting,
+    presentation: Presentation,
     input: &mut I,
     output: &mut O,
     faults: &mut F,
@@ -55,11 +69,11 @@ fn check_against<R: Files + AllocGlobal, I: Read, O: Write, F: Write>(
     let sources = sources_of(rt.alloc(), named)?;
     match read_schema(rt.alloc(), &sources, Bounds::DEFAULT)? {
         SchemaReading::Accepted(schema) => {
-            check_documents(rt, &schema, paths, reporting, input, output, faults)
+            check_documents(rt, &schema, paths, presentation, input, output, faults)
         }
         SchemaReading::Rejected(reports) => {
             let subject = schema_subject(named, &sources);
-            reject(rt.alloc(), &reports, subject, reporting, output, faults)
+            reject(rt.alloc(), &reports, subject, presentation, output, faults)
         }
         SchemaReading::LacksIntrospection => Err(Fault::LacksIntrospection),
     }
@@ -70,16 +84,20 @@ fn check_documents<R: Files + AllocGlobal, I: Read, O: Write, F: Write>(
     rt: &R,
     schema: &Schema,
     paths: Paths<'_>,
-    reporting: Reporting,
+    presentation: Presentation,
     input: &mut I,
     output: &mut O,
     faults: &mut F,
 ) -> Result<Status, Fault>
     requires { IsUsable schema.now }
 {
-    let mut account = Account::new(rt.alloc(), reporting)?;
-    let status = check_each(rt, schema, paths, &mut account, input, output, faults)?;
-    account.end(Whole::Documents(paths.documents.len()), output, faults)?;
+    let mut account = Account::new(rt.alloc(), presentation)?;
+    let status = if paths.one_document {
+        check_together(rt, schema, paths, &mut account, input, output, faults)?
+    } else {
+        check_each(rt, schema, paths, &mut account, input, output, faults)?
+    };
+    account.end(Whole::Documents(paths.count()), output, faults)?;
     Ok(status)
 }
 

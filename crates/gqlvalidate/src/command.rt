@@ -1,5 +1,6 @@
 use crate::check::{Paths, check};
 use crate::faults::{Fault, fault_of_output, fault_of_words};
+use crate::presentations::Presentation;
 use crate::schemas::check_schema;
 use crate::statuses::Status;
 use crate::syntax::check_syntax;
@@ -13,12 +14,13 @@ use std::rt::Files;
 pub fn run<R: Files + AllocGlobal, I: Read, O: Write, F: Write>(
     rt: &R,
     words: io::Result<Vec<String>>,
+    colored_by_default: bool,
     input: &mut I,
     output: &mut O,
     faults: &mut F,
 ) -> Status {
     let ended = match words {
-        Ok(words) => run_words(rt, &words, input, output, faults),
+        Ok(words) => run_words(rt, &words, colored_by_default, input, output, faults),
         Err(error) => Err(fault_of_words(error)),
     };
     match ended {
@@ -33,12 +35,13 @@ pub fn run<R: Files + AllocGlobal, I: Read, O: Write, F: Write>(
 fn run_words<R: Files + AllocGlobal, I: Read, O: Write, F: Write>(
     rt: &R,
     words: &[String],
+    colored_by_default: bool,
     input: &mut I,
     output: &mut O,
     faults: &mut F,
 ) -> Result<Status, Fault> {
     let status = match parse(rt.alloc(), words) {
-        Ok(request) => answer(rt, &request, input, output, faults)?,
+        Ok(request) => answer(rt, &request, colored_by_default, input, output, faults)?,
         Err(refusal) => refuse(&refusal, output, faults)?,
     };
     output.flush().map_err(fault_of_output)?;
@@ -49,6 +52,7 @@ fn run_words<R: Files + AllocGlobal, I: Read, O: Write, F: Write>(
 fn answer<R: Files + AllocGlobal, I: Read, O: Write, F: Write>(
     rt: &R,
     request: &Request<'_>,
+    colored_by_default: bool,
     input: &mut I,
     output: &mut O,
     faults: &mut F,
@@ -57,13 +61,20 @@ fn answer<R: Files + AllocGlobal, I: Read, O: Write, F: Write>(
         Request::Check {
             schema,
             documents,
+            one_document,
             reporting,
         } => {
-            let paths = Paths { schema, documents };
-            check(rt, paths, *reporting, input, output, faults)
+            let paths = Paths {
+                schema,
+                documents,
+                one_document: *one_document,
+            };
+            let presentation = Presentation::new(*reporting, colored_by_default);
+            check(rt, paths, presentation, input, output, faults)
         }
         Request::Schema { schema, reporting } => {
-            check_schema(rt, schema, *reporting, input, output, faults)
+            let presentation = Presentation::new(*reporting, colored_by_default);
+            check_schema(rt, schema, presentation, input, output, faults)
         }
         Request::Syntax { files } => check_syntax(rt, files, input, output, faults),
     }

@@ -9,6 +9,8 @@ mod faults;
 mod github_format;
 mod json_format;
 mod named_texts;
+mod one_document;
+mod presentations;
 mod schema_files;
 mod schemas;
 mod sources;
@@ -17,6 +19,8 @@ mod syntax;
 mod text_format;
 
 use command::run;
+use std::env::VarError;
+use std::io::IsTerminal;
 use std::process::ExitCode;
 use std::rt::Env;
 use std::{env, io};
@@ -25,6 +29,7 @@ fn main(rt: HostRuntime) -> ExitCode {
     let status = run(
         &rt,
         given_words(&rt),
+        has_colors(&rt, &rt.stdout()),
         &mut rt.stdin(),
         &mut rt.stdout(),
         &mut rt.stderr(),
@@ -39,4 +44,14 @@ fn given_words(rt: &(impl Env + AllocGlobal)) -> io::Result<Vec<String>> {
         words.push(word)?;
     }
     Ok(words)
+}
+
+/// Whether text is coloured where the command line leaves it open: at a terminal, unless the environment has `NO_COLOR`.
+fn has_colors(rt: &(impl Env + AllocGlobal), output: &impl IsTerminal) -> bool {
+    output.is_terminal()
+        && match env::var(rt, "NO_COLOR") {
+            Ok(value) => value.is_empty(),
+            Err(VarError::NotPresent) => true,
+            Err(_) => false,
+        }
 }

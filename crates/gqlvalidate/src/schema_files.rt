@@ -14,7 +14,7 @@ use std::rt::Files;
 const BUILT_IN_PATH: &str = "<built-in>";
 
 /// The texts of these files, if all of them have one. What is wrong with the others is said.
-pub fn schema_texts<R: Files + AllocGlobal, I: Read, F: Write>(
+pub fn texts_of<R: Files + AllocGlobal, I: Read, F: Write>(
     rt: &R,
     paths: &[&str],
     input: &mut I,

@@ -3,9 +3,9 @@
 use crate::accounts::{Account, Whole};
 use crate::faults::Fault;
 use crate::named_texts::{NamedText, Subject};
-use crate::schema_files::{named_schema, schema_subject, schema_texts, sources_of};
+use crate::presentations::Presentation;
+use crate::schema_files::{named_schema, schema_subject, sources_of, texts_of};
 use crate::statuses::Status;
-use gqlvalidate_words::Reporting;
 use graphql_frontend::{Reports, SchemaReading, read_schema};
 use graphql_parser::Bounds;
 use std::alloc::Global;
@@ -16,23 +16,23 @@ use std::rt::Files;
 pub fn check_schema<'a, R: Files + AllocGlobal, I: Read, O: Write, F: Write>(
     rt: &R,
     paths: &'a [&'a str],
-    reporting: Reporting,
+    presentation: Presentation,
     input: &mut I,
     output: &mut O,
     faults: &mut F,
 ) -> Result<Status, Fault> {
-    let Some(texts) = schema_texts(rt, paths, input, faults)? else {
+    let Some(texts) = texts_of(rt, paths, input, faults)? else {
         return Ok(Status::Unreadable);
     };
     let named = named_schema(rt.alloc(), paths, &texts)?;
-    check_texts(rt.alloc(), &named, reporting, output, faults)
+    check_texts(rt.alloc(), &named, presentation, output, faults)
 }
 
 /// Validates the schema of these texts.
 fn check_texts<O: Write, F: Write>(
     alloc: Global,
     named: &[NamedText<'_>],
-    reporting: Reporting,
+    presentation: Presentation,
     output: &mut O,
     faults: &mut F,
 ) -> Result<Status, Fault> {
@@ -40,11 +40,11 @@ fn check_texts<O: Write, F: Write>(
     match read_schema(alloc, &sources, Bounds::DEFAULT)? {
         SchemaReading::Accepted(schema) => {
             drop(schema);
-            accept(alloc, reporting, output, faults)
+            accept(alloc, presentation, output, faults)
         }
         SchemaReading::Rejected(reports) => {
             let subject = schema_subject(named, &sources);
-            reject(alloc, &reports, subject, reporting, output, faults)
+            reject(alloc, &reports, subject, presentation, output, faults)
         }
         SchemaReading::LacksIntrospection => Err(Fault::LacksIntrospection),
     }
@@ -53,11 +53,11 @@ fn check_texts<O: Write, F: Write>(
 /// Ends a run that has nothing to report of a schema.
 fn accept<O: Write, F: Write>(
     alloc: Global,
-    reporting: Reporting,
+    presentation: Presentation,
     output: &mut O,
     faults: &mut F,
 ) -> Result<Status, Fault> {
-    Account::new(alloc, reporting)?.end(Whole::Schema, output, faults)?;
+    Account::new(alloc, presentation)?.end(Whole::Schema, output, faults)?;
     Ok(Status::Accepted)
 }
 
@@ -66,11 +66,11 @@ pub fn reject<O: Write, F: Write>(
     alloc: Global,
     reports: &Reports,
     subject: Subject<'_>,
-    reporting: Reporting,
+    presentation: Presentation,
     output: &mut O,
     faults: &mut F,
 ) -> Result<Status, Fault> {
-    let mut account = Account::new(alloc, reporting)?;
+    let mut account = Account::new(alloc, presentation)?;
     account.report(alloc, reports, subject, output)?;
     account.end(Whole::Schema, output, faults)?;
     Ok(Status::Reported)

@@ -2,6 +2,7 @@
 
 use crate::excerpts::{Line, shown_beginning, shown_end};
 use crate::named_texts::{Located, Subject, locate};
+use crate::presentations::Palette;
 use graphql_frontend::ShownReport;
 use std::alloc::{AllocError, Global};
 use unicode_width::UnicodeWidthStr;
@@ -11,53 +12,81 @@ pub fn push_report(
     out: &mut String,
     report: &ShownReport,
     subject: Subject<'_>,
+    palette: Palette,
     alloc: Global,
 ) -> Result<(), AllocError> {
     let message = report.message.as_str();
     match locate(report.location, subject.texts) {
         Some(located) => {
-            push_place(out, located)?;
-            writeln!(out, " error: {message}")?;
-            push_line(out, located, alloc)?;
+            push_place(out, located, palette)?;
+            push_error(out, message, palette)?;
+            push_line(out, located, palette, alloc)?;
         }
         None => {
+            let Palette { strong, end, .. } = palette;
             let path = subject.path;
-            writeln!(out, "{path}: error: {message}")?;
+            write!(out, "{strong}{path}:{end}")?;
+            push_error(out, message, palette)?;
         }
     }
     match locate(report.original, subject.texts) {
-        Some(original) => push_note(out, original),
+        Some(original) => push_note(out, original, palette),
         None => Ok(()),
     }
 }
 
-fn push_note(out: &mut String, original: Located<'_>) -> Result<(), AllocError> {
-    push_place(out, original)?;
-    out.push_str(" note: first here\n")
+/// Adds what is wrong, behind its place.
+fn push_error(out: &mut String, message: &str, palette: Palette) -> Result<(), AllocError> {
+    let Palette {
+        strong,
+        error,
+        end,
+        ..
+    } = palette;
+    writeln!(out, " {error}error:{end} {strong}{message}{end}")
 }
 
-fn push_place(out: &mut String, located: Located<'_>) -> Result<(), AllocError> {
+fn push_note(out: &mut String, original: Located<'_>, palette: Palette) -> Result<(), AllocError> {
+    push_place(out, original, palette)?;
+    let Palette { note, end, .. } = palette;
+    writeln!(out, " {note}note:{end} first here")
+}
+
+fn push_place(out: &mut String, located: Located<'_>, palette: Palette) -> Result<(), AllocError> {
+    let Palette { strong, end, .. } = palette;
     let path = located.path;
     let line = located.start.line;
     let column = located.start.column;
-    write!(out, "{path}:{line}:{column}:")
+    write!(out, "{strong}{path}:{line}:{column}:{end}")
 }
 
 /// Adds the line that a part of a text begins on, with what of the part is on it underlined.
-fn push_line(out: &mut String, located: Located<'_>, alloc: Global) -> Result<(), AllocError> {
+fn push_line(
+    out: &mut String,
+    located: Located<'_>,
+    palette: Palette,
+    alloc: Global,
+) -> Result<(), AllocError> {
+    let Palette {
+        error,
+        margin,
+        end,
+        ..
+    } = palette;
     let line = Line::of(located.text, located.span.start, located.span.end);
     let before = shown_end(alloc, line.before)?;
     let marked = shown_beginning(alloc, line.marked)?;
     let behind = shown_beginning(alloc, line.behind)?;
     let number = located.start.line.to_string(alloc)?;
     push_repeated(out, ' ', number.len())?;
-    writeln!(out, " |")?;
-    writeln!(out, "{number} | {before}{marked}{behind}")?;
+    writeln!(out, " {margin}|{end}")?;
+    writeln!(out, "{margin}{number} |{end} {before}{marked}{behind}")?;
     push_repeated(out, ' ', number.len())?;
-    out.push_str(" | ")?;
+    write!(out, " {margin}|{end} ")?;
     push_repeated(out, ' ', before.as_str().width())?;
+    out.push_str(error)?;
     push_repeated(out, '^', marked.as_str().width().max(1))?;
-    out.push('\n')
+    writeln!(out, "{end}")
 }
 
 fn push_repeated(out: &mut String, character: char, count: usize) -> Result<(), AllocError> {

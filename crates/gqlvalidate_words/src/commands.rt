@@ -12,8 +12,14 @@ pub const FORMAT: &str = "format";
 
 pub const MAX_REPORTS: &str = "max-reports";
 
+pub const COLOR: &str = "color";
+
+pub const ONE_DOCUMENT: &str = "one-document";
+
 /// The names of the commands.
 pub const CHECK: &str = "check";
+
+pub const SERVE: &str = "serve";
 
 pub const SYNTAX: &str = "syntax";
 
@@ -25,6 +31,15 @@ pub const JSON: &str = "json";
 pub const GITHUB: &str = "github";
 
 static FORMATS: [&str; 3] = [TEXT, JSON, GITHUB];
+
+/// When text is coloured.
+pub const AUTO: &str = "auto";
+
+pub const ALWAYS: &str = "always";
+
+pub const NEVER: &str = "never";
+
+static COLORS: [&str; 3] = [AUTO, ALWAYS, NEVER];
 
 /// What the help of the program and of its commands ends with.
 const STATUSES: &str = "A FILE is `-` for standard input, at most once.
@@ -48,15 +63,17 @@ pub fn program<'a>(alloc: Global) -> Result<Command<'a>, Error> {
         .bin_name("gqlvalidate")?;
     let with_check = program.subcommand(check(alloc)?)?;
     let with_schema = with_check.subcommand(schema(alloc)?)?;
-    Ok(with_schema.subcommand(syntax(alloc)?)?)
+    let with_serve = with_schema.subcommand(serve(alloc)?)?;
+    Ok(with_serve.subcommand(syntax(alloc)?)?)
 }
 
 fn check<'a>(alloc: Global) -> Result<Command<'a>, Error> {
     let command = Command::new(alloc, CHECK)
-        .about("Validates documents against a schema, each for itself")
+        .about("Validates documents against a schema")
         .after_help(STATUSES);
     let command = command.arg(schema_files(alloc))?;
     let command = with_reporting(alloc, command)?;
+    let command = command.arg(one_document(alloc))?;
     Ok(command.arg(files(alloc, "DOCUMENT", "Executable documents"))?)
 }
 
@@ -72,6 +89,15 @@ fn schema<'a>(alloc: Global) -> Result<Command<'a>, Error> {
     ))?)
 }
 
+fn serve<'a>(alloc: Global) -> Result<Command<'a>, Error> {
+    let command = Command::new(alloc, SERVE)
+        .about(
+            "Answers lines of JSON on standard input, a document each, against a schema that is read once",
+        )
+        .after_help(STATUSES);
+    Ok(command.arg(schema_files(alloc))?)
+}
+
 fn syntax<'a>(alloc: Global) -> Result<Command<'a>, Error> {
     let command = Command::new(alloc, SYNTAX)
         .about("Tells which files are no GraphQL documents, of either kind")
@@ -81,6 +107,7 @@ fn syntax<'a>(alloc: Global) -> Result<Command<'a>, Error> {
 
 fn with_reporting<'a>(alloc: Global, command: Command<'a>) -> Result<Command<'a>, Error> {
     let command = command.arg(format(alloc))?;
+    let command = command.arg(color(alloc))?;
     Ok(command.arg(max_reports(alloc))?)
 }
 
@@ -111,6 +138,23 @@ fn format<'a>(alloc: Global) -> Arg<'a> {
         .value_parser(FORMATS.as_slice())
         .default_value(TEXT)
         .action(ArgAction::Set)
+}
+
+fn color<'a>(alloc: Global) -> Arg<'a> {
+    Arg::new(alloc, COLOR)
+        .long(COLOR)
+        .value_name("WHEN")
+        .help("When text is coloured; auto: at a terminal, unless NO_COLOR is set")
+        .value_parser(COLORS.as_slice())
+        .default_value(AUTO)
+        .action(ArgAction::Set)
+}
+
+fn one_document<'a>(alloc: Global) -> Arg<'a> {
+    Arg::new(alloc, ONE_DOCUMENT)
+        .long(ONE_DOCUMENT)
+        .help("The documents are one document together, fragments in files of their own among them")
+        .action(ArgAction::SetTrue)
 }
 
 fn max_reports<'a>(alloc: Global) -> Arg<'a> {

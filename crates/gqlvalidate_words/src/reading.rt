@@ -1,7 +1,10 @@
 //! From words to a request.
 
-use crate::commands::{CHECK, FILES, FORMAT, GITHUB, JSON, MAX_REPORTS, SCHEMA, SYNTAX, program};
-use crate::requests::{Format, Refusal, Reporting, Request, STANDARD_INPUT};
+use crate::commands::{
+    ALWAYS, CHECK, COLOR, FILES, FORMAT, GITHUB, JSON, MAX_REPORTS, NEVER, ONE_DOCUMENT, SCHEMA,
+    SERVE, SYNTAX, program,
+};
+use crate::requests::{Color, Format, Refusal, Reporting, Request, STANDARD_INPUT};
 use clap::error::ErrorKind;
 use clap::{ArgMatches, Error};
 use std::alloc::{AllocError, Global};
@@ -40,7 +43,7 @@ fn request<'a>(alloc: Global, matches: &ArgMatches<'a>) -> Result<Request<'a>, R
     let Some((command, given)) = matches.subcommand() else {
         return Err(wrong(alloc, "error: no command is given\n"));
     };
-    if inputs(given, SCHEMA).saturating_add(inputs(given, FILES)) > 1 {
+    if inputs(command, given) > 1 {
         return Err(wrong(
             alloc,
             "error: standard input, `-`, is named more than once\n",
@@ -64,8 +67,12 @@ fn request_of<'a>(
         Ok(Request::Check {
             schema,
             documents: files,
+            one_document: given.get_flag(ONE_DOCUMENT),
             reporting: reporting(given),
         })
+    } else if command == SERVE {
+        let schema = paths(alloc, given, SCHEMA)?;
+        Ok(Request::Serve { schema })
     } else if command == SYNTAX {
         Ok(Request::Syntax { files })
     } else {
@@ -86,6 +93,7 @@ fn wrong(alloc: Global, text: &str) -> Refusal {
 fn reporting(given: &ArgMatches<'_>) -> Reporting {
     Reporting::new(
         format_of(given.get_str(FORMAT)),
+        color_of(given.get_str(COLOR)),
         given.get_one::<usize>(MAX_REPORTS),
     )
 }
@@ -96,6 +104,15 @@ fn format_of(name: Option<&str>) -> Format {
         Some(name) if name == JSON => Format::Json,
         Some(name) if name == GITHUB => Format::Github,
         _ => Format::Text,
+    }
+}
+
+/// When text is coloured, by this name. No other is accepted but these, and `auto` is the default.
+fn color_of(name: Option<&str>) -> Color {
+    match name {
+        Some(name) if name == ALWAYS => Color::Always,
+        Some(name) if name == NEVER => Color::Never,
+        _ => Color::Auto,
     }
 }
 
@@ -112,8 +129,16 @@ fn paths<'a>(
     Ok(paths)
 }
 
+/// How often a command takes standard input: by a path, and `serve` for its questions.
+fn inputs(command: &str, given: &ArgMatches<'_>) -> usize {
+    let questions = usize::from(command == SERVE);
+    questions
+        .saturating_add(inputs_of(given, SCHEMA))
+        .saturating_add(inputs_of(given, FILES))
+}
+
 /// How many paths of an argument name standard input.
-fn inputs(given: &ArgMatches<'_>, argument: &str) -> usize {
+fn inputs_of(given: &ArgMatches<'_>, argument: &str) -> usize {
     given
         .get_strs(argument)
         .unwrap_or(&[])

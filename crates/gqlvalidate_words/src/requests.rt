@@ -19,10 +19,20 @@ pub enum Format {
     Github,
 }
 
+/// When text is coloured.
+#[derive(Clone, Copy, Debug, PartialEq, Eq)]
+pub enum Color {
+    /// At a terminal, unless the environment has `NO_COLOR`.
+    Auto,
+    Always,
+    Never,
+}
+
 /// Which reports are written, and how.
 #[derive(Clone, Copy, Debug, PartialEq, Eq)]
 pub struct Reporting {
     pub format: Format,
+    pub color: Color,
     /// As many are written at most, in all files together.
     pub max_reports: usize,
 }
@@ -30,8 +40,9 @@ pub struct Reporting {
 impl Reporting {
     /// With the number that was given, if one was. Otherwise text ends behind 100 reports, and the formats for
     /// machines have no bound.
-    pub fn new(format: Format, max_reports: Option<usize>) -> Reporting
+    pub fn new(format: Format, color: Color, max_reports: Option<usize>) -> Reporting
         ensures format { result.format ≡ format }
+        ensures color { result.color ≡ color }
         ensures given { (most : ℕ) → max_reports ≡ Some most → result.max_reports ≡ most }
         ensures text { max_reports ≡ None → format ≡ Format.Text → result.max_reports ≡ 100 }
     {
@@ -41,6 +52,7 @@ impl Reporting {
         };
         Reporting {
             format,
+            color,
             max_reports,
         }
     }
@@ -63,12 +75,18 @@ pub enum Request<'a> {
     Check {
         schema: Vec<&'a str>,
         documents: Vec<&'a str>,
+        /// The documents are one document together.
+        one_document: bool,
         reporting: Reporting,
     },
     /// To validate the schema of these files.
     Schema {
         schema: Vec<&'a str>,
         reporting: Reporting,
+    },
+    /// To answer lines of JSON on standard input, a document each, against the schema of these files.
+    Serve {
+        schema: Vec<&'a str>,
     },
     /// To test whether these files are GraphQL documents, each for itself.
     Syntax {

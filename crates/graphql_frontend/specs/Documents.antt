@@ -16,6 +16,8 @@ use Rattle.graphql_document_building.specs.BuildingRules.{DocumentBuilds}
 use Rattle.graphql_document_building.specs.Documents.{DocumentSays}
 use Rattle.graphql_document_checking.specs.DocumentReports.{DocumentBuildingReport}
 use Rattle.graphql_input_rules.specs.InputFields.{InputFieldReport, InputFieldsAreUnique}
+use Rattle.graphql_usage_rules.specs.VariableMisuses.{DocumentMisuseReport, VariableUsagesAreAllowed}
+use Rattle.graphql_usage_rules.specs.declared.reports.VariableMisuse.{VariableMisuse}
 use Rattle.graphql_frontend.specs.Texts.{IsDocumentOf, IsSyntaxReport}
 use Rattle.graphql_frontend.specs.declared.reports.Reports.{Reports}
 use Rattle.graphql_frontend.specs.declared.reports.Reports.TheVariants.{Syntax, Building, DocumentRules}
@@ -28,19 +30,27 @@ pub record IsDocumentEntry (schema : Schema) (document : ExecutableDocument) (e 
   pub report : ¬ IsLimitEntry e → DocumentReport (Some schema) document e.details e.location
   pub limit : IsLimitEntry e → DocumentLimit (Some schema) document e.details e.location
 
--- every rule of documents holds: those of validation, and that object values give each input field once
+-- every rule of documents holds: those of validation, that object values give each input field once, and that all usages of
+-- variables are allowed
 pub record EveryRuleHolds (schema : Schema) (document : ExecutableDocument) : Type 0 where
   pub rules : DocumentHolds (Some schema) document
   pub input_fields : InputFieldsAreUnique document
+  pub usages : VariableUsagesAreAllowed schema document
 
 -- nothing is among the reports
 abbrev pub ReportsNothing : DocumentReports → Type 0
-ReportsNothing reports = (entries reports.rules ≡ []) × (reports.input_fields.items ≡ [])
+ReportsNothing reports = (entries reports.rules ≡ []) × (reports.input_fields.items ≡ []) × (reports.usages.items ≡ [])
+
+-- each is a usage that is not allowed; and where validation reports nothing, there is none exactly where all are
+pub record AreFurtherMisuses (schema : Schema) (document : ExecutableDocument) (rules : List DiagnosticEntry) (usages : Vec VariableMisuse Global) : Type 0 where
+  pub each : All (DocumentMisuseReport schema document) usages.items
+  pub decides : rules ≡ [] → (usages.items ≡ []) ↔ VariableUsagesAreAllowed schema document
 
 -- each report is true of the document; and where no limit is passed, there is none exactly where every rule holds
 pub record AreReportsOf (schema : Schema) (document : ExecutableDocument) (reports : DocumentReports) : Type 0 where
   pub each_rule : All (IsDocumentEntry schema document) (entries reports.rules)
   pub each_input_field : All (InputFieldReport document) reports.input_fields.items
+  pub each_usage : All (DocumentMisuseReport schema document) reports.usages.items
   pub decides : IsBuilt schema document → All (λ e. ¬ IsLimitEntry e) (entries reports.rules) → ReportsNothing reports ↔ EveryRuleHolds schema document
 
 -- what a document that was built comes to: nothing is reported only where every rule holds, and what is reported is true of it

@@ -1,21 +1,19 @@
 //! Executable documents, from their texts.
 
 ghost use Rattle.std.specs.Prelude.{IfOk};
-ghost use Rattle.graphql_frontend.specs.Documents.{AreReportsOf, HasDefinitionsOf, JudgesDocument, JudgesTree, ValidatesDocument, ValidatesDocuments};
+ghost use Rattle.graphql_frontend.specs.Documents.{HasDefinitionsOf, JudgesDocument, JudgesTree, ValidatesDocument, ValidatesDocuments};
 ghost use Rattle.graphql_frontend.specs.Schemas.{IsUsable};
 
-use crate::reports::{DocumentReports, Reports};
+use crate::document_rules::document_reports;
+use crate::reports::Reports;
 use crate::texts::{Parsed, SourceText, SyntaxReport, is_out_of_memory, parse_texts};
 use graphql_building_reports::BuildingReportList;
-use graphql_diagnostics::DiagnosticList;
 use graphql_document_building::build_document;
 use graphql_document_checking::check_document;
 use graphql_documents::documents::{ExecutableDocument, Schema};
-use graphql_input_rules::check_input_fields;
 use graphql_nodes::{FileId, SourceSpan, ValidationError};
 use graphql_parser::{Bounds, parse_document};
 use graphql_trees::Document;
-use graphql_validation::entry::validate_executable_document;
 use sqlite_items::Items;
 use std::alloc::Global;
 
@@ -129,22 +127,4 @@ fn validate_built(
     } else {
         Ok(Some(Reports::DocumentRules(reports)))
     }
-}
-
-/// What the rules of validation report of a document, and those of its input fields.
-fn document_reports(
-    alloc: Global,
-    schema: &Schema,
-    document: &ExecutableDocument,
-) -> Result<DocumentReports, ValidationError>
-    ensures { IfOk result (AreReportsOf schema.now document.now) }
-{
-    let mut rules = DiagnosticList::new(alloc);
-    validate_executable_document(&mut rules, schema, document)?;
-    let mut input_fields = Vec::new(alloc);
-    check_input_fields(&mut input_fields, document)?;
-    Ok(DocumentReports {
-        rules,
-        input_fields,
-    })
 }

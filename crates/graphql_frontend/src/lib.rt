@@ -3,6 +3,7 @@
 #![tactic(auto)]
 
 pub mod build_error_messages;
+mod document_rules;
 pub mod documents;
 mod meta_fields;
 pub mod reports;

@@ -7,6 +7,7 @@ use crate::texts::SyntaxReport;
 use graphql_building_reports::BuildingReportList;
 use graphql_diagnostics::DiagnosticList;
 use graphql_input_rules::InputFieldRepetition;
+use graphql_usage_rules::VariableMisuse;
 
 /// What is reported of texts, by the first stage that reports something.
 #[derive(Debug, Drop)]
@@ -28,6 +29,8 @@ pub struct DocumentReports {
     pub rules: DiagnosticList,
     /// Input fields that object values give again.
     pub input_fields: Vec<InputFieldRepetition>,
+    /// Usages of variables that are not allowed, without those that a report of validation ends with.
+    pub usages: Vec<VariableMisuse>,
 }
 
 impl Reports {
@@ -37,12 +40,11 @@ impl Reports {
             Reports::Syntax(errors) => errors.len(),
             Reports::Building(list) => list.iter().len(),
             Reports::Rules(list) => list.len(),
-            Reports::DocumentRules(reports) => {
-                reports
-                    .rules
-                    .len()
-                    .saturating_add(reports.input_fields.len())
-            }
+            Reports::DocumentRules(reports) => reports
+                .rules
+                .len()
+                .saturating_add(reports.input_fields.len())
+                .saturating_add(reports.usages.len()),
         }
     }
 }
@@ -52,6 +54,6 @@ impl DocumentReports {
     pub fn is_empty(&self) -> bool
         ensures { IsTrue result ↔ ReportsNothing self.now }
     {
-        self.rules.is_empty() && self.input_fields.is_empty()
+        self.rules.is_empty() && self.input_fields.is_empty() && self.usages.is_empty()
     }
 }

@@ -10,6 +10,7 @@ use graphql_input_rules::InputFieldRepetition;
 use graphql_nodes::{SourceSpan, ValidationError};
 use graphql_parser::{Bounds, SyntaxError};
 use graphql_syntax_messages::refused::refused;
+use graphql_usage_rules::VariableMisuse;
 use std::alloc::Global;
 
 /// A report as it is shown.
@@ -69,7 +70,20 @@ fn push_document(
     for repetition in reports.input_fields.iter().take(left) {
         shown.push(shown_repetition(alloc, repetition)?)?;
     }
+    let left = left.saturating_sub(reports.input_fields.len());
+    for misuse in reports.usages.iter().take(left) {
+        shown.push(shown_misuse(alloc, misuse)?)?;
+    }
     Ok(())
+}
+
+fn shown_misuse(alloc: Global, misuse: &VariableMisuse) -> Result<ShownReport, ValidationError> {
+    Ok(ShownReport {
+        location: misuse.location,
+        rule: "DisallowedVariableUsage",
+        message: misuse.to_string(alloc)?,
+        original: misuse.definition_location,
+    })
 }
 
 fn shown_repetition(

@@ -66,6 +66,7 @@ fn ends<R: AllocGlobal + Abort>(rt: &R, texts: &[&str], input: &[u8], wanted: En
     let status = run(
         &shelf_of(alloc),
         words,
+        false,
         &mut input,
         &mut output,
         &mut faults,
@@ -382,6 +383,7 @@ fn fails<R: AllocGlobal + Abort>(rt: &R, kind: ErrorKind, status: u8) {
     let ended = run(
         &shelf_of(alloc),
         words,
+        false,
         &mut input,
         &mut output,
         &mut faults,
@@ -415,7 +417,7 @@ fn a_failed_write_ends_the_run(rt: HostRuntime) {
         let mut input: &[u8] = b"";
         let mut faults = Vec::new(rt.alloc());
         let files = shelf_of(rt.alloc());
-        let ended = run(&files, words, &mut input, &mut Refusing, &mut faults);
+        let ended = run(&files, words, false, &mut input, &mut Refusing, &mut faults);
         assert_eq!(rt; ended.number(), 4);
         assert!(rt; faults.is_empty());
     }

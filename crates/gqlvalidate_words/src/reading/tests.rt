@@ -6,15 +6,15 @@ const READ: &[(&[&str], &str)] = &[
     (&["syntax", "a", "-"], "Syntax { files: [\"a\", \"-\"] }"),
     (
         &["check", "--schema", "s", "a", "--schema=t", "b"],
-        "Check { schema: [\"s\", \"t\"], documents: [\"a\", \"b\"], reporting: Reporting { format: Text, max_reports: 100 } }",
+        "Check { schema: [\"s\", \"t\"], documents: [\"a\", \"b\"], one_document: false, reporting: Reporting { format: Text, color: Auto, max_reports: 100 } }",
     ),
     (
         &["schema", "--format", "json", "--max-reports", "7", "s"],
-        "Schema { schema: [\"s\"], reporting: Reporting { format: Json, max_reports: 7 } }",
+        "Schema { schema: [\"s\"], reporting: Reporting { format: Json, color: Auto, max_reports: 7 } }",
     ),
     (
-        &["schema", "--format=github", "s"],
-        "Schema { schema: [\"s\"], reporting: Reporting { format: Github, max_reports: 18446744073709551615 } }",
+        &["schema", "--format=github", "--color=never", "s"],
+        "Schema { schema: [\"s\"], reporting: Reporting { format: Github, color: Never, max_reports: 18446744073709551615 } }",
     ),
     (
         &["check", "--schema", "-", "-"],
@@ -23,6 +23,23 @@ const READ: &[(&[&str], &str)] = &[
     (
         &["schema", "--format", "xml", "s"],
         "error: invalid value 'xml' for '--format <FORMAT>'\n  [possible values: text, json, github]\n\nFor more information, try '--help'.\n",
+    ),
+    (
+        &[
+            "check",
+            "--one-document",
+            "--color",
+            "always",
+            "--schema",
+            "s",
+            "a",
+        ],
+        "Check { schema: [\"s\"], documents: [\"a\"], one_document: true, reporting: Reporting { format: Text, color: Always, max_reports: 100 } }",
+    ),
+    (&["serve", "--schema", "s"], "Serve { schema: [\"s\"] }"),
+    (
+        &["serve", "--schema", "-"],
+        "error: standard input, `-`, is named more than once\n",
     ),
     (&["--version"], "gqlvalidate 0.1.0\n"),
 ];

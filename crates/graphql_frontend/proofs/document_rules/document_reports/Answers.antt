@@ -2,9 +2,9 @@ use Rattle.std.proofs.Common.{Some}
 use Rattle.graphql_diagnostics.specs.Diagnostics.{IsLimitEntry, entries}
 use Rattle.graphql_specification.specs.Documents.{DocumentLimit, DocumentReport}
 use Rattle.graphql_frontend.specs.Documents.{IsDocumentEntry}
-use Rattle.graphql_frontend.proofs.DocumentLemmas.{both_decide, both_of_each}
+use Rattle.graphql_frontend.proofs.DocumentLemmas.{all_decide, both_of_each}
 use Rattle.graphql_frontend.proofs.ReportLemmas.{appended, decides, each_true, kept}
-use Rattle.graphql_frontend.proofs.documents.document_reports.Goals as goal
+use Rattle.graphql_frontend.proofs.document_rules.document_reports.Goals as goal
 
 pub returns : goal.returns
 returns c =
@@ -21,7 +21,8 @@ returns c =
           (λ e p q. record { report = p; limit = q }) (entries c.validate_executable_document.new.diagnostics)
           (kept _ _ _ validated.reports empty) (kept _ _ _ validated.limits empty);
       each_input_field = each_true _ _ _ _ checked none;
+      each_usage = c.in_ok-usages.ensures.each;
       decides = λ built no_limit.
-          both_decide schema document (record { rules = c.validate_executable_document.new.diagnostics; input_fields = c.check_input_fields.new.reports })
-          (appended _ _ _ (validated.silence built) empty no_limit) (decides _ _ _ _ checked none);
+          all_decide schema document (record { rules = c.validate_executable_document.new.diagnostics; input_fields = c.check_input_fields.new.reports; usages = c.in_ok-usages.usages })
+          (appended _ _ _ (validated.silence built) empty no_limit) (decides _ _ _ _ checked none) c.in_ok-usages.ensures.decides;
     }

@@ -1,0 +1,84 @@
+//! Documents that are one document together, as clients write fragments in files of their own.
+
+ghost use Rattle.std.specs.Prelude.{◌≡◌, None, Some, Ok, List};
+ghost use Rattle.graphql_frontend.specs.Documents.{ValidatesDocuments};
+ghost use Rattle.graphql_frontend.specs.Schemas.{IsUsable};
+
+use crate::accounts::Account;
+use crate::check::Paths;
+use crate::faults::Fault;
+use crate::named_texts::{NamedText, Subject};
+use crate::schema_files::{named_text, sources_of, texts_of};
+use crate::statuses::Status;
+use graphql_documents::documents::Schema;
+use graphql_frontend::{Reports, SourceText, validate_documents};
+use graphql_parser::Bounds;
+use std::alloc::{AllocError, Global};
+use std::io::{Read, Write};
+use std::rt::Files;
+
+/// Validates the one document that these files are together, if each of them has a text.
+pub fn check_together<R: Files + AllocGlobal, I: Read, O: Write, F: Write>(
+    rt: &R,
+    schema: &Schema,
+    paths: Paths<'_>,
+    account: &mut Account,
+    input: &mut I,
+    output: &mut O,
+    faults: &mut F,
+) -> Result<Status, Fault>
+    requires { IsUsable schema.now }
+{
+    let Some(texts) = texts_of(rt, paths.documents, input, faults)? else {
+        return Ok(Status::Unreadable);
+    };
+    let named = named_documents(rt.alloc(), paths, &texts)?;
+    let sources = sources_of(rt.alloc(), &named)?;
+    match reports_of(rt.alloc(), schema, &sources)? {
+        None => Ok(Status::Accepted),
+        Some(reports) => {
+            let subject = subject_of(&named, &sources);
+            account.report(rt.alloc(), &reports, subject, output)?;
+            Ok(Status::Reported)
+        }
+    }
+}
+
+/// What is reported of the document of these texts.
+fn reports_of(
+    alloc: Global,
+    schema: &Schema,
+    sources: &[SourceText<'_>],
+) -> Result<Option<Reports>, Fault>
+    requires { IsUsable schema.now }
+    ensures { (reports : Option Reports) → result ≡ Ok reports → ValidatesDocuments Bounds.DEFAULT schema.now sources.now reports }
+{
+    Ok(validate_documents(alloc, schema, sources, Bounds::DEFAULT)?)
+}
+
+/// The texts with their paths, numbered behind those of the schema.
+fn named_documents<'a>(
+    alloc: Global,
+    paths: Paths<'a>,
+    texts: &'a [String],
+) -> Result<Vec<NamedText<'a>>, AllocError> {
+    let mut named = Vec::new(alloc);
+    for (position, (path, text)) in paths.documents.iter().zip(texts.iter()).enumerate() {
+        let position = position.saturating_add(paths.schema.len());
+        named.push(named_text(position, path, text.as_str()))?;
+    }
+    Ok(named)
+}
+
+/// A report without a place is about the first file.
+fn subject_of<'a>(texts: &'a [NamedText<'a>], sources: &'a [SourceText<'a>]) -> Subject<'a> {
+    let path = match texts.first() {
+        Some(named) => named.path,
+        None => "",
+    };
+    Subject {
+        path,
+        texts,
+        sources,
+    }
+}

@@ -1,0 +1,82 @@
+//! What a line of standard input asks for: `{"document": TEXT}`, with an `"id"` that the answer repeats, if it is there.
+
+use json::{Error, Scratch, Value, Writer};
+use std::alloc::{AllocError, Global};
+
+/// A document to be validated.
+#[derive(Drop)]
+pub struct Question<'a> {
+    id: Option<Id<'a>>,
+    pub document: &'a str,
+}
+
+/// What a caller knows a question by.
+#[derive(Clone, Copy)]
+enum Id<'a> {
+    Text(&'a str),
+    /// An integer.
+    Number(u64),
+}
+
+/// Why a line is no question.
+#[derive(Clone, Copy)]
+pub enum QuestionError {
+    OutOfMemory,
+    /// For this reason.
+    Unclear(&'static str),
+}
+
+impl<'a> Question<'a> {
+    /// The question that a line is.
+    pub fn read(
+        alloc: Global,
+        line: &'a [u8],
+        scratch: &'a mut Scratch,
+    ) -> Result<Question<'a>, QuestionError> {
+        let object = match Value::from_slice(alloc, line, scratch) {
+            Ok(object) => object,
+            Err(Error::OutOfMemory) => return Err(QuestionError::OutOfMemory),
+            Err(_) => return Err(QuestionError::Unclear("the line is not JSON in UTF-8")),
+        };
+        match object.get("document").and_then(Value::as_str) {
+            Some(document) => Ok(Question {
+                id: id_of(&object)?,
+                document,
+            }),
+            None => Err(QuestionError::Unclear(
+                "the line is no object with a string as its `document`",
+            )),
+        }
+    }
+
+    /// Adds the id, if there is one.
+    pub fn add_id(&self, json: &mut Writer) -> Result<(), AllocError> {
+        match self.id {
+            None => Ok(()),
+            Some(Id::Text(text)) => {
+                json.key("id")?;
+                json.string(text)
+            }
+            Some(Id::Number(number)) => {
+                json.key("id")?;
+                json.u64(number)
+            }
+        }
+    }
+}
+
+/// The id of a question: a string, or an integer from 0 up to 2^64 - 1.
+fn id_of<'a>(object: &Value<'a>) -> Result<Option<Id<'a>>, QuestionError> {
+    let Some(id) = object.get("id") else {
+        return Ok(None);
+    };
+    if let Some(text) = id.as_str() {
+        Ok(Some(Id::Text(text)))
+    } else if let Some(number) = id.as_u64() {
+        Ok(Some(Id::Number(number)))
+    } else {
+        Err(QuestionError::Unclear(
+            "the `id` is neither a string nor an integer from 0 up to 2^64 - 1",
+        ))
+    }
+}

@@ -1,0 +1,94 @@
+//! The rules of documents, together: those of validation, and those of input fields and of usages of variables, which
+//! validation does not ask.
+
+ghost use Rattle.std.specs.Prelude.{All, Contains, IfOk};
+ghost use Rattle.graphql_diagnostics.specs.Diagnostics.{entries};
+ghost use Rattle.graphql_frontend.specs.Documents.{AreFurtherMisuses, AreReportsOf};
+
+use crate::reports::DocumentReports;
+use graphql_diagnostics::DiagnosticList;
+use graphql_documents::documents::{ExecutableDocument, Schema};
+use graphql_input_rules::check_input_fields;
+use graphql_nodes::{SourceSpan, ValidationError};
+use graphql_usage_rules::{VariableMisuse, check_variable_usages};
+use graphql_validation::entry::validate_executable_document;
+use std::alloc::Global;
+use std::collections::HashSet;
+
+/// What the rules report of a document.
+pub(crate) fn document_reports(
+    alloc: Global,
+    schema: &Schema,
+    document: &ExecutableDocument,
+) -> Result<DocumentReports, ValidationError>
+    ensures { IfOk result (AreReportsOf schema.now document.now) }
+{
+    let mut rules = DiagnosticList::new(alloc);
+    validate_executable_document(&mut rules, schema, document)?;
+    let mut input_fields = Vec::new(alloc);
+    check_input_fields(&mut input_fields, document)?;
+    let usages = further_misuses(alloc, schema, document, &rules)?;
+    Ok(DocumentReports {
+        rules,
+        input_fields,
+        usages,
+    })
+}
+
+/// The usages of variables that are not allowed, but for those that a report of validation ends with: validation asks it of
+/// variables that are whole arguments, and of types inside lists.
+fn further_misuses(
+    alloc: Global,
+    schema: &Schema,
+    document: &ExecutableDocument,
+    rules: &DiagnosticList,
+) -> Result<Vec<VariableMisuse>, ValidationError>
+    ensures { IfOk result (AreFurtherMisuses schema.now document.now (entries rules.now)) }
+{
+    let mut usages = Vec::new(alloc);
+    check_variable_usages(&mut usages, schema, document)?;
+    if rules.is_empty() {
+        Ok(usages)
+    } else {
+        let ends = reported_ends(alloc, rules)?;
+        keep_ending_elsewhere(&mut usages, &ends);
+        Ok(usages)
+    }
+}
+
+/// The ends of the places that are reported.
+fn reported_ends(
+    alloc: Global,
+    rules: &DiagnosticList,
+) -> Result<HashSet<SourceSpan>, ValidationError> {
+    let mut ends = HashSet::new(alloc);
+    for entry in rules.iter() {
+        if let Some(place) = entry.location {
+            ends.insert(end_of(place))?;
+        }
+    }
+    Ok(ends)
+}
+
+/// Leaves the misuses whose places do not end at one of these.
+fn keep_ending_elsewhere(usages: &mut Vec<VariableMisuse>, ends: &HashSet<SourceSpan>)
+    ensures { All (Contains usages.old.items) usages.new.items }
+{
+    usages.retain(|usage| !ends_at_one(usage, ends));
+}
+
+fn ends_at_one(usage: &VariableMisuse, ends: &HashSet<SourceSpan>) -> bool {
+    match usage.location {
+        Some(place) => ends.contains(&end_of(place)),
+        None => false,
+    }
+}
+
+/// The end of a place, as a place.
+fn end_of(place: SourceSpan) -> SourceSpan {
+    SourceSpan {
+        file_id: place.file_id,
+        start: place.end,
+        end: place.end,
+    }
+}
