@@ -13,6 +13,7 @@ use graphql_input_rules::InputFieldRepetition;
 use graphql_nodes::FileId;
 use graphql_parser::Bounds;
 use graphql_schema_building::BUILT_IN_DEFINITIONS;
+use graphql_usage_rules::VariableMisuse;
 use std::alloc::Global;
 use std::io::Write;
 
@@ -102,10 +103,14 @@ fn print_reports(reports: &Reports, places: Places, lines: &mut Vec<u8>) -> Resu
     match reports {
         Reports::Syntax(_) => Ok(writeln!(lines, "no GraphQL document")?),
         Reports::Building(list) => print_building_rules(list, lines),
-        Reports::Rules(list) => print_entries(list, places, lines),
-        Reports::DocumentRules(reports) => {
+        Reports::SchemaRules(reports) => {
             print_entries(&reports.rules, places, lines)?;
             print_repetitions(reports.input_fields.as_slice(), lines)
+        }
+        Reports::DocumentRules(reports) => {
+            print_entries(&reports.rules, places, lines)?;
+            print_repetitions(reports.input_fields.as_slice(), lines)?;
+            print_misuses(reports.usages.as_slice(), lines)
         }
     }
 }
@@ -123,6 +128,13 @@ fn print_repetitions(
 ) -> Result<(), Fault> {
     for repetition in repetitions {
         writeln!(lines, "- {repetition}")?;
+    }
+    Ok(())
+}
+
+fn print_misuses(misuses: &[VariableMisuse], lines: &mut Vec<u8>) -> Result<(), Fault> {
+    for misuse in misuses {
+        writeln!(lines, "- {misuse}")?;
     }
     Ok(())
 }

@@ -3,7 +3,7 @@ use Rattle.std.specs.Prelude.{◌≡◌, ◌≢◌, List, [], All, Vec}
 use Rattle.std.specs.List.{AllZip}
 use Rattle.std.specs.declared.alloc.Global.{Global}
 use Rattle.graphql_diagnostics.specs.Diagnostics.{IsLimitEntry, entries}
-use Rattle.graphql_diagnostics.specs.Reports.{ReportsWithin}
+use Rattle.graphql_diagnostics.specs.Reports.{Reports, ReportsWithin}
 use Rattle.graphql_documents.specs.Built.{StandsUnderOwnNames}
 use Rattle.graphql_documents.specs.declared.documents.schemas.Schema.{Schema}
 use Rattle.graphql_parser.specs.declared.bounds.Bounds.{Bounds}
@@ -11,6 +11,7 @@ use Rattle.graphql_specification.specs.BuiltInScalars.{SchemaRetainsUsedBuiltInS
 use Rattle.graphql_specification.specs.DefaultValues.{DefaultValuesHold}
 use Rattle.graphql_specification.specs.Schemas.{SchemaHolds}
 use Rattle.graphql_schemas.specs.SchemaChecks.{SchemaEntryReport}
+use Rattle.graphql_input_rules.specs.SchemaValues.{SchemaInputFieldReport, SchemaInputFieldsAreUnique}
 use Rattle.graphql_trees.specs.declared.documents.Document.{Document}
 use Rattle.graphql_building_laws.specs.MetaFieldTypes.{HasTypesOfMetaFields}
 use Rattle.graphql_building_reports.specs.Checks.{reports_of}
@@ -20,7 +21,8 @@ use Rattle.graphql_schema_building.specs.SchemaSays.{SchemaSays}
 use Rattle.graphql_schema_checking.specs.SchemaBuilds.{SchemaBuilds}
 use Rattle.graphql_schema_checking.specs.SchemaReports.{SchemaBuildingReport}
 use Rattle.graphql_frontend.specs.Texts.{IsDocumentOf, IsSyntaxReport}
-use Rattle.graphql_frontend.specs.declared.reports.Reports.TheVariants.{Syntax, Building, Rules}
+use Rattle.graphql_frontend.specs.declared.reports.Reports.TheVariants.{Syntax, Building, SchemaRules}
+use Rattle.graphql_frontend.specs.declared.reports.SchemaReports.{SchemaReports}
 use Rattle.graphql_frontend.specs.declared.schemas.SchemaReading.{SchemaReading}
 use Rattle.graphql_frontend.specs.declared.schemas.SchemaReading.TheVariants.{Accepted, Rejected, LacksIntrospection}
 use Rattle.graphql_frontend.specs.declared.texts.SourceText.{SourceText}
@@ -29,16 +31,27 @@ use Rattle.graphql_frontend.specs.declared.texts.SyntaxReport.{SyntaxReport}
 -- every rule of schemas holds of the first, and the second is the first with its used built-in scalars retained
 pub record IsAccepted (schema retained : Schema) : Type 0 where
   pub holds : SchemaHolds schema
+  pub input_fields : SchemaInputFieldsAreUnique schema
   pub retains : SchemaRetainsUsedBuiltInScalars schema retained
   pub defaults : DefaultValuesHold retained
   pub meta_fields : HasTypesOfMetaFields retained
 
+-- nothing is among the reports
+abbrev pub ReportsNothingOfSchema : SchemaReports → Type 0
+ReportsNothingOfSchema reports = (entries reports.rules ≡ []) × (reports.input_fields.items ≡ [])
+
+-- each report is true of the schema; of input fields there is none exactly where they are unique, and of the other rules,
+-- where no limit is passed, none exactly where they hold
+pub record AreReportsOfSchema (schema retained : Schema) (reports : SchemaReports) : Type 0 where
+  pub rules : ReportsWithin IsLimitEntry (SchemaHolds schema × DefaultValuesHold retained) (SchemaEntryReport schema) [] (entries reports.rules)
+  pub input_fields : Reports (SchemaInputFieldsAreUnique schema) (SchemaInputFieldReport schema) [] reports.input_fields.items
+
 -- what a schema that was built comes to
 abbrev pub Judges : Schema → SchemaReading → Type 0
 Judges schema (Accepted retained) = IsAccepted schema retained
-Judges schema (Rejected (Rules list)) =
-    (entries list ≢ []) × (retained : Schema) × SchemaRetainsUsedBuiltInScalars schema retained ×
-    ReportsWithin IsLimitEntry (SchemaHolds schema × DefaultValuesHold retained) (SchemaEntryReport schema) [] (entries list)
+Judges schema (Rejected (SchemaRules reports)) =
+    ¬ ReportsNothingOfSchema reports × (retained : Schema) × SchemaRetainsUsedBuiltInScalars schema retained ×
+    AreReportsOfSchema schema retained reports
 Judges schema (Rejected _) = ⊥
 Judges schema LacksIntrospection = (retained : Schema) × SchemaRetainsUsedBuiltInScalars schema retained × ¬ HasTypesOfMetaFields retained
 

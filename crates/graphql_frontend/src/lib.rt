@@ -8,13 +8,14 @@ pub mod documents;
 mod meta_fields;
 pub mod reports;
 pub mod rule_names;
+mod schema_rules;
 pub mod schemas;
 pub mod shown;
 pub mod texts;
 pub mod verdicts;
 
 pub use documents::{validate_document, validate_documents};
-pub use reports::{DocumentReports, Reports};
+pub use reports::{DocumentReports, Reports, SchemaReports};
 pub use schemas::{SchemaReading, read_schema};
 pub use shown::{ShownReport, shown_reports};
 pub use texts::{SourceText, SyntaxReport};

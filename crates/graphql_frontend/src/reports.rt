@@ -2,6 +2,7 @@
 
 ghost use Rattle.std.specs.Prelude.{◌↔◌, IsTrue};
 ghost use Rattle.graphql_frontend.specs.Documents.{ReportsNothing};
+ghost use Rattle.graphql_frontend.specs.Schemas.{ReportsNothingOfSchema};
 
 use crate::texts::SyntaxReport;
 use graphql_building_reports::BuildingReportList;
@@ -17,9 +18,18 @@ pub enum Reports {
     /// Rules that the texts break, so that nothing is built of them.
     Building(BuildingReportList),
     /// Rules that the schema breaks.
-    Rules(DiagnosticList),
+    SchemaRules(SchemaReports),
     /// Rules that the document breaks.
     DocumentRules(DocumentReports),
+}
+
+/// What is reported of a schema that was built.
+#[derive(Debug, Drop)]
+pub struct SchemaReports {
+    /// Rules of validation.
+    pub rules: DiagnosticList,
+    /// Input fields that object values give again.
+    pub input_fields: Vec<InputFieldRepetition>,
 }
 
 /// What is reported of a document that was built.
@@ -39,13 +49,27 @@ impl Reports {
         match self {
             Reports::Syntax(errors) => errors.len(),
             Reports::Building(list) => list.iter().len(),
-            Reports::Rules(list) => list.len(),
+            Reports::SchemaRules(reports) => {
+                reports
+                    .rules
+                    .len()
+                    .saturating_add(reports.input_fields.len())
+            }
             Reports::DocumentRules(reports) => reports
                 .rules
                 .len()
                 .saturating_add(reports.input_fields.len())
                 .saturating_add(reports.usages.len()),
         }
+    }
+}
+
+impl SchemaReports {
+    /// Whether there is none.
+    pub fn is_empty(&self) -> bool
+        ensures { IsTrue result ↔ ReportsNothingOfSchema self.now }
+    {
+        self.rules.is_empty() && self.input_fields.is_empty()
     }
 }
 

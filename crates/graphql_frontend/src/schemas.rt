@@ -5,15 +5,14 @@ ghost use Rattle.graphql_frontend.specs.Schemas.{AcceptsOnlyUsableSchemas, Judge
 
 use crate::meta_fields::has_types_of_meta_fields;
 use crate::reports::Reports;
+use crate::schema_rules::schema_reports;
 use crate::texts::{Parsed, SourceText, parse_texts};
 use graphql_building_reports::BuildingReportList;
-use graphql_diagnostics::DiagnosticList;
 use graphql_documents::documents::Schema;
 use graphql_nodes::ValidationError;
 use graphql_parser::Bounds;
 use graphql_schema_building::build_schema;
 use graphql_schema_checking::check_schema;
-use graphql_schemas::schema::validate_schema;
 use graphql_trees::Document;
 use std::alloc::Global;
 
@@ -72,10 +71,9 @@ fn schema_of_documents(
 fn validated(alloc: Global, mut schema: Schema) -> Result<SchemaReading, ValidationError>
     ensures { IfOk result (Judges schema) }
 {
-    let mut diagnostics = DiagnosticList::new(alloc);
-    validate_schema(&mut diagnostics, &mut schema)?;
-    if !diagnostics.is_empty() {
-        Ok(SchemaReading::Rejected(Reports::Rules(diagnostics)))
+    let reports = schema_reports(alloc, &mut schema)?;
+    if !reports.is_empty() {
+        Ok(SchemaReading::Rejected(Reports::SchemaRules(reports)))
     } else if has_types_of_meta_fields(&schema) {
         Ok(SchemaReading::Accepted(schema))
     } else {

@@ -1,11 +1,11 @@
 //! Reports as they are shown: with a message, a rule and places.
 
 use crate::build_error_messages::BuildErrorMessage;
-use crate::reports::{DocumentReports, Reports};
+use crate::reports::{DocumentReports, Reports, SchemaReports};
 use crate::rule_names::{building_rule, details_rule};
 use crate::texts::{SourceText, SyntaxReport};
 use graphql_building_reports::{BuildingReport, BuildingRule};
-use graphql_diagnostics::{BuildError, Details, DiagnosticData, DiagnosticEntry};
+use graphql_diagnostics::{BuildError, Details, DiagnosticData, DiagnosticEntry, DiagnosticList};
 use graphql_input_rules::InputFieldRepetition;
 use graphql_nodes::{SourceSpan, ValidationError};
 use graphql_parser::{Bounds, SyntaxError};
@@ -46,14 +46,22 @@ pub fn shown_reports(
                 shown.push(shown_building(alloc, report)?)?;
             }
         }
-        Reports::Rules(list) => {
-            for entry in list.iter().take(most) {
-                shown.push(shown_entry(alloc, entry)?)?;
-            }
-        }
+        Reports::SchemaRules(reports) => push_schema(alloc, reports, most, &mut shown)?,
         Reports::DocumentRules(reports) => push_document(alloc, reports, most, &mut shown)?,
     }
     Ok(shown)
+}
+
+/// Adds the reports of a schema: the rules of validation first.
+fn push_schema(
+    alloc: Global,
+    reports: &SchemaReports,
+    most: usize,
+    shown: &mut Vec<ShownReport>,
+) -> Result<(), ValidationError> {
+    push_rules(alloc, &reports.rules, most, shown)?;
+    let left = most.saturating_sub(reports.rules.len());
+    push_repetitions(alloc, &reports.input_fields, left, shown)
 }
 
 /// Adds the reports of a document: the rules of validation first.
@@ -63,16 +71,36 @@ fn push_document(
     most: usize,
     shown: &mut Vec<ShownReport>,
 ) -> Result<(), ValidationError> {
-    for entry in reports.rules.iter().take(most) {
-        shown.push(shown_entry(alloc, entry)?)?;
-    }
+    push_rules(alloc, &reports.rules, most, shown)?;
     let left = most.saturating_sub(reports.rules.len());
-    for repetition in reports.input_fields.iter().take(left) {
-        shown.push(shown_repetition(alloc, repetition)?)?;
-    }
+    push_repetitions(alloc, &reports.input_fields, left, shown)?;
     let left = left.saturating_sub(reports.input_fields.len());
     for misuse in reports.usages.iter().take(left) {
         shown.push(shown_misuse(alloc, misuse)?)?;
+    }
+    Ok(())
+}
+
+fn push_rules(
+    alloc: Global,
+    rules: &DiagnosticList,
+    most: usize,
+    shown: &mut Vec<ShownReport>,
+) -> Result<(), ValidationError> {
+    for entry in rules.iter().take(most) {
+        shown.push(shown_entry(alloc, entry)?)?;
+    }
+    Ok(())
+}
+
+fn push_repetitions(
+    alloc: Global,
+    repetitions: &[InputFieldRepetition],
+    most: usize,
+    shown: &mut Vec<ShownReport>,
+) -> Result<(), ValidationError> {
+    for repetition in repetitions.iter().take(most) {
+        shown.push(shown_repetition(alloc, repetition)?)?;
     }
     Ok(())
 }
