@@ -1,6 +1,6 @@
--- The values that are written in a type system document. A schema's meta-fields have no directives and no default values.
+-- The values that are written in a type system document.
 -- Specification: 3.3 Schema, 3.4 Types, 3.6.1 Field Arguments, 3.9 Enums, 3.10 Input Objects, 3.13 Directives.
-use Rattle.std.specs.Prelude.{◌⊎◌, List, Any}
+use Rattle.std.specs.Prelude.{◌⊎◌, ◌∷◌, [], List, Any}
 use Rattle.indexmap.specs.IndexMap.{values}
 use Rattle.graphql_nodes.specs.declared.nodes.Node.{Node}
 use Rattle.graphql_documents.specs.declared.documents.components.Component.{Component}
@@ -9,6 +9,7 @@ use Rattle.graphql_documents.specs.declared.documents.definitions.EnumValueDefin
 use Rattle.graphql_documents.specs.declared.documents.definitions.FieldDefinition.{FieldDefinition}
 use Rattle.graphql_documents.specs.declared.documents.definitions.InputValueDefinition.{InputValueDefinition}
 use Rattle.graphql_documents.specs.declared.documents.directives.Directive.{Directive}
+use Rattle.graphql_documents.specs.declared.documents.meta_fields.MetaFields.{MetaFields}
 use Rattle.graphql_documents.specs.declared.documents.schemas.ExtendedType.{ExtendedType}
 use Rattle.graphql_documents.specs.declared.documents.schemas.ExtendedType.TheVariants.{Enum, InputObject, Interface, Object, Scalar, Union}
 use Rattle.graphql_documents.specs.declared.documents.schemas.Schema.{Schema}
@@ -62,11 +63,16 @@ DirectiveDefinitionsWrite definitions value = Any (λ d. ArgumentsWrite d.value.
 abbrev pub TypesWrite : List ExtendedType → Value → Type 0
 TypesWrite types value = Any (λ t. TypeWrites t value) types
 
--- the schema has the value in its own directives, a directive definition or a type
+-- `__typename`, `__schema` and `__type`. Specification: 4.1 Type Name Introspection, 4.2 Schema Introspection
+abbrev pub meta_fields_of : MetaFields → List (Component FieldDefinition)
+meta_fields_of fields = fields.typename ∷ fields.schema ∷ fields.type_by_name ∷ []
+
+-- the schema has the value in its own directives, a directive definition, a type or a meta-field
 abbrev pub SchemaWrites : Schema → Value → Type 0
 SchemaWrites schema value =
     InAppliedDirectives schema.schema_definition.value.value.directives.items value ⊎
-    (DirectiveDefinitionsWrite (values schema.directive_definitions) value ⊎ TypesWrite (values schema.types) value)
+    (DirectiveDefinitionsWrite (values schema.directive_definitions) value ⊎
+    (TypesWrite (values schema.types) value ⊎ FieldsWrite (meta_fields_of schema.meta_fields) value))
 
 -- "There must be one and only one input field under each name": in each object value in the schema
 abbrev pub SchemaInputFieldsAreUnique : Schema → Type 0

@@ -23,7 +23,7 @@ use indexmap::IndexMap;
 ///
 /// The schema definition comes first, then the directive definitions, and then the types, in order. In each come the directives
 /// applied to it, those of extensions last, before its parts: arguments, fields, enum values, input fields, and the default
-/// value. Old reports stay. The only error is a failed allocation.
+/// value. Meta-fields have neither directives nor default values. Old reports stay. The only error is a failed allocation.
 ///
 /// Specification: 5.6.3 Input Object Field Uniqueness.
 pub fn check_schema_input_fields(
