@@ -32,7 +32,7 @@ fn builds(alloc: Global, trees: &[Document]) -> bool
 }
 
 /// The schema that the text says, behind the definitions that every schema has.
-fn built(rt: &impl Abort, alloc: Global, text: &str) -> Schema {
+pub(crate) fn built(rt: &impl Abort, alloc: Global, text: &str) -> Schema {
     let trees = [
         tree(rt, alloc, 0, BUILT_IN_DEFINITIONS),
         tree(rt, alloc, 1, text),

@@ -6,6 +6,8 @@ mod built_schemas;
 #[cfg(test)]
 mod documents;
 #[cfg(test)]
+mod schema_input_fields;
+#[cfg(test)]
 mod schemas;
 #[cfg(test)]
 mod texts;

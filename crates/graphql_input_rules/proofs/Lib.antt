@@ -1,4 +1,5 @@
 pub mod DocumentLemmas
+pub mod MetaFieldLemmas
 pub mod PlaceLemmas
 pub mod SelectionLemmas
 pub mod ValueLemmas

@@ -1,14 +1,15 @@
 -- How checks of object values compose over the places where values are written.
-use Rattle.std.proofs.Common.{◌≡◌, ◌↔◌, ℕ, ◌+◌, ◌<◌, ◌≤◌, List, [], ◌∷◌, ◌++◌, length, get_or, take, refl, sym, subst, All, Contains, Vec}
+use Rattle.std.proofs.Common.{◌≡◌, ◌↔◌, ℕ, ◌+◌, ◌<◌, ◌≤◌, List, [], ◌∷◌, ◌++◌, length, get_or, take, refl, sym, ap, ◌∙◌, subst, All, Contains, Vec}
 use Rattle.std.specs.Prelude.{Any, Result, IsErr, ◌⊎◌}
 use Rattle.std.specs.declared.alloc.Global.{Global}
+use Rattle.std.proofs.lemmas.List.{append-nil}
 use Rattle.std.proofs.lemmas.List.Elements.{All-contains, All-nil}
 use mathlib.Core.Logic.{inl, inr}
 use Rattle.graphql_nodes.specs.Names.{NameText}
 use Rattle.graphql_nodes.specs.declared.nodes.Node.{Node}
 use Rattle.graphql_documents.specs.declared.documents.values.Value.{Value}
 use Rattle.graphql_documents.specs.declared.documents.values.Value.TheVariants as literal
-use Rattle.graphql_documents.proofs.ListLemmas.{each_standing}
+use Rattle.graphql_documents.proofs.ListLemmas.{done_next, each_standing, stands_next}
 use Rattle.graphql_diagnostics.specs.Reports.{KeepsReports, Reports}
 use Rattle.graphql_diagnostics.proofs.ReportLemmas.{ChecksList, both, checks-err, checks_after, checks_words, done_more, holds, in_words, kept_by, kept_then, kept_wider, walked_all, walked_more, walked_none, wider}
 use Rattle.graphql_variables.proofs.FirstPlaceLemmas.{next_at, next_stands}
@@ -112,13 +113,41 @@ module _ {X : Type 0} (In : X → Value → Type 0) (xs : List X) where
   place_refused r done x old mid new e stands a k =
       checks-err r _ _ old new e (kept_then (kept_by a) (kept_wider (moved (among x stands)) k))
 
-  pub nothing_done : (old : List InputFieldRepetition) → WalkedTo [] old old
+  nothing_done : (old : List InputFieldRepetition) → WalkedTo [] old old
   nothing_done old = holds (FieldReport Among) (All (λ x. FieldsAreUnique (In x)) []) old (All-nil (λ x. FieldsAreUnique (In x)))
 
-  pub place_done : (done : List X) (x : X) (old mid new : List InputFieldRepetition) → Contains xs x →
+  place_done : (done : List X) (x : X) (old mid new : List InputFieldRepetition) → Contains xs x →
       WalkedTo done old mid → Reports (FieldsAreUnique (In x)) (FieldReport (In x)) mid new → WalkedTo (done ++ x ∷ []) old new
   place_done done x old mid new stands a b =
       done_more (λ x. FieldsAreUnique (In x)) (FieldReport Among) done x old mid new a (wider (moved (among x stands)) b)
 
-  pub all_done : (done : List X) (old new : List InputFieldRepetition) → xs ≡ done → WalkedTo done old new → Reports (FieldsAreUnique Among) (FieldReport Among) old new
+  all_done : (done : List X) (old new : List InputFieldRepetition) → xs ≡ done → WalkedTo done old new → Reports (FieldsAreUnique Among) (FieldReport Among) old new
   all_done done old new same a = in_words all_unique (subst (λ l. WalkedTo l old new) (sym same) a)
+
+  -- a walk with the places that are left before it
+  pub record Walking (left : List X) (old new : List InputFieldRepetition) : Type 0 where
+    pub done : List X
+    pub split : xs ≡ done ++ left
+    pub reported : WalkedTo done old new
+
+  pub walk_begins : (left : List X) (old : List InputFieldRepetition) → xs ≡ left → Walking left old old
+  walk_begins left old is = record { done = []; split = is; reported = nothing_done old }
+
+  -- at the first of those that are left
+  module _ (left rest : List X) (x : X) (old mid new : List InputFieldRepetition) (next : left ≡ x ∷ rest) (walk : Walking left old mid) where
+    stands : Contains xs x
+    stands = stands_next xs walk.done left rest x walk.split next
+
+    pub walk_goes_on : Reports (FieldsAreUnique (In x)) (FieldReport (In x)) mid new → Walking rest old new
+    walk_goes_on b = record {
+      done = walk.done ++ x ∷ [];
+      split = done_next xs walk.done left rest x walk.split next;
+      reported = place_done walk.done x old mid new stands walk.reported b;
+    }
+
+    pub walk_refused : {T E : Type 0} (r : Result T E) → IsErr r → KeepsReports (FieldReport (In x)) mid new → Checked r Among old new
+    walk_refused r e k = place_refused r walk.done x old mid new e stands walk.reported k
+
+  pub walk_ends : (left : List X) (old new : List InputFieldRepetition) → left ≡ [] → Walking left old new → Reports (FieldsAreUnique Among) (FieldReport Among) old new
+  walk_ends left old new none walk =
+      all_done walk.done old new (walk.split ∙ ap (λ l. walk.done ++ l) none ∙ append-nil walk.done) walk.reported

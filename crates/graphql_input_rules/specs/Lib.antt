@@ -1,3 +1,4 @@
 pub mod InputFields
+pub mod SchemaValues
 pub mod Selections
 pub mod ValuesWritten

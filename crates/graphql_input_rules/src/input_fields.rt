@@ -4,13 +4,13 @@ ghost use Rattle.std.specs.Prelude.{Any, option_to_list};
 ghost use Rattle.indexmap.specs.IndexMap.{values};
 ghost use Rattle.graphql_input_rules.specs.Selections.{FieldWrites, InlineFragmentWrites, OperationsWrite, SelectionWrites};
 ghost use Rattle.graphql_input_rules.specs.InputFields.{Checks, FieldReport, FieldsAreUnique, InputFieldReport, InputFieldsAreUnique};
-ghost use Rattle.graphql_input_rules.specs.ValuesWritten.{DefaultWrites, FragmentWrites, OperationWrites, SetWrites, VariableWrites};
+ghost use Rattle.graphql_input_rules.specs.ValuesWritten.{FragmentWrites, OperationWrites, SetWrites, VariableWrites};
 
 use crate::reports::InputFieldRepetition;
-use crate::values::{check_arguments, check_directives, check_value};
+use crate::values::{check_arguments, check_default_value, check_directives};
 use graphql_documents::documents::{
     ExecutableDocument, Field, Fragment, InlineFragment, Operation, OperationMap, Selection,
-    SelectionSet, Value, VariableDefinition,
+    SelectionSet, VariableDefinition,
 };
 use graphql_nodes::{Name, Node, ValidationError};
 use indexmap::IndexMap;
@@ -120,18 +120,6 @@ fn check_variable(
 {
     check_default_value(reports, &variable.default_value)?;
     check_directives(reports, &variable.directives)
-}
-
-fn check_default_value(
-    reports: &mut Vec<InputFieldRepetition>,
-    default_value: &Option<Node<Value>>,
-) -> Result<(), ValidationError>
-    ensures { Checks result (FieldsAreUnique (DefaultWrites default_value.now)) (FieldReport (DefaultWrites default_value.now)) reports.old reports.new }
-{
-    match default_value {
-        Some(value) => check_value(reports, &value.value),
-        None => Ok(()),
-    }
 }
 
 #[cycle(selection)]

@@ -1,11 +1,11 @@
-//! The input fields of object values: in a value, in arguments and in directives.
+//! The input fields of object values: in a value, in arguments, in directives and in default values.
 
 ghost use Rattle.std.specs.Prelude.{◌≡◌, ◌∷◌, ◌++◌, [], Any, List, None, OnOk, Some, find, map};
 ghost use Rattle.graphql_nodes.specs.Names.{AreDistinct, NameText, same_name};
 ghost use Rattle.graphql_variables.specs.FirstPlaces.{IsNext, Remembers};
 ghost use Rattle.graphql_repetitions.specs.Repetitions.{met_name};
 ghost use Rattle.graphql_input_rules.specs.InputFields.{Checks, FieldReport, FieldsAreUnique, RepetitionReport, entry_names};
-ghost use Rattle.graphql_input_rules.specs.ValuesWritten.{InArguments, InDirectives, ValueWritten};
+ghost use Rattle.graphql_input_rules.specs.ValuesWritten.{DefaultWrites, InArguments, InDirectives, ValueWritten};
 
 use crate::reports::InputFieldRepetition;
 use graphql_documents::documents::{Argument, Directive, Value};
@@ -15,7 +15,7 @@ use std::collections::HashMap;
 
 /// Reports the input fields that the object values in a value repeat.
 #[cycle(value)]
-pub(crate) fn check_value(
+fn check_value(
     reports: &mut Vec<InputFieldRepetition>,
     value: &Value,
 ) -> Result<(), ValidationError>
@@ -131,4 +131,17 @@ pub(crate) fn check_directives(
         check_arguments(reports, &directive.value.arguments)?;
     }
     Ok(())
+}
+
+/// The same in a default value, where there is one.
+pub(crate) fn check_default_value(
+    reports: &mut Vec<InputFieldRepetition>,
+    default_value: &Option<Node<Value>>,
+) -> Result<(), ValidationError>
+    ensures { Checks result (FieldsAreUnique (DefaultWrites default_value.now)) (FieldReport (DefaultWrites default_value.now)) reports.old reports.new }
+{
+    match default_value {
+        Some(value) => check_value(reports, &value.value),
+        None => Ok(()),
+    }
 }

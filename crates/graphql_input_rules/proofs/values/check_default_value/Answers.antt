@@ -3,7 +3,7 @@ use Rattle.graphql_diagnostics.proofs.ReportLemmas.{holds}
 use Rattle.graphql_input_rules.specs.ValuesWritten.{ValueWritten}
 use Rattle.graphql_input_rules.proofs.DocumentLemmas.{default_checked, no_default}
 use Rattle.graphql_input_rules.proofs.PlaceLemmas.{Checked}
-use Rattle.graphql_input_rules.proofs.input_fields.check_default_value.Goals as goal
+use Rattle.graphql_input_rules.proofs.values.check_default_value.Goals as goal
 
 pub returns-in-Some : goal.returns-in-Some
 returns-in-Some c =

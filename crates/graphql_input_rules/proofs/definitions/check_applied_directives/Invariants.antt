@@ -1,0 +1,11 @@
+use Rattle.std.proofs.Common.{take}
+use Rattle.graphql_documents.specs.declared.documents.components.Component.{Component}
+use Rattle.graphql_documents.specs.declared.documents.directives.Directive.{Directive}
+use Rattle.graphql_input_rules.specs.ValuesWritten.{InArguments}
+use Rattle.graphql_input_rules.proofs.PlaceLemmas.{WalkedTo}
+use Rattle.graphql_input_rules.proofs.definitions.check_applied_directives.Given as goal
+
+abbrev pub invariant-loop-directive : goal.invariant-loop-directive
+invariant-loop-directive l =
+    WalkedTo (λ (d : Component Directive). InArguments d.node.value.value.arguments.items) l.directives (take l.directive-index l.directives)
+    l.initial.reports.items l.reports.items

@@ -1,0 +1,120 @@
+//! The input fields of the object values in a schema.
+
+ghost use Rattle.std.specs.Prelude.{◌⊎◌};
+ghost use Rattle.indexmap.specs.IndexMap.{values};
+ghost use Rattle.graphql_input_rules.specs.InputFields.{Checks, FieldReport, FieldsAreUnique};
+ghost use Rattle.graphql_input_rules.specs.SchemaValues.{DirectiveDefinitionsWrite, EnumValuesWrite, FieldsWrite, InAppliedDirectives, InputFieldsWrite, SchemaInputFieldReport, SchemaInputFieldsAreUnique, TypeWrites, TypesWrite};
+
+use crate::definitions::{
+    check_applied_directives, check_argument_definitions, check_enum_values,
+    check_field_definitions, check_input_field_definitions,
+};
+use crate::reports::InputFieldRepetition;
+use graphql_documents::documents::{
+    Component, Directive, DirectiveDefinition, EnumType, ExtendedType, FieldDefinition,
+    InputObjectType, Schema,
+};
+use graphql_nodes::{Name, Node, ValidationError};
+use indexmap::IndexMap;
+
+/// Reports each input field that an object value in the schema gives again: in the default values of arguments and input fields
+/// and in the arguments of applied directives, at any depth. Nothing is reported exactly where every such value gives each of
+/// its fields once.
+///
+/// The schema definition comes first, then the directive definitions, and then the types, in order. In each come the directives
+/// applied to it, those of extensions last, before its parts: arguments, fields, enum values, input fields, and the default
+/// value. Meta-fields have neither directives nor default values. Old reports stay. The only error is a failed allocation.
+///
+/// Specification: 5.6.3 Input Object Field Uniqueness.
+pub fn check_schema_input_fields(
+    reports: &mut Vec<InputFieldRepetition>,
+    schema: &Schema,
+) -> Result<(), ValidationError>
+    ensures { Checks result (SchemaInputFieldsAreUnique schema.now) (SchemaInputFieldReport schema.now) reports.old reports.new }
+{
+    check_applied_directives(reports, &schema.schema_definition.value.directives)?;
+    check_directive_definitions(reports, &schema.directive_definitions)?;
+    check_types(reports, &schema.types)
+}
+
+fn check_directive_definitions(
+    reports: &mut Vec<InputFieldRepetition>,
+    definitions: &IndexMap<Name, Node<DirectiveDefinition>>,
+) -> Result<(), ValidationError>
+    ensures { Checks result (FieldsAreUnique (DirectiveDefinitionsWrite (values definitions.now))) (FieldReport (DirectiveDefinitionsWrite (values definitions.now))) reports.old reports.new }
+{
+    for definition in definitions.values() {
+        check_argument_definitions(reports, &definition.value.arguments)?;
+    }
+    Ok(())
+}
+
+fn check_types(
+    reports: &mut Vec<InputFieldRepetition>,
+    types: &IndexMap<Name, ExtendedType>,
+) -> Result<(), ValidationError>
+    ensures { Checks result (FieldsAreUnique (TypesWrite (values types.now))) (FieldReport (TypesWrite (values types.now))) reports.old reports.new }
+{
+    for definition in types.values() {
+        check_type(reports, definition)?;
+    }
+    Ok(())
+}
+
+fn check_type(
+    reports: &mut Vec<InputFieldRepetition>,
+    definition: &ExtendedType,
+) -> Result<(), ValidationError>
+    ensures { Checks result (FieldsAreUnique (TypeWrites definition.now)) (FieldReport (TypeWrites definition.now)) reports.old reports.new }
+{
+    match definition {
+        ExtendedType::Scalar(scalar) => check_applied_directives(reports, &scalar.value.directives),
+        ExtendedType::Object(object) => {
+            check_type_with_fields(reports, &object.value.directives, &object.value.fields)
+        }
+        ExtendedType::Interface(interface) => {
+            check_type_with_fields(
+                reports,
+                &interface.value.directives,
+                &interface.value.fields,
+            )
+        }
+        ExtendedType::Union(union) => check_applied_directives(reports, &union.value.directives),
+        ExtendedType::Enum(enum_type) => check_enum(reports, &enum_type.value),
+        ExtendedType::InputObject(input_object) => {
+            check_input_object(reports, &input_object.value)
+        }
+    }
+}
+
+/// The same in an object or interface.
+fn check_type_with_fields(
+    reports: &mut Vec<InputFieldRepetition>,
+    directives: &[Component<Directive>],
+    fields: &IndexMap<Name, Component<FieldDefinition>>,
+) -> Result<(), ValidationError>
+    ensures { Checks result (FieldsAreUnique (λ v. InAppliedDirectives directives.now v ⊎ FieldsWrite (values fields.now) v)) (FieldReport (λ v. InAppliedDirectives directives.now v ⊎ FieldsWrite (values fields.now) v)) reports.old reports.new }
+{
+    check_applied_directives(reports, directives)?;
+    check_field_definitions(reports, fields)
+}
+
+fn check_enum(
+    reports: &mut Vec<InputFieldRepetition>,
+    definition: &EnumType,
+) -> Result<(), ValidationError>
+    ensures { Checks result (FieldsAreUnique (λ v. InAppliedDirectives definition.now.directives.items v ⊎ EnumValuesWrite (values definition.now.values) v)) (FieldReport (λ v. InAppliedDirectives definition.now.directives.items v ⊎ EnumValuesWrite (values definition.now.values) v)) reports.old reports.new }
+{
+    check_applied_directives(reports, &definition.directives)?;
+    check_enum_values(reports, &definition.values)
+}
+
+fn check_input_object(
+    reports: &mut Vec<InputFieldRepetition>,
+    definition: &InputObjectType,
+) -> Result<(), ValidationError>
+    ensures { Checks result (FieldsAreUnique (λ v. InAppliedDirectives definition.now.directives.items v ⊎ InputFieldsWrite (values definition.now.fields) v)) (FieldReport (λ v. InAppliedDirectives definition.now.directives.items v ⊎ InputFieldsWrite (values definition.now.fields) v)) reports.old reports.new }
+{
+    check_applied_directives(reports, &definition.directives)?;
+    check_input_field_definitions(reports, &definition.fields)
+}
