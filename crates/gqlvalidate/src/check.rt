@@ -6,8 +6,7 @@ ghost use Rattle.graphql_frontend.specs.Schemas.{IsUsable};
 
 use crate::accounts::{Account, Whole};
 use crate::faults::Fault;
-use crate::named_texts::{NamedText, Subject};
-use crate::schema_files::{named_schema, named_text, schema_subject, schema_texts, sources_of};
+use crate::schema_files::{named_schema, named_text, schema_texts};
 use crate::schemas::reject;
 use crate::sources::text_or_said;
 use crate::statuses::Status;
@@ -15,6 +14,8 @@ use gqlvalidate_words::Reporting;
 use graphql_documents::documents::Schema;
 use graphql_frontend::{Reports, SchemaReading, read_schema, validate_document};
 use graphql_parser::Bounds;
+use graphql_report_formats::named_texts::{NamedText, Subject};
+use graphql_report_formats::schema_texts::{schema_subject, sources_of};
 use std::alloc::Global;
 use std::io::{Read, Write};
 use std::rt::Files;

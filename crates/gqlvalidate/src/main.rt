@@ -7,8 +7,6 @@ pub mod command;
 mod excerpts;
 mod faults;
 mod github_format;
-mod json_format;
-mod named_texts;
 mod schema_files;
 mod schemas;
 mod sources;

@@ -1,8 +1,8 @@
 //! Reports for people: `path:line:column: error: message`, and the line that a report is about.
 
 use crate::excerpts::{Line, shown_beginning, shown_end};
-use crate::named_texts::{Located, Subject, locate};
 use graphql_frontend::ShownReport;
+use graphql_report_formats::named_texts::{CountedSubject, Located, shown_name};
 use std::alloc::{AllocError, Global};
 use unicode_width::UnicodeWidthStr;
 
@@ -10,22 +10,22 @@ use unicode_width::UnicodeWidthStr;
 pub fn push_report(
     out: &mut String,
     report: &ShownReport,
-    subject: Subject<'_>,
+    subject: &CountedSubject<'_>,
     alloc: Global,
 ) -> Result<(), AllocError> {
     let message = report.message.as_str();
-    match locate(report.location, subject.texts) {
+    match subject.locate(report.location) {
         Some(located) => {
             push_place(out, located)?;
             writeln!(out, " error: {message}")?;
             push_line(out, located, alloc)?;
         }
         None => {
-            let path = subject.path;
+            let path = shown_name(subject.path);
             writeln!(out, "{path}: error: {message}")?;
         }
     }
-    match locate(report.original, subject.texts) {
+    match subject.locate(report.original) {
         Some(original) => push_note(out, original),
         None => Ok(()),
     }
@@ -37,7 +37,7 @@ fn push_note(out: &mut String, original: Located<'_>) -> Result<(), AllocError> 
 }
 
 fn push_place(out: &mut String, located: Located<'_>) -> Result<(), AllocError> {
-    let path = located.path;
+    let path = shown_name(located.path);
     let line = located.start.line;
     let column = located.start.column;
     write!(out, "{path}:{line}:{column}:")
