@@ -1,12 +1,13 @@
 //! What a run reports, and how many.
 
 use crate::faults::{Fault, fault_of_output};
-use crate::named_texts::Subject;
 use crate::presentations::{Palette, Presentation};
-use crate::{github_format, json_format, text_format};
+use crate::{github_format, text_format};
 use gqlvalidate_words::Format;
 use graphql_frontend::{Reports, ShownReport, shown_reports};
 use graphql_parser::Bounds;
+use graphql_report_formats::json_format;
+use graphql_report_formats::named_texts::{CountedSubject, Subject};
 use json::Writer;
 use std::alloc::{AllocError, Global};
 use std::fmt;
@@ -68,11 +69,12 @@ impl Account {
         let Presentation { reporting, palette } = self.presentation;
         let most = reporting.max_reports.saturating_sub(self.tally.shown);
         let shown = shown_reports(alloc, reports, subject.sources, Bounds::DEFAULT, most)?;
+        let counted = CountedSubject::new(alloc, subject)?;
         self.tally.add(reports.len(), shown.len());
         match reporting.format {
-            Format::Text => print(text_of(alloc, &shown, subject, palette)?, output),
-            Format::Github => print(annotations_of(alloc, &shown, subject)?, output),
-            Format::Json => add_all(&mut self.json, &shown, subject),
+            Format::Text => print(text_of(alloc, &shown, &counted, palette)?, output),
+            Format::Github => print(annotations_of(alloc, &shown, &counted)?, output),
+            Format::Json => Ok(json_format::add_reports(&mut self.json, &shown, &counted)?),
         }
     }
 
@@ -103,7 +105,7 @@ impl Account {
 fn text_of(
     alloc: Global,
     shown: &[ShownReport],
-    subject: Subject<'_>,
+    subject: &CountedSubject<'_>,
     palette: Palette,
 ) -> Result<String, AllocError> {
     let mut text = String::new(alloc);
@@ -116,20 +118,13 @@ fn text_of(
 fn annotations_of(
     alloc: Global,
     shown: &[ShownReport],
-    subject: Subject<'_>,
+    subject: &CountedSubject<'_>,
 ) -> Result<String, AllocError> {
     let mut text = String::new(alloc);
     for report in shown {
         github_format::push_report(&mut text, report, subject)?;
     }
     Ok(text)
-}
-
-fn add_all(json: &mut Writer, shown: &[ShownReport], subject: Subject<'_>) -> Result<(), Fault> {
-    for report in shown {
-        json_format::add_report(json, report, subject)?;
-    }
-    Ok(())
 }
 
 fn print<O: Write>(text: String, output: &mut O) -> Result<(), Fault> {

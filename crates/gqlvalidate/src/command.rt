@@ -2,6 +2,7 @@ use crate::check::{Paths, check};
 use crate::faults::{Fault, fault_of_output, fault_of_words};
 use crate::presentations::Presentation;
 use crate::schemas::check_schema;
+use crate::serve::serve;
 use crate::statuses::Status;
 use crate::syntax::check_syntax;
 use gqlvalidate_words::{Refusal, Request, parse};
@@ -76,6 +77,7 @@ fn answer<R: Files + AllocGlobal, I: Read, O: Write, F: Write>(
             let presentation = Presentation::new(*reporting, colored_by_default);
             check_schema(rt, schema, presentation, input, output, faults)
         }
+        Request::Serve { schema } => serve(rt, schema, input, output, faults),
         Request::Syntax { files } => check_syntax(rt, files, input, output, faults),
     }
 }

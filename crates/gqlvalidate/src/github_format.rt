@@ -1,7 +1,7 @@
 //! Reports as workflow commands of GitHub Actions, a line a report, which become annotations.
 
-use crate::named_texts::{Subject, locate};
 use graphql_frontend::ShownReport;
+use graphql_report_formats::named_texts::{CountedSubject, shown_name};
 use std::alloc::AllocError;
 use std::fmt;
 
@@ -9,25 +9,24 @@ use std::fmt;
 pub fn push_report(
     out: &mut String,
     report: &ShownReport,
-    subject: Subject<'_>,
+    subject: &CountedSubject<'_>,
 ) -> Result<(), AllocError> {
     let title = Property(report.rule);
     let message = Message(report.message.as_str());
-    match locate(report.location, subject.texts) {
+    match subject.locate(report.location) {
         Some(located) => {
-            let path = Property(located.path);
+            let path = Property(shown_name(located.path));
             let line = located.start.line;
             let column = located.start.column;
-            let end = located.end();
-            let end_line = end.line;
-            let end_column = end.column;
+            let end_line = located.end.line;
+            let end_column = located.end.column;
             writeln!(
                 out,
                 "::error file={path},line={line},endLine={end_line},col={column},endColumn={end_column},title={title}::{message}"
             )
         }
         None => {
-            let path = Property(subject.path);
+            let path = Property(shown_name(subject.path));
             writeln!(out, "::error file={path},title={title}::{message}")
         }
     }

@@ -7,12 +7,13 @@ ghost use Rattle.graphql_frontend.specs.Schemas.{IsUsable};
 use crate::accounts::Account;
 use crate::check::Paths;
 use crate::faults::Fault;
-use crate::named_texts::{NamedText, Subject};
-use crate::schema_files::{named_text, sources_of, texts_of};
+use crate::schema_files::{named_text, texts_of};
 use crate::statuses::Status;
 use graphql_documents::documents::Schema;
 use graphql_frontend::{Reports, SourceText, validate_documents};
 use graphql_parser::Bounds;
+use graphql_report_formats::named_texts::{NamedText, Subject};
+use graphql_report_formats::schema_texts::sources_of;
 use std::alloc::{AllocError, Global};
 use std::io::{Read, Write};
 use std::rt::Files;
@@ -72,10 +73,7 @@ fn named_documents<'a>(
 
 /// A report without a place is about the first file.
 fn subject_of<'a>(texts: &'a [NamedText<'a>], sources: &'a [SourceText<'a>]) -> Subject<'a> {
-    let path = match texts.first() {
-        Some(named) => named.path,
-        None => "",
-    };
+    let path = texts.first().and_then(|named| named.path);
     Subject {
         path,
         texts,

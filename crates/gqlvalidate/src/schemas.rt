@@ -2,12 +2,13 @@
 
 use crate::accounts::{Account, Whole};
 use crate::faults::Fault;
-use crate::named_texts::{NamedText, Subject};
 use crate::presentations::Presentation;
-use crate::schema_files::{named_schema, schema_subject, sources_of, texts_of};
+use crate::schema_files::{named_schema, texts_of};
 use crate::statuses::Status;
 use graphql_frontend::{Reports, SchemaReading, read_schema};
 use graphql_parser::Bounds;
+use graphql_report_formats::named_texts::{NamedText, Subject};
+use graphql_report_formats::schema_texts::{schema_subject, sources_of};
 use std::alloc::Global;
 use std::io::{Read, Write};
 use std::rt::Files;

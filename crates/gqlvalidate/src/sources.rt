@@ -43,6 +43,12 @@ impl SourceError {
     }
 }
 
+/// Says on standard error that standard input could not be read.
+pub fn explain_input<F: Write>(error: &io::Error, faults: &mut F) {
+    let path = shown_path(STANDARD_INPUT);
+    let _ = writeln!(faults, "{path}: error: {error}");
+}
+
 /// The text of a file, if it has one. If not, it is said on standard error why.
 pub fn text_or_said<R: Files + AllocGlobal, I: Read, F: Write>(
     rt: &R,

@@ -1,9 +1,9 @@
 //! Reports for people: `path:line:column: error: message`, and the line that a report is about.
 
 use crate::excerpts::{Line, shown_beginning, shown_end};
-use crate::named_texts::{Located, Subject, locate};
 use crate::presentations::Palette;
 use graphql_frontend::ShownReport;
+use graphql_report_formats::named_texts::{CountedSubject, Located, shown_name};
 use std::alloc::{AllocError, Global};
 use unicode_width::UnicodeWidthStr;
 
@@ -11,12 +11,12 @@ use unicode_width::UnicodeWidthStr;
 pub fn push_report(
     out: &mut String,
     report: &ShownReport,
-    subject: Subject<'_>,
+    subject: &CountedSubject<'_>,
     palette: Palette,
     alloc: Global,
 ) -> Result<(), AllocError> {
     let message = report.message.as_str();
-    match locate(report.location, subject.texts) {
+    match subject.locate(report.location) {
         Some(located) => {
             push_place(out, located, palette)?;
             push_error(out, message, palette)?;
@@ -24,12 +24,12 @@ pub fn push_report(
         }
         None => {
             let Palette { strong, end, .. } = palette;
-            let path = subject.path;
+            let path = shown_name(subject.path);
             write!(out, "{strong}{path}:{end}")?;
             push_error(out, message, palette)?;
         }
     }
-    match locate(report.original, subject.texts) {
+    match subject.locate(report.original) {
         Some(original) => push_note(out, original, palette),
         None => Ok(()),
     }
@@ -54,7 +54,7 @@ fn push_note(out: &mut String, original: Located<'_>, palette: Palette) -> Resul
 
 fn push_place(out: &mut String, located: Located<'_>, palette: Palette) -> Result<(), AllocError> {
     let Palette { strong, end, .. } = palette;
-    let path = located.path;
+    let path = shown_name(located.path);
     let line = located.start.line;
     let column = located.start.column;
     write!(out, "{strong}{path}:{line}:{column}:{end}")

@@ -1,1 +1,2 @@
+pub mod LineIndexes
 pub mod Places

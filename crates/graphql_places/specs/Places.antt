@@ -1,8 +1,9 @@
 -- Lines and columns of a text. Specification: 2.1.3 Line Terminators, and 7.1.2 Errors, where lines and
 -- columns are numbers from 1.
-use Rattle.std.specs.Prelude.{ℕ, zero, suc, ◌+◌, ◌≤◌, Bool, not, ◌&&◌, ◌||◌, ◌==◌, List, length, slice_index, drop, if◌then◌else◌}
+use Rattle.std.specs.Prelude.{◌≡◌, ℕ, zero, suc, ◌+◌, ◌≤◌, Bool, not, ◌&&◌, ◌||◌, ◌==◌, List, length, slice_index, drop, if◌then◌else◌}
 use Rattle.std.specs.Int.{is_in_range}
 use Rattle.graphql_tokens.specs.Ignored.{IsLineTerminator}
+use Rattle.graphql_places.specs.declared.Place.{Place}
 
 -- with byte k a line ends: it is a line feed, or a carriage return with no line feed behind it
 abbrev pub ends_line : List ℕ → ℕ → Bool
@@ -23,6 +24,11 @@ column text zero = 1
 column text (suc k) =
     if ends_line text k then 1
     else (if begins_character text k then column text k + 1 else column text k)
+
+-- the place of a byte
+pub record IsPlaceOf (text : List ℕ) (at : ℕ) (place : Place) : Type 0 where
+  pub line_is : place.line ≡ line text at
+  pub column_is : place.column ≡ column text at
 
 -- a line terminator of the text ends with byte k
 abbrev pub TerminatorEnds : List ℕ → ℕ → Type 0

@@ -1,8 +1,12 @@
 //! Lines and columns of the bytes of a text.
 #![tactic(auto)]
 
+mod line_indexes;
+
 ghost use Rattle.std.specs.Prelude.{◌≡◌, ◌↔◌, ◌<◌, ◌≤◌, ◌==◌, ℕ, List, length, slice_index, IsTrue};
-ghost use Rattle.graphql_places.specs.Places.{begins_character, column, ends_line, line, TerminatorEnds};
+ghost use Rattle.graphql_places.specs.Places.{begins_character, column, ends_line, IsPlaceOf, line, TerminatorEnds};
+
+pub use line_indexes::LineIndex;
 
 /// A place in a text, in lines and characters, both from 1.
 ///
@@ -14,8 +18,12 @@ pub struct Place {
 }
 
 impl Place {
+    /// The first place of a text.
+    const FIRST: Place = Place { line: 1, column: 1 };
+
     /// The line and the column of a byte of the text, or of its end. Lines end at the line terminators of
     /// the specification: line feed, carriage return, or both in the order carriage return, line feed.
+    /// All that is before the byte is read: for many places of one text there is `LineIndex`.
     ///
     /// Specification: 2.1.3 Line Terminators.
     pub fn of_byte(text: &str, at: usize) -> Place
@@ -23,10 +31,21 @@ impl Place {
         ensures line { result.line ≡ line text.now at }
         ensures column { result.column ≡ column text.now at }
     {
-        let bytes = text.as_bytes();
-        let mut line = 1;
-        let mut column = 1;
-        for k in 0..at {
+        Place::FIRST.further(text.as_bytes(), 0, at)
+    }
+
+    /// The place of byte `end`, counted on from this one, which is that of byte `start`.
+    #[tactic(auto, using(crate::proofs::LineLemmas::line_within, crate::proofs::LineLemmas::column_within))]
+    fn further(self, bytes: &[u8], start: usize, end: usize) -> Place
+        requires ordered { start ≤ end }
+        requires within { end ≤ length bytes.now }
+        requires from { IsPlaceOf bytes.now start self }
+        ensures line { result.line ≡ line bytes.now end }
+        ensures column { result.column ≡ column bytes.now end }
+    {
+        let mut line = self.line;
+        let mut column = self.column;
+        for k in start..end {
             if ends_line(bytes, k) {
                 line += 1;
                 column = 1;

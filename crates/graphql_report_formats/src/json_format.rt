@@ -2,7 +2,7 @@
 //!
 //! Specification: 7.1.2 Errors.
 
-use crate::named_texts::{Located, NamedText, Subject, locate};
+use crate::named_texts::{CountedSubject, Located};
 use graphql_frontend::ShownReport;
 use graphql_nodes::SourceSpan;
 use json::Writer;
@@ -11,6 +11,11 @@ use std::alloc::AllocError;
 /// Begins the object.
 pub fn begin(json: &mut Writer) -> Result<(), AllocError> {
     json.begin_object()?;
+    begin_errors(json)
+}
+
+/// Begins the errors, in an object that was begun.
+pub fn begin_errors(json: &mut Writer) -> Result<(), AllocError> {
     json.key("errors")?;
     json.begin_array()
 }
@@ -21,17 +26,28 @@ pub fn end(json: &mut Writer) -> Result<(), AllocError> {
     json.end_object()
 }
 
-/// Adds a report.
-pub fn add_report(
+/// Adds reports.
+pub fn add_reports(
+    json: &mut Writer,
+    reports: &[ShownReport],
+    subject: &CountedSubject<'_>,
+) -> Result<(), AllocError> {
+    for report in reports {
+        add_report(json, report, subject)?;
+    }
+    Ok(())
+}
+
+fn add_report(
     json: &mut Writer,
     report: &ShownReport,
-    subject: Subject<'_>,
+    subject: &CountedSubject<'_>,
 ) -> Result<(), AllocError> {
     json.begin_object()?;
     json.key("message")?;
     json.string(report.message.as_str())?;
-    let located = locate(report.location, subject.texts);
-    add_locations(json, located, report.original, subject.texts)?;
+    let located = subject.locate(report.location);
+    add_locations(json, located, subject.locate(report.original))?;
     add_extensions(json, report.rule, located, subject.path)?;
     json.end_object()
 }
@@ -40,8 +56,7 @@ pub fn add_report(
 fn add_locations(
     json: &mut Writer,
     located: Option<Located<'_>>,
-    original: Option<SourceSpan>,
-    texts: &[NamedText<'_>],
+    original: Option<Located<'_>>,
 ) -> Result<(), AllocError> {
     let Some(located) = located else {
         return Ok(());
@@ -49,7 +64,7 @@ fn add_locations(
     json.key("locations")?;
     json.begin_array()?;
     add_location(json, located)?;
-    if let Some(first) = locate(original, texts) {
+    if let Some(first) = original {
         add_location(json, first)?;
     }
     json.end_array()
@@ -66,14 +81,13 @@ fn add_extensions(
     json: &mut Writer,
     rule: &str,
     located: Option<Located<'_>>,
-    path: &str,
+    path: Option<&str>,
 ) -> Result<(), AllocError> {
     json.key("extensions")?;
     json.begin_object()?;
-    json.key("file")?;
     match located {
-        Some(located) => json.string(located.path)?,
-        None => json.string(path)?,
+        Some(located) => add_file(json, located.path)?,
+        None => add_file(json, path)?,
     }
     json.key("rule")?;
     json.string(rule)?;
@@ -81,6 +95,15 @@ fn add_extensions(
         add_span(json, located.span)?;
     }
     json.end_object()
+}
+
+/// Adds the path of the file, if there is one.
+fn add_file(json: &mut Writer, path: Option<&str>) -> Result<(), AllocError> {
+    let Some(path) = path else {
+        return Ok(());
+    };
+    json.key("file")?;
+    json.string(path)
 }
 
 fn add_span(json: &mut Writer, span: SourceSpan) -> Result<(), AllocError> {

@@ -1,0 +1,45 @@
+//! The texts of a schema.
+
+use crate::named_texts::{NamedText, Subject};
+use graphql_frontend::SourceText;
+use graphql_nodes::FileId;
+use graphql_schema_building::BUILT_IN_DEFINITIONS;
+use std::alloc::{AllocError, Global};
+
+/// The definitions that every schema has, as the first of its texts.
+pub const BUILT_IN_TEXT: NamedText<'static> = NamedText {
+    path: Some("<built-in>"),
+    source: SourceText {
+        file_id: FileId::BUILT_IN,
+        text: BUILT_IN_DEFINITIONS,
+    },
+};
+
+/// The texts without their paths.
+pub fn sources_of<'a>(
+    alloc: Global,
+    named: &[NamedText<'a>],
+) -> Result<Vec<SourceText<'a>>, AllocError> {
+    let mut sources = Vec::new(alloc);
+    for text in named {
+        sources.push(text.source)?;
+    }
+    Ok(sources)
+}
+
+/// What reports of a schema are about. One without a place is about its first file, which comes behind the
+/// definitions that every schema has.
+pub fn schema_subject<'a>(
+    texts: &'a [NamedText<'a>],
+    sources: &'a [SourceText<'a>],
+) -> Subject<'a> {
+    let path = match texts.get(1) {
+        Some(named) => named.path,
+        None => BUILT_IN_TEXT.path,
+    };
+    Subject {
+        path,
+        texts,
+        sources,
+    }
+}
