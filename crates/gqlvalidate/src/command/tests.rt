@@ -35,6 +35,12 @@ const FILES: &[(&str, &[u8])] = &[
         "wide",
         b"{ pet(id: 1, name: \"\xE7\x8C\xAB\xE3\x81\x82\") { name } }\n",
     ),
+    ("spreading", b"{ pet(id: 1) { ...Named } }\n"),
+    ("fragment", b"fragment Named on Pet { name }\n"),
+    (
+        "both",
+        b"{ pet(id: 1) { ...Named } }\nfragment Named on Pet { name }\n",
+    ),
     ("twice", b"type Query { a: Int }\ntype Query { b: Int }\n"),
     ("rootless", b"type Pet { name: String }\n"),
     ("binary", b"{ a\n \xC3\xA9\xFF }"),
@@ -100,6 +106,17 @@ const ACCEPTED: &[(&[&str], &str)] = &[
         "",
     ),
     (&["schema", "more", "schema"], ""),
+    (
+        &[
+            "check",
+            "--one-document",
+            "--schema",
+            "schema",
+            "spreading",
+            "fragment",
+        ],
+        "",
+    ),
     (
         &["check", "--format", "github", "--schema", "schema", "valid"],
         "",
@@ -175,6 +192,104 @@ fn reports_are_shown_in_their_lines(rt: HostRuntime) {
         let said = "1 report in 1 of 1 document\n";
         run_ends(&rt, texts.as_slice(), 1, printed, said);
     }
+}
+
+/// Of a document in several files each report is in its file.
+#[test]
+fn several_files_are_one_document(rt: HostRuntime) {
+    let texts = [
+        "check",
+        "--one-document",
+        "--schema",
+        "schema",
+        "both",
+        "fragment",
+    ];
+    let printed =
+        "fragment:1:10: error: the fragment `Named` is defined multiple times in the document
+  |
+1 | fragment Named on Pet { name }
+  |          ^^^^^
+both:2:10: note: first here
+";
+    run_ends(
+        &rt,
+        texts.as_slice(),
+        1,
+        printed,
+        "1 report in 1 of 1 document\n",
+    );
+}
+
+#[test]
+fn colours_are_escape_sequences(rt: HostRuntime) {
+    let texts = [
+        "check", "--color", "always", "--schema", "schema", "unclosed",
+    ];
+    let printed =
+        "\x1b[1munclosed:1:22:\x1b[0m \x1b[1;31merror:\x1b[0m \x1b[1mexpected `}`, found the end of the text\x1b[0m
+  \x1b[1;34m|\x1b[0m
+\x1b[1;34m1 |\x1b[0m { pet(id: 1) { name }
+  \x1b[1;34m|\x1b[0m                      \x1b[1;31m^\x1b[0m
+";
+    run_ends(
+        &rt,
+        texts.as_slice(),
+        1,
+        printed,
+        "1 report in 1 of 1 document\n",
+    );
+}
+
+/// Lines on standard input, and the lines that answer them.
+const QUESTIONS: &[(&str, &str)] = &[
+    (
+        "{\"id\":7,\"document\":\"{ pet(id: 1) { name } }\"}\n",
+        "{\"id\":7,\"errors\":[]}\n",
+    ),
+    (
+        "{\"document\":\"{ pet(id: 1, size: 2) { name } }\",\"id\":\"b\"}",
+        "{\"id\":\"b\",\"errors\":[{\"message\":\"the argument `size` is not supported by `Query.pet`\",\
+        \"locations\":[{\"line\":1,\"column\":14}],\
+        \"extensions\":{\"rule\":\"UndefinedArgument\",\"span\":{\"start\":13,\"end\":20}}}]}\n",
+    ),
+    (
+        "{\n[]\n{\"document\":\"{ pet(id: 1) { name } }\"}\n",
+        "{\"fault\":\"the line is not JSON in UTF-8\"}\n\
+        {\"fault\":\"the line is no object with a string as its `document`\"}\n\
+        {\"errors\":[]}\n",
+    ),
+    (
+        "{\"id\":-1,\"document\":\"{ a }\"}\n",
+        "{\"fault\":\"the `id` is neither a string nor an integer from 0 up to 2^64 - 1\"}\n",
+    ),
+    ("", ""),
+];
+
+#[test]
+fn questions_are_answered_in_turn(rt: HostRuntime) {
+    for (questions, printed) in QUESTIONS {
+        let wanted = Ended {
+            status: 0,
+            printed,
+            said: "",
+        };
+        ends(
+            &rt,
+            &["serve", "--schema", "schema"],
+            questions.as_bytes(),
+            wanted,
+        );
+    }
+}
+
+#[test]
+fn no_question_is_answered_by_a_schema_that_does_not_hold(rt: HostRuntime) {
+    let printed =
+        "{\"errors\":[{\"message\":\"the type `Query` is defined multiple times in the schema\",\
+        \"locations\":[{\"line\":2,\"column\":6},{\"line\":1,\"column\":6}],\
+        \"extensions\":{\"file\":\"twice\",\"rule\":\"TypeDefinitionCollision\",\"span\":{\"start\":27,\"end\":32}}}]}\n";
+    run_ends(&rt, &["serve", "--schema", "twice"], 1, printed, "");
 }
 
 const AS_JSON: &str = "{\"errors\":[\
@@ -373,10 +488,10 @@ fn bad_arguments_are_refused(rt: HostRuntime) {
     run_ends(&rt, &["syntax", "-", "-"], 2, "", said);
 }
 
-/// A run whose standard input fails in this way ends with this status.
-fn fails<R: AllocGlobal + Abort>(rt: &R, kind: ErrorKind, status: u8) {
+/// The words, whose standard input fails in this way, end with this status.
+fn fails<R: AllocGlobal + Abort>(rt: &R, texts: &[&str], kind: ErrorKind, status: u8) {
     let alloc = rt.alloc();
-    let words = Ok(words_of(rt, alloc, &["syntax", "-"]));
+    let words = Ok(words_of(rt, alloc, texts));
     let mut output = Vec::new(alloc);
     let mut faults = Vec::new(alloc);
     let mut input = Failing(kind);
@@ -393,10 +508,15 @@ fn fails<R: AllocGlobal + Abort>(rt: &R, kind: ErrorKind, status: u8) {
     assert!(rt; !faults.is_empty());
 }
 
+/// Words of runs that read standard input.
+const READING: &[&[&str]] = &[&["syntax", "-"], &["serve", "--schema", "schema"]];
+
 #[test]
-fn failed_reads_are_told_from_want_of_memory(rt: HostRuntime) {
-    fails(&rt, ErrorKind::OutOfMemory, 3);
-    fails(&rt, ErrorKind::PermissionDenied, 5);
+fn failed_reads_are_told_from_failed_allocations(rt: HostRuntime) {
+    for texts in READING {
+        fails(&rt, texts, ErrorKind::OutOfMemory, 3);
+        fails(&rt, texts, ErrorKind::PermissionDenied, 5);
+    }
 }
 
 /// Words of runs that print something.
