@@ -52,17 +52,17 @@ pub no_meta_field : (fields : MetaFields) (v : Value) → ¬ FieldsWrite (meta_f
 no_meta_field fields v any =
     let h = any_has In (meta_fields_of fields) any in
     All-contains (λ f. ¬ In f) (meta_fields_of fields) h.0 none h.1 h.2 where
-  In : Component FieldDefinition → Type 0
-  In f = FieldDefinitionWrites f.node.value.value v
+      In : Component FieldDefinition → Type 0
+      In f = FieldDefinitionWrites f.node.value.value v
 
-  no_default : All HasNoDefault ((codes "name", codes "String!", false) ∷ [])
-  no_default = All-cons HasNoDefault (codes "name", codes "String!", false) [] refl (All-nil HasNoDefault)
+      no_default : All HasNoDefault ((codes "name", codes "String!", false) ∷ [])
+      no_default = All-cons HasNoDefault (codes "name", codes "String!", false) [] refl (All-nil HasNoDefault)
 
-  none : All (λ f. ¬ In f) (meta_fields_of fields)
-  none =
-      All-cons (λ f. ¬ In f) fields.typename (fields.schema ∷ fields.type_by_name ∷ [])
-      (no_field fields.typename.node.value.value _ _ [] fields.is_typename (All-nil HasNoDefault) v)
-      (All-cons (λ f. ¬ In f) fields.schema (fields.type_by_name ∷ [])
-      (no_field fields.schema.node.value.value _ _ [] fields.is_schema (All-nil HasNoDefault) v)
-      (All-cons (λ f. ¬ In f) fields.type_by_name []
-      (no_field fields.type_by_name.node.value.value _ _ _ fields.is_type no_default v) (All-nil (λ f. ¬ In f))))
+      none : All (λ f. ¬ In f) (meta_fields_of fields)
+      none =
+          All-cons (λ f. ¬ In f) fields.typename (fields.schema ∷ fields.type_by_name ∷ [])
+          (no_field fields.typename.node.value.value _ _ [] fields.is_typename (All-nil HasNoDefault) v)
+          (All-cons (λ f. ¬ In f) fields.schema (fields.type_by_name ∷ [])
+          (no_field fields.schema.node.value.value _ _ [] fields.is_schema (All-nil HasNoDefault) v)
+          (All-cons (λ f. ¬ In f) fields.type_by_name []
+          (no_field fields.type_by_name.node.value.value _ _ _ fields.is_type no_default v) (All-nil (λ f. ¬ In f))))
