@@ -1,19 +1,21 @@
-use Rattle.std.proofs.Common.{◌∙◌, refl, sym, true≢false}
+use Rattle.std.proofs.Common.{◌≡◌, ◌∙◌, false, refl, rules, sym, true, true≢false}
 use Rattle.graphql_building_laws.specs.MetaFieldTypes.{HasTypesOfMetaFields}
 use Rattle.graphql_frontend.proofs.ReportLemmas.{silent, silent_within}
 use Rattle.graphql_frontend.proofs.schemas.validated.Goals as goal
 
 pub returns-then-not-is_empty : goal.returns-then-not-is_empty
-returns-then-not-is_empty c = (
-  λ nothing. true≢false (sym (c.is_empty.ensures.1 nothing) ∙ c.if-is_empty.false),
-  c.schema_reports.new.schema,
-  c.in_ok-reports.ensures.0,
-  c.in_ok-reports.ensures.1,
-)
+returns-then-not-is_empty c =
+    let filled : c.is_empty.result ≡ false = search rules in (
+      λ nothing. true≢false (sym (c.is_empty.ensures.1 nothing) ∙ filled),
+      c.schema_reports.new.schema,
+      c.in_ok-reports.ensures.0,
+      c.in_ok-reports.ensures.1,
+    )
 
 pub returns-then-has_types_of_meta_fields : goal.returns-then-has_types_of_meta_fields
 returns-then-has_types_of_meta_fields c =
-    let nothing = c.is_empty.ensures.0 c.if-is_empty.true in
+    let empty : c.is_empty.result ≡ true = search rules in
+    let nothing = c.is_empty.ensures.0 empty in
     let reports = c.in_ok-reports.ensures.1 in
     let both = silent_within _ _ _ _ _ reports.rules refl nothing.0 in
     let types : HasTypesOfMetaFields c.schema_reports.new.schema = c.has_types_of_meta_fields.ensures.0 c.if-has_types_of_meta_fields.true in
