@@ -1,6 +1,6 @@
 //! Documents that are one document together, as clients write fragments in files of their own.
 
-ghost use Rattle.std.specs.Prelude.{◌≡◌, None, Some, Ok, List};
+ghost use Rattle.std.specs.Prelude.{◌≡◌, Ok, Option};
 ghost use Rattle.graphql_frontend.specs.Documents.{ValidatesDocuments};
 ghost use Rattle.graphql_frontend.specs.Schemas.{IsUsable};
 

@@ -13,6 +13,10 @@ use std::process::Abort;
 
 const SCHEMA: &str = "type Query { a(i: I): Int b: B } type B { c: Int } input I { x: Int y: Int }";
 
+/// A schema with places where a variable that may be null is not allowed, and one where it is since the field has a default.
+const USAGES: &str =
+    "type Query { f(l: [Int!], n: Int, o: P): Int } input P { r: Int!, d: Int! = 1 }";
+
 /// Texts of a schema, and texts that are one document, with what is reported: the file, the byte and the rule, and the byte
 /// of the first of a repetition. The schema is file 9, the others are files 1 and 2.
 const TEXTS: &[(&str, &str, &str, &str)] = &[
@@ -51,6 +55,38 @@ const TEXTS: &[(&str, &str, &str, &str)] = &[
         "{ a }",
         "",
         "9:16 UndefinedDefinition\n",
+    ),
+    (
+        USAGES,
+        "query($v: Int) { f(l: [$v]) }",
+        "",
+        "1:23 DisallowedVariableUsage 6\n",
+    ),
+    (
+        USAGES,
+        "query($v: Int) { f(o: {r: $v}) }",
+        "",
+        "1:26 DisallowedVariableUsage 6\n",
+    ),
+    (USAGES, "query($v: Int) { f(o: {r: 1, d: $v}) }", "", ""),
+    (USAGES, "query($v: Int!) { f(l: [$v], o: {r: $v}) }", "", ""),
+    (
+        USAGES,
+        "query($v: Boolean) { f(n: $v) }",
+        "",
+        "1:23 DisallowedVariableUsage\n",
+    ),
+    (
+        USAGES,
+        "query($v: Boolean, $w: Int) { f(n: $v, l: [$w]) }",
+        "",
+        "1:32 DisallowedVariableUsage\n1:43 DisallowedVariableUsage 19\n",
+    ),
+    (
+        "type Query { a(i: I = {x: 1, x: 2}): Int } input I { x: Int }",
+        "{ a }",
+        "",
+        "9:29 UniqueInputField 23\n",
     ),
     ("type Query {", "{ a }", "", "9:12 Syntax\n"),
 ];
