@@ -1,0 +1,11 @@
+//! Validates a document against a schema, and prints the answer: check SCHEMA DOCUMENT
+
+use std::error::Error;
+
+fn main() -> Result<(), Box<dyn Error>> {
+    let mut paths = std::env::args().skip(1);
+    let schema = std::fs::read_to_string(paths.next().ok_or("a schema is needed")?)?;
+    let document = std::fs::read_to_string(paths.next().ok_or("a document is needed")?)?;
+    print!("{}", graphql_validation::validate_json(&schema, &document)?);
+    Ok(())
+}

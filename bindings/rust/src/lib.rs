@@ -1,0 +1,90 @@
+//! Validation of GraphQL schemas and documents.
+//!
+//! Each call wants 2 MiB of stack, which a thread of Rust has.
+
+mod calls;
+mod json;
+
+pub use calls::{validate_json, Error};
+use json::Value;
+
+/// What is wrong with a text.
+#[derive(Clone, Debug, PartialEq, Eq)]
+pub struct Report {
+    pub message: String,
+    /// The name of the broken rule; `Syntax` where the text is no document.
+    pub rule: String,
+    /// Where it is, if it has a place. A second one is the first of a repetition, or the other of two in conflict.
+    pub locations: Vec<Location>,
+    /// The bytes of the text that it is about, if it has a place.
+    pub span: Option<std::ops::Range<usize>>,
+    /// Whether it is about the schema. No document was then looked at.
+    pub in_schema: bool,
+}
+
+/// A line and a column, from 1. A column counts characters.
+#[derive(Clone, Copy, Debug, PartialEq, Eq)]
+pub struct Location {
+    pub line: usize,
+    pub column: usize,
+}
+
+/// What is reported of a document against a schema: nothing, where both are valid.
+pub fn validate(schema: &str, document: &str) -> Result<Vec<Report>, Error> {
+    let (answer, in_schema) = calls::document(schema, document)?;
+    read(&answer).and_then(|value| reports(&value, in_schema))
+}
+
+/// What is reported of a schema.
+pub fn validate_schema(schema: &str) -> Result<Vec<Report>, Error> {
+    let (answer, in_schema) = calls::schema(schema)?;
+    read(&answer).and_then(|value| reports(&value, in_schema))
+}
+
+/// What is reported of each of these documents against one schema, which is read once.
+pub fn validate_all(schema: &str, documents: &[&str]) -> Result<Vec<Vec<Report>>, Error> {
+    let (answer, in_schema) = calls::documents(schema, documents)?;
+    let value = read(&answer)?;
+    if in_schema {
+        return Err(Error::SchemaReported(reports(&value, true)?));
+    }
+    let each = value.items().ok_or(Error::UnknownAnswer)?;
+    each.iter().map(|it| reports(it, false)).collect()
+}
+
+fn read(answer: &str) -> Result<Value, Error> {
+    json::read(answer).ok_or(Error::UnknownAnswer)
+}
+
+fn reports(value: &Value, in_schema: bool) -> Result<Vec<Report>, Error> {
+    let errors = value.member("errors").and_then(Value::items);
+    let each = errors.ok_or(Error::UnknownAnswer)?.iter();
+    each.map(|it| report(it, in_schema).ok_or(Error::UnknownAnswer))
+        .collect()
+}
+
+fn report(error: &Value, in_schema: bool) -> Option<Report> {
+    let extensions = error.member("extensions")?;
+    let places = error.member("locations").and_then(Value::items);
+    Some(Report {
+        message: error.member("message")?.text()?.to_owned(),
+        rule: extensions.member("rule")?.text()?.to_owned(),
+        locations: places
+            .unwrap_or(&[])
+            .iter()
+            .map(location)
+            .collect::<Option<_>>()?,
+        span: match extensions.member("span") {
+            Some(span) => Some(span.member("start")?.number()?..span.member("end")?.number()?),
+            None => None,
+        },
+        in_schema,
+    })
+}
+
+fn location(value: &Value) -> Option<Location> {
+    Some(Location {
+        line: value.member("line")?.number()?,
+        column: value.member("column")?.number()?,
+    })
+}

@@ -1,0 +1,33 @@
+use Rattle.std.proofs.Common.{◌+◌, sym, subst}
+use Rattle.graphql_answers.specs.Answers.{Checks}
+use Rattle.graphql_answers.specs.Batches.{ChecksFirst, IsRefusalOfDocuments, is_no_text, lacks_memory}
+use Rattle.graphql_answers.proofs.AnswerLemmas.{handed_on, nothing-first, with, without}
+use Rattle.graphql_answers.proofs.batches.add_each.Goals.{then-branch, else-branch}
+use Rattle.graphql_answers.proofs.batches.add_each.Goals as goal
+
+pub loop-k-init : goal.loop-k-init
+loop-k-init c = nothing-first c.args.schema.now c.args.documents.bytes.now c.args.documents.ends.now
+
+pub returns-in_err-text-clause-refused : goal.returns-in_err-text-clause-refused
+returns-in_err-text-clause-refused c =
+    handed_on c.from_residual.result _ (IsRefusalOfDocuments c.args.documents.bytes.now c.args.documents.ends.now) c.from_residual.ensures.1
+    (is_no_text c.loop-k.k c.loop-k-test.true c.in_err-text.ensures)
+
+pub returns-in_err-add_one-clause-refused : goal.returns-in_err-add_one-clause-refused
+returns-in_err-add_one-clause-refused c =
+    let Q = IsRefusalOfDocuments c.args.documents.bytes.now c.args.documents.ends.now in
+    handed_on c.from_residual-in_err-add_one.result _ Q c.from_residual-in_err-add_one.ensures.1
+    (subst Q (sym c.in_err-add_one.ensures.refused) lacks_memory)
+
+pub loop-k-preserved : goal.loop-k-preserved
+loop-k-preserved c =
+    let schema = c.args.schema.now in
+    let bytes = c.args.documents.bytes.now in
+    let ends = c.args.documents.ends.now in
+    let found = subst (λ d. Checks schema d c.in_ok-add_one.field-0) c.in_ok-text.ensures c.in_ok-add_one.ensures.checks in
+    elim c.if-branch.branch [
+      | then-branch w ↦ subst (ChecksFirst schema bytes ends (c.loop-k.k + 1)) (sym w.is_reported-is)
+          (with schema bytes ends c.loop-k.k (subst (Checks schema _) w.if-branch.true found))
+      | else-branch w ↦ subst (ChecksFirst schema bytes ends (c.loop-k.k + 1)) (sym w.is_reported-is)
+          (without schema bytes ends c.loop-k.k c.loop-k.is_reported c.loop-k.invariant (subst (Checks schema _) w.if-branch.false found))
+    ]

@@ -1,0 +1,40 @@
+//! One document against a schema.
+
+ghost use Rattle.std.specs.Prelude.{[], ◌∷◌, IfErr, IfOk, IsOkUnless};
+ghost use Rattle.graphql_answers.specs.Answers.{Finds, IsRefusalOf};
+
+use crate::answers::{Answer, Refusal};
+use crate::objects::{lack_of_introspection, nothing, reports_of_document, reports_of_schema};
+use crate::texts::{document_text, schema_sources, schema_text, text_of};
+use graphql_frontend::Verdict;
+use graphql_parser::Bounds;
+use std::alloc::Global;
+
+/// Validates the document of these bytes against the schema of these bytes, to which the definitions are added that
+/// every schema has.
+///
+/// The answer's JSON is an object, `{"errors":[..]}`.
+pub fn validate(alloc: Global, schema: &[u8], document: &[u8]) -> Result<Answer, Refusal>
+    ensures found { IfOk result (λ answer. Finds schema.now document.now answer.found) }
+    ensures refused { IfErr result (IsRefusalOf (schema.now ∷ document.now ∷ [])) }
+{
+    let schema = text_of(schema)?;
+    let document = text_of(document)?;
+    answer(alloc, schema, document)
+}
+
+/// The answer on a document with this text, against a schema with this text.
+fn answer(alloc: Global, schema: &str, document: &str) -> Result<Answer, Refusal>
+    ensures found { IfOk result (λ answer. Finds schema.now document.now answer.found) }
+    ensures refused { IsOkUnless result Refusal.OutOfMemory }
+{
+    let schema = schema_text(schema);
+    let document = document_text(document);
+    let sources = schema_sources(schema.source);
+    match graphql_frontend::validate(alloc, sources.as_slice(), document.source, Bounds::DEFAULT)? {
+        Verdict::Valid => nothing(alloc),
+        Verdict::SchemaRejected(reports) => reports_of_schema(alloc, &reports, schema),
+        Verdict::LacksIntrospection => lack_of_introspection(alloc),
+        Verdict::DocumentRejected(reports) => reports_of_document(alloc, &reports, document),
+    }
+}

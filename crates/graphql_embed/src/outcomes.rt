@@ -1,0 +1,74 @@
+//! What a call answers in numbers, and its JSON in the caller's memory.
+
+ghost use Rattle.std.specs.Prelude.{◌≡◌, ◌≤◌, ◌++◌, Bool, drop, IfErr, IfOk, length, min, take};
+ghost use Rattle.graphql_embed.specs.Outcomes.{number_of_found, status_of_found, status_of_refusal};
+
+use graphql_answers::{Answer, Found, Refusal};
+
+/// How a call ended.
+#[repr(C)]
+#[derive(Clone, Copy)]
+pub struct Outcome {
+    /// 0: nothing is reported; 1: something is; 2: bad ends of documents; 3: out of memory; 5: bytes are no UTF-8.
+    pub status: u32,
+    /// Where something is reported: 0: nowhere; 1: in the schema; 2: in documents.
+    pub reported: u32,
+    /// How long the whole answer is: it is cut where there is less room.
+    pub length: usize,
+}
+
+/// Writes as much of the answer as there is room for.
+pub fn hand_over(answered: Result<Answer, Refusal>, out: &mut [u8]) -> Outcome
+    ensures answered { IfOk answered (λ answer. (result.status ≡ status_of_found answer.found) × (result.reported ≡ number_of_found answer.found) × (result.length ≡ length answer.json.items)) }
+    ensures written { IfOk answered (λ answer. let room = min (length out.old) (length answer.json.items) in out.new ≡ take room answer.json.items ++ drop room out.old) }
+    ensures refused { IfErr answered (λ refusal. (result.status ≡ status_of_refusal refusal) × (result.reported ≡ 0) × (result.length ≡ 0)) }
+    ensures kept { IfErr answered (λ _. out.new ≡ out.old) }
+{
+    match answered {
+        Ok(answer) => {
+            let room = out.len().min(answer.json.len());
+            out[..room].copy_from_slice(&answer.json[..room]);
+            Outcome {
+                status: status_of_found(answer.found),
+                reported: number_of_found(answer.found),
+                length: answer.json.len(),
+            }
+        }
+        Err(refusal) => {
+            Outcome {
+                status: status_of_refusal(refusal),
+                reported: 0,
+                length: 0,
+            }
+        }
+    }
+}
+
+fn status_of_found(found: Found) -> u32
+    ensures { result ≡ status_of_found found }
+{
+    match found {
+        Found::Nothing => 0,
+        Found::InSchema | Found::InDocuments => 1,
+    }
+}
+
+fn number_of_found(found: Found) -> u32
+    ensures { result ≡ number_of_found found }
+{
+    match found {
+        Found::Nothing => 0,
+        Found::InSchema => 1,
+        Found::InDocuments => 2,
+    }
+}
+
+fn status_of_refusal(refusal: Refusal) -> u32
+    ensures { result ≡ status_of_refusal refusal }
+{
+    match refusal {
+        Refusal::BadEnds => 2,
+        Refusal::OutOfMemory => 3,
+        Refusal::NotUtf8 => 5,
+    }
+}
