@@ -1,0 +1,4 @@
+pub mod Disagreements
+pub mod Meetings
+pub mod NumberedSets
+pub mod Pairs
