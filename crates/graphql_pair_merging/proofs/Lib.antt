@@ -1,5 +1,6 @@
 pub mod ConflictLemmas
 pub mod DisagreementLemmas
+pub mod GroupLemmas
 pub mod MeetingLemmas
 pub mod NumberLemmas
 pub mod NumberingLemmas

@@ -1,6 +1,6 @@
 -- How the pairs grow.
-use Rattle.std.proofs.Common.{◌≡◌, ℕ, Bool, true, false, ◌&&◌, List, [], ◌∷◌, ◌++◌, refl, sym, ap, ◌∙◌, subst, Contains, eqb}
-use Rattle.std.specs.Prelude.{◌⊎◌, Option, None, Some, Result, Ok, Err, IfOk, MatchOption}
+use Rattle.std.proofs.Common.{◌≡◌, ℕ, Bool, true, false, ◌&&◌, List, [], ◌∷◌, ◌++◌, refl, sym, ap, ◌∙◌, cond, subst, Contains, eqb}
+use Rattle.std.specs.Prelude.{◌⊎◌, filter, Option, None, Some, Result, Ok, Err, IfOk, MatchOption}
 use Rattle.std.specs.List.{list_any}
 use Rattle.std.proofs.lemmas.Bool.{eqb-true}
 use Rattle.std.proofs.lemmas.List.{append-nil, append_assoc}
@@ -9,9 +9,11 @@ use mathlib.Core.Logic.{inl, inr}
 use Rattle.indexmap.proofs.CallerLemmas.{Contains-insert_key}
 use Rattle.indexmap.specs.IndexSet.{insert_key}
 use Rattle.graphql_documents.specs.declared.documents.schemas.Schema.{Schema}
-use Rattle.graphql_documents.proofs.ListLemmas.{none_stands, only_one, stands_first}
-use Rattle.graphql_specification.specs.MergedSets.{Agree, ArePutTogether}
-use Rattle.graphql_specification.specs.Merging.{Pass}
+use Rattle.graphql_documents.proofs.ListLemmas.{kept_by_filter, none_stands, only_one, stands_behind, stands_first}
+use Rattle.graphql_specification.specs.MergedSets.{Agree, ArePutTogether, key_of}
+use Rattle.graphql_nodes.proofs.NameLemmas.{same_name_back}
+use Rattle.graphql_specification.specs.Merging.{FieldSelection, Pass, SameKey, field_pass, shape_pass}
+use Rattle.graphql_pair_merging.specs.FieldGroups.{has_key}
 use Rattle.graphql_pair_merging.specs.NumberedSets.{field_of}
 use Rattle.graphql_pair_merging.specs.Pairs.{Adds, Compares, Finds, IntoFirst, IntoSecond, IsBelow, IsBelowAny, LooksAt, pair_of}
 use Rattle.graphql_pair_merging.specs.declared.numbered_sets.NumberedSet.{NumberedSet}
@@ -111,6 +113,21 @@ adds_of_more make xs zs n a b c is first second = adds_words there back (adds_th
     | inr last ↦ inr (same ∙ ap make (only_one n m last))
   ]
 
+-- what a filter keeps was there
+in_filter : {X : Type 0} (test : X → Bool) (xs : List X) (x : X) → Contains (filter test xs) x → Contains xs x
+in_filter test [] x there = there
+in_filter {X} test (y ∷ ys) x there = by (test y) there (in_filter test ys x) where
+  by : (b : Bool) → Contains (cond b (y ∷ filter test ys) (filter test ys)) x → (Contains (filter test ys) x → Contains ys x) → Contains (y ∷ ys) x
+  by true here rest = elim (Contains-append_cases (y ∷ []) (filter test ys) x here) [
+    | inl first ↦ Contains-append_left (y ∷ []) ys x first
+    | inr later ↦ stands_behind y ys x (rest later)
+  ]
+  by false here rest = stands_behind y ys x (rest here)
+
+put_under_one_key : (schema : Schema) (pass : Pass) (x y : FieldSelection) → ArePutTogether schema pass x y → SameKey x y
+put_under_one_key schema shape_pass x y put = put
+put_under_one_key schema field_pass x y put = put.0
+
 module _ (schema : Schema) (pass : Pass) where
   -- nothing was compared
   pub compares_none : (xs ys : List NumberedField) (known : List SetPair) → ((x y : NumberedField) → Contains xs x → ¬ Contains ys y) → Compares schema pass xs ys known known
@@ -129,6 +146,42 @@ module _ (schema : Schema) (pass : Pass) where
     not_put u v in_u in_v put =
         apart (subst (λ r. ArePutTogether schema pass r (field_of y)) (ap field_of (only_one x u in_u))
         (subst (λ r. ArePutTogether schema pass (field_of u) r) (ap field_of (only_one y v in_v)) put))
+
+  -- it is enough to compare a field with those that have its key
+  same_key : (x y : NumberedField) → ArePutTogether schema pass (field_of x) (field_of y) → has_key (key_of (field_of x)) y ≡ true
+  same_key x y put = same_name_back (key_of (field_of x)) (key_of (field_of y)) (put_under_one_key schema pass (field_of x) (field_of y) put)
+
+  pub compares_under_key : (x : NumberedField) (ys : List NumberedField) (a b : List SetPair) → Compares schema pass (x ∷ []) (filter (has_key (key_of (field_of x))) ys) a b →
+      Compares schema pass (x ∷ []) ys a b
+  compares_under_key x ys a b compares = record {
+    adds = adds_words (λ p (u, v, in_u, in_v, below). (u, v, in_u, kept_in ys v in_v, below)) (λ p (u, v, in_u, in_v, below). (u, v, in_u, stays u v in_u in_v below.put, below)) compares.adds;
+    agree = λ u v in_u in_v put. compares.agree u v in_u (stays u v in_u in_v put) put;
+  } where
+    stays : (u v : NumberedField) → Contains (x ∷ []) u → Contains ys v → ArePutTogether schema pass (field_of u) (field_of v) → Contains (filter (has_key (key_of (field_of x))) ys) v
+    stays u v in_u in_v put =
+        kept_by_filter (has_key (key_of (field_of x))) ys v in_v (same_key x v (subst (λ r. ArePutTogether schema pass (field_of r) (field_of v)) (only_one x u in_u) put))
+
+    kept_in : (zs : List NumberedField) (v : NumberedField) → Contains (filter (has_key (key_of (field_of x))) zs) v → Contains zs v
+    kept_in zs v there = in_filter (has_key (key_of (field_of x))) zs v there
+
+  pub finds_under_key : (x : NumberedField) (ys : List NumberedField) (c : Conflict) → Finds schema pass (x ∷ []) (filter (has_key (key_of (field_of x))) ys) c → Finds schema pass (x ∷ []) ys c
+  finds_under_key x ys c f = record {
+    x = f.x;
+    y = f.y;
+    in_first = f.in_first;
+    in_second = in_filter (has_key (key_of (field_of x))) ys f.y f.in_second;
+    first_is = f.first_is;
+    second_is = f.second_is;
+    put = f.put;
+    disagree = f.disagree;
+  }
+
+  pub compared_or_found : {E : Type 0} (r : Result (Option Conflict) E) (x : NumberedField) (ys group : List NumberedField) (a b : List SetPair) → group ≡ filter (has_key (key_of (field_of x))) ys →
+      IfOk r (λ found. MatchOption found (Compares schema pass (x ∷ []) group a b) (Finds schema pass (x ∷ []) group)) →
+      IfOk r (λ found. MatchOption found (Compares schema pass (x ∷ []) ys a b) (Finds schema pass (x ∷ []) ys))
+  compared_or_found (Err e) x ys group a b is found = tt
+  compared_or_found (Ok None) x ys group a b is compares = compares_under_key x ys a b (subst (λ l. Compares schema pass (x ∷ []) l a b) is compares)
+  compared_or_found (Ok (Some c)) x ys group a b is finds = finds_under_key x ys c (subst (λ l. Finds schema pass (x ∷ []) l c) is finds)
 
   -- two fields that agree
   one_pair_agrees : (x y : NumberedField) → Agree schema pass (field_of x) (field_of y) → (u v : NumberedField) → Contains (x ∷ []) u → Contains (y ∷ []) v → Agree schema pass (field_of u) (field_of v)

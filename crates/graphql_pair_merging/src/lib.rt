@@ -3,6 +3,7 @@
 #![tactic(auto)]
 
 mod disagreements;
+mod field_groups;
 pub mod merging;
 mod numbered_sets;
 mod pairs;

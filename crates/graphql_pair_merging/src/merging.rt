@@ -10,6 +10,7 @@ ghost use Rattle.graphql_specification.specs.MergedSets.{MeetingFieldsAgree};
 ghost use Rattle.graphql_pair_merging.specs.Meetings.{IsMetConflict};
 
 use super::disagreements::Conflict;
+use super::field_groups::group_sets;
 use super::numbered_sets::number_sets;
 use super::pairs::PairPass;
 use graphql_diagnostics::DiagnosticList;
@@ -23,7 +24,8 @@ use std::alloc::Global;
 /// if there are any: at the second of them, that their types have different shapes, or that they are not one field
 /// with the same arguments though their parents may overlap all the way.
 ///
-/// What it takes grows with the square of the number of fields in the document. The only error is that memory is
+/// Two selection sets of the document are looked at together at most once for shapes and once for names and
+/// arguments, however many ways lead to them, and fragments may form cycles. The only error is that memory is
 /// refused; in any case the old diagnostics stay.
 ///
 /// Specification: 5.3.2 Field Selection Merging.
@@ -60,10 +62,12 @@ fn find_conflict<'doc>(
         (IsMetConflict schema.now (fragments_in fragments.now) set.now)) }
 {
     let sets = number_sets(alloc, fragments, set)?;
+    let groups = group_sets(alloc, &sets)?;
     let number = fragments.len();
     let shapes = PairPass {
         schema,
         sets: &sets,
+        groups: &groups,
         pass: Pass::Shapes,
     };
     if let Some(conflict) = shapes.find_conflict(alloc, number)? {
@@ -72,6 +76,7 @@ fn find_conflict<'doc>(
     let fields = PairPass {
         schema,
         sets: &sets,
+        groups: &groups,
         pass: Pass::NamesAndArguments,
     };
     fields.find_conflict(alloc, number)

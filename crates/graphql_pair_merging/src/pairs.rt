@@ -1,11 +1,14 @@
 //! The pairs of sets whose fields come together.
 
-ghost use Rattle.std.specs.Prelude.{◌≡◌, ◌<◌, ◌∷◌, [], IfOk, MatchOption, OnOk, Some, length, slice_get};
+ghost use Rattle.std.specs.Prelude.{◌≡◌, ◌<◌, ◌∷◌, [], IfOk, List, MatchOption, OnOk, Some, length, slice_get};
 ghost use Rattle.graphql_merging.specs.Groups.{pass_of};
+ghost use Rattle.graphql_pair_merging.specs.FieldGroups.{AreGrouped, IsGrouped, groups_at};
 ghost use Rattle.graphql_pair_merging.specs.Pairs.{Adds, AreLinked, Compares, Finds, FindsBelow, HasLooked, IntoFirst, IntoSecond, LooksAt, pair_of};
+ghost use Rattle.graphql_pair_merging.specs.declared.numbered_sets.NumberedField.{NumberedField};
 ghost use Rattle.graphql_pair_merging.specs.declared.numbered_sets.NumberedSet.{NumberedSet};
 
 use super::disagreements::{Conflict, are_put_together, disagreement_of};
+use super::field_groups::FieldsByKey;
 use super::numbered_sets::{NumberedField, NumberedSet};
 use graphql_documents::documents::Schema;
 use graphql_merging::groups::Pass;
@@ -25,6 +28,7 @@ struct SetPair {
 pub(crate) struct PairPass<'s, 'doc> {
     pub(crate) schema: &'s Schema,
     pub(crate) sets: &'s [NumberedSet<'doc>],
+    pub(crate) groups: &'s [FieldsByKey<'doc>],
     pub(crate) pass: Pass,
 }
 
@@ -38,6 +42,7 @@ impl<'s, 'doc> PairPass<'s, 'doc> {
     ) -> Result<Option<Conflict<'doc>>, ValidationError>
         requires linked { AreLinked self.now.sets.now }
         requires within { set < length self.now.sets.now }
+        requires grouped { AreGrouped self.now.sets.now (groups_at self.now.groups.now) }
         ensures { IfOk result (λ found. MatchOption found
             (HasLooked self.now.schema.now (pass_of self.now.pass) self.now.sets.now (pair_of set set))
             (FindsBelow self.now.schema.now (pass_of self.now.pass) self.now.sets.now (pair_of set set))) }
@@ -64,6 +69,7 @@ impl<'s, 'doc> PairPass<'s, 'doc> {
         pairs: &mut IndexSet<SetPair>,
         pair: SetPair,
     ) -> Result<Option<Conflict<'doc>>, ValidationError>
+        requires grouped { AreGrouped self.now.sets.now (groups_at self.now.groups.now) }
         requires first { pair.first < length self.now.sets.now }
         requires second { pair.second < length self.now.sets.now }
         ensures { (first second : NumberedSet) →
@@ -76,26 +82,43 @@ impl<'s, 'doc> PairPass<'s, 'doc> {
         let second = &self.sets[pair.second];
         add_into_first(pairs, &first.fragments, pair.second)?;
         add_into_second(pairs, pair.first, &second.fragments)?;
-        self.compare_all(pairs, &first.fields, &second.fields)
+        self.compare_all(pairs, &first.fields, &self.groups[pair.second])
     }
 
-    /// Compares each of some fields with each of some others.
+    /// Compares each of some fields with those of some others that have its response key.
     fn compare_all(
         &self,
         pairs: &mut IndexSet<SetPair>,
         fields: &[NumberedField<'doc>],
-        others: &[NumberedField<'doc>],
+        groups: &FieldsByKey<'doc>,
     ) -> Result<Option<Conflict<'doc>>, ValidationError>
-        ensures { IfOk result (λ found. MatchOption found
-            (Compares self.now.schema.now (pass_of self.now.pass) fields.now others.now pairs.old.keys pairs.new.keys)
-            (Finds self.now.schema.now (pass_of self.now.pass) fields.now others.now)) }
+        ensures { (others : List NumberedField) → IsGrouped others groups.now.entries → IfOk result (λ found. MatchOption found
+            (Compares self.now.schema.now (pass_of self.now.pass) fields.now others pairs.old.keys pairs.new.keys)
+            (Finds self.now.schema.now (pass_of self.now.pass) fields.now others)) }
     {
         for field in fields {
-            if let Some(conflict) = self.compare_with_each(pairs, *field, others)? {
+            if let Some(conflict) = self.compare_under_key(pairs, *field, groups)? {
                 return Ok(Some(conflict));
             }
         }
         Ok(None)
+    }
+
+    /// The same of one field.
+    fn compare_under_key(
+        &self,
+        pairs: &mut IndexSet<SetPair>,
+        field: NumberedField<'doc>,
+        groups: &FieldsByKey<'doc>,
+    ) -> Result<Option<Conflict<'doc>>, ValidationError>
+        ensures { (others : List NumberedField) → IsGrouped others groups.now.entries → IfOk result (λ found. MatchOption found
+            (Compares self.now.schema.now (pass_of self.now.pass) (field.entry ∷ []) others pairs.old.keys pairs.new.keys)
+            (Finds self.now.schema.now (pass_of self.now.pass) (field.entry ∷ []) others)) }
+    {
+        match groups.get(&field.field.field.value.response_key()) {
+            Some(others) => self.compare_with_each(pairs, field, others),
+            None => Ok(None),
+        }
     }
 
     /// Compares a field with each of some others.
