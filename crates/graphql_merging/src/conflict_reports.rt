@@ -18,8 +18,11 @@ use graphql_documents::documents::{Type, Value};
 use graphql_nodes::{Name, ValidationError};
 use std::alloc::Global;
 
-/// Reports that the types of two fields have different shapes.
-pub(super) fn report_types(
+/// Reports that the types of two fields have different shapes. The only error is that memory is refused; the list
+/// then stays as it was.
+///
+/// Specification: 5.3.2 Field Selection Merging, SameResponseShape.
+pub fn report_types(
     diagnostics: &mut DiagnosticList,
     first: FieldSelection,
     field: FieldSelection,
@@ -58,8 +61,11 @@ fn typed_coordinate(
     Ok((coordinate, ty))
 }
 
-/// Reports what two fields disagree on: their names, or an argument.
-pub(super) fn report_conflict(
+/// Reports what two fields disagree on: their names, or an argument. The only error is that memory is refused; the
+/// list then stays as it was.
+///
+/// Specification: 5.3.2 Field Selection Merging, FieldsInSetCanMerge.
+pub fn report_conflict(
     diagnostics: &mut DiagnosticList,
     first: FieldSelection,
     field: FieldSelection,

@@ -15,7 +15,7 @@ use std::alloc::Global;
 ///
 /// Specification: 5.3.2 Field Selection Merging.
 #[derive(Clone, Copy, Debug, PartialEq, Eq)]
-pub(crate) enum Pass {
+pub enum Pass {
     /// All with one response key, which must have one shape (SameResponseShape).
     Shapes,
     /// Those with one response key whose parents may overlap, which must be one field with the same

@@ -3,7 +3,7 @@
 #![tactic(auto)]
 
 pub mod comparisons;
-mod conflict_reports;
+pub mod conflict_reports;
 mod conflicts;
 mod copies;
 mod examined;

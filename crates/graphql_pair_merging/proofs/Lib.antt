@@ -1,0 +1,11 @@
+pub mod ConflictLemmas
+pub mod DisagreementLemmas
+pub mod GroupLemmas
+pub mod MeetingLemmas
+pub mod NumberLemmas
+pub mod NumberingLemmas
+pub mod PairLemmas
+pub mod PlaceLemmas
+pub mod ReportedLemmas
+pub mod WalkLemmas
+pub mod WeightLemmas

@@ -1,0 +1,5 @@
+pub mod Disagreements
+pub mod FieldGroups
+pub mod Meetings
+pub mod NumberedSets
+pub mod Pairs

@@ -1,0 +1,64 @@
+-- The sets of a document by numbers.
+use Rattle.std.specs.Prelude.{◌≡◌, ◌++◌, ℕ, List, Option, None, Some, All, filter_map, map, slice_get}
+use Rattle.std.specs.Borrow.{Bor}
+use Rattle.std.specs.Option.{option_map}
+use Rattle.indexmap.specs.IndexMap.{IndexMap, values}
+use Rattle.graphql_nodes.specs.Names.{NameText}
+use Rattle.graphql_nodes.specs.declared.nodes.Node.{Node}
+use Rattle.graphql_documents.specs.Selections.{Fragments, selections_of}
+use Rattle.graphql_documents.specs.declared.documents.executables.Fragment.{Fragment}
+use Rattle.graphql_documents.specs.declared.documents.executables.Selection.{Selection, out-Selection}
+use Rattle.graphql_documents.specs.declared.documents.executables.Selection.TheOpen as Open
+use Rattle.graphql_documents.specs.declared.documents.executables.SelectionSet.{SelectionSet}
+use Rattle.graphql_specification.specs.MergedSets.{as_field}
+use Rattle.graphql_specification.specs.Merging.{FieldSelection, set_of}
+use Rattle.graphql_merging.specs.FieldSelections.{selection_of}
+use Rattle.graphql_pair_merging.specs.declared.numbered_sets.NumberedField.{NumberedField}
+use Rattle.graphql_pair_merging.specs.declared.numbered_sets.NumberedSet.{NumberedSet}
+
+-- the set of a fragment among selections: of an inline fragment, or of the one that a spread names, if it is defined
+abbrev pub fragment_set : Fragments → Selection → Option SelectionSet
+fragment_set fragments s = elim (out-Selection s) [
+  | Open.Field f ↦ None
+  | Open.FragmentSpread p ↦ option_map (λ d. d.value.value.selection_set) (fragments p.value.value.fragment_name)
+  | Open.InlineFragment i ↦ Some i.value.value.selection_set
+]
+
+-- the set that is written in a selection
+abbrev pub written_set : Selection → Option SelectionSet
+written_set s = elim (out-Selection s) [
+  | Open.Field f ↦ Some f.value.value.selection_set
+  | Open.FragmentSpread p ↦ None
+  | Open.InlineFragment i ↦ Some i.value.value.selection_set
+]
+
+-- sets by references
+abbrev pub sets_at : List (Bor SelectionSet) → List SelectionSet
+sets_at sets = map (λ set. set.now) sets
+
+-- numbered sets as sets
+abbrev pub sets_of : List NumberedSet → List SelectionSet
+sets_of numbered = map (λ x. x.set.now) numbered
+
+-- a field without its number
+abbrev pub field_of : NumberedField → FieldSelection
+field_of x = selection_of x.field
+
+-- the fields and fragments are those among these selections of a set of this type, each with the number of its set
+pub record Describes (fragments : Fragments) (sets : List SelectionSet) (parent : NameText) (selections : List Selection) (x : NumberedSet) : Type 0 where
+  pub fields : map field_of x.fields.items ≡ filter_map (as_field parent) selections
+  pub own_sets : All (λ f. slice_get sets f.set ≡ Some (set_of (field_of f))) x.fields.items
+  pub fragment_sets : map (slice_get sets) x.fragments.items ≡ map Some (filter_map (fragment_set fragments) selections)
+
+-- each of the numbered sets is so described, and this is the number of that set
+pub record AreNumbered (fragments : Fragments) (number : ℕ) (set : SelectionSet) (numbered : List NumberedSet) : Type 0 where
+  pub described : All (λ x. Describes fragments (sets_of numbered) x.set.now.ty (selections_of x.set.now) x) numbered
+  pub is_at : slice_get (sets_of numbered) number ≡ Some set
+
+-- the sets of the fragments, in order
+abbrev pub sets_among : {S : Type 0} → IndexMap NameText (Node Fragment) S → List SelectionSet
+sets_among fragments = map (λ d. d.value.value.selection_set) (values fragments)
+
+-- these come first
+abbrev pub Begins : {S : Type 0} → IndexMap NameText (Node Fragment) S → List SelectionSet → Type 0
+Begins fragments sets = (more : List SelectionSet) × (sets ≡ sets_among fragments ++ more)

@@ -1,0 +1,118 @@
+//! Two fields in sets that come together: whether they are put together, and what they do not agree on.
+
+ghost use Rattle.std.specs.Prelude.{◌↔◌, IsTrue, MatchOption};
+ghost use Rattle.graphql_documents.specs.declared.documents.schemas.Schema.{Schema};
+ghost use Rattle.graphql_specification.specs.MergedSets.{Agree, ArePutTogether};
+ghost use Rattle.graphql_specification.specs.Merging as merging;
+ghost use Rattle.graphql_specification.specs.Merging.{MayOverlap, ParentsMayOverlap};
+ghost use Rattle.graphql_merging.specs.Conflicts.{ConflictEntryReport};
+ghost use Rattle.graphql_merging.specs.FieldSelections.{selection_of};
+ghost use Rattle.graphql_merging.specs.Groups.{pass_of};
+ghost use Rattle.graphql_pair_merging.specs.Disagreements.{Disagrees};
+
+use graphql_diagnostics::DiagnosticList;
+use graphql_documents::documents::{ExtendedType, Schema};
+use graphql_merging::comparisons::{
+    FieldConflict, same_name_and_arguments, same_output_type_shape,
+};
+use graphql_merging::conflict_reports::{report_conflict, report_types};
+use graphql_merging::field_selections::FieldSelection;
+use graphql_merging::groups::Pass;
+use graphql_nodes::ValidationError;
+
+/// What two fields that were put together do not agree on.
+#[derive(Clone, Copy, Debug)]
+pub(crate) enum Disagreement<'doc> {
+    /// The shapes of their types.
+    Shapes,
+    /// Their names, or an argument.
+    NamesOrArguments(FieldConflict<'doc>),
+}
+
+/// Two fields that were put together and do not agree.
+#[derive(Clone, Copy, Debug)]
+pub(crate) struct Conflict<'doc> {
+    pub(crate) first: FieldSelection<'doc>,
+    pub(crate) second: FieldSelection<'doc>,
+    pub(crate) disagreement: Disagreement<'doc>,
+}
+
+impl<'doc> Conflict<'doc> {
+    /// Reports at the second field what the two do not agree on.
+    pub(crate) fn report(self, diagnostics: &mut DiagnosticList) -> Result<(), ValidationError>
+        ensures { (schema : Schema) (pass : merging.Pass) →
+            Disagrees schema pass (selection_of self.entry.first) (selection_of self.entry.second) self.entry.disagreement →
+            ConflictEntryReport result schema pass (selection_of self.entry.first) (selection_of self.entry.second) diagnostics.old diagnostics.new }
+    {
+        match self.disagreement {
+            Disagreement::Shapes => report_types(diagnostics, self.first, self.second),
+            Disagreement::NamesOrArguments(conflict) => {
+                report_conflict(diagnostics, self.first, self.second, conflict)
+            }
+        }
+    }
+}
+
+/// What two fields do not agree on in this pass, if they do not.
+pub(crate) fn disagreement_of<'doc>(
+    schema: &Schema,
+    pass: Pass,
+    first: FieldSelection<'doc>,
+    second: FieldSelection<'doc>,
+) -> Option<Disagreement<'doc>>
+    ensures { MatchOption result
+        (Agree schema.now (pass_of pass) (selection_of first.entry) (selection_of second.entry))
+        (Disagrees schema.now (pass_of pass) (selection_of first.entry) (selection_of second.entry)) }
+{
+    match pass {
+        Pass::Shapes if same_output_type_shape(schema, first, second) => None,
+        Pass::Shapes => Some(Disagreement::Shapes),
+        Pass::NamesAndArguments => match same_name_and_arguments(first, second) {
+            None => None,
+            Some(conflict) => Some(Disagreement::NamesOrArguments(conflict)),
+        },
+    }
+}
+
+/// Whether two fields are put together in this pass.
+pub(crate) fn are_put_together(
+    schema: &Schema,
+    pass: Pass,
+    first: FieldSelection,
+    second: FieldSelection,
+) -> bool
+    ensures { IsTrue result ↔ ArePutTogether schema.now (pass_of pass) (selection_of first.entry) (selection_of second.entry) }
+{
+    if first.field.value.response_key() != second.field.value.response_key() {
+        return false;
+    }
+    match pass {
+        Pass::Shapes => true,
+        Pass::NamesAndArguments => parents_may_overlap(schema, first, second),
+    }
+}
+
+/// Whether one object can be of the types of both sets.
+fn parents_may_overlap(schema: &Schema, first: FieldSelection, second: FieldSelection) -> bool
+    ensures { IsTrue result ↔ ParentsMayOverlap schema.now (selection_of first.entry) (selection_of second.entry) }
+{
+    match (
+        schema.types.get(first.parent_type),
+        schema.types.get(second.parent_type),
+    ) {
+        (Some(first), Some(second)) => may_overlap(first, second),
+        _ => false,
+    }
+}
+
+/// Whether one object can be of both types.
+fn may_overlap(first: &ExtendedType, second: &ExtendedType) -> bool
+    ensures { IsTrue result ↔ MayOverlap first.now second.now }
+{
+    match (first, second) {
+        (ExtendedType::Object(first), ExtendedType::Object(second)) => {
+            first.value.name == second.value.name
+        }
+        _ => first.is_composite() && second.is_composite(),
+    }
+}

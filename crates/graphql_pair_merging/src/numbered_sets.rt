@@ -1,0 +1,156 @@
+//! The sets of a document by numbers, so that a pair of sets is a pair of numbers.
+
+ghost use Rattle.std.specs.Prelude.{◌≡◌, ◌++◌, ◌∷◌, [], All, IfOk, List, OnOk, Some, filter_map, length, map, slice_get, vec_len};
+ghost use Rattle.graphql_documents.specs.Selections.{selections_of};
+ghost use Rattle.graphql_documents.specs.declared.documents.executables.Selection.{Selection};
+ghost use Rattle.graphql_merging.specs.ExpansionSteps.{fragments_in};
+ghost use Rattle.graphql_pair_merging.specs.NumberedSets.{AreNumbered, Begins, Describes, sets_among, sets_at, written_set};
+
+use graphql_documents::documents::{Fragment, Selection, SelectionSet};
+use graphql_merging::field_selections::FieldSelection;
+use graphql_nodes::{Name, Node, ValidationError};
+use indexmap::IndexMap;
+use std::alloc::Global;
+
+/// A field of a numbered set, and the number of its own set.
+#[derive(Clone, Copy, Debug)]
+pub(crate) struct NumberedField<'doc> {
+    pub(crate) field: FieldSelection<'doc>,
+    pub(crate) set: usize,
+}
+
+impl<'doc> NumberedField<'doc> {
+    ghost use Rattle.std.specs.Prelude.{◌↔◌, ◌≢◌, IsTrue};
+    ghost use Rattle.graphql_specification.specs.Merging.{set_of};
+    ghost use Rattle.graphql_pair_merging.specs.NumberedSets.{field_of};
+
+    /// Whether there is anything in the field's set.
+    pub(crate) fn selects_something(&self) -> bool
+        ensures { IsTrue result ↔ (selections_of (set_of (field_of self.now)) ≢ []) }
+    {
+        !self.field.field.value.selection_set.selections.is_empty()
+    }
+}
+
+/// A set: its fields, and the numbers of the sets of the fragments in it.
+#[derive(Debug, Drop)]
+pub(crate) struct NumberedSet<'doc> {
+    pub(crate) set: &'doc SelectionSet,
+    pub(crate) fields: Vec<NumberedField<'doc>>,
+    pub(crate) fragments: Vec<usize>,
+}
+
+/// Numbers the sets of the fragments, in order, and behind them this set and all sets that are written in
+/// these. The only error is a failed allocation.
+pub(crate) fn number_sets<'doc>(
+    alloc: Global,
+    fragments: &'doc IndexMap<Name, Node<Fragment>>,
+    set: &'doc SelectionSet,
+) -> Result<Vec<NumberedSet<'doc>>, ValidationError>
+    ensures { IfOk result (λ numbered. AreNumbered (fragments_in fragments.now) (length fragments.now.entries) set.now numbered.items) }
+{
+    let mut numbering = Numbering::begin(alloc, fragments, set)?;
+    let mut numbered = Vec::new(alloc);
+    while numbered.len() < numbering.sets.len() {
+        let set = numbering.sets[numbered.len()];
+        let described = numbering.describe(alloc, set)?;
+        numbered.push(described)?;
+    }
+    Ok(numbered)
+}
+
+/// The sets that have numbers: each is at its own.
+#[derive(Drop)]
+struct Numbering<'doc> {
+    fragments: &'doc IndexMap<Name, Node<Fragment>>,
+    sets: Vec<&'doc SelectionSet>,
+}
+
+impl<'doc> Numbering<'doc> {
+    /// Numbers the sets of the fragments, and behind them this set.
+    fn begin(
+        alloc: Global,
+        fragments: &'doc IndexMap<Name, Node<Fragment>>,
+        set: &'doc SelectionSet,
+    ) -> Result<Numbering<'doc>, ValidationError>
+        ensures fragments { IfOk result (λ numbering. numbering.fragments.now ≡ fragments.now) }
+        ensures sets { IfOk result (λ numbering. sets_at numbering.sets.items ≡ sets_among fragments.now ++ set.now ∷ []) }
+    {
+        let mut sets = Vec::new(alloc);
+        for fragment in fragments.values() {
+            sets.push(&fragment.value.selection_set)?;
+        }
+        sets.push(set)?;
+        Ok(Numbering { fragments, sets })
+    }
+
+    /// Lists what is in a set, and numbers the sets that are written in it.
+    fn describe(
+        &mut self,
+        alloc: Global,
+        set: &'doc SelectionSet,
+    ) -> Result<NumberedSet<'doc>, ValidationError>
+        requires { Begins self.old.fragments.now (sets_at self.old.sets.items) }
+        ensures fragments { self.new.fragments ≡ self.old.fragments }
+        ensures set { IfOk result (λ described. described.set ≡ set.entry) }
+        ensures sets { OnOk result (sets_at self.new.sets.items ≡
+            sets_at self.old.sets.items ++ filter_map written_set (selections_of set.now)) }
+        ensures described { IfOk result (Describes (fragments_in self.old.fragments.now) (sets_at self.new.sets.items) set.now.ty (selections_of set.now)) }
+    {
+        let mut described = NumberedSet {
+            set,
+            fields: Vec::new(alloc),
+            fragments: Vec::new(alloc),
+        };
+        for selection in &set.selections {
+            self.add_selection(&mut described, selection)?;
+        }
+        Ok(described)
+    }
+
+    /// The same of one selection of a set.
+    fn add_selection(
+        &mut self,
+        described: &mut NumberedSet<'doc>,
+        selection: &'doc Selection,
+    ) -> Result<(), ValidationError>
+        requires { Begins self.old.fragments.now (sets_at self.old.sets.items) }
+        ensures fragments { self.new.fragments ≡ self.old.fragments }
+        ensures set { described.new.set ≡ described.old.set }
+        ensures sets { OnOk result (sets_at self.new.sets.items ≡
+            sets_at self.old.sets.items ++ filter_map written_set (selection.now ∷ [])) }
+        ensures described { (done : List Selection) →
+            Describes (fragments_in self.old.fragments.now) (sets_at self.old.sets.items) described.old.set.now.ty done described.old →
+            OnOk result (Describes (fragments_in self.old.fragments.now) (sets_at self.new.sets.items) described.old.set.now.ty (done ++ selection.now ∷ []) described.new) }
+    {
+        match selection {
+            Selection::Field(field) => {
+                let parent_type = &described.set.ty;
+                let set = self.number(&field.value.selection_set)?;
+                let field = FieldSelection { parent_type, field };
+                described.fields.push(NumberedField { field, set })?;
+            }
+            Selection::InlineFragment(inline) => {
+                let number = self.number(&inline.value.selection_set)?;
+                described.fragments.push(number)?;
+            }
+            Selection::FragmentSpread(spread) => {
+                if let Some(number) = self.fragments.get_index_of(&spread.value.fragment_name) {
+                    described.fragments.push(number)?;
+                }
+            }
+        }
+        Ok(())
+    }
+
+    /// Gives a set the next number.
+    fn number(&mut self, set: &'doc SelectionSet) -> Result<usize, ValidationError>
+        ensures fragments { self.new.fragments ≡ self.old.fragments }
+        ensures sets { OnOk result (sets_at self.new.sets.items ≡ sets_at self.old.sets.items ++ set.now ∷ []) }
+        ensures number { IfOk result (λ number. number ≡ length (sets_at self.old.sets.items)) }
+    {
+        let number = self.sets.len();
+        self.sets.push(set)?;
+        Ok(number)
+    }
+}
