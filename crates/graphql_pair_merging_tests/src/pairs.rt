@@ -1,0 +1,79 @@
+use graphql_diagnostics::{BuildError, Details, DiagnosticList};
+use graphql_documents::documents::Schema;
+use graphql_examples::build::{document_in_file, schema};
+use graphql_nodes::FileId;
+use graphql_pair_merging::merging::merge_by_pairs;
+use std::alloc::Global;
+use std::process::Abort;
+
+/// The schema of all documents.
+const SCHEMA: &str = "
+    type Query { a(n: Int): Int b: Int c: String q: Query node: Node }
+    interface Node { x: Int }
+    type A implements Node { x: Int y: Int z: Int }
+    type B implements Node { x: Int y: Int z: String }";
+
+/// Documents with one operation, and what is reported of it.
+const DOCUMENTS: &[(&str, &str)] = &[
+    ("{ a a b }", ""),
+    ("{ a(n: 1) a(n: 1) }", ""),
+    ("{ k: a k: b }", "names"),
+    ("{ a(n: 1) a(n: 2) }", "arguments"),
+    ("{ k: a k: c }", "types"),
+    // below fields of one key
+    ("{ q { k: a } q { k: a } }", ""),
+    ("{ q { k: a } q { k: b } }", "names"),
+    // fields of different objects need one shape alone
+    ("{ node { ... on A { k: x } ... on B { k: y } } }", ""),
+    ("{ node { ... on A { z } ... on B { z } } }", "types"),
+    ("{ node { k: x ... on B { k: y } } }", "names"),
+    // through fragments, cyclic ones too
+    ("{ ...F k: a } fragment F on Query { q { ...F } k: a }", ""),
+    (
+        "{ ...F k: a } fragment F on Query { q { ...F k: b } k: a }",
+        "names",
+    ),
+];
+
+/// What the diagnostics say.
+fn told(diagnostics: &DiagnosticList) -> &'static str {
+    let mut told = "";
+    for entry in diagnostics.iter() {
+        told = match &entry.details {
+            Details::Build(BuildError::ConflictingFieldName { .. }) => "names",
+            Details::Build(BuildError::ConflictingFieldArgument { .. }) => "arguments",
+            Details::Build(BuildError::ConflictingFieldType { .. }) => "types",
+            _ => "others",
+        };
+    }
+    told
+}
+
+/// The operation of the text has this report, or none.
+fn reports(rt: &impl Abort, alloc: Global, schema: &Schema, text: &str, expected: &str) {
+    let Ok(document) = document_in_file(alloc, schema, text, FileId(1)) else {
+        panic!(rt; "no document: {text}")
+    };
+    let Some(operation) = &document.operations.anonymous else {
+        panic!(rt; "no operation: {text}")
+    };
+    let mut diagnostics = DiagnosticList::new(alloc);
+    merge_by_pairs(&mut diagnostics, schema, &document, operation).expect(rt, "memory for pairs");
+    assert_eq!(rt; told(&diagnostics), expected, "{text}");
+    assert_eq!(rt;
+        diagnostics.len(),
+        usize::from(!expected.is_empty()),
+        "{text}"
+    );
+}
+
+#[test]
+fn operations_merge_or_have_one_report(rt: HostRuntime) {
+    let alloc = rt.alloc();
+    let Ok(schema) = schema(alloc, SCHEMA) else {
+        panic!(rt; "no schema")
+    };
+    for (text, expected) in DOCUMENTS {
+        reports(&rt, alloc, &schema.0, text, expected);
+    }
+}
