@@ -35,18 +35,17 @@ const DOCUMENTS: &[(&str, &str)] = &[
     ),
 ];
 
-/// What the diagnostics say.
+/// What the first diagnostic says.
 fn told(diagnostics: &DiagnosticList) -> &'static str {
-    let mut told = "";
-    for entry in diagnostics.iter() {
-        told = match &entry.details {
-            Details::Build(BuildError::ConflictingFieldName { .. }) => "names",
-            Details::Build(BuildError::ConflictingFieldArgument { .. }) => "arguments",
-            Details::Build(BuildError::ConflictingFieldType { .. }) => "types",
-            _ => "others",
-        };
+    let Some(entry) = diagnostics.iter().next() else {
+        return "";
+    };
+    match &entry.details {
+        Details::Build(BuildError::ConflictingFieldName { .. }) => "names",
+        Details::Build(BuildError::ConflictingFieldArgument { .. }) => "arguments",
+        Details::Build(BuildError::ConflictingFieldType { .. }) => "types",
+        _ => "others",
     }
-    told
 }
 
 /// The operation of the text has this report, or none.
