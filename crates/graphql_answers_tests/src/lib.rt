@@ -1,0 +1,5 @@
+//! Tests of what is answered of bytes.
+#![tactic(auto)]
+
+#[cfg(test)]
+mod answers;
