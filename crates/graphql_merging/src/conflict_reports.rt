@@ -18,8 +18,8 @@ use graphql_documents::documents::{Type, Value};
 use graphql_nodes::{Name, ValidationError};
 use std::alloc::Global;
 
-/// Reports that the types of two fields have different shapes. The only error is that memory is refused; the list
-/// then stays as it was.
+/// Reports that the types of two fields have different shapes. The only error is a failed allocation; the list is
+/// then as it was.
 ///
 /// Specification: 5.3.2 Field Selection Merging, SameResponseShape.
 pub fn report_types(
@@ -61,8 +61,8 @@ fn typed_coordinate(
     Ok((coordinate, ty))
 }
 
-/// Reports what two fields disagree on: their names, or an argument. The only error is that memory is refused; the
-/// list then stays as it was.
+/// Reports what two fields disagree on: their names, or an argument. The only error is a failed allocation; the list
+/// is then as it was.
 ///
 /// Specification: 5.3.2 Field Selection Merging, FieldsInSetCanMerge.
 pub fn report_conflict(

@@ -18,13 +18,13 @@ pub const EXAMPLES: &[Example] = &[
     },
     Example {
         id: "36c",
-        schema: "type Query { f: Int } directive @d(a: T1) on FIELD <1-31: input T% { n: T%+ } > input T32 { n: Int }",
+        schema: "type Query { f: Int } directive @d(a: Nested1) on FIELD <1-31: input Nested% { n: Nested%+ } > input Nested32 { n: Int }",
         subject: Subject::Schema,
         lines: "",
     },
     Example {
         id: "36d",
-        schema: "type Query { f: Int } directive @d(a: T1) on FIELD <1-32: input T% { n: T%+ } > input T33 { n: Int }",
+        schema: "type Query { f: Int } directive @d(a: Nested1) on FIELD <1-32: input Nested% { n: Nested%+ } > input Nested33 { n: Int }",
         subject: Subject::Schema,
         lines: "- `d` contains too much nesting\n",
     },

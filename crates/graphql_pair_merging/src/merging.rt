@@ -25,8 +25,8 @@ use std::alloc::Global;
 /// with the same arguments though their parents may overlap all the way.
 ///
 /// Two selection sets of the document are looked at together at most once for shapes and once for names and
-/// arguments, however many ways lead to them, and fragments may form cycles. The only error is that memory is
-/// refused; in any case the old diagnostics stay.
+/// arguments, however many ways lead to them, and fragments may form cycles. The only error is a failed
+/// allocation; in any case the old diagnostics stay.
 ///
 /// Specification: 5.3.2 Field Selection Merging.
 pub fn merge_by_pairs(
