@@ -1,9 +1,11 @@
 -- Where selections can be built, so can each of them, and what is below it.
-use Rattle.std.proofs.Common.{◌≡◌, Bool, true, false, IsTrue, List, [], ◌∷◌, Option, None, Ok, refl, sym, subst, Contains}
+use Rattle.std.proofs.Common.{◌≡◌, Bool, true, false, IsTrue, List, [], ◌∷◌, Option, None, Some, Ok, refl, sym, ap, ◌∙◌, subst, Contains}
 use Rattle.std.specs.Prelude.{unwrap_or}
 use Rattle.graphql_nodes.specs.Names.{NameText}
 use Rattle.graphql_documents.proofs.ListLemmas.{none_stands, only_one, stands_first}
 use Rattle.graphql_documents.specs.Schemas.{type_field}
+use Rattle.graphql_documents.specs.TypeReferences.{inner_named_type}
+use Rattle.graphql_nodes.specs.declared.nodes.Node.{Node}
 use Rattle.graphql_documents.specs.declared.documents.components.Component.{Component}
 use Rattle.graphql_documents.specs.declared.documents.definitions.FieldDefinition.{FieldDefinition}
 use Rattle.graphql_documents.specs.declared.documents.schemas.Schema.{Schema}
@@ -12,7 +14,14 @@ use Rattle.graphql_trees.specs.declared.executable.InlineFragment.{InlineFragmen
 use Rattle.graphql_trees.specs.declared.executable.Selection.{Selection}
 use Rattle.graphql_trees.specs.declared.executable.Selection.TheVariants as tree
 use Rattle.graphql_trees.specs.declared.executable.SelectionSet.{SelectionSet}
-use Rattle.graphql_document_building.specs.BuildingRules.{FieldBuilds, SelectionBuilds, SelectionsBuild}
+use Rattle.graphql_document_building.specs.BuildingRules.{DefinitionBuilds, FieldBuilds, SelectionBuilds, SelectionsBuild, SelectionsBuildIn}
+use Rattle.graphql_document_building.specs.Documents.{IsRoot, default_root_name}
+use Rattle.graphql_document_building.specs.FieldDefinitions.{IsProper, schema_of}
+use Rattle.graphql_document_building.specs.Selections.{DefinesField}
+use Rattle.graphql_document_building.specs.declared.field_definitions.FieldDefinitions.{FieldDefinitions}
+use Rattle.graphql_document_building.specs.declared.field_definitions.FieldDefinitions.TheVariants.{OfSchema, Unknown}
+use Rattle.graphql_trees.specs.declared.documents.Definition.TheVariants as definition
+use Rattle.graphql_trees.specs.declared.executable.OperationDefinition.{OperationDefinition}
 use Rattle.graphql_document_building.specs.Trees.{StandsOn, names_leaf_type, selections_in, stands_below_field, stands_here, stands_in_inline_fragment, type_below}
 
 module _ (schema : Schema) where
@@ -81,3 +90,35 @@ module _ (schema : Schema) where
         inline_fragments = λ i here s. builds.inline_fragments i here (stands_in_inline_fragment x first defined s);
       } in
       rw (is, all) inside
+
+-- the same against a schema or without one
+pub one_builds_in : (schema : Option Schema) (parent : NameText) (xs : List Selection) (x : Selection) → Contains xs x →
+    SelectionsBuildIn schema parent xs → SelectionsBuildIn schema parent (x ∷ [])
+one_builds_in (Some schema) parent xs x stands builds = one_builds schema parent xs x stands builds
+one_builds_in None parent xs x stands builds = tt
+
+pub field_is_defined : (definitions : FieldDefinitions) (parent : NameText) (x : Field) → IsProper definitions →
+    SelectionsBuildIn (schema_of definitions) parent (tree.Field x ∷ []) →
+    (d : Node FieldDefinition) × DefinesField (schema_of definitions) parent (out-Field x).name d
+field_is_defined (OfSchema schema) parent x proper builds =
+    let field = field_builds schema.now parent x builds in
+    (field.definition.node, (field.definition, field.defined, refl))
+field_is_defined (Unknown definition) parent x proper builds = (definition.now, proper)
+
+pub set_below_builds_in : (schema : Option Schema) (parent ty : NameText) (x : Field) (d : Node FieldDefinition) →
+    SelectionsBuildIn schema parent (tree.Field x ∷ []) → DefinesField schema parent (out-Field x).name d →
+    ty ≡ inner_named_type d.value.value.ty → SelectionsBuildIn schema ty (selections_in (out-Field x).selection_set)
+set_below_builds_in (Some schema) parent ty x d builds (c, found, same) is =
+    set_below_builds schema parent ty x c builds found (is ∙ ap (λ d. inner_named_type d.value.value.ty) (sym same))
+set_below_builds_in None parent ty x d builds defines is = tt
+
+pub set_of_fragment_builds_in : (schema : Option Schema) (parent ty : NameText) (x : InlineFragment) (xs : List Selection) →
+    SelectionsBuildIn schema parent (tree.InlineFragment x ∷ []) → ty ≡ unwrap_or x.type_condition parent → xs ≡ x.selection_set.selections →
+    SelectionsBuildIn schema ty xs
+set_of_fragment_builds_in (Some schema) parent ty x xs builds is all = set_of_fragment_builds schema parent ty x xs builds is all
+set_of_fragment_builds_in None parent ty x xs builds is all = tt
+
+pub root_is_there : (schema : Option Schema) (x : OperationDefinition) → DefinitionBuilds schema (definition.Operation x) →
+    (root : NameText) × IsRoot schema x.operation_type root
+root_is_there (Some schema) x builds = (builds.root, builds.defined)
+root_is_there None x builds = (default_root_name x.operation_type, refl)

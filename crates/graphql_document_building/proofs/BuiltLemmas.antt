@@ -1,5 +1,5 @@
 -- What a tree says against a schema is built against it.
-use Rattle.std.proofs.Common.{◌≡◌, List, [], ◌∷◌, Option, None, Some, Ok, refl, sym, subst, All, Contains}
+use Rattle.std.proofs.Common.{◌≡◌, List, [], ◌∷◌, Option, None, Some, Ok, refl, sym, ap, ◌∙◌, subst, All, Contains}
 use Rattle.std.specs.List.{AllZip}
 use Rattle.std.specs.Option.{option_map}
 use Rattle.std.specs.Prelude.{option_to_list, map, unwrap_or}
@@ -16,6 +16,7 @@ use Rattle.graphql_documents.specs.Contents.{SameFieldDefinition}
 use Rattle.graphql_documents.specs.Schemas.{root_operation, type_field}
 use Rattle.graphql_documents.specs.Selections.{SetWritten, selections_of, set_itself, set_in_field, set_in_inline_fragment}
 use Rattle.graphql_documents.specs.contracts.documents.definitions.FieldDefinitionEq.TheImpl.Laws as definition_laws
+use Rattle.graphql_documents.specs.TypeReferences.{inner_named_type}
 use Rattle.graphql_documents.specs.declared.documents.components.ComponentName.{ComponentName}
 use Rattle.graphql_documents.specs.declared.documents.definitions.FieldDefinition.{FieldDefinition}
 use Rattle.graphql_documents.specs.declared.documents.executables.ExecutableDocument.{ExecutableDocument}
@@ -55,36 +56,36 @@ own_names ds = each_standing OwnName (fragments_in ds) (λ p stands. let made = 
 
 module _ (schema : Schema) where
   abbrev IsSaid : NameText → Selection → Type 0
-  IsSaid parent s = (x : selection_tree.Selection) × SelectionSays schema parent x s
+  IsSaid parent s = (x : selection_tree.Selection) × SelectionSays (Some schema) parent x s
 
-  all_said : (parent : NameText) (xs : List selection_tree.Selection) (ss : List Selection) → SelectionsSay schema parent xs ss → All (IsSaid parent) ss
+  all_said : (parent : NameText) (xs : List selection_tree.Selection) (ss : List Selection) → SelectionsSay (Some schema) parent xs ss → All (IsSaid parent) ss
   all_said parent xs ss no_selections = All-nil (IsSaid parent)
   all_said parent xs ss (next_selection {x = x} {s = s} {xs = rest} {ss = more} first behind) =
       All-cons (IsSaid parent) s more (x, first) (all_said parent rest more behind)
 
   record SaidField (parent : NameText) (f : Node Field) : Type 0 where
     x : field_tree.Field
-    head : FieldHeadSays schema parent x f.value.value
-    set : SelectionsSay schema f.value.value.selection_set.ty (selections_in (field_tree.out-Field x).selection_set) f.value.value.selection_set.selections.items
+    head : FieldHeadSays (Some schema) parent x f.value.value
+    set : SelectionsSay (Some schema) f.value.value.selection_set.ty (selections_in (field_tree.out-Field x).selection_set) f.value.value.selection_set.selections.items
 
   record SaidFragment (parent : NameText) (i : Node InlineFragment) : Type 0 where
     x : inline_fragment_tree.InlineFragment
     head : InlineFragmentHeadSays parent x i.value.value
-    set : SelectionsSay schema i.value.value.selection_set.ty x.selection_set.selections i.value.value.selection_set.selections.items
+    set : SelectionsSay (Some schema) i.value.value.selection_set.ty x.selection_set.selections i.value.value.selection_set.selections.items
 
-  said_field : (parent : NameText) (x : selection_tree.Selection) (s : Selection) (f : Node Field) → SelectionSays schema parent x s → s ≡ kind.Field f → SaidField parent f
+  said_field : (parent : NameText) (x : selection_tree.Selection) (s : Selection) (f : Node Field) → SelectionSays (Some schema) parent x s → s ≡ kind.Field f → SaidField parent f
   said_field parent x s f (field_says y g head set location) is =
       subst (SaidField parent) (same_field f g is) (record { x = y; head = head; set = set })
   said_field parent x s f (fragment_spread_says y p says) is = absurd (not_spread f p is)
   said_field parent x s f (inline_fragment_says y i head set location) is = absurd (not_inline f i is)
 
-  said_fragment : (parent : NameText) (x : selection_tree.Selection) (s : Selection) (i : Node InlineFragment) → SelectionSays schema parent x s → s ≡ kind.InlineFragment i → SaidFragment parent i
+  said_fragment : (parent : NameText) (x : selection_tree.Selection) (s : Selection) (i : Node InlineFragment) → SelectionSays (Some schema) parent x s → s ≡ kind.InlineFragment i → SaidFragment parent i
   said_fragment parent x s i (field_says y g head set location) is = absurd (not_inline g i (sym is))
   said_fragment parent x s i (fragment_spread_says y p says) is = absurd (spread_not_inline i p is)
   said_fragment parent x s i (inline_fragment_says y j head set location) is =
       subst (SaidFragment parent) (same_inline j i is) (record { x = y; head = head; set = set })
 
-  module _ (set : SelectionSet) (xs : List selection_tree.Selection) (says : SelectionsSay schema set.ty xs (selections_of set)) where
+  module _ (set : SelectionSet) (xs : List selection_tree.Selection) (says : SelectionsSay (Some schema) set.ty xs (selections_of set)) where
     field_in : (f : Node Field) → Contains (selections_of set) (kind.Field f) → SaidField set.ty f
     field_in f stands =
         let said = All-contains (IsSaid set.ty) (selections_of set) (kind.Field f) (all_said set.ty xs (selections_of set) says) stands in
@@ -99,14 +100,18 @@ module _ (schema : Schema) where
     field_is_built : (parent : NameText) (f : Node Field) → SaidField parent f → FieldIsBuilt schema parent f.value.value
     field_is_built parent f said =
         let head = said.head in
-        let d = head.definition in
-        let same : f.value.value.definition.value.value ≡ d.node.value.value = head.same_definition.same_value in
+        let c = head.defines.0 in
+        let found = head.defines.1 in
+        let same : f.value.value.definition.value.value ≡ c.node.value.value =
+        head.same_definition.same_value ∙ ap (λ (d : Node FieldDefinition). d.value.value) (sym head.defines.2) in
+        let typed : f.value.value.selection_set.ty ≡ type_below c =
+        head.set_type ∙ ap (λ (d : Node FieldDefinition). inner_named_type d.value.value.ty) (sym head.defines.2) in
         record {
-          definition = d;
-          is_of_parent = subst (λ name. type_field schema parent name ≡ Ok d) (sym head.name) head.is_of_parent;
-          same = subst (λ e. SameFieldDefinition e d.node.value.value) (sym same) (definition_itself d.node.value.value);
-          output = rw same (out parent (field_tree.out-Field said.x).name d head.is_of_parent);
-          set_type = rw (same, head.set_type) (same_name_itself (type_below d));
+          definition = c;
+          is_of_parent = subst (λ name. type_field schema parent name ≡ Ok c) (sym head.name) found;
+          same = subst (λ e. SameFieldDefinition e c.node.value.value) (sym same) (definition_itself c.node.value.value);
+          output = rw same (out parent (field_tree.out-Field said.x).name c found);
+          set_type = rw (same, typed) (same_name_itself (type_below c));
         }
 
     fragment_is_built : (parent : NameText) (i : Node InlineFragment) → SaidFragment parent i →
@@ -114,7 +119,7 @@ module _ (schema : Schema) where
     fragment_is_built parent i said = rw (said.head.set_type, said.head.type_condition) (same_name_itself (unwrap_or said.x.type_condition parent))
 
     pub sets_are_built : (set inner : SelectionSet) (xs : List selection_tree.Selection) →
-        SelectionsSay schema set.ty xs (selections_of set) → SetWritten set inner → SetIsBuilt schema inner
+        SelectionsSay (Some schema) set.ty xs (selections_of set) → SetWritten set inner → SetIsBuilt schema inner
     sets_are_built set inner xs says set_itself = record {
       fields = λ f stands. field_is_built set.ty f (field_in set xs says f stands);
       inline_fragments = λ i stands. fragment_is_built set.ty i (fragment_in set xs says i stands);
@@ -130,7 +135,7 @@ module _ (schema : Schema) where
     root_found None name is = absurd (let no : ⊥ = cc in no)
     root_found (Some r) name is = (r, refl, let same : name ≡ r.name = cc in same)
 
-    operation_is_built : (x : OperationDefinition) (o : Node Operation) → OperationSays schema x o → OperationIsBuilt schema o.value.value
+    operation_is_built : (x : OperationDefinition) (o : Node Operation) → OperationSays (Some schema) x o → OperationIsBuilt schema o.value.value
     operation_is_built x o says =
         let found = root_found (root_operation schema.schema_definition.value.value x.operation_type) o.value.value.selection_set.ty says.root in
         record {
@@ -140,7 +145,7 @@ module _ (schema : Schema) where
           sets = λ inner. sets_are_built o.value.value.selection_set inner x.selection_set.selections says.selections;
         }
 
-    all_built : (xs : List OperationDefinition) (os : List (Node Operation)) → AllZip (OperationSays schema) xs os → All (λ o. OperationIsBuilt schema o.value.value) os
+    all_built : (xs : List OperationDefinition) (os : List (Node Operation)) → AllZip (OperationSays (Some schema)) xs os → All (λ o. OperationIsBuilt schema o.value.value) os
     all_built [] [] says = All-nil (λ (o : Node Operation). OperationIsBuilt schema o.value.value)
     all_built [] (o ∷ os) says = absurd says
     all_built (x ∷ xs) [] says = absurd says
@@ -148,7 +153,7 @@ module _ (schema : Schema) where
         All-cons (λ (o : Node Operation). OperationIsBuilt schema o.value.value) o os (operation_is_built x o says.0) (all_built xs os says.1)
 
     named_built : (xs : List (NameText × OperationDefinition)) (os : List (NameText × Node Operation)) →
-        AllZip (SaysUnderName (OperationSays schema)) xs os → All (λ o. OperationIsBuilt schema o.value.value) (map (λ e. e.1) os)
+        AllZip (SaysUnderName (OperationSays (Some schema))) xs os → All (λ o. OperationIsBuilt schema o.value.value) (map (λ e. e.1) os)
     named_built [] [] says = All-nil (λ (o : Node Operation). OperationIsBuilt schema o.value.value)
     named_built [] (o ∷ os) says = absurd says
     named_built (x ∷ xs) [] says = absurd says
@@ -159,7 +164,7 @@ module _ (schema : Schema) where
     FragmentIsBuilt entry = SameName entry.0 entry.1.value.value.name × SetsAreBuilt schema entry.1.value.value.selection_set
 
     fragments_built : (xs : List (NameText × FragmentDefinition)) (ds : List (NameText × Node Fragment)) →
-        All OwnName xs → AllZip (SaysUnderName (FragmentSays schema)) xs ds → All FragmentIsBuilt ds
+        All OwnName xs → AllZip (SaysUnderName (FragmentSays (Some schema))) xs ds → All FragmentIsBuilt ds
     fragments_built [] [] own says = All-nil FragmentIsBuilt
     fragments_built [] (d ∷ ds) own says = absurd says
     fragments_built (x ∷ xs) [] own says = absurd says
@@ -169,7 +174,7 @@ module _ (schema : Schema) where
         All-cons FragmentIsBuilt d ds (named, λ inner. sets_are_built d.1.value.value.selection_set inner x.1.selection_set.selections fragment.selections) (fragments_built xs ds (All-tail OwnName x xs own) says.1)
 
 pub document_is_built : (schema : Schema) (tree : Document) (document : ExecutableDocument) →
-    DocumentSays schema tree document → StandsUnderOwnNames schema → HasOutputFields schema → IsBuilt schema document
+    DocumentSays (Some schema) tree document → StandsUnderOwnNames schema → HasOutputFields schema → IsBuilt schema document
 document_is_built schema tree document says names out = record {
   names = names;
   operations = All-append (λ (o : Node Operation). OperationIsBuilt schema o.value.value) (option_to_list document.operations.anonymous) (values document.operations.named)

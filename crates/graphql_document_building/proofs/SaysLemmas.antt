@@ -1,5 +1,5 @@
 -- What a tree says of a selection that was built, kind by kind.
-use Rattle.std.proofs.Common.{◌≡◌, ℕ, List, [], ◌∷◌, ◌++◌, ◌+◌, ◌<◌, Some, length, get_or, take}
+use Rattle.std.proofs.Common.{◌≡◌, ℕ, List, [], ◌∷◌, ◌++◌, ◌+◌, ◌<◌, Option, Some, length, get_or, take}
 use Rattle.std.proofs.lemmas.List.{take_more}
 use Rattle.graphql_nodes.specs.Names.{NameText}
 use Rattle.graphql_nodes.specs.declared.nodes.Node.{Node}
@@ -17,7 +17,7 @@ use Rattle.graphql_trees.specs.declared.executable.Selection.TheVariants as tree
 use Rattle.graphql_document_building.specs.Selections.{FieldHeadSays, FragmentSpreadSays, InlineFragmentHeadSays, SelectionSays, SelectionsSay, field_says, fragment_spread_says, inline_fragment_says, next_selection, no_selections}
 use Rattle.graphql_document_building.specs.Trees.{selections_in}
 
-module _ (schema : Schema) (parent : NameText) where
+module _ (schema : Option Schema) (parent : NameText) where
   pub field_said : (x : field_tree.Field) (y : Field) (f : Node Field) → f.value.value ≡ y →
       FieldHeadSays schema parent x y → SelectionsSay schema y.selection_set.ty (selections_in (field_tree.out-Field x).selection_set) y.selection_set.selections.items →
       f.location ≡ Some (field_tree.out-Field x).span → SelectionSays schema parent (tree.Field x) (kind.Field f)

@@ -1,7 +1,6 @@
--- When a document can be built against a schema, and selections on their types. Specification: 5.3.1 Field Selections, 5.3.3 Leaf Field Selections,
--- 5.5.1.2 Fragment
--- Spread Type Existence.
-use Rattle.std.specs.Prelude.{◌≡◌, IsTrue, List, [], ◌∷◌, None, Some, Ok, All, map}
+-- When a document can be built, against a schema or without one, and selections on their types. Specification: 5.3.1 Field
+-- Selections, 5.3.3 Leaf Field Selections, 5.5.1.2 Fragment Spread Type Existence.
+use Rattle.std.specs.Prelude.{◌≡◌, IsTrue, List, [], ◌∷◌, Option, None, Some, Ok, All, map}
 use Rattle.graphql_nodes.specs.Names.{AreDistinct, NameText}
 use Rattle.graphql_documents.specs.Schemas.{type_field}
 use Rattle.graphql_documents.specs.declared.documents.components.Component.{Component}
@@ -34,6 +33,11 @@ pub record SelectionsBuild (schema : Schema) (parent : NameText) (trees : List S
 abbrev pub SelectionBuilds : Schema → NameText → Selection → Type 0
 SelectionBuilds schema parent s = SelectionsBuild schema parent (s ∷ [])
 
+-- these selections on the type can be built; without a schema all can
+abbrev pub SelectionsBuildIn : Option Schema → NameText → List Selection → Type 0
+SelectionsBuildIn (Some schema) parent trees = SelectionsBuild schema parent trees
+SelectionsBuildIn None parent trees = Unit {0}
+
 -- the schema has a root type for the operation, on which its selections can be built. Specification: 3.3.1 Root
 -- Operation Types
 pub record OperationBuilds (schema : Schema) (x : OperationDefinition) : Type 0 where
@@ -47,10 +51,13 @@ pub record FragmentBuilds (schema : Schema) (x : FragmentDefinition) : Type 0 wh
   pub defined : IsTrue (is_type_defined schema x.type_condition)
   pub selections : SelectionsBuild schema x.type_condition x.selection_set.selections
 
--- the definition is an operation or a fragment that can be built. Specification: 5.1.1 Executable Definitions
-abbrev pub DefinitionBuilds : Schema → Definition → Type 0
-DefinitionBuilds schema (definition.Operation x) = OperationBuilds schema x
-DefinitionBuilds schema (definition.Fragment x) = FragmentBuilds schema x
+-- the definition is an operation or a fragment that can be built; without a schema each can. Specification: 5.1.1
+-- Executable Definitions
+abbrev pub DefinitionBuilds : Option Schema → Definition → Type 0
+DefinitionBuilds (Some schema) (definition.Operation x) = OperationBuilds schema x
+DefinitionBuilds (Some schema) (definition.Fragment x) = FragmentBuilds schema x
+DefinitionBuilds None (definition.Operation x) = Unit {0}
+DefinitionBuilds None (definition.Fragment x) = Unit {0}
 DefinitionBuilds schema _ = ⊥
 
 -- an operation without a name is the only operation. Specification: 5.2.2.1 Lone Anonymous Operation
@@ -59,7 +66,7 @@ AnonymousOperationIsAlone definitions = All (λ x. operations_in definitions ≡
 
 -- the document can be built: each of its definitions can, and names are unique. Specification: 5.2.1.1 Operation Name
 -- Uniqueness, 5.5.1.1 Fragment Name Uniqueness
-pub record DocumentBuilds (schema : Schema) (x : Document) : Type 0 where
+pub record DocumentBuilds (schema : Option Schema) (x : Document) : Type 0 where
   pub definitions : All (DefinitionBuilds schema) x.definitions
   pub anonymous_operation : AnonymousOperationIsAlone x.definitions
   pub operation_names : AreDistinct (map (λ p. p.0) (named_operations_in x.definitions))

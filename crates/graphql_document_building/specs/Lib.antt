@@ -1,4 +1,5 @@
 pub mod BuildingRules
 pub mod Documents
+pub mod FieldDefinitions
 pub mod Selections
 pub mod Trees

@@ -5,10 +5,13 @@ ghost use Rattle.std.specs.List.{AllZip};
 ghost use Rattle.std.specs.Option.{option_copied, option_map};
 ghost use Rattle.indexmap.specs.IndexMap.{get};
 ghost use Rattle.graphql_nodes.specs.Names.{AreDistinct, same_name};
-ghost use Rattle.graphql_document_building.specs.BuildingRules.{AnonymousOperationIsAlone, DefinitionBuilds, DocumentBuilds, FragmentBuilds, OperationBuilds};
+ghost use Rattle.graphql_document_building.specs.BuildingRules.{AnonymousOperationIsAlone, DefinitionBuilds, DocumentBuilds};
+ghost use Rattle.graphql_trees.specs.declared.documents.Definition.TheVariants as definition;
+ghost use Rattle.graphql_document_building.specs.FieldDefinitions.{IsProper, schema_of};
 ghost use Rattle.graphql_document_building.specs.Documents.{DocumentSays, FragmentSays, OperationSays, SaysUnderName};
 ghost use Rattle.graphql_document_building.specs.Trees.{anonymous_operations_in, as_anonymous_operation, as_fragment, as_named_operation, fragments_in, named_operations_in};
 
+use crate::field_definitions::{FieldDefinitions, unknown_field};
 use crate::selections::{build_selection_set, copy_of_name};
 use graphql_documents::documents::{ExecutableDocument, Fragment, Operation, OperationMap, Schema};
 use graphql_leaf_building::{build_directives, build_variables};
@@ -26,13 +29,40 @@ pub fn build_document(
     schema: &Schema,
     tree: &Document,
 ) -> Result<ExecutableDocument, ValidationError>
-    requires { DocumentBuilds schema.now tree.now }
-    ensures { IfOk result (DocumentSays schema.now tree.now) }
+    requires { DocumentBuilds (Some schema.now) tree.now }
+    ensures { IfOk result (DocumentSays (Some schema.now) tree.now) }
+{
+    build_definitions(alloc, &FieldDefinitions::OfSchema(schema), tree)
+}
+
+/// The document that the tree says, built without a schema: each field has the definition `UNKNOWN: UNKNOWN`, and
+/// each operation the root type with the default name of its kind. Fails only where an allocation fails.
+///
+/// Specification: 2.2 Document; 3.3.1 Root Operation Types.
+pub fn build_standalone_document(
+    alloc: Global,
+    tree: &Document,
+) -> Result<ExecutableDocument, ValidationError>
+    requires { DocumentBuilds None tree.now }
+    ensures { IfOk result (DocumentSays None tree.now) }
+{
+    let unknown = unknown_field(alloc)?;
+    build_definitions(alloc, &FieldDefinitions::Unknown(&unknown), tree)
+}
+
+fn build_definitions(
+    alloc: Global,
+    definitions: &FieldDefinitions<'_>,
+    tree: &Document,
+) -> Result<ExecutableDocument, ValidationError>
+    requires proper { IsProper definitions.now }
+    requires builds { DocumentBuilds (schema_of definitions.now) tree.now }
+    ensures { IfOk result (DocumentSays (schema_of definitions.now) tree.now) }
 {
     let trees = tree.definitions.as_slice();
-    let anonymous = build_anonymous_operation(alloc, schema, trees)?;
-    let named = build_named_operations(alloc, schema, trees)?;
-    let fragments = build_fragments(alloc, schema, trees)?;
+    let anonymous = build_anonymous_operation(alloc, definitions, trees)?;
+    let named = build_named_operations(alloc, definitions, trees)?;
+    let fragments = build_fragments(alloc, definitions, trees)?;
     Ok(ExecutableDocument {
         operations: OperationMap { anonymous, named },
         fragments,
@@ -41,16 +71,17 @@ pub fn build_document(
 
 fn build_anonymous_operation(
     alloc: Global,
-    schema: &Schema,
+    definitions: &FieldDefinitions<'_>,
     trees: &[Definition],
 ) -> Result<Option<Node<Operation>>, ValidationError>
-    requires builds { All (DefinitionBuilds schema.now) trees.now }
+    requires proper { IsProper definitions.now }
+    requires builds { All (DefinitionBuilds (schema_of definitions.now)) trees.now }
     requires alone { AnonymousOperationIsAlone trees.now }
-    ensures { IfOk result (λ found. AllZip (OperationSays schema.now) (anonymous_operations_in trees.now) (option_to_list found)) }
+    ensures { IfOk result (λ found. AllZip (OperationSays (schema_of definitions.now)) (anonymous_operations_in trees.now) (option_to_list found)) }
 {
     for tree in trees {
         if let Some(operation) = anonymous_operation(tree) {
-            let built = build_operation(alloc, schema, operation)?;
+            let built = build_operation(alloc, definitions, operation)?;
             return Ok(Some(built));
         }
     }
@@ -59,12 +90,13 @@ fn build_anonymous_operation(
 
 fn build_named_operations(
     alloc: Global,
-    schema: &Schema,
+    definitions: &FieldDefinitions<'_>,
     trees: &[Definition],
 ) -> Result<IndexMap<Name, Node<Operation>>, ValidationError>
-    requires builds { All (DefinitionBuilds schema.now) trees.now }
+    requires proper { IsProper definitions.now }
+    requires builds { All (DefinitionBuilds (schema_of definitions.now)) trees.now }
     requires distinct { AreDistinct (map (λ p. p.0) (named_operations_in trees.now)) }
-    ensures { IfOk result (λ named. AllZip (SaysUnderName (OperationSays schema.now)) (named_operations_in trees.now) named.entries) }
+    ensures { IfOk result (λ named. AllZip (SaysUnderName (OperationSays (schema_of definitions.now))) (named_operations_in trees.now) named.entries) }
 {
     let mut operations = IndexMap::new(alloc);
     for tree in trees {
@@ -72,7 +104,7 @@ fn build_named_operations(
             continue;
         };
         let name = name.clone_in(alloc)?;
-        let built = build_operation(alloc, schema, operation)?;
+        let built = build_operation(alloc, definitions, operation)?;
         insert_new(&mut operations, name, built)?;
     }
     Ok(operations)
@@ -80,12 +112,13 @@ fn build_named_operations(
 
 fn build_fragments(
     alloc: Global,
-    schema: &Schema,
+    definitions: &FieldDefinitions<'_>,
     trees: &[Definition],
 ) -> Result<IndexMap<Name, Node<Fragment>>, ValidationError>
-    requires builds { All (DefinitionBuilds schema.now) trees.now }
+    requires proper { IsProper definitions.now }
+    requires builds { All (DefinitionBuilds (schema_of definitions.now)) trees.now }
     requires distinct { AreDistinct (map (λ p. p.0) (fragments_in trees.now)) }
-    ensures { IfOk result (λ fragments. AllZip (SaysUnderName (FragmentSays schema.now)) (fragments_in trees.now) fragments.entries) }
+    ensures { IfOk result (λ fragments. AllZip (SaysUnderName (FragmentSays (schema_of definitions.now))) (fragments_in trees.now) fragments.entries) }
 {
     let mut fragments = IndexMap::new(alloc);
     for tree in trees {
@@ -93,7 +126,7 @@ fn build_fragments(
             continue;
         };
         let name = fragment.name.clone_in(alloc)?;
-        let built = build_fragment(alloc, schema, fragment)?;
+        let built = build_fragment(alloc, definitions, fragment)?;
         insert_new(&mut fragments, name, built)?;
     }
     Ok(fragments)
@@ -147,23 +180,21 @@ fn insert_new<T: Drop>(
 
 fn build_operation(
     alloc: Global,
-    schema: &Schema,
+    definitions: &FieldDefinitions<'_>,
     tree: &OperationDefinition,
 ) -> Result<Node<Operation>, ValidationError>
-    requires { OperationBuilds schema.now tree.now }
-    ensures { IfOk result (OperationSays schema.now tree.now) }
+    requires proper { IsProper definitions.now }
+    requires builds { DefinitionBuilds (schema_of definitions.now) (definition.Operation tree.now) }
+    ensures { IfOk result (OperationSays (schema_of definitions.now) tree.now) }
 {
     let name = copy_of_name(alloc, &tree.name)?;
     let variables = build_variables(alloc, tree.variables.as_slice())?;
     let directives = build_directives(alloc, tree.directives.as_slice())?;
-    let root = match schema.root_operation(tree.operation_type) {
-        Some(root) => root,
-        None => unreachable!(),
-    };
+    let root = definitions.root(alloc, tree.operation_type)?;
     let selection_set = build_selection_set(
         alloc,
-        schema,
-        root,
+        definitions,
+        &root,
         tree.selection_set.selections.as_slice(),
     )?;
     let operation = Operation {
@@ -179,16 +210,17 @@ fn build_operation(
 
 fn build_fragment(
     alloc: Global,
-    schema: &Schema,
+    definitions: &FieldDefinitions<'_>,
     tree: &FragmentDefinition,
 ) -> Result<Node<Fragment>, ValidationError>
-    requires { FragmentBuilds schema.now tree.now }
-    ensures { IfOk result (FragmentSays schema.now tree.now) }
+    requires proper { IsProper definitions.now }
+    requires builds { DefinitionBuilds (schema_of definitions.now) (definition.Fragment tree.now) }
+    ensures { IfOk result (FragmentSays (schema_of definitions.now) tree.now) }
 {
     let name = tree.name.clone_in(alloc)?;
     let directives = build_directives(alloc, tree.directives.as_slice())?;
     let trees = tree.selection_set.selections.as_slice();
-    let selection_set = build_selection_set(alloc, schema, &tree.type_condition, trees)?;
+    let selection_set = build_selection_set(alloc, definitions, &tree.type_condition, trees)?;
     let fragment = Fragment {
         name,
         directives,

@@ -2,6 +2,7 @@
 //!
 //! Each function here does nothing. Its contract is the law.
 
+ghost use Rattle.std.specs.Prelude.{Some};
 ghost use Rattle.graphql_documents.specs.Built.{IsBuilt, StandsUnderOwnNames};
 ghost use Rattle.graphql_documents.specs.declared.documents.executables.ExecutableDocument.{ExecutableDocument};
 ghost use Rattle.graphql_documents.specs.declared.documents.schemas.Schema.{Schema};
@@ -15,5 +16,5 @@ ghost use Rattle.graphql_trees.specs.declared.documents.Document.{Document};
 /// Specification: 2.4 Selection Sets, 5.3.1 Field Selections.
 pub fn said_document_is_built()
     ensures { (schema : Schema) (tree : Document) (document : ExecutableDocument) →
-        DocumentSays schema tree document → StandsUnderOwnNames schema → HasOutputFields schema → IsBuilt schema document }
+        DocumentSays (Some schema) tree document → StandsUnderOwnNames schema → HasOutputFields schema → IsBuilt schema document }
 {}

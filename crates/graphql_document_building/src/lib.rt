@@ -1,8 +1,9 @@
-//! Executable documents as typed data, built from their syntax trees against a schema.
+//! Executable documents as typed data, built from their syntax trees, against a schema or without one.
 #![tactic(auto)]
 
 pub mod documents;
+mod field_definitions;
 pub mod laws;
-pub mod selections;
+mod selections;
 
-pub use documents::build_document;
+pub use documents::{build_document, build_standalone_document};

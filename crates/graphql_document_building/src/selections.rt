@@ -1,17 +1,17 @@
 //! Selection sets on their types.
 
-ghost use Rattle.std.specs.Prelude.{◌≡◌, IfOk, Ok, None, Some, unwrap_or};
-ghost use Rattle.graphql_documents.specs.Schemas.{type_field};
-ghost use Rattle.graphql_document_building.specs.BuildingRules.{FieldBuilds, SelectionBuilds, SelectionsBuild};
+ghost use Rattle.std.specs.Prelude.{◌≡◌, ◌∷◌, [], IfOk, unwrap_or};
+ghost use Rattle.graphql_document_building.specs.BuildingRules.{SelectionsBuildIn};
+ghost use Rattle.graphql_document_building.specs.FieldDefinitions.{IsProper, schema_of};
 ghost use Rattle.graphql_document_building.specs.Selections.{FragmentSpreadSays, SelectionSays, SelectionsSay, SetSays};
 ghost use Rattle.graphql_document_building.specs.Trees.{selections_in};
 ghost use Rattle.graphql_documents.specs.declared.documents.executables.Selection.TheVariants as kind;
 ghost use Rattle.graphql_trees.specs.declared.executable.Field.{out-Field};
 ghost use Rattle.graphql_trees.specs.declared.executable.Selection.TheVariants as tree_kind;
 
+use crate::field_definitions::FieldDefinitions;
 use graphql_documents::documents::{
-    Component, Field, FieldDefinition, FragmentSpread, InlineFragment, Schema, Selection,
-    SelectionSet,
+    Field, FragmentSpread, InlineFragment, Selection, SelectionSet,
 };
 use graphql_leaf_building::{build_arguments, build_directives};
 use graphql_nodes::{Name, NamedType, Node, ValidationError};
@@ -22,22 +22,23 @@ use graphql_trees::{
 use sqlite_items::Boxed;
 use std::alloc::Global;
 
-/// The set on this type that the trees say, built against the schema. Fails only where an allocation fails.
+/// The set on this type that the trees say. Fails only where an allocation fails.
 ///
 /// Specification: 2.4 Selection Sets.
 #[cycle(selections)]
-pub fn build_selection_set(
+pub(crate) fn build_selection_set(
     alloc: Global,
-    schema: &Schema,
+    definitions: &FieldDefinitions<'_>,
     ty: &NamedType,
     trees: &[SelectionTree],
 ) -> Result<SelectionSet, ValidationError>
-    requires builds { SelectionsBuild schema.now ty.now trees.now }
-    ensures { IfOk result (SetSays schema.now ty.now trees.now) }
+    requires proper { IsProper definitions.now }
+    requires builds { SelectionsBuildIn (schema_of definitions.now) ty.now trees.now }
+    ensures { IfOk result (SetSays (schema_of definitions.now) ty.now trees.now) }
 {
     let mut selections = Vec::new(alloc);
     for tree in trees {
-        let selection = build_selection(alloc, schema, ty, tree)?;
+        let selection = build_selection(alloc, definitions, ty, tree)?;
         selections.push(selection)?;
     }
     let ty = ty.clone_in(alloc)?;
@@ -47,16 +48,17 @@ pub fn build_selection_set(
 #[cycle(selections)]
 fn build_selection(
     alloc: Global,
-    schema: &Schema,
+    definitions: &FieldDefinitions<'_>,
     parent: &NamedType,
     tree: &SelectionTree,
 ) -> Result<Selection, ValidationError>
-    requires builds { SelectionBuilds schema.now parent.now tree.now }
-    ensures { IfOk result (SelectionSays schema.now parent.now tree.now) }
+    requires proper { IsProper definitions.now }
+    requires builds { SelectionsBuildIn (schema_of definitions.now) parent.now (tree.now ∷ []) }
+    ensures { IfOk result (SelectionSays (schema_of definitions.now) parent.now tree.now) }
 {
     match tree {
         SelectionTree::Field(field) => {
-            let field = build_field(alloc, schema, parent, field)?;
+            let field = build_field(alloc, definitions, parent, field)?;
             Ok(Selection::Field(field))
         }
         SelectionTree::FragmentSpread(spread) => {
@@ -64,7 +66,7 @@ fn build_selection(
             Ok(Selection::FragmentSpread(spread))
         }
         SelectionTree::InlineFragment(fragment) => {
-            let fragment = build_inline_fragment(alloc, schema, parent, fragment)?;
+            let fragment = build_inline_fragment(alloc, definitions, parent, fragment)?;
             Ok(Selection::InlineFragment(fragment))
         }
     }
@@ -73,21 +75,22 @@ fn build_selection(
 #[cycle(selections)]
 fn build_field(
     alloc: Global,
-    schema: &Schema,
+    definitions: &FieldDefinitions<'_>,
     parent: &NamedType,
     tree: &FieldTree,
 ) -> Result<Node<Field>, ValidationError>
-    requires builds { SelectionBuilds schema.now parent.now (tree_kind.Field tree.now) }
-    ensures { IfOk result (λ field. SelectionSays schema.now parent.now (tree_kind.Field tree.now) (kind.Field field)) }
+    requires proper { IsProper definitions.now }
+    requires builds { SelectionsBuildIn (schema_of definitions.now) parent.now (tree_kind.Field tree.now ∷ []) }
+    ensures { IfOk result (λ field. SelectionSays (schema_of definitions.now) parent.now (tree_kind.Field tree.now) (kind.Field field)) }
 {
-    let definition = definition_of(schema, parent, &tree.name).node.clone()?;
+    let definition = definitions.of_field(parent, &tree.name).clone()?;
     let alias = copy_of_alias(alloc, &tree.alias)?;
     let name = tree.name.clone_in(alloc)?;
     let arguments = build_arguments(alloc, tree.arguments.as_slice())?;
     let directives = build_directives(alloc, tree.directives.as_slice())?;
     let selection_set = build_set_below(
         alloc,
-        schema,
+        definitions,
         definition.value.ty.inner_named_type(),
         tree,
     )?;
@@ -107,15 +110,16 @@ fn build_field(
 #[cycle(selections)]
 fn build_set_below(
     alloc: Global,
-    schema: &Schema,
+    definitions: &FieldDefinitions<'_>,
     ty: &NamedType,
     field: &FieldTree,
 ) -> Result<SelectionSet, ValidationError>
-    requires builds { SelectionsBuild schema.now ty.now (selections_in (out-Field field.now).selection_set) }
-    ensures { IfOk result (SetSays schema.now ty.now (selections_in (out-Field field.now).selection_set)) }
+    requires proper { IsProper definitions.now }
+    requires builds { SelectionsBuildIn (schema_of definitions.now) ty.now (selections_in (out-Field field.now).selection_set) }
+    ensures { IfOk result (SetSays (schema_of definitions.now) ty.now (selections_in (out-Field field.now).selection_set)) }
 {
     match &field.selection_set {
-        Some(set) => build_selection_set(alloc, schema, ty, set.get().selections.as_slice()),
+        Some(set) => build_selection_set(alloc, definitions, ty, set.get().selections.as_slice()),
         None => {
             let ty = ty.clone_in(alloc)?;
             Ok(SelectionSet {
@@ -129,19 +133,20 @@ fn build_set_below(
 #[cycle(selections)]
 fn build_inline_fragment(
     alloc: Global,
-    schema: &Schema,
+    definitions: &FieldDefinitions<'_>,
     parent: &NamedType,
     tree: &InlineFragmentTree,
 ) -> Result<Node<InlineFragment>, ValidationError>
-    requires builds { SelectionBuilds schema.now parent.now (tree_kind.InlineFragment tree.now) }
-    ensures { IfOk result (λ fragment. SelectionSays schema.now parent.now (tree_kind.InlineFragment tree.now) (kind.InlineFragment fragment)) }
+    requires proper { IsProper definitions.now }
+    requires builds { SelectionsBuildIn (schema_of definitions.now) parent.now (tree_kind.InlineFragment tree.now ∷ []) }
+    ensures { IfOk result (λ fragment. SelectionSays (schema_of definitions.now) parent.now (tree_kind.InlineFragment tree.now) (kind.InlineFragment fragment)) }
 {
     let type_condition = copy_of_name(alloc, &tree.type_condition)?;
     let directives = build_directives(alloc, tree.directives.as_slice())?;
     let ty = tree.type_condition.as_ref().unwrap_or(parent);
     let selection_set = build_selection_set(
         alloc,
-        schema,
+        definitions,
         ty,
         tree.selection_set.selections.as_slice(),
     )?;
@@ -167,20 +172,6 @@ fn build_fragment_spread(
         directives,
     };
     Node::new_located(alloc, spread, tree.span)
-}
-
-fn definition_of<'a>(
-    schema: &'a Schema,
-    parent: &NamedType,
-    name: &Name,
-) -> &'a Component<FieldDefinition>
-    requires { (definition : Component FieldDefinition) × (type_field schema.now parent.now name.now ≡ Ok definition) }
-    ensures { type_field schema.now parent.now name.now ≡ Ok result.now }
-{
-    match schema.type_field(parent, name) {
-        Ok(definition) => definition,
-        Err(_) => unreachable!(),
-    }
 }
 
 fn copy_of_alias(

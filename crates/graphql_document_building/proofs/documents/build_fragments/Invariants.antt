@@ -1,8 +1,9 @@
 use Rattle.std.proofs.Common.{take}
 use Rattle.std.specs.List.{AllZip}
 use Rattle.graphql_document_building.specs.Documents.{FragmentSays, SaysUnderName}
+use Rattle.graphql_document_building.specs.FieldDefinitions.{schema_of}
 use Rattle.graphql_document_building.specs.Trees.{fragments_in}
 use Rattle.graphql_document_building.proofs.documents.build_fragments.Given as goal
 
 abbrev pub invariant-loop-tree : goal.invariant-loop-tree
-invariant-loop-tree l = AllZip (SaysUnderName (FragmentSays l.schema)) (fragments_in (take l.tree-index l.trees)) l.fragments.entries
+invariant-loop-tree l = AllZip (SaysUnderName (FragmentSays (schema_of l.definitions))) (fragments_in (take l.tree-index l.trees)) l.fragments.entries

@@ -4,33 +4,36 @@ use Rattle.graphql_documents.specs.declared.documents.executables.Field.{Field}
 use Rattle.graphql_documents.specs.declared.documents.executables.InlineFragment.{InlineFragment}
 use Rattle.graphql_documents.specs.TypeReferences.{inner_named_type}
 use Rattle.graphql_trees.specs.declared.executable.Field as field_tree
-use Rattle.graphql_document_building.proofs.BuildsLemmas.{field_builds, one_builds, set_below_builds, set_of_fragment_builds}
+use Rattle.graphql_document_building.proofs.BuildsLemmas.{field_is_defined, one_builds_in, set_below_builds_in, set_of_fragment_builds_in}
+use Rattle.graphql_document_building.specs.FieldDefinitions.{schema_of}
 use Rattle.graphql_trees.specs.declared.executable.Selection.{size-Selection}
 use Rattle.graphql_document_building.proofs.MeasureLemmas.{item_is_no_deeper, most_size, set_is_smaller}
 use Rattle.graphql_document_building.proofs.SaysLemmas.{field_said, inline_fragment_said, selections_more, spread_said}
 use Rattle.graphql_document_building.specs.Selections.{no_selections}
-use Rattle.graphql_document_building.specs.Trees.{selections_in, type_below}
+use Rattle.graphql_document_building.specs.Trees.{selections_in}
 use Rattle.graphql_document_building.proofs.selections.+selections.Goals as goal
 
-pub build_field-definition_of-requires : goal.build_field-definition_of-requires
-build_field-definition_of-requires t c =
-    let builds = field_builds c.args.schema.now c.args.parent.now c.args.tree.now c.requires.builds in
-    (builds.definition, builds.defined)
+pub build_field-of_field-requires-clause-defined : goal.build_field-of_field-requires-clause-defined
+build_field-of_field-requires-clause-defined t c =
+    field_is_defined c.args.definitions.now c.args.parent.now c.args.tree.now c.requires.proper c.requires.builds
 
 pub build_field-build_set_below-requires : goal.build_field-build_set_below-requires
 build_field-build_set_below-requires t c =
-    let is : c.inner_named_type.result.now ≡ type_below c.definition_of.result.now =
+    let is : c.inner_named_type.result.now ≡ inner_named_type c.of_field.result.now.value.value.ty =
     c.inner_named_type.ensures ∙ ap (λ d. inner_named_type d.ty) (c.deref.ensures ∙ c.in_ok-definition.ensures.cases.same_value) in (
       search rules,
-      set_below_builds c.args.schema.now c.args.parent.now c.inner_named_type.result.now c.args.tree.now c.definition_of.result.now
-          c.requires.builds c.definition_of.ensures is,
+      (
+        c.requires.proper,
+        set_below_builds_in (schema_of c.args.definitions.now) c.args.parent.now c.inner_named_type.result.now c.args.tree.now c.of_field.result.now
+            c.requires.builds c.of_field.ensures is,
+      ),
     )
 
 pub build_field-returns : goal.build_field-returns
 build_field-returns t c =
-    let d = c.definition_of.result.now in
+    let d = c.of_field.result.now in
     let x = c.args.tree.now in
-    let is : c.inner_named_type.result.now ≡ type_below d =
+    let is : c.inner_named_type.result.now ≡ inner_named_type d.value.value.ty =
     c.inner_named_type.ensures ∙ ap (λ d. inner_named_type d.ty) (c.deref.ensures ∙ c.in_ok-definition.ensures.cases.same_value) in
     let y : Field = record {
       definition = c.in_ok-definition.definition;
@@ -40,10 +43,10 @@ build_field-returns t c =
       directives = c.in_ok-directives.directives;
       selection_set = c.in_ok-selection_set.selection_set;
     } in
-    field_said c.args.schema.now c.args.parent.now x y c.in_ok-node.node c.in_ok-node.ensures.value
+    field_said (schema_of c.args.definitions.now) c.args.parent.now x y c.in_ok-node.node c.in_ok-node.ensures.value
     (record {
       definition = d;
-      is_of_parent = c.definition_of.ensures;
+      defines = c.of_field.ensures;
       same_definition = c.in_ok-definition.ensures.cases;
       alias = c.in_ok-alias.ensures;
       name = c.in_ok-name.ensures;
@@ -56,8 +59,10 @@ build_field-returns t c =
 pub build_inline_fragment-build_selection_set-requires : goal.build_inline_fragment-build_selection_set-requires
 build_inline_fragment-build_selection_set-requires t c =
     let is : c.unwrap_or-ty.result.now ≡ unwrap_or c.args.tree.now.type_condition c.args.parent.now = search rules in
-    let falls : most_size c.as_slice-2.result.now ≡ most_size c.args.tree.now.selection_set.selections = ap most_size c.as_slice-2.ensures in
-    (omega (arith, falls, set_is_smaller c.args.tree.now, c.decreases), set_of_fragment_builds c.args.schema.now c.args.parent.now c.unwrap_or-ty.result.now c.args.tree.now c.as_slice-2.result.now c.requires.builds is c.as_slice-2.ensures)
+    let falls : most_size c.as_slice-2.result.now ≡ most_size c.args.tree.now.selection_set.selections = ap most_size c.as_slice-2.ensures in (
+      omega (arith, falls, set_is_smaller c.args.tree.now, c.decreases),
+      (c.requires.proper, set_of_fragment_builds_in (schema_of c.args.definitions.now) c.args.parent.now c.unwrap_or-ty.result.now c.args.tree.now c.as_slice-2.result.now c.requires.builds is c.as_slice-2.ensures),
+    )
 
 pub build_inline_fragment-returns : goal.build_inline_fragment-returns
 build_inline_fragment-returns t c =
@@ -67,7 +72,7 @@ build_inline_fragment-returns t c =
       directives = c.in_ok-directives.directives;
       selection_set = c.in_ok-selection_set.selection_set;
     } in
-    inline_fragment_said c.args.schema.now c.args.parent.now c.args.tree.now y c.in_ok-node.node c.in_ok-node.ensures.value
+    inline_fragment_said (schema_of c.args.definitions.now) c.args.parent.now c.args.tree.now y c.in_ok-node.node c.in_ok-node.ensures.value
     (record {
       type_condition = c.in_ok-type_condition.ensures;
       directives = rw c.as_slice.ensures at c.in_ok-directives.ensures;
@@ -77,22 +82,24 @@ build_inline_fragment-returns t c =
 
 pub build_selection-returns-in_ok-spread-in-FragmentSpread : goal.build_selection-returns-in_ok-spread-in-FragmentSpread
 build_selection-returns-in_ok-spread-in-FragmentSpread t c =
-    spread_said c.args.schema.now c.args.parent.now c.args.tree.now c.in-FragmentSpread.spread c.in_ok-spread-in-FragmentSpread.spread
+    spread_said (schema_of c.args.definitions.now) c.args.parent.now c.args.tree.now c.in-FragmentSpread.spread c.in_ok-spread-in-FragmentSpread.spread
     c.in-FragmentSpread.is c.in_ok-spread-in-FragmentSpread.ensures
 
 pub build_selection_set-build_selection-requires : goal.build_selection_set-build_selection-requires
 build_selection_set-build_selection-requires t c =
     let stands : Contains c.args.trees.now c.tree-item.result = search rules in
     let falls : size-Selection c.tree-item.result ≤ most_size c.args.trees.now =
-    item_is_no_deeper c.args.trees.now c.loop-tree.tree-index c.tree-item.result c.loop-tree-test.true c.tree-item.is in
-    (omega (arith, falls, c.decreases), one_builds c.args.schema.now c.args.ty.now c.args.trees.now c.tree-item.result stands c.requires.builds)
+    item_is_no_deeper c.args.trees.now c.loop-tree.tree-index c.tree-item.result c.loop-tree-test.true c.tree-item.is in (
+      omega (arith, falls, c.decreases),
+      (c.requires.proper, one_builds_in (schema_of c.args.definitions.now) c.args.ty.now c.args.trees.now c.tree-item.result stands c.requires.builds),
+    )
 
 pub build_selection_set-loop-tree-init : goal.build_selection_set-loop-tree-init
 build_selection_set-loop-tree-init t c = rw c.new-selections.ensures.items no_selections
 
 pub build_selection_set-loop-tree-preserved : goal.build_selection_set-loop-tree-preserved
 build_selection_set-loop-tree-preserved t c =
-    selections_more c.args.schema.now c.args.ty.now c.args.trees.now c.loop-tree.tree-index c.tree-item.result c.loop-tree.selections.items c.push.new.self.items
+    selections_more (schema_of c.args.definitions.now) c.args.ty.now c.args.trees.now c.loop-tree.tree-index c.tree-item.result c.loop-tree.selections.items c.push.new.self.items
     c.in_ok-selection.selection c.loop-tree-test.true c.tree-item.is c.loop-tree.invariant c.in_ok-selection.ensures c.in_ok-push.ensures.items
 
 pub build_set_below-returns-in_ok-ty-in-None : goal.build_set_below-returns-in_ok-ty-in-None
