@@ -90,7 +90,7 @@ module _ {D X : Type 0} (h : D → Option (NameText × X)) where
     name_more name names more is some e =
         taken_next name_given ds i d within item name names more is some (e ∙ names_given (take i ds)) ∙ sym (names_given (take (i + 1) ds))
 
-pub builds_words : (schema : Schema) (x : Document) →
+pub builds_words : (schema : Option Schema) (x : Document) →
     (AnonymousOperationIsAlone x.definitions × (AreDistinct (operation_names x.definitions) × (AreDistinct (fragment_names x.definitions) ×
     All (DefinitionBuilds schema) x.definitions))) ↔ DocumentBuilds schema x
 builds_words schema x = (

@@ -1,6 +1,6 @@
 -- What a report says of a definition that cannot be built. Specification: 3.3.1 Root Operation Types, 5.1.1 Executable
 -- Definitions, 5.5.1.2 Fragment Spread Type Existence.
-use Rattle.std.specs.Prelude.{◌≡◌, ◌⊎◌, IsTrue, List, Contains, None, Some}
+use Rattle.std.specs.Prelude.{◌≡◌, ◌⊎◌, IsTrue, List, Contains, Option, None, Some}
 use Rattle.graphql_nodes.specs.Names.{NameText}
 use Rattle.graphql_nodes.specs.declared.spans.SourceSpan.{SourceSpan}
 use Rattle.graphql_documents.specs.Schemas.{type_definition}
@@ -49,12 +49,15 @@ IsFragmentReport schema x r =
     (r ≡ record { location = x.type_condition.location; rule = rule.UndefinedTypeInNamedFragmentTypeCondition x.type_condition x.name })) ⊎
     (IsTrue (is_type_defined schema x.type_condition) × IsSelectionReport schema x.type_condition x.selection_set.selections r)
 
--- the operation or the fragment cannot be built; or the definition is neither, reported at the definition
-abbrev pub IsDefinitionReport : Schema → Definition → BuildingReport → Type 0
-IsDefinitionReport schema (definition.Operation x) r = IsOperationReport schema x r
-IsDefinitionReport schema (definition.Fragment x) r = IsFragmentReport schema x r
+-- the operation or the fragment cannot be built, which is reported against a schema alone; or the definition is neither,
+-- reported at the definition
+abbrev pub IsDefinitionReport : Option Schema → Definition → BuildingReport → Type 0
+IsDefinitionReport (Some schema) (definition.Operation x) r = IsOperationReport schema x r
+IsDefinitionReport (Some schema) (definition.Fragment x) r = IsFragmentReport schema x r
+IsDefinitionReport None (definition.Operation x) r = ⊥
+IsDefinitionReport None (definition.Fragment x) r = ⊥
 IsDefinitionReport schema d r = r ≡ record { location = Some (definition_span d); rule = rule.TypeSystemDefinition }
 
 -- one of these definitions cannot be built
-abbrev pub IsReportOfDefinitions : Schema → List Definition → BuildingReport → Type 0
+abbrev pub IsReportOfDefinitions : Option Schema → List Definition → BuildingReport → Type 0
 IsReportOfDefinitions schema definitions r = (d : Definition) × Contains definitions d × IsDefinitionReport schema d r

@@ -1,6 +1,6 @@
 -- What a report says of a document that cannot be built. Specification: 5.2.1.1 Operation Name Uniqueness, 5.2.2.1 Lone
 -- Anonymous Operation, 5.5.1.1 Fragment Name Uniqueness.
-use Rattle.std.specs.Prelude.{◌≤◌, IsTrue, List, Contains, Some, is_none, length, map}
+use Rattle.std.specs.Prelude.{◌≤◌, IsTrue, List, Contains, Option, Some, is_none, length, map}
 use Rattle.graphql_nodes.specs.Names.{NameText}
 use Rattle.graphql_documents.specs.declared.documents.schemas.Schema.{Schema}
 use Rattle.graphql_trees.specs.declared.documents.Definition.{Definition}
@@ -29,8 +29,8 @@ pub record AnonymousOperationReport (operations : List OperationDefinition) (rep
   pub several : 2 ≤ length operations
   pub says : Says rule.AmbiguousAnonymousOperation (Some x.span) report
 
--- the report is true of the document with this tree
-pub data DocumentBuildingReport (schema : Schema) (x : Document) (report : BuildingReport) : Type 0 where
+-- the report is true of the document with this tree, against a schema or without one
+pub data DocumentBuildingReport (schema : Option Schema) (x : Document) (report : BuildingReport) : Type 0 where
   of_anonymous_operation : AnonymousOperationReport (operations_in x.definitions) report → DocumentBuildingReport schema x report
   of_operation_name : RepetitionReport (operation_names x.definitions) rule.OperationNameCollision report → DocumentBuildingReport schema x report
   of_fragment_name : RepetitionReport (fragment_names x.definitions) rule.FragmentNameCollision report → DocumentBuildingReport schema x report

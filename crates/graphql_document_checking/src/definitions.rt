@@ -1,6 +1,7 @@
 //! Whether definitions can be built.
 
 ghost use Rattle.std.specs.Prelude.{◌≡◌, ◌∷◌, ◌++◌, [], All, OnErr, OnOk, Some};
+ghost use Rattle.std.specs.Option.{option_copied};
 ghost use Rattle.graphql_document_building.specs.BuildingRules.{DefinitionBuilds, FragmentBuilds, OperationBuilds};
 ghost use Rattle.graphql_document_checking.specs.DefinitionReports.{IsDefinitionReport, IsFragmentReport, IsOperationReport, IsReportOfDefinitions, definition_span, type_definition_span};
 ghost use Rattle.graphql_building_reports.specs.Checks.{Checks, reports_of};
@@ -12,19 +13,19 @@ use graphql_documents::documents::Schema;
 use graphql_nodes::{SourceSpan, ValidationError};
 use graphql_trees::{Definition, FragmentDefinition, OperationDefinition, TypeDefinition};
 
-/// Reports, in the order of the text, what keeps these definitions from being built against the schema:
-/// definitions of the type system, operations without a root type, undefined type conditions of fragments,
-/// and what keeps their selections from being built. Whether names repeat is not looked at. Fails only where an
+/// Reports, in the order of the text, what keeps these definitions from being built against the schema, or without one:
+/// definitions of the type system; and against a schema operations without a root type, undefined type conditions of
+/// fragments, and what keeps their selections from being built. Whether names repeat is not looked at. Fails only where an
 /// allocation fails.
 ///
 /// Specification: 3.3.1 Root Operation Types, 5.1.1 Executable Definitions, 5.3.1 Field Selections, 5.3.3 Leaf
 /// Field Selections, 5.5.1.2 Fragment Spread Type Existence.
 pub fn check_definitions(
     reports: &mut BuildingReportList,
-    schema: &Schema,
+    schema: Option<&Schema>,
     trees: &[Definition],
 ) -> Result<(), ValidationError>
-    ensures { Checks result (All (DefinitionBuilds schema.now) trees.now) (IsReportOfDefinitions schema.now trees.now) reports.old reports.new }
+    ensures { Checks result (All (DefinitionBuilds (option_copied schema.entry)) trees.now) (IsReportOfDefinitions (option_copied schema.entry) trees.now) reports.old reports.new }
 {
     for tree in trees {
         check_definition(reports, schema, tree)?;
@@ -34,14 +35,20 @@ pub fn check_definitions(
 
 fn check_definition(
     reports: &mut BuildingReportList,
-    schema: &Schema,
+    schema: Option<&Schema>,
     tree: &Definition,
 ) -> Result<(), ValidationError>
-    ensures { Checks result (DefinitionBuilds schema.now tree.now) (IsDefinitionReport schema.now tree.now) reports.old reports.new }
+    ensures { Checks result (DefinitionBuilds (option_copied schema.entry) tree.now) (IsDefinitionReport (option_copied schema.entry) tree.now) reports.old reports.new }
 {
     match tree {
-        Definition::Operation(operation) => check_operation(reports, schema, operation),
-        Definition::Fragment(fragment) => check_fragment(reports, schema, fragment),
+        Definition::Operation(operation) => match schema {
+            Some(schema) => check_operation(reports, schema, operation),
+            None => Ok(()),
+        },
+        Definition::Fragment(fragment) => match schema {
+            Some(schema) => check_fragment(reports, schema, fragment),
+            None => Ok(()),
+        },
         Definition::Schema(definition) => report_type_system(reports, definition.span),
         Definition::Type(definition) => report_type_system(
             reports,

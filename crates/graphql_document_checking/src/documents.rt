@@ -1,6 +1,6 @@
 //! Whether a document can be built.
 
-ghost use Rattle.std.specs.Prelude.{◌≡◌, ◌≤◌, All, Contains, IfOk, IsFalse, List, is_none, length, option_map};
+ghost use Rattle.std.specs.Prelude.{◌≡◌, ◌≤◌, All, Contains, IfOk, IsFalse, List, None, Some, is_none, length, option_map};
 ghost use Rattle.std.specs.Option.{option_copied};
 ghost use Rattle.graphql_nodes.specs.Names.{AreDistinct};
 ghost use Rattle.graphql_trees.specs.declared.executable.OperationDefinition as operation_tree;
@@ -35,7 +35,34 @@ pub fn check_document(
     schema: &Schema,
     tree: &Document,
 ) -> Result<(), ValidationError>
-    ensures { Checks result (DocumentBuilds schema.now tree.now) (DocumentBuildingReport schema.now tree.now) reports.old reports.new }
+    ensures { Checks result (DocumentBuilds (Some schema.now) tree.now) (DocumentBuildingReport (Some schema.now) tree.now) reports.old reports.new }
+{
+    check_with_or_without_schema(reports, Some(schema), tree)
+}
+
+/// Reports what keeps the document from being built without a schema. Nothing is reported exactly where
+/// `build_standalone_document` of `graphql_document_building` may be called.
+///
+/// Reports come in the order of `check_document`, without those that ask the schema. Old reports stay. The only error is a
+/// failed allocation.
+///
+/// Specification: 5.1.1 Executable Definitions, 5.2.1.1 Operation Name Uniqueness, 5.2.2.1 Lone Anonymous Operation,
+/// 5.5.1.1 Fragment Name Uniqueness.
+pub fn check_standalone_document(
+    reports: &mut BuildingReportList,
+    tree: &Document,
+) -> Result<(), ValidationError>
+    ensures { Checks result (DocumentBuilds None tree.now) (DocumentBuildingReport None tree.now) reports.old reports.new }
+{
+    check_with_or_without_schema(reports, None, tree)
+}
+
+fn check_with_or_without_schema(
+    reports: &mut BuildingReportList,
+    schema: Option<&Schema>,
+    tree: &Document,
+) -> Result<(), ValidationError>
+    ensures { Checks result (DocumentBuilds (option_copied schema.entry) tree.now) (DocumentBuildingReport (option_copied schema.entry) tree.now) reports.old reports.new }
 {
     check_anonymous_operations(reports, tree)?;
     check_operation_names(reports, tree)?;

@@ -1,4 +1,4 @@
-//! Whether an executable document can be built against a schema, checked on its syntax tree.
+//! Whether an executable document can be built, against a schema or without one, checked on its syntax tree.
 #![tactic(auto)]
 
 pub mod definitions;
@@ -6,5 +6,5 @@ pub mod documents;
 pub mod selections;
 
 pub use definitions::check_definitions;
-pub use documents::check_document;
+pub use documents::{check_document, check_standalone_document};
 pub use selections::check_selections;

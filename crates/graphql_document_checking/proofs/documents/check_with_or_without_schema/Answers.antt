@@ -1,11 +1,12 @@
 use Rattle.std.proofs.Common.{All, subst}
+use Rattle.std.specs.Option.{option_copied}
 use Rattle.graphql_diagnostics.proofs.ReportLemmas.{ChecksList, checks-err, checks_after, checks_words, kept_by, kept_then, kept_wider, wider}
 use Rattle.graphql_building_reports.specs.Checks.{reports_of}
 use Rattle.graphql_document_building.specs.BuildingRules.{DefinitionBuilds}
 use Rattle.graphql_document_checking.specs.DefinitionReports.{IsReportOfDefinitions}
 use Rattle.graphql_document_checking.specs.DocumentReports.{of_anonymous_operation, of_definition, of_fragment_name, of_operation_name}
 use Rattle.graphql_document_checking.proofs.DocumentLemmas.{builds_words}
-use Rattle.graphql_document_checking.proofs.documents.check_document.Goals as goal
+use Rattle.graphql_document_checking.proofs.documents.check_with_or_without_schema.Goals as goal
 
 pub returns-in_err-check_anonymous_operations : goal.returns-in_err-check_anonymous_operations
 returns-in_err-check_anonymous_operations c =
@@ -26,7 +27,7 @@ returns-in_err-check_fragment_names c =
 
 pub returns : goal.returns
 returns c =
-    let schema = c.args.schema.now in
+    let schema = option_copied c.args.schema in
     let old = reports_of c.check_fragment_names.new.reports in
     let new = reports_of c.check_definitions.new.reports in
     checks_words c.check_definitions.result _ _ _ _ _ _ (builds_words schema c.args.tree.now) (λ e q. q)
