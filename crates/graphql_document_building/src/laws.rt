@@ -7,6 +7,7 @@ ghost use Rattle.graphql_documents.specs.Built.{IsBuilt, StandsUnderOwnNames};
 ghost use Rattle.graphql_documents.specs.declared.documents.executables.ExecutableDocument.{ExecutableDocument};
 ghost use Rattle.graphql_documents.specs.declared.documents.schemas.Schema.{Schema};
 ghost use Rattle.graphql_document_building.specs.Documents.{DocumentSays, HasOutputFields};
+ghost use Rattle.graphql_document_building.specs.SameDocuments.{SameDocument};
 ghost use Rattle.graphql_trees.specs.declared.documents.Document.{Document};
 
 /// A document that a tree says against a schema is built against it: where the definitions of the schema are
@@ -17,4 +18,12 @@ ghost use Rattle.graphql_trees.specs.declared.documents.Document.{Document};
 pub fn said_document_is_built()
     ensures { (schema : Schema) (tree : Document) (document : ExecutableDocument) →
         DocumentSays (Some schema) tree document → StandsUnderOwnNames schema → HasOutputFields schema → IsBuilt schema document }
+{}
+
+/// A tree says one document against a schema at most: two that it says are the same, part by part, but for places in memory.
+///
+/// Specification: 2.2 Document.
+pub fn said_documents_are_the_same()
+    ensures { (schema : Schema) (tree : Document) (a b : ExecutableDocument) →
+        DocumentSays (Some schema) tree a → DocumentSays (Some schema) tree b → SameDocument a b }
 {}
