@@ -103,6 +103,7 @@ fn print_reports(reports: &Reports, places: Places, lines: &mut Vec<u8>) -> Resu
     match reports {
         Reports::Syntax(_) => Ok(writeln!(lines, "no GraphQL document")?),
         Reports::Building(list) => print_building_rules(list, lines),
+        Reports::Nesting(report) => Ok(writeln!(lines, "- {report}")?),
         Reports::SchemaRules(reports) => {
             print_entries(&reports.rules, places, lines)?;
             print_repetitions(reports.input_fields.as_slice(), lines)

@@ -138,8 +138,8 @@ fn check_text<O: Write>(
     output: &mut O,
 ) -> Result<Status, Fault>
     requires { IsUsable schema.now }
-    ensures accepted { result ≡ Ok Status.Accepted → ValidatesDocument Bounds.DEFAULT schema.now document.entry.source None }
-    ensures reported { result ≡ Ok Status.Reported → (reports : Reports) × ValidatesDocument Bounds.DEFAULT schema.now document.entry.source (Some reports) }
+    ensures accepted { result ≡ Ok Status.Accepted → ValidatesDocument Bounds.DEFAULT (Some schema.now) document.entry.source None }
+    ensures reported { result ≡ Ok Status.Reported → (reports : Reports) × ValidatesDocument Bounds.DEFAULT (Some schema.now) document.entry.source (Some reports) }
 {
     match validate_document(alloc, schema, document.source, Bounds::DEFAULT)? {
         None => Ok(Status::Accepted),

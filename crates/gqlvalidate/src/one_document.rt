@@ -1,6 +1,6 @@
 //! Documents that are one document together, as clients write fragments in files of their own.
 
-ghost use Rattle.std.specs.Prelude.{◌≡◌, Ok, Option};
+ghost use Rattle.std.specs.Prelude.{◌≡◌, Ok, Option, Some};
 ghost use Rattle.graphql_frontend.specs.Documents.{ValidatesDocuments};
 ghost use Rattle.graphql_frontend.specs.Schemas.{IsUsable};
 
@@ -52,7 +52,7 @@ fn reports_of(
     sources: &[SourceText<'_>],
 ) -> Result<Option<Reports>, Fault>
     requires { IsUsable schema.now }
-    ensures { (reports : Option Reports) → result ≡ Ok reports → ValidatesDocuments Bounds.DEFAULT schema.now sources.now reports }
+    ensures { (reports : Option Reports) → result ≡ Ok reports → ValidatesDocuments Bounds.DEFAULT (Some schema.now) sources.now reports }
 {
     Ok(validate_documents(alloc, schema, sources, Bounds::DEFAULT)?)
 }

@@ -61,7 +61,7 @@ fn report_syntax<O: Write>(
             Ok(false)
         }
         Err(error) => {
-            if is_want_of_memory(error) {
+            if is_out_of_memory(error) {
                 return Err(Fault::OutOfMemory);
             }
             print_error(path, text, error, output)?;
@@ -70,7 +70,7 @@ fn report_syntax<O: Write>(
     }
 }
 
-fn is_want_of_memory(error: SyntaxError) -> bool
+fn is_out_of_memory(error: SyntaxError) -> bool
     ensures { IsTrue result ↔ (error ≡ SyntaxError.OutOfMemory) }
 {
     matches!(error, SyntaxError::OutOfMemory)

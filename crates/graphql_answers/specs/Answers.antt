@@ -53,9 +53,9 @@ pub data FindsInSchema (schema : List ℕ) : Found → Type 0 where
 -- whether something is reported of the text of these bytes, as a document
 pub data Checks (schema : Schema) (document : List ℕ) : Bool → Type 0 where
   reports_nothing : (source : SourceText) → source.text.now ≡ document →
-      ValidatesDocument bounds.Bounds.DEFAULT schema source None → Checks schema document false
+      ValidatesDocument bounds.Bounds.DEFAULT (Some schema) source None → Checks schema document false
   reports_some : {reports : Reports} (source : SourceText) → source.text.now ≡ document →
-      ValidatesDocument bounds.Bounds.DEFAULT schema source (Some reports) → Checks schema document true
+      ValidatesDocument bounds.Bounds.DEFAULT (Some schema) source (Some reports) → Checks schema document true
 
 -- why there is no answer
 pub data IsRefusalOf (texts : List (List ℕ)) : Refusal → Type 0 where

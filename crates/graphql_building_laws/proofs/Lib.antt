@@ -1,2 +1,3 @@
 pub mod OutputFieldLaws
 pub mod OwnNameLaws
+pub mod SameSchemaLemmas

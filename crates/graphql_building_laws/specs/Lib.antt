@@ -1,1 +1,2 @@
 pub mod MetaFieldTypes
+pub mod SameSchemas

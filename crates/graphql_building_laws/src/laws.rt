@@ -1,6 +1,6 @@
 //! Laws of what is built from texts.
 
-ghost use Rattle.std.specs.Prelude.{List};
+ghost use Rattle.std.specs.Prelude.{List, Some};
 ghost use Rattle.graphql_documents.specs.Built.{IsBuilt, StandsUnderOwnNames};
 ghost use Rattle.graphql_documents.specs.declared.documents.executables.ExecutableDocument.{ExecutableDocument};
 ghost use Rattle.graphql_documents.specs.declared.documents.schemas.Schema.{Schema};
@@ -9,6 +9,7 @@ ghost use Rattle.graphql_specification.specs.Schemas.{SchemaHolds};
 ghost use Rattle.graphql_document_building.specs.Documents.{DocumentSays, HasOutputFields};
 ghost use Rattle.graphql_schema_building.specs.SchemaSays.{SchemaSays};
 ghost use Rattle.graphql_building_laws.specs.MetaFieldTypes.{HasTypesOfMetaFields};
+ghost use Rattle.graphql_building_laws.specs.SameSchemas.{SameSchema};
 ghost use Rattle.graphql_trees.specs.declared.documents.Document.{Document};
 
 /// The definitions of a schema that texts say are listed under their own names.
@@ -42,5 +43,12 @@ pub fn retained_schema_has_output_fields()
 pub fn document_of_a_text_is_built()
     ensures { (trees : List Document) (schema retained : Schema) (tree : Document) (document : ExecutableDocument) →
         SchemaSays trees schema → SchemaHolds schema → SchemaRetainsUsedBuiltInScalars schema retained → HasTypesOfMetaFields retained →
-        DocumentSays retained tree document → IsBuilt retained document }
+        DocumentSays (Some retained) tree document → IsBuilt retained document }
+{}
+
+/// Texts say one schema at most: two that they say are the same, part by part, but for places in memory.
+///
+/// Specification: 3 Type System.
+pub fn said_schemas_are_the_same()
+    ensures { (trees : List Document) (a b : Schema) → SchemaSays trees a → SchemaSays trees b → SameSchema a b }
 {}

@@ -1,5 +1,5 @@
 -- What is reported of a document, entry by entry.
-use Rattle.std.proofs.Common.{◌≡◌, ◌↔◌, Bool, List, [], ◌∷◌, All, Some, true, false, sym, subst}
+use Rattle.std.proofs.Common.{◌≡◌, ◌↔◌, Bool, List, [], ◌∷◌, All, Option, true, false, sym, subst}
 use Rattle.std.specs.List.{items_where_true}
 use Rattle.std.specs.List.Retain.{IsFiltered}
 use Rattle.std.proofs.lemmas.List.Elements.{All-cons, All-head, All-nil, All-tail}
@@ -9,8 +9,7 @@ use Rattle.graphql_documents.specs.declared.documents.executables.ExecutableDocu
 use Rattle.graphql_documents.specs.declared.documents.schemas.Schema.{Schema}
 use Rattle.graphql_specification.specs.Documents.{DocumentHolds}
 use Rattle.graphql_input_rules.specs.InputFields.{InputFieldsAreUnique}
-use Rattle.graphql_usage_rules.specs.VariableMisuses.{VariableUsagesAreAllowed}
-use Rattle.graphql_frontend.specs.Documents.{EveryRuleHolds, ReportsNothing}
+use Rattle.graphql_frontend.specs.Documents.{EveryRuleHolds, ReportsNothing, UsagesAreAllowed}
 use Rattle.graphql_frontend.specs.declared.reports.DocumentReports.{DocumentReports}
 
 -- two things that are true of each
@@ -31,9 +30,9 @@ pub kept_of_each : {X F : Type 0} (R : F → X → Bool → F → Type 0) (P : X
 kept_of_each R P f xs ys all filtered = subst (All P) (sym filtered.4) (picked_of_each P filtered.0 xs all)
 
 -- the rules of validation, that of input fields and that of usages
-pub all_decide : (schema : Schema) (document : ExecutableDocument) (reports : DocumentReports) →
-    (entries reports.rules ≡ []) ↔ DocumentHolds (Some schema) document → (reports.input_fields.items ≡ []) ↔ InputFieldsAreUnique document →
-    (entries reports.rules ≡ [] → (reports.usages.items ≡ []) ↔ VariableUsagesAreAllowed schema document) →
+pub all_decide : (schema : Option Schema) (document : ExecutableDocument) (reports : DocumentReports) →
+    (entries reports.rules ≡ []) ↔ DocumentHolds schema document → (reports.input_fields.items ≡ []) ↔ InputFieldsAreUnique document →
+    (entries reports.rules ≡ [] → (reports.usages.items ≡ []) ↔ UsagesAreAllowed schema document) →
     ReportsNothing reports ↔ EveryRuleHolds schema document
 all_decide schema document reports rules input_fields usages = (
   λ nothing. record { rules = rules.0 nothing.0; input_fields = input_fields.0 nothing.1; usages = (usages nothing.0).0 nothing.2 },

@@ -30,6 +30,15 @@ module _ {Entry : Type 0} where
       let nothing : r.added ≡ [] = sym (added_is old r.added new r.appended none) ∙ empty in
       (r.silent (subst (All (λ e. ¬ L e)) (sym nothing) (All-nil (λ e. ¬ L e)))).0 nothing
 
+  pub decides_within : (L : Entry → Type 0) (H : Type 0) (Q : Entry → Type 0) (old new : List Entry) → ReportsWithin L H Q old new → old ≡ [] →
+      All (λ e. ¬ L e) new → (new ≡ []) ↔ H
+  decides_within L H Q old new r none no_limit =
+      let same = added_is old r.added new r.appended none in
+      subst (λ l. (l ≡ []) ↔ H) (sym same) (r.silent (subst (All (λ e. ¬ L e)) same no_limit))
+
+  pub each_within : (L : Entry → Type 0) (H : Type 0) (Q : Entry → Type 0) (old new : List Entry) → ReportsWithin L H Q old new → old ≡ [] → All Q new
+  each_within L H Q old new r none = subst (All Q) (sym (added_is old r.added new r.appended none)) r.each
+
   pub kept : (Q : Entry → Type 0) (old new : List Entry) → KeepsReports Q old new → old ≡ [] → All Q new
   kept Q old new r none = subst (All Q) (sym (added_is old r.added new r.appended none)) r.each
 

@@ -12,8 +12,8 @@ use Rattle.graphql_frontend.specs.declared.verdicts.Verdict.TheVariants.{Valid, 
 
 -- a schema is read of the texts, and this is the verdict on the document against it
 pub data ValidatesAgainst (bounds : Bounds) (schema : Schema) (document : SourceText) : Verdict → Type 0 where
-  holds : ValidatesDocument bounds schema document None → ValidatesAgainst bounds schema document Valid
-  rejected : {reports : Reports} → ValidatesDocument bounds schema document (Some reports) → ValidatesAgainst bounds schema document (DocumentRejected reports)
+  holds : ValidatesDocument bounds (Some schema) document None → ValidatesAgainst bounds schema document Valid
+  rejected : {reports : Reports} → ValidatesDocument bounds (Some schema) document (Some reports) → ValidatesAgainst bounds schema document (DocumentRejected reports)
 
 -- the verdict, by the first stage that reports something
 pub data Validates (bounds : Bounds) (sources : List SourceText) (document : SourceText) : Verdict → Type 0 where

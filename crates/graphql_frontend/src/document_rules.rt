@@ -1,9 +1,10 @@
 //! The rules of documents, together: those of validation, and those of input fields and of usages of variables, which
 //! validation does not ask.
 
-ghost use Rattle.std.specs.Prelude.{All, Contains, IfOk};
+ghost use Rattle.std.specs.Prelude.{All, Contains, IfOk, None, Some};
+ghost use Rattle.std.specs.Option.{option_copied};
 ghost use Rattle.graphql_diagnostics.specs.Diagnostics.{entries};
-ghost use Rattle.graphql_frontend.specs.Documents.{AreFurtherMisuses, AreReportsOf};
+ghost use Rattle.graphql_frontend.specs.Documents.{AreFurtherMisuses, AreReportsOf, AreRuleReports};
 
 use crate::reports::DocumentReports;
 use graphql_diagnostics::DiagnosticList;
@@ -11,20 +12,25 @@ use graphql_documents::documents::{ExecutableDocument, Schema};
 use graphql_input_rules::check_input_fields;
 use graphql_nodes::{SourceSpan, ValidationError};
 use graphql_usage_rules::{VariableMisuse, check_variable_usages};
-use graphql_validation::entry::validate_executable_document;
+use graphql_validation::entry::{
+    validate_executable_document_within, validate_standalone_executable,
+};
 use std::alloc::Global;
 use std::collections::HashSet;
 
-/// What the rules report of a document.
+/// How many fields the sets may have, all together, that merging examines set by set, before it goes by pairs of sets. The sets
+/// of a usual document have twice as many as the document at most.
+const MERGING_WORK: u64 = 100_000;
+
+/// What the rules report of a document, against a schema or without one.
 pub(crate) fn document_reports(
     alloc: Global,
-    schema: &Schema,
+    schema: Option<&Schema>,
     document: &ExecutableDocument,
 ) -> Result<DocumentReports, ValidationError>
-    ensures { IfOk result (AreReportsOf schema.now document.now) }
+    ensures { IfOk result (AreReportsOf (option_copied schema.entry) document.now) }
 {
-    let mut rules = DiagnosticList::new(alloc);
-    validate_executable_document(&mut rules, schema, document)?;
+    let rules = rule_reports(alloc, schema, document)?;
     let mut input_fields = Vec::new(alloc);
     check_input_fields(&mut input_fields, document)?;
     let usages = further_misuses(alloc, schema, document, &rules)?;
@@ -35,15 +41,66 @@ pub(crate) fn document_reports(
     })
 }
 
+/// What validation reports of a document.
+fn rule_reports(
+    alloc: Global,
+    schema: Option<&Schema>,
+    document: &ExecutableDocument,
+) -> Result<DiagnosticList, ValidationError>
+    ensures { IfOk result (λ rules. AreRuleReports (option_copied schema.entry) document.now (entries rules)) }
+{
+    match schema {
+        Some(schema) => rule_reports_against(alloc, schema, document),
+        None => standalone_rule_reports(alloc, document),
+    }
+}
+
+fn rule_reports_against(
+    alloc: Global,
+    schema: &Schema,
+    document: &ExecutableDocument,
+) -> Result<DiagnosticList, ValidationError>
+    ensures { IfOk result (λ rules. AreRuleReports (Some schema.now) document.now (entries rules)) }
+{
+    let mut rules = DiagnosticList::new(alloc);
+    validate_executable_document_within(&mut rules, schema, document, MERGING_WORK)?;
+    Ok(rules)
+}
+
+fn standalone_rule_reports(
+    alloc: Global,
+    document: &ExecutableDocument,
+) -> Result<DiagnosticList, ValidationError>
+    ensures { IfOk result (λ rules. AreRuleReports None document.now (entries rules)) }
+{
+    let mut rules = DiagnosticList::new(alloc);
+    validate_standalone_executable(&mut rules, document)?;
+    Ok(rules)
+}
+
 /// The usages of variables that are not allowed, but for those that a report of validation ends with: validation asks it of
-/// variables that are whole arguments, and of types inside lists.
+/// variables that are whole arguments, and of types inside lists. Without a schema none is known.
 fn further_misuses(
+    alloc: Global,
+    schema: Option<&Schema>,
+    document: &ExecutableDocument,
+    rules: &DiagnosticList,
+) -> Result<Vec<VariableMisuse>, ValidationError>
+    ensures { IfOk result (AreFurtherMisuses (option_copied schema.entry) document.now (entries rules.now)) }
+{
+    match schema {
+        Some(schema) => misuses_beside(alloc, schema, document, rules),
+        None => Ok(Vec::new(alloc)),
+    }
+}
+
+fn misuses_beside(
     alloc: Global,
     schema: &Schema,
     document: &ExecutableDocument,
     rules: &DiagnosticList,
 ) -> Result<Vec<VariableMisuse>, ValidationError>
-    ensures { IfOk result (AreFurtherMisuses schema.now document.now (entries rules.now)) }
+    ensures { IfOk result (AreFurtherMisuses (Some schema.now) document.now (entries rules.now)) }
 {
     let mut usages = Vec::new(alloc);
     check_variable_usages(&mut usages, schema, document)?;

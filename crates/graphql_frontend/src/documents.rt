@@ -1,6 +1,13 @@
 //! Executable documents, from their texts.
 
-ghost use Rattle.std.specs.Prelude.{IfOk};
+ghost use Rattle.std.specs.Prelude.{◌≡◌, IfOk, None, Option, Some};
+ghost use Rattle.std.specs.Option.{option_copied};
+ghost use Rattle.graphql_documents.specs.declared.documents.schemas.Schema as schema_type;
+ghost use Rattle.graphql_parser.specs.Refusals.{IsRefusal};
+ghost use Rattle.graphql_parser.specs.declared.bounds.Bounds as source_bounds;
+ghost use Rattle.graphql_trees.specs.declared.documents.Document as document_tree;
+ghost use Rattle.graphql_frontend.specs.Texts.{IsDocumentOf};
+ghost use Rattle.graphql_frontend.specs.declared.texts.SourceText as source_text;
 ghost use Rattle.graphql_frontend.specs.Documents.{HasDefinitionsOf, JudgesDocument, JudgesTree, ValidatesDocument, ValidatesDocuments};
 ghost use Rattle.graphql_frontend.specs.Schemas.{IsUsable};
 
@@ -8,11 +15,12 @@ use crate::document_rules::document_reports;
 use crate::reports::Reports;
 use crate::texts::{Parsed, SourceText, SyntaxReport, is_out_of_memory, parse_texts};
 use graphql_building_reports::BuildingReportList;
-use graphql_document_building::build_document;
-use graphql_document_checking::check_document;
+use graphql_document_building::{build_document, build_standalone_document};
+use graphql_document_checking::{check_document, check_standalone_document};
 use graphql_documents::documents::{ExecutableDocument, Schema};
+use graphql_nesting::check_nesting;
 use graphql_nodes::{FileId, SourceSpan, ValidationError};
-use graphql_parser::{Bounds, parse_document};
+use graphql_parser::{Bounds, SyntaxError, parse_document};
 use graphql_trees::Document;
 use sqlite_items::Items;
 use std::alloc::Global;
@@ -25,8 +33,8 @@ const NOWHERE: SourceSpan = SourceSpan {
 };
 
 /// Validates the document that a text is against a schema that was read, and answers what is reported, if anything is: its
-/// first error, where it is no document; or the rules that keep it from being built; or the rules that it breaks.
-/// The only error is a failed allocation.
+/// first error, where it is no document; or the rules that keep it from being built; or that it nests too deep through its
+/// fragments, by the depth of the bounds; or the rules that it breaks. The only error is a failed allocation.
 ///
 /// Where no limit is reported, nothing is exactly where the text is a GraphQL document, it can be built against the schema
 /// and every rule of documents holds.
@@ -39,22 +47,47 @@ pub fn validate_document(
     bounds: Bounds,
 ) -> Result<Option<Reports>, ValidationError>
     requires { IsUsable schema.now }
-    ensures { IfOk result (ValidatesDocument bounds schema.now source.entry) }
+    ensures { IfOk result (ValidatesDocument bounds (Some schema.now) source.entry) }
 {
     match parse_document(alloc, source.file_id, source.text, bounds) {
-        Ok(tree) => validate_tree(alloc, schema, &tree),
-        Err(error) => {
-            if is_out_of_memory(error) {
-                return Err(ValidationError::OutOfMemory);
-            }
-            let mut errors = Vec::new(alloc);
-            errors.push(SyntaxReport {
-                file_id: source.file_id,
-                error,
-            })?;
-            Ok(Some(Reports::Syntax(errors)))
-        }
+        Ok(tree) => validate_tree(alloc, schema, &tree, bounds),
+        Err(error) => report_syntax(alloc, source.file_id, error),
     }
+}
+
+/// Validates the document that a text is without a schema, by the rules that need none. Answers what is reported as
+/// `validate_document` does.
+///
+/// Specification: 2.2 Document; 5 Validation.
+pub fn validate_standalone_document(
+    alloc: Global,
+    source: SourceText<'_>,
+    bounds: Bounds,
+) -> Result<Option<Reports>, ValidationError>
+    ensures { IfOk result (ValidatesDocument bounds None source.entry) }
+{
+    match parse_document(alloc, source.file_id, source.text, bounds) {
+        Ok(tree) => validate_standalone_tree(alloc, &tree, bounds),
+        Err(error) => report_syntax(alloc, source.file_id, error),
+    }
+}
+
+/// The report of a text that is no document.
+fn report_syntax(
+    alloc: Global,
+    file_id: FileId,
+    error: SyntaxError,
+) -> Result<Option<Reports>, ValidationError>
+    ensures { (bounds : source_bounds.Bounds) (schema : Option schema_type.Schema) (source : source_text.SourceText) →
+        source.file_id ≡ file_id → ((tree : document_tree.Document) → IsDocumentOf bounds source tree → error ≡ SyntaxError.OutOfMemory) →
+        IsRefusal bounds file_id source.text.now error → IfOk result (ValidatesDocument bounds schema source) }
+{
+    if is_out_of_memory(error) {
+        return Err(ValidationError::OutOfMemory);
+    }
+    let mut errors = Vec::new(alloc);
+    errors.push(SyntaxReport { file_id, error })?;
+    Ok(Some(Reports::Syntax(errors)))
 }
 
 /// Validates the one document that texts are together, fragments in files of their own among them: the document with the
@@ -69,12 +102,12 @@ pub fn validate_documents(
     bounds: Bounds,
 ) -> Result<Option<Reports>, ValidationError>
     requires { IsUsable schema.now }
-    ensures { IfOk result (ValidatesDocuments bounds schema.now sources.now) }
+    ensures { IfOk result (ValidatesDocuments bounds (Some schema.now) sources.now) }
 {
     let Parsed { documents, errors } = parse_texts(alloc, sources, bounds)?;
     if errors.is_empty() {
         let document = joined(alloc, documents)?;
-        validate_tree(alloc, schema, &document)
+        validate_tree(alloc, schema, &document, bounds)
     } else {
         Ok(Some(Reports::Syntax(errors)))
     }
@@ -99,28 +132,51 @@ fn validate_tree(
     alloc: Global,
     schema: &Schema,
     tree: &Document,
+    bounds: Bounds,
 ) -> Result<Option<Reports>, ValidationError>
     requires { IsUsable schema.now }
-    ensures { IfOk result (JudgesTree schema.now tree.now) }
+    ensures { IfOk result (JudgesTree bounds (Some schema.now) tree.now) }
 {
     let mut reports = BuildingReportList::new(alloc);
     check_document(&mut reports, schema, tree)?;
     if reports.is_empty() {
         let document = build_document(alloc, schema, tree)?;
-        validate_built(alloc, schema, &document)
+        validate_built(alloc, Some(schema), &document, bounds.depth)
     } else {
         Ok(Some(Reports::Building(reports)))
     }
 }
 
-/// Validates a document that was built.
+/// Validates the document of a tree without a schema.
+fn validate_standalone_tree(
+    alloc: Global,
+    tree: &Document,
+    bounds: Bounds,
+) -> Result<Option<Reports>, ValidationError>
+    ensures { IfOk result (JudgesTree bounds None tree.now) }
+{
+    let mut reports = BuildingReportList::new(alloc);
+    check_standalone_document(&mut reports, tree)?;
+    if reports.is_empty() {
+        let document = build_standalone_document(alloc, tree)?;
+        validate_built(alloc, None, &document, bounds.depth)
+    } else {
+        Ok(Some(Reports::Building(reports)))
+    }
+}
+
+/// Validates a document that was built, unless it nests deeper than so many levels.
 fn validate_built(
     alloc: Global,
-    schema: &Schema,
+    schema: Option<&Schema>,
     document: &ExecutableDocument,
+    most: usize,
 ) -> Result<Option<Reports>, ValidationError>
-    ensures { IfOk result (JudgesDocument schema.now document.now) }
+    ensures { IfOk result (JudgesDocument most (option_copied schema.entry) document.now) }
 {
+    if let Some(report) = check_nesting(alloc, document, most)? {
+        return Ok(Some(Reports::Nesting(report)));
+    }
     let reports = document_reports(alloc, schema, document)?;
     if reports.is_empty() {
         Ok(None)

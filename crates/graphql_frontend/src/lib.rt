@@ -14,7 +14,7 @@ pub mod shown;
 pub mod texts;
 pub mod verdicts;
 
-pub use documents::{validate_document, validate_documents};
+pub use documents::{validate_document, validate_documents, validate_standalone_document};
 pub use reports::{DocumentReports, Reports, SchemaReports};
 pub use schemas::{SchemaReading, read_schema};
 pub use shown::{ShownReport, shown_reports};

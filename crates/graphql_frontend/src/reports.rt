@@ -8,6 +8,7 @@ use crate::texts::SyntaxReport;
 use graphql_building_reports::BuildingReportList;
 use graphql_diagnostics::DiagnosticList;
 use graphql_input_rules::InputFieldRepetition;
+use graphql_nesting::NestingReport;
 use graphql_usage_rules::VariableMisuse;
 
 /// What is reported of texts, by the first stage that reports something.
@@ -17,6 +18,8 @@ pub enum Reports {
     Syntax(Vec<SyntaxReport>),
     /// Rules that the texts break, so that nothing is built of them.
     Building(BuildingReportList),
+    /// A document that nests too deep to be validated.
+    Nesting(NestingReport),
     /// Rules that the schema breaks.
     SchemaRules(SchemaReports),
     /// Rules that the document breaks.
@@ -49,6 +52,7 @@ impl Reports {
         match self {
             Reports::Syntax(errors) => errors.len(),
             Reports::Building(list) => list.iter().len(),
+            Reports::Nesting(_) => 1,
             Reports::SchemaRules(reports) => {
                 reports
                     .rules

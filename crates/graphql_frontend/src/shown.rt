@@ -7,6 +7,7 @@ use crate::texts::{SourceText, SyntaxReport};
 use graphql_building_reports::{BuildingReport, BuildingRule};
 use graphql_diagnostics::{BuildError, Details, DiagnosticData, DiagnosticEntry, DiagnosticList};
 use graphql_input_rules::InputFieldRepetition;
+use graphql_nesting::NestingReport;
 use graphql_nodes::{SourceSpan, ValidationError};
 use graphql_parser::{Bounds, SyntaxError};
 use graphql_syntax_messages::refused::refused;
@@ -44,6 +45,11 @@ pub fn shown_reports(
         Reports::Building(list) => {
             for report in list.iter().take(most) {
                 shown.push(shown_building(alloc, report)?)?;
+            }
+        }
+        Reports::Nesting(report) => {
+            if most > 0 {
+                shown.push(shown_nesting(alloc, report)?)?;
             }
         }
         Reports::SchemaRules(reports) => push_schema(alloc, reports, most, &mut shown)?,
@@ -103,6 +109,15 @@ fn push_repetitions(
         shown.push(shown_repetition(alloc, repetition)?)?;
     }
     Ok(())
+}
+
+fn shown_nesting(alloc: Global, report: &NestingReport) -> Result<ShownReport, ValidationError> {
+    Ok(ShownReport {
+        location: report.location,
+        rule: "NestsTooDeep",
+        message: report.to_string(alloc)?,
+        original: None,
+    })
 }
 
 fn shown_misuse(alloc: Global, misuse: &VariableMisuse) -> Result<ShownReport, ValidationError> {

@@ -4,4 +4,8 @@
 #[cfg(test)]
 mod documents;
 #[cfg(test)]
+mod nesting;
+#[cfg(test)]
+mod standalone;
+#[cfg(test)]
 mod verdicts;

@@ -1,4 +1,4 @@
-use Rattle.std.proofs.Common.{subst}
+use Rattle.std.proofs.Common.{Some, subst}
 use Rattle.graphql_frontend.specs.Documents.{ValidatesDocument}
 use Rattle.graphql_parser.specs.declared.bounds.TheConstants as bounds
 use Rattle.gqlvalidate.proofs.check.check_text.Goals as goal
@@ -6,4 +6,4 @@ use Rattle.gqlvalidate.proofs.check.check_text.Goals as goal
 pub returns-in_ok-report_document-in-Some-clause-reported :
     goal.returns-in_ok-report_document-in-Some-clause-reported
 returns-in_ok-report_document-in-Some-clause-reported g c = λ reported.
-    (c.in-Some.reports, subst (ValidatesDocument bounds.Bounds.DEFAULT c.args.schema.now c.args.document.source) c.in-Some.is c.in_ok-validate_document.ensures)
+    (c.in-Some.reports, subst (ValidatesDocument bounds.Bounds.DEFAULT (Some c.args.schema.now) c.args.document.source) c.in-Some.is c.in_ok-validate_document.ensures)

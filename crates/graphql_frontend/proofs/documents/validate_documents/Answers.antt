@@ -1,3 +1,4 @@
+use Rattle.std.proofs.Common.{Some}
 use Rattle.graphql_frontend.specs.Documents.{JudgesTree, ValidatesDocuments, are_documents, are_not_all_documents}
 use Rattle.graphql_frontend.proofs.ReportLemmas.{if_ok}
 use Rattle.graphql_frontend.proofs.TextLemmas.{no_items, some_items}
@@ -6,7 +7,7 @@ use Rattle.graphql_frontend.proofs.documents.validate_documents.Goals as goal
 pub returns-in_ok-document : goal.returns-in_ok-document
 returns-in_ok-document c =
     let none = no_items c.in_ok-documents.field-0.errors c.is_empty.result c.is_empty.ensures c.if-is_empty.true in
-    if_ok (JudgesTree c.args.schema.now c.in_ok-document.document) (ValidatesDocuments c.args.bounds c.args.schema.now c.args.sources.now)
+    if_ok (JudgesTree c.args.bounds (Some c.args.schema.now) c.in_ok-document.document) (ValidatesDocuments c.args.bounds (Some c.args.schema.now) c.args.sources.now)
     (λ reports judged. are_documents c.in_ok-documents.field-0.documents.items c.in_ok-document.document
     (c.in_ok-documents.ensures.documents none) c.in_ok-document.ensures judged)
     c.validate_tree.result c.validate_tree.ensures

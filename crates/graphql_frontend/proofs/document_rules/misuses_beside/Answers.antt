@@ -3,7 +3,7 @@ use Rattle.std.proofs.lemmas.List.Elements.{All-contains, All-weaker}
 use Rattle.graphql_diagnostics.specs.Diagnostics.{entries}
 use Rattle.graphql_usage_rules.specs.VariableMisuses.{DocumentMisuseReport}
 use Rattle.graphql_frontend.proofs.ReportLemmas.{decides, each_true}
-use Rattle.graphql_frontend.proofs.document_rules.further_misuses.Goals as goal
+use Rattle.graphql_frontend.proofs.document_rules.misuses_beside.Goals as goal
 
 pub returns-then-is_empty : goal.returns-then-is_empty
 returns-then-is_empty c =
