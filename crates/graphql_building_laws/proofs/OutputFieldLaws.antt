@@ -1,18 +1,15 @@
 -- Each field of a schema that holds is of a defined output type once its used built-in scalars are retained.
-use Rattle.std.proofs.Common.{◌≡◌, ◌⊎◌, inl, inr, Bool, true, false, cond, List, [], ◌∷◌, ◌++◌, Option, Some, None, Ok, map, refl, sym, ap, ◌∙◌, subst, All, Contains}
-use Rattle.std.specs.Prelude.{IsTrue, Err, Result, codes, flat_map}
-use Rattle.std.specs.Map.{lookup}
-use Rattle.std.specs.Option.{option_map_or}
+use Rattle.std.proofs.Common.{◌≡◌, ◌⊎◌, inl, inr, Bool, true, false, Option, Some, None, Ok, refl, sym, ap, ◌∙◌, subst, Contains}
+use Rattle.std.specs.Prelude.{Err, Result, codes, flat_map}
 use Rattle.std.specs.Str.{bytes_eq}
 use Rattle.std.proofs.lemmas.List.Elements.{All-contains, All-nil, Contains-append_left, Contains-append_right}
-use Rattle.graphql_nodes.specs.Names.{NameText, SameName, same_name}
+use Rattle.graphql_nodes.specs.Names.{NameText, same_name}
 use Rattle.graphql_nodes.specs.declared.nodes.Node.{Node}
-use Rattle.graphql_documents.specs.Schemas.{NamesKind, fields_of, first_of, is_composite, is_output_type, is_query_root, meta_field, own_field, type_definition, type_field}
+use Rattle.graphql_documents.specs.Schemas.{NamesKind, fields_of, is_composite, is_output_type, is_query_root, meta_field, own_field, type_definition, type_field}
 use Rattle.graphql_documents.specs.TypeReferences.{inner_named_type}
 use Rattle.graphql_documents.specs.declared.documents.components.Component.{Component}
 use Rattle.graphql_documents.specs.declared.documents.definitions.DirectiveDefinition.{DirectiveDefinition}
 use Rattle.graphql_documents.specs.declared.documents.definitions.FieldDefinition.{FieldDefinition}
-use Rattle.graphql_documents.specs.declared.documents.definitions.InputValueDefinition.{InputValueDefinition}
 use Rattle.graphql_documents.specs.declared.documents.schemas.ExtendedType.{ExtendedType}
 use Rattle.graphql_documents.specs.declared.documents.schemas.ExtendedType.TheVariants.{Scalar, Object, Interface, Union, Enum, InputObject}
 use Rattle.graphql_documents.specs.declared.documents.schemas.FieldLookupError.{FieldLookupError}

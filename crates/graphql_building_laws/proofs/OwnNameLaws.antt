@@ -1,5 +1,5 @@
 -- The definitions of a schema that texts say are listed under their own names.
-use Rattle.std.proofs.Common.{◌≡◌, ◌⊎◌, inl, inr, List, [], ◌∷◌, refl, sym, ap, ◌∙◌, subst, All, Contains}
+use Rattle.std.proofs.Common.{◌≡◌, ◌⊎◌, inl, inr, List, [], ◌∷◌, sym, ◌∙◌, subst, All, Contains}
 use Rattle.std.specs.List.{AllZip}
 use Rattle.std.proofs.lemmas.List.Elements.{All-cons, All-contains, All-nil}
 use Rattle.graphql_nodes.specs.Names.{NameText, SameName}
@@ -7,20 +7,14 @@ use Rattle.graphql_nodes.specs.declared.nodes.Node.{Node}
 use Rattle.graphql_nodes.proofs.NameLemmas.{from_same_text, same_name_itself}
 use Rattle.graphql_documents.specs.Built.{StandsUnderOwnNames, TypeStandsUnderItsName}
 use Rattle.graphql_documents.specs.declared.documents.components.Component.{Component}
-use Rattle.graphql_documents.specs.declared.documents.definitions.DirectiveDefinition as typed_directive
 use Rattle.graphql_documents.specs.declared.documents.schemas.ExtendedType.{ExtendedType}
 use Rattle.graphql_documents.specs.declared.documents.schemas.ExtendedType.TheVariants as typed
 use Rattle.graphql_documents.specs.declared.documents.schemas.Schema.{Schema}
 use Rattle.graphql_documents.proofs.ListLemmas.{each_standing}
-use Rattle.graphql_specification.specs.BuiltInScalars.{IsAddedScalar, SchemaRetainsUsedBuiltInScalars}
+use Rattle.graphql_specification.specs.BuiltInScalars.{SchemaRetainsUsedBuiltInScalars}
 use Rattle.graphql_schema_laws.proofs.RetainedLaws.{Entry}
 use Rattle.graphql_schema_laws.proofs.RetainedTypeLemmas.{IsAdded, retained_entry}
-use Rattle.graphql_trees.specs.declared.documents.Definition.{Definition}
 use Rattle.graphql_trees.specs.declared.documents.Document.{Document}
-use Rattle.graphql_trees.specs.declared.type_system.DirectiveDefinition.{DirectiveDefinition}
-use Rattle.graphql_trees.specs.declared.type_system.EnumValueDefinition.{EnumValueDefinition}
-use Rattle.graphql_trees.specs.declared.type_system.FieldDefinition.{FieldDefinition}
-use Rattle.graphql_trees.specs.declared.type_system.InputValueDefinition.{InputValueDefinition}
 use Rattle.graphql_trees.specs.declared.type_system.TypeDefinition.{TypeDefinition}
 use Rattle.graphql_trees.specs.declared.type_system.TypeDefinition.TheVariants.{Scalar, Object, Interface, Union, Enum, InputObject}
 use Rattle.graphql_leaf_building.specs.Definitions.{DirectiveDefinitionSays, EnumValueSays, FieldDefinitionSays, InputValueSays}

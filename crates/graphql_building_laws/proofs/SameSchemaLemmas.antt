@@ -1,6 +1,5 @@
 -- What texts say as a schema is the same but for places in memory.
 use Rattle.std.proofs.Common.{◌≡◌, ◌∙◌, List, sym}
-use Rattle.std.specs.List.{AllZip}
 use Rattle.graphql_nodes.specs.Names.{NameText}
 use Rattle.graphql_nodes.specs.declared.nodes.Node.{Node}
 use Rattle.graphql_documents.specs.declared.documents.components.Component.{Component}
