@@ -1,0 +1,6 @@
+pub mod CheckLemmas
+pub mod DescentLemmas
+pub mod ProgressLemmas
+pub mod SearchLemmas
+pub mod WalkLemmas
+pub mod WeightLemmas

@@ -1,0 +1,6 @@
+pub mod Checks
+pub mod Messages
+pub mod Nesting
+pub mod Search
+pub mod Spreads
+pub mod Written

@@ -1,0 +1,12 @@
+//! How deep a document nests through its fragments: decided before it is validated, in time that is linear in the document,
+//! and without recursion.
+#![tactic(auto)]
+
+mod fragments;
+mod nesting;
+mod reports;
+mod spreads;
+mod written;
+
+pub use nesting::check_nesting;
+pub use reports::{NestedPart, NestingReport};

@@ -1,0 +1,142 @@
+use graphql_documents::documents::Schema;
+use graphql_examples::build::{document_in_file, schema};
+use graphql_nesting::{NestingReport, check_nesting};
+use graphql_nodes::FileId;
+use std::alloc::Global;
+use std::process::Abort;
+
+/// The schema of all documents.
+const SCHEMA: &str = "type Query { f: Int q: Query }";
+
+/// Documents and bounds, and the report of each: where it is, and its message.
+const DOCUMENTS: &[(&str, usize, &str)] = &[
+    // a set, and sets of fields
+    ("{ f }", 1, ""),
+    ("{ f }", 0, "0 nests too deep: 1 levels, at most 0"),
+    ("{ q { q { f } } }", 3, ""),
+    (
+        "{ q { q { f } } }",
+        2,
+        "0 nests too deep: 3 levels, at most 2",
+    ),
+    (
+        "query A { f } query B { q { f } } query C { q { f } }",
+        2,
+        "",
+    ),
+    (
+        "query A { f } query B { q { f } } query C { q { f } }",
+        1,
+        "14 nests too deep: 2 levels, at most 1",
+    ),
+    // inline fragments
+    ("{ f ... { ... on Query { f } f } }", 3, ""),
+    (
+        "{ f ... { ... on Query { f } f } }",
+        2,
+        "0 nests too deep: 3 levels, at most 2",
+    ),
+    // through two fragments
+    (
+        "{ ...A } fragment A on Query { q { ...B } } fragment B on Query { q { f } }",
+        5,
+        "",
+    ),
+    (
+        "{ ...A } fragment A on Query { q { ...B } } fragment B on Query { q { f } }",
+        4,
+        "0 nests too deep: 5 levels, at most 4",
+    ),
+    // one fragment at several levels
+    (
+        "{ ...A q { q { ...A } ...A } } fragment A on Query { q { f } }",
+        5,
+        "",
+    ),
+    (
+        "{ ...A q { q { ...A } ...A } } fragment A on Query { q { f } }",
+        4,
+        "0 nests too deep: 5 levels, at most 4",
+    ),
+    // a fragment that is not spread, and one that is not defined
+    ("{ ...B f } fragment A on Query { q { f } }", 2, ""),
+    (
+        "{ ...B f } fragment A on Query { q { f } }",
+        1,
+        "11 nests too deep: 2 levels, at most 1",
+    ),
+    // fragments that lead back to themselves
+    (
+        "{ f } fragment A on Query { ...B } fragment B on Query { q { ...A } }",
+        3,
+        "",
+    ),
+    (
+        "{ f } fragment A on Query { ...B } fragment B on Query { q { ...A } }",
+        2,
+        "6 fragments that lead back to themselves nest too deep: 3 levels together, at most 2",
+    ),
+    (
+        "{ f } fragment C on Query { f } fragment A on Query { q { q { ...A } } }",
+        2,
+        "32 fragments that lead back to themselves nest too deep: 3 levels together, at most 2",
+    ),
+    // what leads to them
+    ("{ q { ...A } } fragment A on Query { ...A }", 2, ""),
+    (
+        "{ q { ...A } } fragment A on Query { ...A }",
+        1,
+        "0 nests too deep: 2 levels, at most 1",
+    ),
+    (
+        "{ ...A } fragment C on Query { ...A } fragment A on Query { ...A q { f } }",
+        3,
+        "",
+    ),
+    (
+        "{ ...A } fragment C on Query { ...A } fragment A on Query { ...A q { f } }",
+        2,
+        "9 fragments that lead back to themselves nest too deep: 3 levels together, at most 2",
+    ),
+    // what they lead to
+    (
+        "{ ...A } fragment A on Query { ...A q { ...B } } fragment B on Query { q { f } }",
+        2,
+        "",
+    ),
+    (
+        "{ ...A } fragment A on Query { ...A q { ...B } } fragment B on Query { q { f } }",
+        1,
+        "49 nests too deep: 2 levels, at most 1",
+    ),
+];
+
+/// The report: the byte where it is, and its message; nothing where there is none.
+fn shown(rt: &impl Abort, alloc: Global, report: Option<NestingReport>) -> String {
+    let Some(report) = report else {
+        return String::new(alloc);
+    };
+    let start = report.location.expect(rt, "a place").start;
+    format!(in alloc; "{start} {report}").expect(rt, "memory for a line")
+}
+
+/// Reports where the document of the text nests deeper than the bound.
+fn reported(rt: &impl Abort, alloc: Global, schema: &Schema, text: &str, most: usize) -> String {
+    let Ok(document) = document_in_file(alloc, schema, text, FileId(1)) else {
+        panic!(rt; "no document: {text}")
+    };
+    let report = check_nesting(alloc, &document, most).expect(rt, "memory for the check");
+    shown(rt, alloc, report)
+}
+
+#[test]
+fn each_document_that_nests_too_deep_is_reported(rt: HostRuntime) {
+    let alloc = rt.alloc();
+    let Ok(schema) = schema(alloc, SCHEMA) else {
+        panic!(rt; "no schema")
+    };
+    for (text, most, expected) in DOCUMENTS {
+        let found = reported(&rt, alloc, &schema.0, text, *most);
+        assert_eq!(rt; found.as_str(), *expected, "{text}");
+    }
+}
