@@ -3,7 +3,7 @@ use Rattle.std.proofs.Common.{rules, ◌≡◌, ◌↔◌, ℕ, ◌<◌, Bool, t
 use Rattle.std.proofs.lemmas.List.{append_assoc, length-append, nil_from_length}
 use Rattle.std.proofs.lemmas.List.Sums.{sum_by-append}
 use Rattle.std.proofs.lemmas.List.Elements.{All-append, All-cons, All-contains, All-head, All-tail, All-nil, All-weaker, Contains-append_cases, Contains-append_left, Contains-append_right}
-use Rattle.std.specs.Prelude.{Err, Ok, OnOk, Result, nat_lt, ◌⊎◌, AllPairs, IsFalse, IsTrue, sum_by, Option}
+use Rattle.std.specs.Prelude.{nat_lt, ◌⊎◌, AllPairs, IsFalse, IsTrue, sum_by, Option}
 use Rattle.graphql_specification.specs.MergedSets.{MergedSet, merged_below, merged_operation, nested_sets, MergingNestsTooDeep, MergingPasses, Agree, ExpansionIsSeen, HasSeen, ListPasses, AreConflicts, ConflictsWith, ConflictReport, agreeing_field, comparisons_of, conflicting_field, empty_group, groups_of, groups_of_lists, next_group, no_field, no_groups}
 use Rattle.graphql_specification.specs.Merging.{Pass, field_pass, shape_pass, FieldSelection, FieldsCanMerge, SameFields}
 use Rattle.graphql_nodes.specs.Names.{NameText, SameName}
@@ -349,11 +349,6 @@ nothing_merged schema fragments m operations shapes fields comparisons conflicti
       closed = λ list group stands. absurd (none_stands list (subst (λ l. Contains l list) none stands));
     };
   }
-
--- what holds in any case holds where a call answers
-pub always : {T E P : Type 0} (r : Result T E) → P → OnOk r P
-always (Ok x) p = p
-always (Err x) p = tt
 
 -- there are more reports than there were
 pub longer : {X : Type 0} (n m : ℕ) (xs ys : List X) → n ≡ length xs → m ≡ length ys → IsTrue (nat_lt n m) ↔ (length xs < length ys)

@@ -7,3 +7,4 @@ pub mod MergedOperations
 pub mod Mergers
 pub mod Passes
 pub mod Stages
+pub mod Works

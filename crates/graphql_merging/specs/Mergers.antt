@@ -1,10 +1,12 @@
--- What contracts see of a value that merges operations.
+-- What contracts see of values that merge operations.
 use Rattle.std.specs.Prelude.{Bool, IsFalse, map}
 use Rattle.graphql_documents.specs.Selections.{fragments_of}
 use Rattle.graphql_documents.specs.declared.documents.executables.ExecutableDocument.{ExecutableDocument}
 use Rattle.graphql_documents.specs.declared.documents.schemas.Schema.{Schema}
 use Rattle.graphql_merging.specs.MergedOperations.{HasMerged, Merging}
 use Rattle.graphql_merging.specs.Stages.{examined_lists}
+use Rattle.graphql_merging.specs.Works.{IsUnbounded}
+use Rattle.graphql_merging.specs.declared.bounded.BoundedMerging.{BoundedMerging}
 use Rattle.graphql_merging.specs.declared.merging.FieldsInSetCanMerge.{FieldsInSetCanMerge}
 
 -- the schema and the document
@@ -32,3 +34,19 @@ has_refused m = m.refused
 -- unless memory was refused, its operations were merged
 abbrev pub IsSound : FieldsInSetCanMerge → Type 0
 IsSound m = IsFalse m.refused → HasMerged m.schema.now (fragments_of m.document.now) (merging_of m)
+
+-- what merges the operations that are decided within the bound
+abbrev pub merger_of : BoundedMerging → FieldsInSetCanMerge
+merger_of m = m.merging
+
+-- an operation was not decided
+abbrev pub is_interrupted : BoundedMerging → Bool
+is_interrupted m = m.interrupted
+
+-- unless an operation was not decided, those so far were merged
+abbrev pub IsSoundWithin : BoundedMerging → Type 0
+IsSoundWithin m = IsFalse m.interrupted → IsSound m.merging
+
+-- the work has no bound
+abbrev pub HasNoBound : BoundedMerging → Type 0
+HasNoBound m = IsUnbounded m.work

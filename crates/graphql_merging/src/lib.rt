@@ -2,6 +2,7 @@
 //! for lists of fields that are put together, from an operation's set down.
 #![tactic(auto)]
 
+pub mod bounded;
 pub mod comparisons;
 pub mod conflict_reports;
 mod conflicts;
@@ -13,3 +14,4 @@ pub mod groups;
 pub mod laws;
 pub mod merging;
 mod passes;
+mod work;

@@ -1,6 +1,7 @@
 use super::examined::Examined;
 use super::groups::Pass;
 use super::passes::MergingPass;
+use super::work::{Interruption, Work};
 use graphql_diagnostics::{Details, DiagnosticList};
 use graphql_documents::documents::{ExecutableDocument, Operation, Schema};
 use graphql_guards::LimitCounter;
@@ -28,7 +29,7 @@ pub struct FieldsInSetCanMerge<'s, 'doc> {
 }
 
 impl<'s, 'doc> FieldsInSetCanMerge<'s, 'doc> {
-    ghost use Rattle.std.specs.Prelude.{◌≡◌, ◌⊎◌, ◌++◌, ◌∷◌, [], IfOk, IsErr, IsFalse, IsTrue, OnErr, OnOk, is_err, sum_by};
+    ghost use Rattle.std.specs.Prelude.{◌≡◌, ◌⊎◌, ◌++◌, ◌∷◌, [], IfErr, IfOk, IsErr, IsErrOf, IsFalse, IsTrue, OnErr, OnOk, is_err, sum_by};
     ghost use Rattle.graphql_diagnostics.specs.Diagnostics.{IsLimitEntry, entries};
     ghost use Rattle.graphql_specification.specs.Merging.{shape_pass, MergingReport};
     ghost use Rattle.graphql_specification.specs.MergedSets.{MergingLimit, comparisons_of};
@@ -37,6 +38,8 @@ impl<'s, 'doc> FieldsInSetCanMerge<'s, 'doc> {
     ghost use Rattle.graphql_merging.specs.MergedOperations.{AreLimits, ExaminesInBoth, HasMerged, MergesOneMore};
     ghost use Rattle.graphql_merging.specs.Mergers.{IsSound, document_of, has_refused, merging_of, schema_of};
     ghost use Rattle.graphql_merging.specs.Passes.{counted};
+    ghost use Rattle.graphql_merging.specs.Works.{IsUnbounded};
+    ghost use Rattle.graphql_merging.specs.declared.work.Interruption.TheVariants.{OutOfMemory, OutOfWork};
 
     /// No operation was merged yet. It takes no memory.
     pub fn new(
@@ -97,12 +100,50 @@ impl<'s, 'doc> FieldsInSetCanMerge<'s, 'doc> {
             MergingLimit (schema_of self.old) (fragments_of (document_of self.old)) (merging_of self.old).operations operation.now e.details e.location)
             (entries diagnostics.old) (entries diagnostics.new) }
     {
+        let mut work = Work::new(None);
+        self.validate_operation_within(operation, diagnostics, &mut work)?;
+        Ok(())
+    }
+
+    /// As `validate_operation`, but answers whether the operation was decided: that is so unless more fields were
+    /// listed than the work allows. Where it was not decided, each report is true of two chains of fields of the
+    /// operation, and the lists that were examined say nothing of further operations.
+    pub(crate) fn validate_operation_within(
+        &mut self,
+        operation: &'doc Node<Operation>,
+        diagnostics: &mut DiagnosticList,
+        work: &mut Work,
+    ) -> Result<bool, ValidationError>
+        ensures schema { schema_of self.new ≡ schema_of self.old }
+        ensures document { document_of self.new ≡ document_of self.old }
+        ensures refused { has_refused self.new ≡ is_err result }
+        ensures reports { KeepsReports
+            (λ e. MergingReport (schema_of self.old) (fragments_of (document_of self.old)) operation.now.value.value.selection_set e.details e.location ⊎ IsLimitEntry e)
+            (entries diagnostics.old) (entries diagnostics.new) }
+        ensures stays { IsTrue (has_refused self.old) → IsErr result × (entries diagnostics.new ≡ entries diagnostics.old) }
+        ensures merges { IfOk result (λ decided. IsTrue decided →
+            MergesOneMore (schema_of self.old) operation.now (merging_of self.old) (merging_of self.new) (entries diagnostics.old) (entries diagnostics.new)) }
+        ensures interrupted { IfOk result (λ decided. IsFalse decided → KeepsReports
+            (λ e. MergingReport (schema_of self.old) (fragments_of (document_of self.old)) operation.now.value.value.selection_set e.details e.location)
+            (entries diagnostics.old) (entries diagnostics.new)) }
+        ensures unbounded { IsUnbounded work.old → IsUnbounded work.new × IfOk result (λ decided. IsTrue decided) }
+        ensures sound { IsSound self.old → IfOk result (λ decided. IsTrue decided → IsSound self.new) }
+        ensures truth { IsSound self.old → KeepsReports
+            (λ e. MergingReport (schema_of self.old) (fragments_of (document_of self.old)) operation.now.value.value.selection_set e.details e.location ⊎
+            MergingLimit (schema_of self.old) (fragments_of (document_of self.old)) (merging_of self.old).operations operation.now e.details e.location)
+            (entries diagnostics.old) (entries diagnostics.new) }
+    {
         if self.refused {
             return Err(ValidationError::OutOfMemory);
         }
-        let result = self.merge_operation(operation, diagnostics);
-        self.refused = result.is_err();
-        result
+        match self.merge_operation(operation, diagnostics, work) {
+            Ok(()) => Ok(true),
+            Err(Interruption::OutOfWork) => Ok(false),
+            Err(Interruption::OutOfMemory) => {
+                self.refused = true;
+                Err(ValidationError::OutOfMemory)
+            }
+        }
     }
 
     /// How often two shapes were compared; it stays at the greatest `u64`. It takes no memory.
@@ -118,9 +159,15 @@ impl<'s, 'doc> FieldsInSetCanMerge<'s, 'doc> {
         &mut self,
         operation: &'doc Node<Operation>,
         diagnostics: &mut DiagnosticList,
-    ) -> Result<(), ValidationError>
+        work: &mut Work,
+    ) -> Result<(), Interruption>
         ensures schema { schema_of self.new ≡ schema_of self.old }
         ensures document { document_of self.new ≡ document_of self.old }
+        ensures refused { has_refused self.new ≡ has_refused self.old }
+        ensures unbounded { IsUnbounded work.old → IsUnbounded work.new × IfErr result (λ e. e ≡ OutOfMemory) }
+        ensures interrupted { IsErrOf result OutOfWork → KeepsReports
+            (λ e. MergingReport (schema_of self.old) (fragments_of (document_of self.old)) operation.now.value.value.selection_set e.details e.location)
+            (entries diagnostics.old) (entries diagnostics.new) }
         ensures reports { KeepsReports
             (λ e. MergingReport (schema_of self.old) (fragments_of (document_of self.old)) operation.now.value.value.selection_set e.details e.location ⊎ IsLimitEntry e)
             (entries diagnostics.old) (entries diagnostics.new) }
@@ -134,10 +181,11 @@ impl<'s, 'doc> FieldsInSetCanMerge<'s, 'doc> {
     {
         self.operations.push(operation)?;
         let reports = diagnostics.len();
-        let deep = self.examine_operation(operation, diagnostics)?;
+        let deep = self.examine_operation(operation, diagnostics, work)?;
         self.conflicting |= diagnostics.len() > reports;
         self.too_deep |= deep;
-        self.report_limit(operation, diagnostics)
+        self.report_limit(operation, diagnostics)?;
+        Ok(())
     }
 
     /// Reports at the operation that fields nest too deep, if they do.
@@ -163,12 +211,15 @@ impl<'s, 'doc> FieldsInSetCanMerge<'s, 'doc> {
         &mut self,
         operation: &'doc Node<Operation>,
         diagnostics: &mut DiagnosticList,
-    ) -> Result<bool, ValidationError>
+        work: &mut Work,
+    ) -> Result<bool, Interruption>
         ensures schema { schema_of self.new ≡ schema_of self.old }
         ensures document { document_of self.new ≡ document_of self.old }
         ensures operations { (merging_of self.new).operations ≡ (merging_of self.old).operations }
         ensures conflicting { (merging_of self.new).conflicting ≡ (merging_of self.old).conflicting }
         ensures too_deep { (merging_of self.new).too_deep ≡ (merging_of self.old).too_deep }
+        ensures refused { has_refused self.new ≡ has_refused self.old }
+        ensures unbounded { IsUnbounded work.old → IsUnbounded work.new × IfErr result (λ e. e ≡ OutOfMemory) }
         ensures examines { IfOk result (λ deep. ExaminesInBoth (schema_of self.old) (fragments_of (document_of self.old)) operation.now.value.value.selection_set
             (merging_of self.old).shapes (merging_of self.new).shapes (merging_of self.old).fields (merging_of self.new).fields
             (merging_of self.old).comparisons (merging_of self.new).comparisons (entries diagnostics.old) (entries diagnostics.new) deep) }
@@ -182,13 +233,13 @@ impl<'s, 'doc> FieldsInSetCanMerge<'s, 'doc> {
             document: self.document,
             pass: Pass::Shapes,
         };
-        shapes.examine_set(diagnostics, &mut self.shapes, &mut depth, set)?;
+        shapes.examine_set(diagnostics, &mut self.shapes, &mut depth, work, set)?;
         let fields = MergingPass {
             schema: self.schema,
             document: self.document,
             pass: Pass::NamesAndArguments,
         };
-        fields.examine_set(diagnostics, &mut self.fields, &mut depth, set)?;
+        fields.examine_set(diagnostics, &mut self.fields, &mut depth, work, set)?;
         Ok(depth.high() > FIELD_DEPTH_LIMIT)
     }
 }

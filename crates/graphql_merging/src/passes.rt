@@ -1,4 +1,4 @@
-ghost use Rattle.std.specs.Prelude.{◌≡◌, ◌≤◌, ◌+◌, ◌*◌, ◌-◌, ◌∷◌, [], IfOk, List, OnOk, filter, map};
+ghost use Rattle.std.specs.Prelude.{◌≡◌, ◌≤◌, ◌+◌, ◌*◌, ◌-◌, ◌∷◌, [], IfErr, IfOk, List, OnOk, filter, map};
 ghost use Rattle.graphql_diagnostics.specs.Diagnostics.{entries};
 ghost use Rattle.graphql_specification.specs.MergedSets.{Expansion, IsGroup, MergedSet, nested_sets, merging_depth_limit};
 ghost use Rattle.graphql_specification.specs.Merging as merging;
@@ -11,12 +11,15 @@ ghost use Rattle.graphql_merging.specs.FieldSelections.{listed};
 ghost use Rattle.graphql_merging.specs.Groups.{pass_of};
 ghost use Rattle.graphql_merging.specs.Passes.{Examines, ExaminesSet, GoesBelow, IsConflict, IsNew};
 ghost use Rattle.graphql_merging.specs.Stages.{examined_lists, stage_of};
+ghost use Rattle.graphql_merging.specs.Works.{IsUnbounded};
+ghost use Rattle.graphql_merging.specs.declared.work.Interruption.TheVariants.{OutOfMemory};
 
 use super::conflicts::compare_groups;
 use super::examined::Examined;
 use super::expansion::expand_selections;
 use super::field_selections::FieldSelection;
 use super::groups::{Pass, groups_of};
+use super::work::{Interruption, Work};
 use graphql_diagnostics::DiagnosticList;
 use graphql_documents::documents::{ExecutableDocument, Schema, SelectionSet};
 use graphql_guards::LimitCounter;
@@ -33,14 +36,15 @@ pub(crate) struct MergingPass<'s, 'doc> {
 
 impl<'s, 'doc> MergingPass<'s, 'doc> {
     /// Examines the fields of a set, and what is merged below them, unless the same fields were examined
-    /// before.
+    /// before. It is interrupted where more fields are listed than the work allows.
     pub(crate) fn examine_set(
         &self,
         diagnostics: &mut DiagnosticList,
         examined: &mut Examined<'doc>,
         depth: &mut LimitCounter,
+        work: &mut Work,
         set: &'doc SelectionSet,
-    ) -> Result<(), ValidationError>
+    ) -> Result<(), Interruption>
         requires { count_limit depth.old ≡ merging_depth_limit }
         ensures examines { OnOk result (ExaminesSet self.now.schema.now (fragments_of self.now.document.now) (pass_of self.now.pass) set.now
             (stage_of examined.old depth.old diagnostics.old) (stage_of examined.new depth.new diagnostics.new)) }
@@ -49,12 +53,14 @@ impl<'s, 'doc> MergingPass<'s, 'doc> {
             MergedSet self.now.schema.now (fragments_of self.now.document.now) operations (pass_of self.now.pass) fields) →
             KeepsReports (IsConflict self.now.schema.now (fragments_of self.now.document.now) operations (pass_of self.now.pass)) (entries diagnostics.old) (entries diagnostics.new) }
         ensures limit { OnOk result (count_limit depth.new ≡ count_limit depth.old) }
+        ensures unbounded { IsUnbounded work.old → IsUnbounded work.new × IfErr result (λ e. e ≡ OutOfMemory) }
     {
         let fields = expand_selections(diagnostics.allocator(), &self.document.fragments, &[set])?;
+        work.count(fields.len())?;
         if examined.knows(&fields) {
             return Ok(());
         }
-        self.examine(diagnostics, examined, depth, fields)
+        self.examine(diagnostics, examined, depth, work, fields)
     }
 
     /// Examines a list of fields that was not examined before: compares them group by group, and then
@@ -65,8 +71,9 @@ impl<'s, 'doc> MergingPass<'s, 'doc> {
         diagnostics: &mut DiagnosticList,
         examined: &mut Examined<'doc>,
         depth: &mut LimitCounter,
+        work: &mut Work,
         fields: Vec<FieldSelection<'doc>>,
-    ) -> Result<(), ValidationError>
+    ) -> Result<(), Interruption>
         requires limit { count_limit depth.old ≡ merging_depth_limit }
         requires is_new { IsNew (examined_lists examined.old) (listed fields.items) }
         ensures examines { OnOk result (Examines self.now.schema.now (fragments_of self.now.document.now) (pass_of self.now.pass) (listed fields.entry.items)
@@ -75,12 +82,13 @@ impl<'s, 'doc> MergingPass<'s, 'doc> {
             MergedSet self.now.schema.now (fragments_of self.now.document.now) operations (pass_of self.now.pass) (listed fields.entry.items) →
             KeepsReports (IsConflict self.now.schema.now (fragments_of self.now.document.now) operations (pass_of self.now.pass)) (entries diagnostics.old) (entries diagnostics.new) }
         ensures limit { OnOk result (count_limit depth.new ≡ count_limit depth.old) }
+        ensures unbounded { IsUnbounded work.old → IsUnbounded work.new × IfErr result (λ e. e ≡ OutOfMemory) }
     {
         let groups = groups_of(diagnostics.allocator(), self.schema, self.pass, &fields)?;
         examined.add(fields)?;
         compare_groups(diagnostics, examined, self.schema, self.pass, &groups)?;
         for group in &groups {
-            self.examine_below(diagnostics, examined, depth, group)?;
+            self.examine_below(diagnostics, examined, depth, work, group)?;
         }
         Ok(())
     }
@@ -93,8 +101,9 @@ impl<'s, 'doc> MergingPass<'s, 'doc> {
         diagnostics: &mut DiagnosticList,
         examined: &mut Examined<'doc>,
         depth: &mut LimitCounter,
+        work: &mut Work,
         group: &[FieldSelection<'doc>],
-    ) -> Result<(), ValidationError>
+    ) -> Result<(), Interruption>
         requires { count_limit depth.old ≡ merging_depth_limit }
         ensures examines { OnOk result (GoesBelow self.now.schema.now (fragments_of self.now.document.now) (pass_of self.now.pass) (listed group.now ∷ [])
             (stage_of examined.old depth.old diagnostics.old) (stage_of examined.new depth.new diagnostics.new)) }
@@ -103,6 +112,7 @@ impl<'s, 'doc> MergingPass<'s, 'doc> {
             IsGroup self.now.schema.now above (pass_of self.now.pass) (listed group.now) →
             KeepsReports (IsConflict self.now.schema.now (fragments_of self.now.document.now) operations (pass_of self.now.pass)) (entries diagnostics.old) (entries diagnostics.new) }
         ensures limit { OnOk result (count_limit depth.new ≡ count_limit depth.old) }
+        ensures unbounded { IsUnbounded work.old → IsUnbounded work.new × IfErr result (λ e. e ≡ OutOfMemory) }
     {
         let alloc = diagnostics.allocator();
         let sets = nested_sets_of(alloc, group)?;
@@ -110,13 +120,14 @@ impl<'s, 'doc> MergingPass<'s, 'doc> {
             return Ok(());
         }
         let fields = expand_selections(alloc, &self.document.fragments, &sets)?;
+        work.count(fields.len())?;
         if examined.knows(&fields) {
             return Ok(());
         }
         if depth.check_and_increment() {
             return Ok(());
         }
-        self.examine(diagnostics, examined, depth, fields)?;
+        self.examine(diagnostics, examined, depth, work, fields)?;
         depth.decrement();
         Ok(())
     }

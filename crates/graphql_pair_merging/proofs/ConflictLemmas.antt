@@ -1,9 +1,10 @@
 -- What the two passes over pairs say of a set.
-use Rattle.std.proofs.Common.{◌≡◌, ℕ, ◌<◌, List, [], ◌∷◌, length, map, sym, subst, All}
+use Rattle.std.proofs.Common.{◌≡◌, ℕ, ◌<◌, List, [], ◌∷◌, length, map, sym, subst, All, Contains}
 use Rattle.std.specs.Prelude.{Err, IfOk, MatchOption, None, Ok, Option, Result, Some, filter_map, slice_get}
 use Rattle.std.proofs.lemmas.List.{length-map}
 use Rattle.std.proofs.lemmas.List.Elements.{All-cons, All-nil, All-weaker}
 use Rattle.std.proofs.lemmas.Option.{slice_get_within}
+use Rattle.graphql_documents.proofs.ListLemmas.{each_standing}
 use Rattle.graphql_documents.specs.Selections.{Fragments, selections_of}
 use Rattle.graphql_documents.specs.declared.documents.executables.SelectionSet.{SelectionSet}
 use Rattle.graphql_documents.specs.declared.documents.schemas.Schema.{Schema}
@@ -13,7 +14,7 @@ use Rattle.graphql_merging.specs.FieldSelections.{selection_of}
 use Rattle.graphql_pair_merging.specs.Disagreements.{Disagrees}
 use Rattle.graphql_pair_merging.specs.Meetings.{IsMetConflict}
 use Rattle.graphql_pair_merging.specs.NumberedSets.{AreNumbered, Describes, field_of, fragment_set, sets_of}
-use Rattle.graphql_pair_merging.specs.Pairs.{AreLinked, FindsBelow, HasLooked, IsLinked, pair_of}
+use Rattle.graphql_pair_merging.specs.Pairs.{AreLinked, FindsBelow, HasLooked, IsLinked}
 use Rattle.graphql_pair_merging.specs.declared.disagreements.Conflict.{Conflict}
 use Rattle.graphql_pair_merging.specs.declared.numbered_sets.NumberedField.{NumberedField}
 use Rattle.graphql_pair_merging.specs.declared.numbered_sets.NumberedSet.{NumberedSet}
@@ -28,7 +29,7 @@ numbers_within sets count same (n ∷ numbers) (s ∷ found) is =
     let rest : map (slice_get sets) numbers ≡ map (λ s. Some s) found = cc in
     All-cons (λ n. n < count) n numbers (subst (λ c. n < c) same (slice_get_within sets n s first)) (numbers_within sets count same numbers found rest)
 
-module _ (fragments : Fragments) (number : ℕ) (set : SelectionSet) (numbered : List NumberedSet) (are : AreNumbered fragments number set numbered) where
+module _ (fragments : Fragments) (starts : List ℕ) (first : List SelectionSet) (numbered : List NumberedSet) (are : AreNumbered fragments starts first numbered) where
   counted : length (sets_of numbered) ≡ length numbered
   counted = length-map numbered (λ (x : NumberedSet). x.set.now)
 
@@ -42,37 +43,44 @@ module _ (fragments : Fragments) (number : ℕ) (set : SelectionSet) (numbered :
         fragments = numbers_within (sets_of numbered) (length numbered) counted x.fragments.items (filter_map (fragment_set fragments) (selections_of x.set.now)) d.fragment_sets;
       }) numbered are.described
 
-  pub within : number < length numbered
-  within = subst (λ c. number < c) counted (slice_get_within (sets_of numbered) number set are.is_at)
+  -- and so are those of the first ones
+  pub within : All (λ n. n < length numbered) starts
+  within = numbers_within (sets_of numbered) (length numbered) counted starts first are.are_at
 
   -- what was found is a conflict of two fields that meet
-  pub met_conflict : (schema : Schema) (pass : Pass) (c : Conflict) → FindsBelow schema pass numbered (pair_of number number) c → IsMetConflict schema fragments set c
-  met_conflict schema pass c f = record {
-    pass = pass;
-    meet = subst (λ r. Meet schema fragments pass set set r (selection_of c.second)) (sym f.found.first_is)
-        (subst (λ r. Meet schema fragments pass set set (field_of f.found.x) r) (sym f.found.second_is)
-        (reached_meet fragments schema pass number set numbered are f.pair f.first f.second f.found.x f.found.y f.reached f.first_is f.second_is f.found.in_first f.found.in_second f.found.put));
-    disagree = subst (λ r. Disagrees schema pass r (selection_of c.second) c.disagreement) (sym f.found.first_is)
-        (subst (λ r. Disagrees schema pass (field_of f.found.x) r c.disagreement) (sym f.found.second_is) f.found.disagree);
-  }
+  pub met_conflict : (schema : Schema) (pass : Pass) (c : Conflict) → FindsBelow schema pass numbered starts c → IsMetConflict schema fragments first c
+  met_conflict schema pass c f =
+      let met = reached_meet fragments schema pass starts first numbered are f.pair f.first f.second f.found.x f.found.y f.reached f.first_is f.second_is f.found.in_first f.found.in_second f.found.put in
+      record {
+        set = met.0;
+        among = met.1;
+        pass = pass;
+        meet = subst (λ r. Meet schema fragments pass met.0 met.0 r (selection_of c.second)) (sym f.found.first_is)
+            (subst (λ r. Meet schema fragments pass met.0 met.0 (field_of f.found.x) r) (sym f.found.second_is) met.2);
+        disagree = subst (λ r. Disagrees schema pass r (selection_of c.second) c.disagreement) (sym f.found.first_is)
+            (subst (λ r. Disagrees schema pass (field_of f.found.x) r c.disagreement) (sym f.found.second_is) f.found.disagree);
+      }
 
   -- where nothing was found in either pass, all fields that meet agree
-  pub both_looked : (schema : Schema) → HasLooked schema shape_pass numbered (pair_of number number) → HasLooked schema field_pass numbered (pair_of number number) →
-      MeetingFieldsAgree schema fragments set
-  both_looked schema shapes fields shape_pass x y meet = looked_agree fragments schema shape_pass number set numbered are shapes x y meet
-  both_looked schema shapes fields field_pass x y meet = looked_agree fragments schema field_pass number set numbered are fields x y meet
+  both_looked : (schema : Schema) → HasLooked schema shape_pass numbered starts → HasLooked schema field_pass numbered starts →
+      (set : SelectionSet) → Contains first set → MeetingFieldsAgree schema fragments set
+  both_looked schema shapes fields set among shape_pass x y meet = looked_agree fragments schema shape_pass starts first numbered are shapes set among x y meet
+  both_looked schema shapes fields set among field_pass x y meet = looked_agree fragments schema field_pass starts first numbered are fields set among x y meet
 
--- the sets as a slice, and the number as it was read
-pub numbered_as : (fragments : Fragments) (count number : ℕ) (set : SelectionSet) (items slice : List NumberedSet) → AreNumbered fragments count set items → number ≡ count → slice ≡ items →
-    AreNumbered fragments number set slice
-numbered_as fragments count number set items slice are read sliced =
-    subst (λ l. AreNumbered fragments number set l) (sym sliced) (subst (λ n. AreNumbered fragments n set items) (sym read) are)
+  pub all_looked : (schema : Schema) → HasLooked schema shape_pass numbered starts → HasLooked schema field_pass numbered starts → All (MeetingFieldsAgree schema fragments) first
+  all_looked schema shapes fields = each_standing (MeetingFieldsAgree schema fragments) first (both_looked schema shapes fields)
+
+-- the sets and their numbers as slices
+pub numbered_as : (fragments : Fragments) (starts read : List ℕ) (first : List SelectionSet) (items slice : List NumberedSet) → AreNumbered fragments starts first items → read ≡ starts → slice ≡ items →
+    AreNumbered fragments read first slice
+numbered_as fragments starts read first items slice are same sliced =
+    subst (λ l. AreNumbered fragments read first l) (sym sliced) (subst (λ n. AreNumbered fragments n first items) (sym same) are)
 
 -- the second pass decides what the first left open
-pub decided : {E : Type 0} (r : Result (Option Conflict) E) (schema : Schema) (fragments : Fragments) (number : ℕ) (set : SelectionSet) (numbered : List NumberedSet) →
-    AreNumbered fragments number set numbered → HasLooked schema shape_pass numbered (pair_of number number) →
-    IfOk r (λ found. MatchOption found (HasLooked schema field_pass numbered (pair_of number number)) (FindsBelow schema field_pass numbered (pair_of number number))) →
-    IfOk r (λ found. MatchOption found (MeetingFieldsAgree schema fragments set) (IsMetConflict schema fragments set))
-decided (Err e) schema fragments number set numbered are shapes found = tt
-decided (Ok None) schema fragments number set numbered are shapes fields = both_looked fragments number set numbered are schema shapes fields
-decided (Ok (Some c)) schema fragments number set numbered are shapes found = met_conflict fragments number set numbered are schema field_pass c found
+pub decided : {E : Type 0} (r : Result (Option Conflict) E) (schema : Schema) (fragments : Fragments) (starts : List ℕ) (first : List SelectionSet) (numbered : List NumberedSet) →
+    AreNumbered fragments starts first numbered → HasLooked schema shape_pass numbered starts →
+    IfOk r (λ found. MatchOption found (HasLooked schema field_pass numbered starts) (FindsBelow schema field_pass numbered starts)) →
+    IfOk r (λ found. MatchOption found (All (MeetingFieldsAgree schema fragments) first) (IsMetConflict schema fragments first))
+decided (Err e) schema fragments starts first numbered are shapes found = tt
+decided (Ok None) schema fragments starts first numbered are shapes fields = all_looked fragments starts first numbered are schema shapes fields
+decided (Ok (Some c)) schema fragments starts first numbered are shapes found = met_conflict fragments starts first numbered are schema field_pass c found

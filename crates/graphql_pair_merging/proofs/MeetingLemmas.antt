@@ -21,7 +21,7 @@ use Rattle.graphql_specification.specs.MergedSets.{Agree, ArePutTogether, Meet, 
 use Rattle.graphql_specification.specs.Merging.{FieldInExpandedSet, FieldSelection, Pass, set_of}
 use Rattle.graphql_laws.proofs.SizeLemmas.{Kind, is_field, is_inline, is_spread, kind_of}
 use Rattle.graphql_pair_merging.specs.NumberedSets.{AreNumbered, Describes, field_of, fragment_set, sets_of}
-use Rattle.graphql_pair_merging.specs.Pairs.{HasLooked, IsClosed, IsReached, LeadsTo, pair_of, reached_first, reached_next}
+use Rattle.graphql_pair_merging.specs.Pairs.{HasLooked, IsClosed, IsReached, IsStart, LeadsTo, pair_of, reached_first, reached_next}
 use Rattle.graphql_pair_merging.specs.declared.numbered_sets.NumberedField.{NumberedField}
 use Rattle.graphql_pair_merging.specs.declared.numbered_sets.NumberedSet.{NumberedSet}
 use Rattle.graphql_pair_merging.specs.declared.pairs.SetPair.{SetPair}
@@ -145,7 +145,7 @@ module _ (fragments : Fragments) where
     meet_selects {s = s} {t = t} (meet_here {x = x} {y = y} in_x in_y put) = (selects s x in_x, selects t y in_y)
     meet_selects {s = s} {t = t} (meet_below u v in_u in_v put below) = (selects s u in_u, selects t v in_v)
 
-    module _ (number : ℕ) (set : SelectionSet) (numbered : List NumberedSet) (are : AreNumbered fragments number set numbered) where
+    module _ (starts : List ℕ) (roots : List SelectionSet) (numbered : List NumberedSet) (are : AreNumbered fragments starts roots numbered) where
       -- a numbered set at its number, and what is in it
       abbrev Own : NumberedSet → Type 0
       Own a = Describes fragments (sets_of numbered) a.set.now.ty (selections_of a.set.now) a
@@ -177,10 +177,27 @@ module _ (fragments : Fragments) where
           made_of (slice_get (sets_of numbered)) a.fragments.items (Some s)
           (subst (λ l. Contains l (Some s)) (sym is.fragment_sets) (stands_mapped (λ (t : SelectionSet). Some t) (fragment_sets a.set.now) s stands))
 
-      -- what meets in a pair that is reached meets in the set
+      -- the two meet in one of the roots
+      abbrev pub MeetInAny : FieldSelection → FieldSelection → Type 0
+      MeetInAny x y = (set : SelectionSet) × Contains roots set × Meet schema fragments pass set set x y
+
+      -- what meets in a pair that is reached meets in one of the roots
       abbrev Reaches : SetPair → Type 0
       Reaches p = (s t : SelectionSet) → slice_get (sets_of numbered) p.first ≡ Some s → slice_get (sets_of numbered) p.second ≡ Some t →
-          (x y : FieldSelection) → Meet schema fragments pass s t x y → Meet schema fragments pass set set x y
+          (x y : FieldSelection) → Meet schema fragments pass s t x y → MeetInAny x y
+
+      -- there is a root at each of their numbers, and each has a number
+      started : (number : ℕ) → Contains starts number → (set : SelectionSet) × Contains roots set × (slice_get (sets_of numbered) number ≡ Some set)
+      started number listed =
+          let found : Contains (map (λ t. Some t) roots) (slice_get (sets_of numbered) number) =
+          subst (λ l. Contains l (slice_get (sets_of numbered) number)) are.are_at (stands_mapped (slice_get (sets_of numbered)) starts number listed) in
+          let made = made_of (λ (t : SelectionSet). Some t) roots (slice_get (sets_of numbered) number) found in
+          (made.0, made.1, sym made.2)
+
+      start_of : (set : SelectionSet) → Contains roots set → (number : ℕ) × Contains starts number × (slice_get (sets_of numbered) number ≡ Some set)
+      start_of set among =
+          made_of (slice_get (sets_of numbered)) starts (Some set)
+          (subst (λ l. Contains l (Some set)) (sym are.are_at) (stands_mapped (λ (t : SelectionSet). Some t) roots set among))
 
       reaches_next : (p q : SetPair) (a b : NumberedSet) → slice_get numbered p.first ≡ Some a → slice_get numbered p.second ≡ Some b → LeadsTo schema pass a b p q →
           Reaches p → Reaches q
@@ -205,23 +222,32 @@ module _ (fragments : Fragments) where
           (inside_itself b.set.now (field_of v) (field_stands b v (own p.second b second) in_v)) below.put
           (subst (λ r. Meet schema fragments pass (set_of (field_of u)) r x y) t_is (subst (λ r. Meet schema fragments pass r t x y) s_is meet)))
 
-      reaches : {p : SetPair} → IsReached schema pass numbered (pair_of number number) p → Reaches p
-      reaches reached_first = λ s t at_s at_t x y meet.
-          subst (λ r. Meet schema fragments pass set r x y) (one_at (slice_get (sets_of numbered) number) t set at_t are.is_at)
-          (subst (λ r. Meet schema fragments pass r t x y) (one_at (slice_get (sets_of numbered) number) s set at_s are.is_at) meet)
+      reaches_first : (p : SetPair) → IsStart starts p → Reaches p
+      reaches_first p (number, listed, is) s t at_s at_t x y meet =
+          let start = started number listed in
+          let s_at = subst (λ (r : SetPair). slice_get (sets_of numbered) r.first ≡ Some s) is at_s in
+          let t_at = subst (λ (r : SetPair). slice_get (sets_of numbered) r.second ≡ Some t) is at_t in (
+            start.0,
+            start.1,
+            subst (λ r. Meet schema fragments pass start.0 r x y) (one_at (slice_get (sets_of numbered) number) t start.0 t_at start.2)
+                (subst (λ r. Meet schema fragments pass r t x y) (one_at (slice_get (sets_of numbered) number) s start.0 s_at start.2) meet),
+          )
+
+      reaches : {p : SetPair} → IsReached schema pass numbered starts p → Reaches p
+      reaches (reached_first {p = p} is) = reaches_first p is
       reaches (reached_next {p = p} {q = q} a b before first second leads) = reaches_next p q a b first second leads (reaches before)
 
-      -- two fields of such a pair that are put together meet in the set
-      pub reached_meet : (p : SetPair) (a b : NumberedSet) (x y : NumberedField) → IsReached schema pass numbered (pair_of number number) p →
+      -- two fields of such a pair that are put together meet in one of the roots
+      pub reached_meet : (p : SetPair) (a b : NumberedSet) (x y : NumberedField) → IsReached schema pass numbered starts p →
           slice_get numbered p.first ≡ Some a → slice_get numbered p.second ≡ Some b → Contains a.fields.items x → Contains b.fields.items y →
-          ArePutTogether schema pass (field_of x) (field_of y) → Meet schema fragments pass set set (field_of x) (field_of y)
+          ArePutTogether schema pass (field_of x) (field_of y) → MeetInAny (field_of x) (field_of y)
       reached_meet p a b x y reached first second in_x in_y put =
           reaches reached a.set.now b.set.now (mapped_at (λ (x : NumberedSet). x.set.now) numbered p.first a first) (mapped_at (λ (x : NumberedSet). x.set.now) numbered p.second b second)
           (field_of x) (field_of y)
           (meet_here (inside_itself a.set.now (field_of x) (field_stands a x (own p.first a first) in_x))
           (inside_itself b.set.now (field_of y) (field_stands b y (own p.second b second) in_y)) put)
 
-      module _ (looked : HasLooked schema pass numbered (pair_of number number)) where
+      module _ (looked : HasLooked schema pass numbered starts) where
         -- the pair of the two sets was looked at
         record Looked (s t : SelectionSet) : Type 0 where
           pair : SetPair
@@ -297,6 +323,8 @@ module _ (fragments : Fragments) where
             let both = meet_selects below in
             meeting_agree below ((settled u v in_u in_v put l).below both.0 both.1)
 
-        -- all fields that meet in the set agree
-        pub looked_agree : (x y : FieldSelection) → Meet schema fragments pass set set x y → Agree schema pass x y
-        looked_agree x y meet = meeting_agree meet (record { pair = pair_of number number; known = looked.begun; first = are.is_at; second = are.is_at })
+        -- all fields that meet in one of the roots agree
+        pub looked_agree : (set : SelectionSet) → Contains roots set → (x y : FieldSelection) → Meet schema fragments pass set set x y → Agree schema pass x y
+        looked_agree set among x y meet =
+            let start = start_of set among in
+            meeting_agree meet (record { pair = pair_of start.0 start.0; known = looked.begun (pair_of start.0 start.0) (start.0, start.1, refl); first = start.2; second = start.2 })

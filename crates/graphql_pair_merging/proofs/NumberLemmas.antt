@@ -24,7 +24,7 @@ use Rattle.graphql_pair_merging.proofs.MeetingLemmas.{opened_field, opened_fragm
 use Rattle.graphql_pair_merging.proofs.PlaceLemmas.{mapped_at, next_at, still_at}
 
 -- numbers of sets stay so when more sets come behind
-numbers_stay : (sets more : List SelectionSet) (numbers : List ℕ) (found : List SelectionSet) → map (slice_get sets) numbers ≡ map (λ s. Some s) found →
+pub numbers_stay : (sets more : List SelectionSet) (numbers : List ℕ) (found : List SelectionSet) → map (slice_get sets) numbers ≡ map (λ s. Some s) found →
     map (slice_get (sets ++ more)) numbers ≡ map (λ s. Some s) found
 numbers_stay sets more [] [] is = refl
 numbers_stay sets more [] (s ∷ found) is = absurd (let no : ⊥ = cc in no)
@@ -35,6 +35,16 @@ numbers_stay sets more (n ∷ numbers) (s ∷ found) is =
     let still = still_at sets more n s first in
     let others = numbers_stay sets more numbers found rest in
     ap (λ o. o ∷ map (slice_get (sets ++ more)) numbers) still ∙ ap (λ l. Some s ∷ l) others
+
+-- one set more has the next number
+pub numbers_next : (sets new : List SelectionSet) (numbers all : List ℕ) (found more : List SelectionSet) (set : SelectionSet) (number : ℕ) →
+    new ≡ sets ++ set ∷ [] → number ≡ length sets → all ≡ numbers ++ number ∷ [] → more ≡ found ++ set ∷ [] →
+    map (slice_get sets) numbers ≡ map (λ s. Some s) found → map (slice_get new) all ≡ map (λ s. Some s) more
+numbers_next sets new numbers all found more set number grown is numbered among before =
+    ap (λ l. map (slice_get l) all) grown ∙ ap (map (slice_get (sets ++ set ∷ []))) numbered ∙ map-append (slice_get (sets ++ set ∷ [])) numbers (number ∷ []) ∙
+    ap (λ l. l ++ slice_get (sets ++ set ∷ []) number ∷ []) (numbers_stay sets (set ∷ []) numbers found before) ∙
+    ap (λ o. map (λ s. Some s) found ++ o ∷ []) (ap (slice_get (sets ++ set ∷ [])) is ∙ next_at sets set []) ∙
+    sym (map-append (λ (s : SelectionSet). Some s) found (set ∷ [])) ∙ ap (map (λ s. Some s)) (sym among)
 
 module _ (fragments : Fragments) (parent : NameText) where
   -- with more sets the description stays

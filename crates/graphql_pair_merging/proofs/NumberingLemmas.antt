@@ -1,13 +1,12 @@
 -- How the sets of a document are numbered, one after another.
-use Rattle.std.proofs.Common.{◌≡◌, ℕ, zero, suc, ◌+◌, ◌<◌, ◌≤◌, List, [], ◌∷◌, ◌++◌, Some, arith, drop, get_or, length, refl, sym, ap, ◌∙◌, subst, sum_by, take, All, add-one}
+use Rattle.std.proofs.Common.{◌≡◌, ℕ, zero, suc, ◌+◌, ◌<◌, ◌≤◌, List, [], ◌∷◌, ◌++◌, Some, arith, drop, get_or, length, map, refl, sym, ap, ◌∙◌, subst, sum_by, take, All, add-one}
 use Rattle.std.specs.Prelude.{filter_map, slice_get}
 use Rattle.std.specs.Borrow.{Bor}
 use Rattle.std.proofs.lemmas.List.{append_assoc, length-append, length-map, map-append, take-append-le, take_all, take_more}
 use Rattle.std.proofs.lemmas.List.Elements.{All-append, All-cons, All-nil, All-weaker}
 use Rattle.std.proofs.lemmas.List.Sums.{sum_by-append, sum_by-cons}
-use Rattle.std.proofs.lemmas.Map.Entries.{length-values_of}
 use Rattle.std.proofs.lemmas.Option.{get_or_from_slice_get, slice_get_read, slice_get_within}
-use Rattle.indexmap.specs.IndexMap.{IndexMap, values}
+use Rattle.indexmap.specs.IndexMap.{IndexMap}
 use Rattle.graphql_nodes.specs.Names.{NameText}
 use Rattle.graphql_nodes.specs.declared.nodes.Node.{Node}
 use Rattle.graphql_documents.specs.Selections.{Fragments, selections_of}
@@ -16,42 +15,40 @@ use Rattle.graphql_documents.specs.declared.documents.executables.SelectionSet.{
 use Rattle.graphql_merging.specs.ExpansionSteps.{fragments_in}
 use Rattle.graphql_pair_merging.specs.NumberedSets.{AreNumbered, Begins, Describes, sets_among, sets_at, sets_of, written_set}
 use Rattle.graphql_pair_merging.specs.declared.numbered_sets.NumberedSet.{NumberedSet}
-use Rattle.graphql_pair_merging.proofs.NumberLemmas.{describes_still}
-use Rattle.graphql_pair_merging.proofs.PlaceLemmas.{mapped_at, next_at, one_at, still_at}
+use Rattle.graphql_pair_merging.proofs.NumberLemmas.{describes_still, numbers_stay}
+use Rattle.graphql_pair_merging.proofs.PlaceLemmas.{mapped_at, one_at}
 use Rattle.graphql_pair_merging.proofs.WeightLemmas.{weighs_more, weight_of_set}
 
 -- the set was described among these sets
 abbrev IsDescribed : Fragments → List SelectionSet → NumberedSet → Type 0
 IsDescribed fragments sets x = Describes fragments sets x.set.now.ty (selections_of x.set.now) x
 
-module _ {S : Type 0} (fragments : IndexMap NameText (Node Fragment) S) (set : SelectionSet) where
+module _ {S : Type 0} (fragments : IndexMap NameText (Node Fragment) S) (numbers : List ℕ) (first : List SelectionSet) where
   -- the first sets were described, in order
   pub record Describing (sets : List SelectionSet) (numbered : List NumberedSet) : Type 0 where
     pub begins : Begins fragments sets
-    pub is_at : slice_get sets (length fragments.entries) ≡ Some set
+    pub are_at : map (slice_get sets) numbers ≡ map (λ s. Some s) first
     pub within : length numbered ≤ length sets
-    pub first : sets_of numbered ≡ take (length numbered) sets
+    pub in_order : sets_of numbered ≡ take (length numbered) sets
     pub described : All (IsDescribed (fragments_in fragments) sets) numbered
 
-  pub describing_begins : (sets : List SelectionSet) → sets ≡ sets_among fragments ++ set ∷ [] → Describing sets []
-  describing_begins sets is = subst (λ l. Describing l []) (sym is) (record {
-    begins = (set ∷ [], refl);
-    is_at = ap (slice_get (sets_among fragments ++ set ∷ [])) (sym counted) ∙ next_at (sets_among fragments) set [];
+  pub describing_begins : (sets more : List SelectionSet) → sets ≡ sets_among fragments ++ more → map (slice_get sets) numbers ≡ map (λ s. Some s) first → Describing sets []
+  describing_begins sets more is at = record {
+    begins = (more, is);
+    are_at = at;
     within = omega arith;
-    first = refl;
-    described = All-nil (IsDescribed (fragments_in fragments) (sets_among fragments ++ set ∷ []));
-  }) where
-    counted : length (sets_among fragments) ≡ length fragments.entries
-    counted = length-map (values fragments) (λ (d : Node Fragment). d.value.value.selection_set) ∙ length-values_of fragments.entries
+    in_order = refl;
+    described = All-nil (IsDescribed (fragments_in fragments) sets);
+  }
 
   pub describing_on : (sets new : List SelectionSet) (numbered : List NumberedSet) (x : NumberedSet) →
       slice_get sets (length numbered) ≡ Some x.set.now → new ≡ sets ++ filter_map written_set (selections_of x.set.now) → IsDescribed (fragments_in fragments) new x →
       Describing sets numbered → Describing new (numbered ++ x ∷ [])
   describing_on sets new numbered x at is described d = subst (λ l. Describing l (numbered ++ x ∷ [])) (sym is) (record {
     begins = (d.begins.0 ++ added, ap (λ l. l ++ added) d.begins.1 ∙ append_assoc (sets_among fragments) d.begins.0 added);
-    is_at = still_at sets added (length fragments.entries) set d.is_at;
+    are_at = numbers_stay sets added numbers first d.are_at;
     within = omega (arith, less, length-append numbered (x ∷ []), length-append sets added);
-    first = map-append (λ (y : NumberedSet). y.set.now) numbered (x ∷ []) ∙ ap (λ l. l ++ x.set.now ∷ []) d.first ∙ sym taken;
+    in_order = map-append (λ (y : NumberedSet). y.set.now) numbered (x ∷ []) ∙ ap (λ l. l ++ x.set.now ∷ []) d.in_order ∙ sym taken;
     described = All-append (IsDescribed (fragments_in fragments) (sets ++ added)) numbered (x ∷ [])
         (All-weaker (IsDescribed (fragments_in fragments) sets) (IsDescribed (fragments_in fragments) (sets ++ added))
         (λ y. describes_still (fragments_in fragments) y.set.now.ty sets added (selections_of y.set.now) y) numbered d.described)
@@ -70,12 +67,12 @@ module _ {S : Type 0} (fragments : IndexMap NameText (Node Fragment) S) (set : S
         take-append-le (length numbered + 1) sets added (omega (arith, less)) ∙ take_more sets (length numbered) x.set.now less ∙
         ap (λ t. take (length numbered) sets ++ t ∷ []) (get_or_from_slice_get sets (length numbered) x.set.now x.set.now at)
 
-  pub describing_ends : (sets : List SelectionSet) (numbered : List NumberedSet) → length sets ≤ length numbered → Describing sets numbered → AreNumbered (fragments_in fragments) (length fragments.entries) set numbered
+  pub describing_ends : (sets : List SelectionSet) (numbered : List NumberedSet) → length sets ≤ length numbered → Describing sets numbered → AreNumbered (fragments_in fragments) numbers first numbered
   describing_ends sets numbered all d =
-      let same : sets_of numbered ≡ sets = d.first ∙ take_all (length numbered) sets all in
+      let same : sets_of numbered ≡ sets = d.in_order ∙ take_all (length numbered) sets all in
       record {
         described = subst (λ l. All (IsDescribed (fragments_in fragments) l) numbered) (sym same) d.described;
-        is_at = subst (λ l. slice_get l (length fragments.entries) ≡ Some set) (sym same) d.is_at;
+        are_at = subst (λ l. map (slice_get l) numbers ≡ map (λ s. Some s) first) (sym same) d.are_at;
       }
 
 -- once a set was described what is left weighs less

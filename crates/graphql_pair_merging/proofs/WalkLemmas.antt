@@ -12,7 +12,7 @@ use mathlib.Core.Logic.{inl, inr}
 use Rattle.indexmap.proofs.IndexTableLemmas.Probe.{pigeonhole}
 use Rattle.graphql_documents.specs.declared.documents.schemas.Schema.{Schema}
 use Rattle.graphql_specification.specs.Merging.{Pass}
-use Rattle.graphql_pair_merging.specs.Pairs.{AreLinked, Finds, FindsBelow, HasLooked, IsClosed, IsLinked, IsReached, LeadsTo, LooksAt, pair_of, reached_first, reached_next}
+use Rattle.graphql_pair_merging.specs.Pairs.{Adds, AreLinked, Finds, FindsBelow, HasLooked, IsClosed, IsLinked, IsReached, IsStart, LeadsTo, LooksAt, pair_of, reached_first, reached_next}
 use Rattle.graphql_pair_merging.specs.declared.disagreements.Conflict.{Conflict}
 use Rattle.graphql_pair_merging.specs.declared.numbered_sets.NumberedField.{NumberedField}
 use Rattle.graphql_pair_merging.specs.declared.numbered_sets.NumberedSet.{NumberedSet}
@@ -83,7 +83,7 @@ some_at [] i less = absurd (omega (arith, less))
 some_at (x ∷ xs) zero less = (x, refl)
 some_at (x ∷ xs) (suc i) less = some_at xs i (omega (arith, less))
 
-module _ (schema : Schema) (pass : Pass) (sets : List NumberedSet) (start : SetPair) where
+module _ (schema : Schema) (pass : Pass) (sets : List NumberedSet) (starts : List ℕ) where
   linked_at : AreLinked sets → (i : ℕ) (a : NumberedSet) → slice_get sets i ≡ Some a → IsLinked (length sets) a
   linked_at linked i a is = All-contains (IsLinked (length sets)) sets a linked (stands_at sets i a is)
 
@@ -97,22 +97,24 @@ module _ (schema : Schema) (pass : Pass) (sets : List NumberedSet) (start : SetP
       (All-contains (λ (f : NumberedField). f.set < length sets) a.fields.items x a_linked.fields in_x, All-contains (λ (f : NumberedField). f.set < length sets) b.fields.items y b_linked.fields in_y)
 
   -- what is reached is a pair of the sets
-  reached_within : AreLinked sets → IsWithin (length sets) start → {p : SetPair} → IsReached schema pass sets start p → IsWithin (length sets) p
-  reached_within linked start_in reached_first = start_in
+  reached_within : AreLinked sets → All (λ n. n < length sets) starts → {p : SetPair} → IsReached schema pass sets starts p → IsWithin (length sets) p
+  reached_within linked start_in (reached_first {p = p} (n, listed, is)) =
+      let less = All-contains (λ m. m < length sets) starts n start_in listed in
+      subst (IsWithin (length sets)) (sym is) (less, less)
   reached_within linked start_in (reached_next {p = p} {q = q} a b before first second leads) =
       within_next p q a b (linked_at linked p.first a first) (linked_at linked p.second b second) (reached_within linked start_in before) leads
 
   -- where the walk is
   pub record Walks (next : ℕ) (keys : List SetPair) : Type 0 where
-    pub begun : Contains keys start
+    pub begun : (p : SetPair) → IsStart starts p → Contains keys p
     pub within : next ≤ length keys
-    pub reached : All (IsReached schema pass sets start) keys
+    pub reached : All (IsReached schema pass sets starts) keys
     pub closed : All (IsClosed schema pass sets keys) (take next keys)
 
-  pub all_within : AreLinked sets → IsWithin (length sets) start → (next : ℕ) (keys : List SetPair) → Walks next keys → All (IsWithin (length sets)) keys
-  all_within linked start_in next keys walks = All-weaker (IsReached schema pass sets start) (IsWithin (length sets)) (λ p reached. reached_within linked start_in reached) keys walks.reached
+  pub all_within : AreLinked sets → All (λ n. n < length sets) starts → (next : ℕ) (keys : List SetPair) → Walks next keys → All (IsWithin (length sets)) keys
+  all_within linked start_in next keys walks = All-weaker (IsReached schema pass sets starts) (IsWithin (length sets)) (λ p reached. reached_within linked start_in reached) keys walks.reached
 
-  pub pair_within : AreLinked sets → IsWithin (length sets) start → (next : ℕ) (keys : List SetPair) (p : SetPair) → Walks next keys → slice_get keys next ≡ Some p → IsWithin (length sets) p
+  pub pair_within : AreLinked sets → All (λ n. n < length sets) starts → (next : ℕ) (keys : List SetPair) (p : SetPair) → Walks next keys → slice_get keys next ≡ Some p → IsWithin (length sets) p
   pair_within linked start_in next keys p walks is = All-contains (IsWithin (length sets)) keys p (all_within linked start_in next keys walks) (stands_at keys next p is)
 
   still_closed : (keys added : List SetPair) (p : SetPair) → IsClosed schema pass sets keys p → IsClosed schema pass sets (keys ++ added) p
@@ -129,10 +131,10 @@ module _ (schema : Schema) (pass : Pass) (sets : List NumberedSet) (start : SetP
   pub walks_on : (next : ℕ) (keys new : List SetPair) (p : SetPair) (a b : NumberedSet) → slice_get keys next ≡ Some p →
       slice_get sets p.first ≡ Some a → slice_get sets p.second ≡ Some b → LooksAt schema pass a b p keys new → Walks next keys → Walks (next + 1) new
   walks_on next keys new p a b is first second looks walks = subst (Walks (next + 1)) (sym looks.adds.grown) (record {
-    begun = Contains-append_left keys added start walks.begun;
+    begun = λ q is_start. Contains-append_left keys added q (walks.begun q is_start);
     within = omega (arith, less, length-append keys added);
-    reached = All-append (IsReached schema pass sets start) keys added walks.reached
-        (All-weaker (LeadsTo schema pass a b p) (IsReached schema pass sets start) (λ q leads. reached_next a b reached first second leads) added looks.adds.each);
+    reached = All-append (IsReached schema pass sets starts) keys added walks.reached
+        (All-weaker (LeadsTo schema pass a b p) (IsReached schema pass sets starts) (λ q leads. reached_next a b reached first second leads) added looks.adds.each);
     closed = subst (All (IsClosed schema pass sets (keys ++ added))) (sym taken)
         (All-append (IsClosed schema pass sets (keys ++ added)) (take next keys) (p ∷ [])
         (All-weaker (IsClosed schema pass sets keys) (IsClosed schema pass sets (keys ++ added)) (still_closed keys added) (take next keys) walks.closed)
@@ -144,8 +146,8 @@ module _ (schema : Schema) (pass : Pass) (sets : List NumberedSet) (start : SetP
     less : next < length keys
     less = slice_get_within keys next p is
 
-    reached : IsReached schema pass sets start p
-    reached = All-contains (IsReached schema pass sets start) keys p walks.reached (stands_at keys next p is)
+    reached : IsReached schema pass sets starts p
+    reached = All-contains (IsReached schema pass sets starts) keys p walks.reached (stands_at keys next p is)
 
     taken : take (next + 1) (keys ++ added) ≡ take next keys ++ p ∷ []
     taken =
@@ -162,28 +164,29 @@ module _ (schema : Schema) (pass : Pass) (sets : List NumberedSet) (start : SetP
       agree = looks.agree;
     }
 
-  pub walks_end : (next : ℕ) (keys : List SetPair) → take next keys ≡ keys → Walks next keys → HasLooked schema pass sets start
+  pub walks_end : (next : ℕ) (keys : List SetPair) → take next keys ≡ keys → Walks next keys → HasLooked schema pass sets starts
   walks_end next keys all walks = record {
     pairs = keys;
     begun = walks.begun;
     closed = subst (All (IsClosed schema pass sets keys)) all walks.closed;
   }
 
-  pub walks_begin : (keys : List SetPair) → keys ≡ start ∷ [] → Walks 0 keys
-  walks_begin keys is = subst (Walks 0) (sym is) (record {
-    begun = (0, omega arith, refl);
+  pub walks_begin : (none keys : List SetPair) → none ≡ [] → Adds (IsStart starts) none keys → Walks 0 keys
+  walks_begin none keys empty adds = record {
+    begun = adds.all;
     within = omega arith;
-    reached = All-cons (IsReached schema pass sets start) start [] reached_first (All-nil (IsReached schema pass sets start));
-    closed = All-nil (IsClosed schema pass sets (start ∷ []));
-  })
+    reached = subst (All (IsReached schema pass sets starts)) (sym (adds.grown ∙ ap (λ l. l ++ adds.added) empty))
+        (All-weaker (IsStart starts) (IsReached schema pass sets starts) (λ p is. reached_first is) adds.added adds.each);
+    closed = All-nil (IsClosed schema pass sets keys);
+  }
 
   pub found_below : (next : ℕ) (keys : List SetPair) (p : SetPair) (a b : NumberedSet) (c : Conflict) → slice_get keys next ≡ Some p →
-      slice_get sets p.first ≡ Some a → slice_get sets p.second ≡ Some b → Finds schema pass a.fields.items b.fields.items c → Walks next keys → FindsBelow schema pass sets start c
+      slice_get sets p.first ≡ Some a → slice_get sets p.second ≡ Some b → Finds schema pass a.fields.items b.fields.items c → Walks next keys → FindsBelow schema pass sets starts c
   found_below next keys p a b c is first second found walks = record {
     pair = p;
     first = a;
     second = b;
-    reached = All-contains (IsReached schema pass sets start) keys p walks.reached (stands_at keys next p is);
+    reached = All-contains (IsReached schema pass sets starts) keys p walks.reached (stands_at keys next p is);
     first_is = first;
     second_is = second;
     found = found;

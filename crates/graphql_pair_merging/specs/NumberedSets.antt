@@ -7,6 +7,7 @@ use Rattle.graphql_nodes.specs.Names.{NameText}
 use Rattle.graphql_nodes.specs.declared.nodes.Node.{Node}
 use Rattle.graphql_documents.specs.Selections.{Fragments, selections_of}
 use Rattle.graphql_documents.specs.declared.documents.executables.Fragment.{Fragment}
+use Rattle.graphql_documents.specs.declared.documents.executables.Operation.{Operation}
 use Rattle.graphql_documents.specs.declared.documents.executables.Selection.{Selection, out-Selection}
 use Rattle.graphql_documents.specs.declared.documents.executables.Selection.TheOpen as Open
 use Rattle.graphql_documents.specs.declared.documents.executables.SelectionSet.{SelectionSet}
@@ -36,6 +37,10 @@ written_set s = elim (out-Selection s) [
 abbrev pub sets_at : List (Bor SelectionSet) → List SelectionSet
 sets_at sets = map (λ set. set.now) sets
 
+-- the sets of operations
+abbrev pub operation_sets : List (Bor (Node Operation)) → List SelectionSet
+operation_sets operations = map (λ o. o.now.value.value.selection_set) operations
+
 -- numbered sets as sets
 abbrev pub sets_of : List NumberedSet → List SelectionSet
 sets_of numbered = map (λ x. x.set.now) numbered
@@ -50,10 +55,10 @@ pub record Describes (fragments : Fragments) (sets : List SelectionSet) (parent 
   pub own_sets : All (λ f. slice_get sets f.set ≡ Some (set_of (field_of f))) x.fields.items
   pub fragment_sets : map (slice_get sets) x.fragments.items ≡ map Some (filter_map (fragment_set fragments) selections)
 
--- each of the numbered sets is so described, and this is the number of that set
-pub record AreNumbered (fragments : Fragments) (number : ℕ) (set : SelectionSet) (numbered : List NumberedSet) : Type 0 where
+-- each of the numbered sets is so described, and these are the numbers of those sets
+pub record AreNumbered (fragments : Fragments) (numbers : List ℕ) (sets : List SelectionSet) (numbered : List NumberedSet) : Type 0 where
   pub described : All (λ x. Describes fragments (sets_of numbered) x.set.now.ty (selections_of x.set.now) x) numbered
-  pub is_at : slice_get (sets_of numbered) number ≡ Some set
+  pub are_at : map (slice_get (sets_of numbered)) numbers ≡ map Some sets
 
 -- the sets of the fragments, in order
 abbrev pub sets_among : {S : Type 0} → IndexMap NameText (Node Fragment) S → List SelectionSet

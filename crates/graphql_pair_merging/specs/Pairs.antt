@@ -38,6 +38,10 @@ IntoFirst fragments second p = (number : ℕ) × Contains fragments number × (p
 abbrev pub IntoSecond : ℕ → List ℕ → SetPair → Type 0
 IntoSecond first fragments p = (number : ℕ) × Contains fragments number × (p ≡ pair_of first number)
 
+-- the pair of one of these sets with itself
+abbrev pub IsStart : List ℕ → SetPair → Type 0
+IsStart starts p = (number : ℕ) × Contains starts number × (p ≡ pair_of number number)
+
 module _ (schema : Schema) (pass : Pass) where
   -- the pair of the sets of two fields that are put together, if both select something
   pub record IsBelow (x y : NumberedField) (p : SetPair) : Type 0 where
@@ -80,12 +84,12 @@ module _ (schema : Schema) (pass : Pass) where
         ArePutTogether schema pass (field_of x) (field_of y) → Agree schema pass (field_of x) (field_of y)
 
   module _ (sets : List NumberedSet) where
-    -- a pair that is reached from another
-    pub data IsReached (start : SetPair) : SetPair → Type 0 where
-      reached_first : IsReached start start
-      reached_next : {p q : SetPair} (a b : NumberedSet) → IsReached start p →
+    -- a pair that is reached where one of some sets is put together with itself
+    pub data IsReached (starts : List ℕ) : SetPair → Type 0 where
+      reached_first : {p : SetPair} → IsStart starts p → IsReached starts p
+      reached_next : {p q : SetPair} (a b : NumberedSet) → IsReached starts p →
           slice_get sets p.first ≡ Some a → slice_get sets p.second ≡ Some b → LeadsTo a b p q →
-          IsReached start q
+          IsReached starts q
 
     -- all to which the pair leads are among these, and its fields agree where they are put together
     pub record IsClosed (pairs : List SetPair) (p : SetPair) : Type 0 where
@@ -97,18 +101,18 @@ module _ (schema : Schema) (pass : Pass) where
       pub agree : (x y : NumberedField) → Contains first.fields.items x → Contains second.fields.items y →
           ArePutTogether schema pass (field_of x) (field_of y) → Agree schema pass (field_of x) (field_of y)
 
-    -- all pairs that are reached from this one were looked at, and nothing was found
-    pub record HasLooked (start : SetPair) : Type 0 where
+    -- all pairs that are reached were looked at, and nothing was found
+    pub record HasLooked (starts : List ℕ) : Type 0 where
       pub pairs : List SetPair
-      pub begun : Contains pairs start
+      pub begun : (p : SetPair) → IsStart starts p → Contains pairs p
       pub closed : All (IsClosed pairs) pairs
 
     -- two fields of a pair that is reached do not agree
-    pub record FindsBelow (start : SetPair) (c : Conflict) : Type 0 where
+    pub record FindsBelow (starts : List ℕ) (c : Conflict) : Type 0 where
       pub pair : SetPair
       pub first : NumberedSet
       pub second : NumberedSet
-      pub reached : IsReached start pair
+      pub reached : IsReached starts pair
       pub first_is : slice_get sets pair.first ≡ Some first
       pub second_is : slice_get sets pair.second ≡ Some second
       pub found : Finds first.fields.items second.fields.items c

@@ -1,6 +1,7 @@
-//! Whether all fields of an operation that come together in a response agree.
+//! Whether all fields of operations that come together in a response agree.
 
-ghost use Rattle.std.specs.Prelude.{◌≡◌, ◌↔◌, [], IfOk, MatchOption, OnOk};
+ghost use Rattle.std.specs.List.{Any};
+ghost use Rattle.std.specs.Prelude.{◌≡◌, ◌↔◌, [], All, IfOk, MatchOption, OnOk};
 ghost use Rattle.graphql_diagnostics.specs.Diagnostics.{entries};
 ghost use Rattle.graphql_diagnostics.specs.Reports.{Appends, KeepsReports};
 ghost use Rattle.graphql_documents.specs.Selections.{fragments_of};
@@ -8,76 +9,75 @@ ghost use Rattle.graphql_specification.specs.Merging.{FieldsCanMerge, MergingRep
 ghost use Rattle.graphql_merging.specs.ExpansionSteps.{fragments_in};
 ghost use Rattle.graphql_specification.specs.MergedSets.{MeetingFieldsAgree};
 ghost use Rattle.graphql_pair_merging.specs.Meetings.{IsMetConflict};
+ghost use Rattle.graphql_pair_merging.specs.NumberedSets.{operation_sets};
 
 use super::disagreements::Conflict;
 use super::field_groups::group_sets;
 use super::numbered_sets::number_sets;
 use super::pairs::PairPass;
 use graphql_diagnostics::DiagnosticList;
-use graphql_documents::documents::{ExecutableDocument, Fragment, Operation, Schema, SelectionSet};
+use graphql_documents::documents::{ExecutableDocument, Fragment, Operation, Schema};
 use graphql_merging::groups::Pass;
 use graphql_nodes::{Name, Node, ValidationError};
 use indexmap::IndexMap;
 use std::alloc::Global;
 
-/// Decides whether all fields of an operation that come together in a response agree, and reports two that do not,
-/// if there are any: at the second of them, that their types have different shapes, or that they are not one field
-/// with the same arguments though their parents may overlap all the way.
+/// Decides whether in each of these operations all fields that come together in a response agree, and reports two
+/// that do not, if there are any in one of them: at the second, that their types have different shapes, or that they
+/// are not one field with the same arguments though their parents may overlap all the way.
 ///
 /// Two selection sets of the document are looked at together at most once for shapes and once for names and
-/// arguments, however many ways lead to them, and fragments may form cycles. The only error is a failed
-/// allocation; in any case the old diagnostics stay.
+/// arguments, however many ways and operations lead to them, and fragments may form cycles. The only error is
+/// a failed allocation; in any case the old diagnostics stay.
 ///
 /// Specification: 5.3.2 Field Selection Merging.
 pub fn merge_by_pairs(
     diagnostics: &mut DiagnosticList,
     schema: &Schema,
     document: &ExecutableDocument,
-    operation: &Node<Operation>,
+    operations: &[&Node<Operation>],
 ) -> Result<(), ValidationError>
     ensures decides { OnOk result (Appends
-        (λ added. (added ≡ []) ↔ FieldsCanMerge schema.now (fragments_of document.now) operation.now.value.value.selection_set)
+        (λ added. (added ≡ []) ↔ All (λ o. FieldsCanMerge schema.now (fragments_of document.now) o.now.value.value.selection_set) operations.now)
         (entries diagnostics.old) (entries diagnostics.new)) }
     ensures truth { KeepsReports
-        (λ e. MergingReport schema.now (fragments_of document.now) operation.now.value.value.selection_set e.details e.location)
+        (λ e. Any (λ o. MergingReport schema.now (fragments_of document.now) o.now.value.value.selection_set e.details e.location) operations.now)
         (entries diagnostics.old) (entries diagnostics.new) }
 {
     let alloc = diagnostics.allocator();
-    let set = &operation.value.selection_set;
-    match find_conflict(alloc, schema, &document.fragments, set)? {
+    match find_conflict(alloc, schema, &document.fragments, operations)? {
         Some(conflict) => conflict.report(diagnostics),
         None => Ok(()),
     }
 }
 
-/// Two fields that come together in a set and do not agree, if there are any: by their shapes first.
+/// Two fields that come together in an operation and do not agree, if there are any: by their shapes first.
 fn find_conflict<'doc>(
     alloc: Global,
     schema: &Schema,
     fragments: &'doc IndexMap<Name, Node<Fragment>>,
-    set: &'doc SelectionSet,
+    operations: &[&'doc Node<Operation>],
 ) -> Result<Option<Conflict<'doc>>, ValidationError>
     ensures { IfOk result (λ found. MatchOption found
-        (MeetingFieldsAgree schema.now (fragments_in fragments.now) set.now)
-        (IsMetConflict schema.now (fragments_in fragments.now) set.now)) }
+        (All (MeetingFieldsAgree schema.now (fragments_in fragments.now)) (operation_sets operations.now))
+        (IsMetConflict schema.now (fragments_in fragments.now) (operation_sets operations.now))) }
 {
-    let sets = number_sets(alloc, fragments, set)?;
-    let groups = group_sets(alloc, &sets)?;
-    let number = fragments.len();
+    let numbered = number_sets(alloc, fragments, operations)?;
+    let groups = group_sets(alloc, &numbered.sets)?;
     let shapes = PairPass {
         schema,
-        sets: &sets,
+        sets: &numbered.sets,
         groups: &groups,
         pass: Pass::Shapes,
     };
-    if let Some(conflict) = shapes.find_conflict(alloc, number)? {
+    if let Some(conflict) = shapes.find_conflict(alloc, &numbered.starts)? {
         return Ok(Some(conflict));
     }
     let fields = PairPass {
         schema,
-        sets: &sets,
+        sets: &numbered.sets,
         groups: &groups,
         pass: Pass::NamesAndArguments,
     };
-    fields.find_conflict(alloc, number)
+    fields.find_conflict(alloc, &numbered.starts)
 }

@@ -4,9 +4,9 @@ ghost use Rattle.std.specs.Prelude.{◌≡◌, ◌++◌, ◌∷◌, [], All, IfO
 ghost use Rattle.graphql_documents.specs.Selections.{selections_of};
 ghost use Rattle.graphql_documents.specs.declared.documents.executables.Selection.{Selection};
 ghost use Rattle.graphql_merging.specs.ExpansionSteps.{fragments_in};
-ghost use Rattle.graphql_pair_merging.specs.NumberedSets.{AreNumbered, Begins, Describes, sets_among, sets_at, written_set};
+ghost use Rattle.graphql_pair_merging.specs.NumberedSets.{AreNumbered, Begins, Describes, operation_sets, sets_among, sets_at, written_set};
 
-use graphql_documents::documents::{Fragment, Selection, SelectionSet};
+use graphql_documents::documents::{Fragment, Operation, Selection, SelectionSet};
 use graphql_merging::field_selections::FieldSelection;
 use graphql_nodes::{Name, Node, ValidationError};
 use indexmap::IndexMap;
@@ -40,23 +40,34 @@ pub(crate) struct NumberedSet<'doc> {
     pub(crate) fragments: Vec<usize>,
 }
 
-/// Numbers the sets of the fragments, in order, and behind them this set and all sets that are written in
-/// these. The only error is a failed allocation.
+/// Sets at their numbers, and the numbers of those of operations.
+#[derive(Debug, Drop)]
+pub(crate) struct NumberedDocument<'doc> {
+    pub(crate) sets: Vec<NumberedSet<'doc>>,
+    pub(crate) starts: Vec<usize>,
+}
+
+/// Numbers the sets of the fragments, in order, behind them those of the operations, and behind these all sets
+/// that are written in them. The only error is a failed allocation.
 pub(crate) fn number_sets<'doc>(
     alloc: Global,
     fragments: &'doc IndexMap<Name, Node<Fragment>>,
-    set: &'doc SelectionSet,
-) -> Result<Vec<NumberedSet<'doc>>, ValidationError>
-    ensures { IfOk result (λ numbered. AreNumbered (fragments_in fragments.now) (length fragments.now.entries) set.now numbered.items) }
+    operations: &[&'doc Node<Operation>],
+) -> Result<NumberedDocument<'doc>, ValidationError>
+    ensures { IfOk result (λ numbered. AreNumbered (fragments_in fragments.now) numbered.starts.items (operation_sets operations.now) numbered.sets.items) }
 {
-    let mut numbering = Numbering::begin(alloc, fragments, set)?;
+    let mut numbering = Numbering::begin(alloc, fragments)?;
+    let starts = numbering.number_operations(alloc, operations)?;
     let mut numbered = Vec::new(alloc);
     while numbered.len() < numbering.sets.len() {
         let set = numbering.sets[numbered.len()];
         let described = numbering.describe(alloc, set)?;
         numbered.push(described)?;
     }
-    Ok(numbered)
+    Ok(NumberedDocument {
+        sets: numbered,
+        starts,
+    })
 }
 
 /// The sets that have numbers: each is at its own.
@@ -67,21 +78,37 @@ struct Numbering<'doc> {
 }
 
 impl<'doc> Numbering<'doc> {
-    /// Numbers the sets of the fragments, and behind them this set.
+    /// Numbers the sets of the fragments.
     fn begin(
         alloc: Global,
         fragments: &'doc IndexMap<Name, Node<Fragment>>,
-        set: &'doc SelectionSet,
     ) -> Result<Numbering<'doc>, ValidationError>
         ensures fragments { IfOk result (λ numbering. numbering.fragments.now ≡ fragments.now) }
-        ensures sets { IfOk result (λ numbering. sets_at numbering.sets.items ≡ sets_among fragments.now ++ set.now ∷ []) }
+        ensures sets { IfOk result (λ numbering. sets_at numbering.sets.items ≡ sets_among fragments.now) }
     {
         let mut sets = Vec::new(alloc);
         for fragment in fragments.values() {
             sets.push(&fragment.value.selection_set)?;
         }
-        sets.push(set)?;
         Ok(Numbering { fragments, sets })
+    }
+
+    /// Gives the sets of these operations the next numbers, and lists the numbers.
+    fn number_operations(
+        &mut self,
+        alloc: Global,
+        operations: &[&'doc Node<Operation>],
+    ) -> Result<Vec<usize>, ValidationError>
+        ensures fragments { self.new.fragments ≡ self.old.fragments }
+        ensures sets { OnOk result (sets_at self.new.sets.items ≡ sets_at self.old.sets.items ++ operation_sets operations.now) }
+        ensures numbers { IfOk result (λ numbers. map (slice_get (sets_at self.new.sets.items)) numbers.items ≡ map Some (operation_sets operations.now)) }
+    {
+        let mut numbers = Vec::new(alloc);
+        for operation in operations {
+            let number = self.number(&operation.value.selection_set)?;
+            numbers.push(number)?;
+        }
+        Ok(numbers)
     }
 
     /// Lists what is in a set, and numbers the sets that are written in it.

@@ -1,9 +1,9 @@
 //! The pairs of sets whose fields come together.
 
-ghost use Rattle.std.specs.Prelude.{◌≡◌, ◌<◌, ◌∷◌, [], IfOk, List, MatchOption, OnOk, Some, length, slice_get};
+ghost use Rattle.std.specs.Prelude.{◌≡◌, ◌<◌, ◌∷◌, [], All, IfOk, List, MatchOption, OnOk, Some, length, slice_get};
 ghost use Rattle.graphql_merging.specs.Groups.{pass_of};
 ghost use Rattle.graphql_pair_merging.specs.FieldGroups.{AreGrouped, IsGrouped, groups_at};
-ghost use Rattle.graphql_pair_merging.specs.Pairs.{Adds, AreLinked, Compares, Finds, FindsBelow, HasLooked, IntoFirst, IntoSecond, LooksAt, pair_of};
+ghost use Rattle.graphql_pair_merging.specs.Pairs.{Adds, AreLinked, Compares, Finds, FindsBelow, HasLooked, IntoFirst, IntoSecond, IsStart, LooksAt, pair_of};
 ghost use Rattle.graphql_pair_merging.specs.declared.numbered_sets.NumberedField.{NumberedField};
 ghost use Rattle.graphql_pair_merging.specs.declared.numbered_sets.NumberedSet.{NumberedSet};
 
@@ -33,25 +33,22 @@ pub(crate) struct PairPass<'s, 'doc> {
 }
 
 impl<'s, 'doc> PairPass<'s, 'doc> {
-    /// The first two fields that come together below a set and do not agree, if there are any. Each pair of sets is
-    /// looked at once. The only error is a failed allocation.
+    /// The first two fields that come together below one of the sets with these numbers and do not agree, if there
+    /// are any. Each pair of sets is looked at once. The only error is a failed allocation.
     pub(crate) fn find_conflict(
         &self,
         alloc: Global,
-        set: usize,
+        starts: &[usize],
     ) -> Result<Option<Conflict<'doc>>, ValidationError>
         requires linked { AreLinked self.now.sets.now }
-        requires within { set < length self.now.sets.now }
+        requires within { All (λ number. number < length self.now.sets.now) starts.now }
         requires grouped { AreGrouped self.now.sets.now (groups_at self.now.groups.now) }
         ensures { IfOk result (λ found. MatchOption found
-            (HasLooked self.now.schema.now (pass_of self.now.pass) self.now.sets.now (pair_of set set))
-            (FindsBelow self.now.schema.now (pass_of self.now.pass) self.now.sets.now (pair_of set set))) }
+            (HasLooked self.now.schema.now (pass_of self.now.pass) self.now.sets.now starts.now)
+            (FindsBelow self.now.schema.now (pass_of self.now.pass) self.now.sets.now starts.now)) }
     {
         let mut pairs = IndexSet::new(alloc);
-        pairs.insert(SetPair {
-            first: set,
-            second: set,
-        })?;
+        add_starts(&mut pairs, starts)?;
         let mut next = 0;
         while next < pairs.len() {
             let pair = pairs[next];
@@ -171,6 +168,16 @@ impl<'s, 'doc> PairPass<'s, 'doc> {
         }
         Ok(None)
     }
+}
+
+/// Adds the pair of each of some sets with itself.
+fn add_starts(pairs: &mut IndexSet<SetPair>, starts: &[usize]) -> Result<(), ValidationError>
+    ensures { OnOk result (Adds (IsStart starts.now) pairs.old.keys pairs.new.keys) }
+{
+    for start in starts {
+        add(pairs, *start, *start)?;
+    }
+    Ok(())
 }
 
 /// Adds the pair of each of some sets with another.

@@ -4,17 +4,21 @@ use Rattle.std.specs.Borrow.{Bor}
 use Rattle.graphql_documents.specs.Selections.{selections_of}
 use Rattle.graphql_documents.specs.declared.documents.executables.SelectionSet.{SelectionSet}
 use Rattle.graphql_merging.specs.ExpansionSteps.{fragments_in}
-use Rattle.graphql_pair_merging.specs.NumberedSets.{Describes, sets_among, sets_at, written_set}
+use Rattle.graphql_pair_merging.specs.NumberedSets.{Describes, operation_sets, sets_among, sets_at, written_set}
 use Rattle.graphql_pair_merging.proofs.NumberingLemmas.{Describing, describing_begins, describing_ends, describing_on, length_of_sets, lighter, read_at}
 use Rattle.graphql_pair_merging.proofs.WeightLemmas.{weight_of_set}
 use Rattle.graphql_pair_merging.proofs.numbered_sets.number_sets.Goals as goal
 
 pub loop-alloc-init : goal.loop-alloc-init
-loop-alloc-init c = record {
-  fragments = c.in_ok-numbering.ensures.fragments;
-  describing = subst (λ l. Describing c.args.fragments.now c.args.set.now (sets_at c.in_ok-numbering.numbering.sets.items) l) (sym c.new-numbered.ensures.items)
-      (describing_begins c.args.fragments.now c.args.set.now (sets_at c.in_ok-numbering.numbering.sets.items) c.in_ok-numbering.ensures.sets);
-}
+loop-alloc-init c =
+    let first = operation_sets c.args.operations.now in
+    let sets = sets_at c.number_operations.new.self.sets.items in
+    record {
+      fragments = ap (λ (f : _). f.now) c.in_ok-starts.ensures.fragments ∙ c.in_ok-numbering.ensures.fragments;
+      describing = subst (λ l. Describing c.args.fragments.now c.in_ok-starts.starts.items first sets l) (sym c.new-numbered.ensures.items)
+          (describing_begins c.args.fragments.now c.in_ok-starts.starts.items first sets first
+          (c.in_ok-starts.ensures.sets ∙ ap (λ l. l ++ first) c.in_ok-numbering.ensures.sets) c.in_ok-starts.ensures.numbers);
+    }
 
 pub describe-requires : goal.describe-requires
 describe-requires c =
@@ -51,8 +55,8 @@ loop-alloc-preserved c =
     let F = fragments_in c.args.fragments.now in
     record {
       fragments = ap (λ (f : _). f.now) e.fragments ∙ i.fragments;
-      describing = subst (λ l. Describing c.args.fragments.now c.args.set.now after l) (sym pushed)
-          (describing_on c.args.fragments.now c.args.set.now (sets_at items) after numbered x
+      describing = subst (λ l. Describing c.args.fragments.now c.in_ok-starts.starts.items (operation_sets c.args.operations.now) after l) (sym pushed)
+          (describing_on c.args.fragments.now c.in_ok-starts.starts.items (operation_sets c.args.operations.now) (sets_at items) after numbered x
           (subst (λ (r : Bor SelectionSet). slice_get (sets_at items) (length numbered) ≡ Some r.now) (sym e.set) at)
           (subst (λ (r : Bor SelectionSet). after ≡ sets_at items ++ filter_map written_set (selections_of r.now)) (sym e.set) e.sets)
           (subst (λ (r : Bor SelectionSet). Describes F after r.now.ty (selections_of r.now) x) (sym e.set)
@@ -66,4 +70,4 @@ returns c =
     let numbered = c.loop-alloc.numbered.items in
     let all : length (sets_at items) ≤ length numbered =
     omega (arith, length_of_sets items, c.loop-alloc-test.false, c.len.ensures, c.len-in-loop-alloc.ensures, c.loop-alloc.numbering.sets.ok.0, c.loop-alloc.numbered.ok.0) in
-    describing_ends c.args.fragments.now c.args.set.now (sets_at items) numbered all c.loop-alloc.invariant.describing
+    describing_ends c.args.fragments.now c.in_ok-starts.starts.items (operation_sets c.args.operations.now) (sets_at items) numbered all c.loop-alloc.invariant.describing

@@ -1,6 +1,6 @@
 -- The sets before were described, and what is written in the others weighs less and less.
 use Rattle.std.proofs.Common.{◌≡◌, drop, length, sum_by}
-use Rattle.graphql_pair_merging.specs.NumberedSets.{sets_at}
+use Rattle.graphql_pair_merging.specs.NumberedSets.{operation_sets, sets_at}
 use Rattle.graphql_pair_merging.proofs.NumberingLemmas.{Describing}
 use Rattle.graphql_pair_merging.proofs.WeightLemmas.{weight_of_set}
 use Rattle.graphql_pair_merging.proofs.numbered_sets.number_sets.Given as goal
@@ -8,7 +8,7 @@ use Rattle.graphql_pair_merging.proofs.numbered_sets.number_sets.Given as goal
 abbrev pub invariant-loop-alloc : goal.invariant-loop-alloc
 invariant-loop-alloc l = record {
   fragments : l.numbering.fragments.now ≡ l.fn.fragments;
-  describing : Describing l.fn.fragments l.fn.set (sets_at l.numbering.sets.items) l.numbered.items;
+  describing : Describing l.fn.fragments l.starts.items (operation_sets l.fn.operations) (sets_at l.numbering.sets.items) l.numbered.items;
 }
 
 abbrev pub decreases-loop-alloc : goal.decreases-loop-alloc

@@ -2,15 +2,13 @@ use Rattle.std.proofs.Common.{◌↔◌, ◌<◌, ◌||◌, IsTrue, length, map,
 use Rattle.std.proofs.lemmas.List.{map-append}
 use Rattle.graphql_diagnostics.specs.Diagnostics.{entries}
 use Rattle.graphql_specification.specs.Merging.{MergingReport}
-use Rattle.graphql_diagnostics.specs.Reports.{Appends}
 use Rattle.graphql_diagnostics.specs.declared.lists.DiagnosticEntry.{DiagnosticEntry}
 use Rattle.graphql_documents.specs.Selections.{fragments_of}
-use Rattle.graphql_diagnostics.proofs.ReportLemmas.{kept_then, kept_wider, on_ok}
+use Rattle.graphql_diagnostics.proofs.ReportLemmas.{kept_then, kept_wider}
 use Rattle.graphql_documents.proofs.SelectionLemmas.{one_fragment_found}
-use Rattle.graphql_merging.specs.MergedOperations.{AreLimits, MergesOneMore}
 use Rattle.graphql_merging.specs.Mergers.{document_of, merging_of, schema_of}
 use Rattle.graphql_merging.proofs.MergingReportLemmas.{limit_kept, limit_reported}
-use Rattle.graphql_merging.proofs.MergedOperationLemmas.{always, longer, merged_next, one_more, too_deep_so_far}
+use Rattle.graphql_merging.proofs.MergedOperationLemmas.{longer, merged_next, one_more, too_deep_so_far}
 use Rattle.graphql_merging.proofs.merging.FieldsInSetCanMerge.merge_operation.Goals as goal
 
 pub returns-in_err-deep-clause-reports : goal.returns-in_err-deep-clause-reports
@@ -51,10 +49,7 @@ returns-clause-merges c =
     let conflicting = ap (λ b. b || conflicts) c.in_ok-deep.ensures.conflicting in
     let too_deep = ap (λ b. b || deep) c.in_ok-deep.ensures.too_deep in
     let conflicts_is : IsTrue conflicts ↔ (length before < length mid) = longer c.len-reports.result c.len.result before mid c.len-reports.ensures c.len.ensures in
-    on_ok c.report_limit.result (Appends (AreLimits o new.too_deep) mid (entries c.report_limit.new.diagnostics))
-    (MergesOneMore S o (merging_of m) new before (entries c.report_limit.new.diagnostics))
-    (one_more S F (one_fragment_found (document_of m)) o (merging_of m) new deep conflicts c.in_ok-deep.ensures.examines operations conflicting too_deep conflicts_is)
-    c.report_limit.ensures.limits
+    one_more S F (one_fragment_found (document_of m)) o (merging_of m) new deep conflicts c.in_ok-deep.ensures.examines operations conflicting too_deep conflicts_is c.in_ok-report_limit.ensures.limits
 
 pub returns-clause-merged : goal.returns-clause-merged
 returns-clause-merged c =
@@ -81,8 +76,7 @@ returns-clause-merged c =
     let conflicting = ap (λ b. b || conflicts) c.in_ok-deep.ensures.conflicting in
     let too_deep = ap (λ b. b || deep) c.in_ok-deep.ensures.too_deep in
     let conflicts_is : IsTrue conflicts ↔ (length before < length mid) = longer c.len-reports.result c.len.result before mid c.len-reports.ensures c.len.ensures in
-    always c.report_limit.result
-    (merged_next S F (one_fragment_found (document_of m)) o (merging_of m) new deep conflicts c.in_ok-deep.ensures.examines operations conflicting too_deep conflicts_is)
+    merged_next S F (one_fragment_found (document_of m)) o (merging_of m) new deep conflicts c.in_ok-deep.ensures.examines operations conflicting too_deep conflicts_is
 
 pub returns-clause-truth : goal.returns-clause-truth
 returns-clause-truth c was =

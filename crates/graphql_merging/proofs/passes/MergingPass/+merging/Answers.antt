@@ -24,6 +24,7 @@ examine-loop-group-init t c =
     let self = c.args.self.now in
     record {
       limit = refl;
+      work = λ unbounded. unbounded;
       below = below_none self.schema.now (fragments_of self.document.now) (pass_of self.pass)
           (stage_of c.compare_groups.new.examined c.args.depth.now c.compare_groups.new.diagnostics) c.compare_groups.new.examined.small;
       truth = λ operations above merged groups.
@@ -59,6 +60,7 @@ examine-loop-group-preserved t c =
     let one = more_is groups i item c.loop-group-test.true c.group-item.is in
     record {
       limit = c.in_ok-examine_below.ensures.limit ∙ c.loop-group.invariant.limit;
+      work = λ unbounded. (c.in_ok-examine_below.ensures.unbounded (c.loop-group.invariant.work unbounded)).0;
       below = subst (λ g. GoesBelow S F pass g (stage_of c.compare_groups.new.examined c.args.depth.now c.compare_groups.new.diagnostics)
           (stage_of c.examine_below.new.examined c.examine_below.new.depth c.examine_below.new.diagnostics))
           (sym (ap lists_of one ∙ map-append (λ g. listed g.items) (take i groups) (item ∷ [])))

@@ -12,6 +12,7 @@ use Rattle.graphql_merging.specs.FieldSelections.{lists_of}
 use Rattle.graphql_merging.specs.Groups.{pass_of}
 use Rattle.graphql_merging.specs.Passes.{GoesBelow, IsConflict}
 use Rattle.graphql_merging.specs.Stages.{stage_of}
+use Rattle.graphql_merging.specs.Works.{IsUnbounded}
 use Rattle.graphql_merging.proofs.passes.MergingPass.+merging.Given as goal
 
 abbrev pub decreases-examine : goal.decreases-examine
@@ -23,6 +24,7 @@ decreases-examine_below l = 2 * (merging_depth_limit - count_of l.depth.now)
 abbrev pub invariant-examine-loop-group : goal.invariant-examine-loop-group
 invariant-examine-loop-group l = record {
   limit : count_limit l.depth ≡ count_limit l.initial.depth;
+  work : IsUnbounded l.initial.work → IsUnbounded l.work;
   below : GoesBelow l.self.schema.now (fragments_of l.self.document.now) (pass_of l.self.pass) (lists_of (take l.group-index l.group-items))
       (stage_of l.initial.examined l.initial.depth l.initial.diagnostics) (stage_of l.examined l.depth l.diagnostics);
   truth : (operations : List (Node Operation)) (above : List merging.FieldSelection) →

@@ -1,0 +1,99 @@
+//! Merging of the operations of a document, up to a bound of work.
+
+use super::merging::FieldsInSetCanMerge;
+use super::work::Work;
+use graphql_diagnostics::DiagnosticList;
+use graphql_documents::documents::{ExecutableDocument, Operation, Schema};
+use graphql_nodes::{Node, ValidationError};
+use std::alloc::Global;
+
+/// Decides of the operations of a document, one after another, whether all fields that come together in
+/// a response agree, as `FieldsInSetCanMerge` does, until a bound of work is passed.
+///
+/// The work is the number of fields that are listed: those of each list of fields that come together, once for
+/// shapes and once for names and arguments, also where the same list was examined before.
+///
+/// Specification: 5.3.2 Field Selection Merging.
+#[derive(Drop)]
+pub struct BoundedMerging<'s, 'doc> {
+    merging: FieldsInSetCanMerge<'s, 'doc>,
+    work: Work,
+    interrupted: bool,
+}
+
+impl<'s, 'doc> BoundedMerging<'s, 'doc> {
+    ghost use Rattle.std.specs.Prelude.{◌≡◌, ◌⊎◌, [], IfOk, IsFalse, IsTrue, None};
+    ghost use Rattle.graphql_diagnostics.specs.Diagnostics.{entries};
+    ghost use Rattle.graphql_diagnostics.specs.Reports.{KeepsReports};
+    ghost use Rattle.graphql_documents.specs.Selections.{fragments_of};
+    ghost use Rattle.graphql_specification.specs.MergedSets.{MergingLimit};
+    ghost use Rattle.graphql_specification.specs.Merging.{MergingReport};
+    ghost use Rattle.graphql_merging.specs.MergedOperations.{MergesOneMore};
+    ghost use Rattle.graphql_merging.specs.Mergers.{HasNoBound, IsSoundWithin, document_of, has_refused, is_interrupted, merger_of, merging_of, schema_of};
+
+    /// No operation was merged yet, and so much may be done; without a bound, anything. It takes no memory.
+    pub fn new(
+        alloc: Global,
+        schema: &'s Schema,
+        document: &'doc ExecutableDocument,
+        work: Option<usize>,
+    ) -> BoundedMerging<'s, 'doc>
+        ensures schema { schema_of (merger_of result) ≡ schema.now }
+        ensures document { document_of (merger_of result) ≡ document.now }
+        ensures operations { (merging_of (merger_of result)).operations ≡ [] }
+        ensures conflicting { IsFalse (merging_of (merger_of result)).conflicting }
+        ensures too_deep { IsFalse (merging_of (merger_of result)).too_deep }
+        ensures refused { IsFalse (has_refused (merger_of result)) }
+        ensures interrupted { IsFalse (is_interrupted result) }
+        ensures unbounded { work ≡ None → HasNoBound result }
+        ensures sound { IsSoundWithin result }
+    {
+        BoundedMerging {
+            merging: FieldsInSetCanMerge::new(alloc, schema, document),
+            work: Work::new(work),
+            interrupted: false,
+        }
+    }
+
+    /// Merges the fields of an operation as `FieldsInSetCanMerge::validate_operation` does, and answers whether the
+    /// operation was decided: that is so unless more fields were listed for the operations so far than the
+    /// bound allows. Without a bound each operation is decided.
+    ///
+    /// Where it is not decided, what is reported is true of two chains of fields of the operation, and no limit is
+    /// reported. No later operation is decided then, and nothing is reported of them.
+    ///
+    /// The only error is a failed allocation. In any case the old diagnostics stay, and each further one is true,
+    /// of a value that is sound, as all are that `new` and these calls make.
+    ///
+    /// Specification: 5.3.2 Field Selection Merging.
+    pub fn validate_operation(
+        &mut self,
+        operation: &'doc Node<Operation>,
+        diagnostics: &mut DiagnosticList,
+    ) -> Result<bool, ValidationError>
+        ensures schema { schema_of (merger_of self.new) ≡ schema_of (merger_of self.old) }
+        ensures document { document_of (merger_of self.new) ≡ document_of (merger_of self.old) }
+        ensures decided { IfOk result (λ decided. IsTrue decided → IsFalse (is_interrupted self.new) × IsFalse (has_refused (merger_of self.new)) ×
+            MergesOneMore (schema_of (merger_of self.old)) operation.now (merging_of (merger_of self.old)) (merging_of (merger_of self.new))
+            (entries diagnostics.old) (entries diagnostics.new)) }
+        ensures interrupted { IfOk result (λ decided. IsFalse decided → IsTrue (is_interrupted self.new) × KeepsReports
+            (λ e. MergingReport (schema_of (merger_of self.old)) (fragments_of (document_of (merger_of self.old))) operation.now.value.value.selection_set e.details e.location)
+            (entries diagnostics.old) (entries diagnostics.new)) }
+        ensures stays { IsTrue (is_interrupted self.old) → IfOk result (λ decided. IsFalse decided) × (entries diagnostics.new ≡ entries diagnostics.old) }
+        ensures unbounded { HasNoBound self.old → HasNoBound self.new × (IsFalse (is_interrupted self.old) → IfOk result (λ decided. IsTrue decided)) }
+        ensures sound { IsSoundWithin self.old → IsSoundWithin self.new }
+        ensures truth { IsSoundWithin self.old → KeepsReports
+            (λ e. MergingReport (schema_of (merger_of self.old)) (fragments_of (document_of (merger_of self.old))) operation.now.value.value.selection_set e.details e.location ⊎
+            MergingLimit (schema_of (merger_of self.old)) (fragments_of (document_of (merger_of self.old))) (merging_of (merger_of self.old)).operations operation.now e.details e.location)
+            (entries diagnostics.old) (entries diagnostics.new) }
+    {
+        if self.interrupted {
+            return Ok(false);
+        }
+        let decided = self
+            .merging
+            .validate_operation_within(operation, diagnostics, &mut self.work)?;
+        self.interrupted = !decided;
+        Ok(decided)
+    }
+}
