@@ -18,19 +18,23 @@ use graphql_validation::entry::{
 use std::alloc::Global;
 use std::collections::HashSet;
 
-/// How many fields the sets may have, all together, that merging examines set by set, before it goes by pairs of sets. The sets
-/// of a usual document have twice as many as the document at most.
-const MERGING_WORK: u64 = 100_000;
+/// How many fields the lists may have, all together, that merging makes of a document of so many bytes set by set, before it
+/// goes by pairs of sets. A text has at most a field for each two bytes, and each is in a list of each of two passes; fragments
+/// that are spread at several places count at each.
+pub(crate) fn merging_work(bytes: usize) -> usize {
+    bytes.saturating_mul(4).saturating_add(100_000)
+}
 
 /// What the rules report of a document, against a schema or without one.
 pub(crate) fn document_reports(
     alloc: Global,
     schema: Option<&Schema>,
     document: &ExecutableDocument,
+    work: usize,
 ) -> Result<DocumentReports, ValidationError>
     ensures { IfOk result (AreReportsOf (option_copied schema.entry) document.now) }
 {
-    let rules = rule_reports(alloc, schema, document)?;
+    let rules = rule_reports(alloc, schema, document, work)?;
     let mut input_fields = Vec::new(alloc);
     check_input_fields(&mut input_fields, document)?;
     let usages = further_misuses(alloc, schema, document, &rules)?;
@@ -46,11 +50,12 @@ fn rule_reports(
     alloc: Global,
     schema: Option<&Schema>,
     document: &ExecutableDocument,
+    work: usize,
 ) -> Result<DiagnosticList, ValidationError>
     ensures { IfOk result (λ rules. AreRuleReports (option_copied schema.entry) document.now (entries rules)) }
 {
     match schema {
-        Some(schema) => rule_reports_against(alloc, schema, document),
+        Some(schema) => rule_reports_against(alloc, schema, document, work),
         None => standalone_rule_reports(alloc, document),
     }
 }
@@ -59,11 +64,12 @@ fn rule_reports_against(
     alloc: Global,
     schema: &Schema,
     document: &ExecutableDocument,
+    work: usize,
 ) -> Result<DiagnosticList, ValidationError>
     ensures { IfOk result (λ rules. AreRuleReports (Some schema.now) document.now (entries rules)) }
 {
     let mut rules = DiagnosticList::new(alloc);
-    validate_executable_document_within(&mut rules, schema, document, MERGING_WORK)?;
+    validate_executable_document_within(&mut rules, schema, document, work)?;
     Ok(rules)
 }
 

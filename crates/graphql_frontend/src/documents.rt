@@ -11,7 +11,7 @@ ghost use Rattle.graphql_frontend.specs.declared.texts.SourceText as source_text
 ghost use Rattle.graphql_frontend.specs.Documents.{HasDefinitionsOf, JudgesDocument, JudgesTree, ValidatesDocument, ValidatesDocuments};
 ghost use Rattle.graphql_frontend.specs.Schemas.{IsUsable};
 
-use crate::document_rules::document_reports;
+use crate::document_rules::{document_reports, merging_work};
 use crate::reports::Reports;
 use crate::texts::{Parsed, SourceText, SyntaxReport, is_out_of_memory, parse_texts};
 use graphql_building_reports::BuildingReportList;
@@ -50,7 +50,10 @@ pub fn validate_document(
     ensures { IfOk result (ValidatesDocument bounds (Some schema.now) source.entry) }
 {
     match parse_document(alloc, source.file_id, source.text, bounds) {
-        Ok(tree) => validate_tree(alloc, schema, &tree, bounds),
+        Ok(tree) => {
+            let work = merging_work(source.text.len());
+            validate_tree(alloc, schema, &tree, bounds, work)
+        }
         Err(error) => report_syntax(alloc, source.file_id, error),
     }
 }
@@ -107,10 +110,20 @@ pub fn validate_documents(
     let Parsed { documents, errors } = parse_texts(alloc, sources, bounds)?;
     if errors.is_empty() {
         let document = joined(alloc, documents)?;
-        validate_tree(alloc, schema, &document, bounds)
+        let work = merging_work(length_of(sources));
+        validate_tree(alloc, schema, &document, bounds, work)
     } else {
         Ok(Some(Reports::Syntax(errors)))
     }
+}
+
+/// How many bytes the texts have, all together.
+fn length_of(sources: &[SourceText<'_>]) -> usize {
+    let mut length = 0_usize;
+    for source in sources {
+        length = length.saturating_add(source.text.len());
+    }
+    length
 }
 
 /// The document that has the definitions of these, in their order.
@@ -133,6 +146,7 @@ fn validate_tree(
     schema: &Schema,
     tree: &Document,
     bounds: Bounds,
+    work: usize,
 ) -> Result<Option<Reports>, ValidationError>
     requires { IsUsable schema.now }
     ensures { IfOk result (JudgesTree bounds (Some schema.now) tree.now) }
@@ -141,7 +155,7 @@ fn validate_tree(
     check_document(&mut reports, schema, tree)?;
     if reports.is_empty() {
         let document = build_document(alloc, schema, tree)?;
-        validate_built(alloc, Some(schema), &document, bounds.depth)
+        validate_built(alloc, Some(schema), &document, bounds.depth, work)
     } else {
         Ok(Some(Reports::Building(reports)))
     }
@@ -159,25 +173,26 @@ fn validate_standalone_tree(
     check_standalone_document(&mut reports, tree)?;
     if reports.is_empty() {
         let document = build_standalone_document(alloc, tree)?;
-        validate_built(alloc, None, &document, bounds.depth)
+        validate_built(alloc, None, &document, bounds.depth, 0)
     } else {
         Ok(Some(Reports::Building(reports)))
     }
 }
 
-/// Validates a document that was built, unless it nests deeper than so many levels.
+/// Validates a document that was built, unless it nests deeper than so many levels. So much work may be done on merging by sets.
 fn validate_built(
     alloc: Global,
     schema: Option<&Schema>,
     document: &ExecutableDocument,
     most: usize,
+    work: usize,
 ) -> Result<Option<Reports>, ValidationError>
     ensures { IfOk result (JudgesDocument most (option_copied schema.entry) document.now) }
 {
     if let Some(report) = check_nesting(alloc, document, most)? {
         return Ok(Some(Reports::Nesting(report)));
     }
-    let reports = document_reports(alloc, schema, document)?;
+    let reports = document_reports(alloc, schema, document, work)?;
     if reports.is_empty() {
         Ok(None)
     } else {
