@@ -1,5 +1,8 @@
-//! Tests of merging by pairs: documents whose fields merge, and others that have one report.
+//! Tests of merging by pairs: documents whose fields merge, and others that have one report; and of validation that goes
+//! by pairs where its work is bounded.
 #![tactic(auto)]
 
+#[cfg(test)]
+mod bounds;
 #[cfg(test)]
 mod pairs;

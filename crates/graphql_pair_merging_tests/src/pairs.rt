@@ -57,7 +57,10 @@ fn reports(rt: &impl Abort, alloc: Global, schema: &Schema, text: &str, expected
         panic!(rt; "no operation: {text}")
     };
     let mut diagnostics = DiagnosticList::new(alloc);
-    merge_by_pairs(&mut diagnostics, schema, &document, operation).expect(rt, "memory for pairs");
+    merge_by_pairs(&mut diagnostics, schema, &document, &[operation]).expect(
+        rt,
+        "memory for pairs",
+    );
     assert_eq!(rt; told(&diagnostics), expected, "{text}");
     assert_eq!(rt;
         diagnostics.len(),

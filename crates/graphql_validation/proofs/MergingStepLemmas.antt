@@ -1,8 +1,11 @@
 -- How operations are validated by the rules that need a schema, one after another.
-use Rattle.std.proofs.Common.{◌≡◌, ◌↔◌, ◌⊎◌, ℕ, ◌+◌, ◌<◌, Bor, drop, get_or, length, map, take, inl, inr, Bool, List, [], ◌∷◌, ◌++◌, Some, refl, sym, ◌∙◌, ap, subst, All, Contains}
-use Rattle.std.proofs.lemmas.List.{append-nil, append_assoc, append_cancel_left, map-append, take-append-drop}
-use Rattle.std.proofs.lemmas.List.Elements.{All-append, All-cons, All-contains_itself, All-head, All-nil, Contains-append_right}
-use Rattle.std.specs.Prelude.{IsFalse, Option}
+use Rattle.std.proofs.Common.{rules, ◌≡◌, ◌↔◌, ◌⊎◌, ℕ, ◌+◌, ◌<◌, Bor, drop, get_or, length, map, take, inl, inr, Bool, true, false, List, [], ◌∷◌, ◌++◌, Some, refl, sym, ◌∙◌, ap, subst, All, Contains}
+use Rattle.std.proofs.lemmas.List.{append-nil, append_assoc, append_cancel_left, map-append, nil_from_length, take-append-drop}
+use Rattle.std.proofs.lemmas.List.Elements.{All-append, All-cons, All-contains, All-contains_itself, All-head, All-map, All-nil, All-weaker, Contains-append_right}
+use Rattle.std.specs.List.{Any}
+use Rattle.std.specs.Prelude.{◌==◌, IsFalse, IsTrue, Option, Vec}
+use Rattle.std.specs.Vec.{vec_len}
+use Rattle.std.specs.declared.alloc.Global.{Global}
 use Rattle.graphql_documents.specs.Built.{IsBuilt}
 use Rattle.graphql_specification.specs.Defer.{DeferHolds}
 use Rattle.graphql_documents.specs.Executables.{operations_of}
@@ -25,10 +28,12 @@ use Rattle.graphql_documents.specs.declared.documents.executables.Operation.{Ope
 use Rattle.graphql_nodes.specs.declared.nodes.Node.{Node}
 use Rattle.graphql_documents.specs.declared.documents.schemas.Schema.{Schema}
 use Rattle.graphql_nodes.specs.declared.spans.SourceSpan.{SourceSpan}
-use Rattle.graphql_diagnostics.proofs.ReportLemmas.{appended_then, both_nil, kept_wider}
-use Rattle.graphql_documents.proofs.ListLemmas.{All-append_left, All-append_right, more_is, stands_first}
+use Rattle.graphql_diagnostics.proofs.ReportLemmas.{appended_then, both_nil, kept, kept_wider}
+use Rattle.graphql_documents.proofs.ListLemmas.{All-append_left, All-append_right, each_standing, more_is, stands_first, stands_mapped}
 use Rattle.graphql_merging.specs.MergedOperations.{AreLimits, HasMerged, MergesOneMore, Merging, beyond_bound, within_bound}
 use Rattle.graphql_merging.proofs.MergedOperationLemmas.{conflicts_decide}
+use Rattle.graphql_pair_merging.proofs.ReportedLemmas.{report_breaks}
+use Rattle.graphql_variables.proofs.UseLemmas.{any_has}
 use Rattle.graphql_validation.proofs.DocumentLemmas.{DocumentEntryReport}
 
 -- a diagnostic of merging, as one of the document
@@ -49,13 +54,16 @@ module _ (schema : Schema) (document : ExecutableDocument) (before after : List 
 abbrev IsNoLimit : DiagnosticEntry → Type 0
 IsNoLimit e = ¬ IsLimitEntry e
 
--- these operations were validated: nothing was reported exactly where they hold as subscriptions and no
--- conflict was found, unless a limit was reported
-pub record ValidatedSoFar (schema : Schema) (document : ExecutableDocument) (done : List (Node Operation)) (m : Merging) (old now : List DiagnosticEntry) : Type 0 where
+-- these operations were validated, and merging has not decided these of them: unless a limit was reported, it is said
+-- where they do not hold as subscriptions or a conflict was found, and nothing is said where they do, none was, and
+-- those that are not decided merge
+pub record ValidatedSoFar (schema : Schema) (document : ExecutableDocument) (done undecided : List (Node Operation)) (m : Merging) (old now : List DiagnosticEntry) : Type 0 where
   pub added : List DiagnosticEntry
   pub appended : now ≡ old ++ added
   pub each : All (DocumentEntryReport (Some schema) document) added
-  pub silent : All IsNoLimit added → (added ≡ []) ↔ (All (λ o. OperationSubscriptionHolds document o.value.value) done × IsFalse m.conflicting)
+  pub holds : All IsNoLimit added → added ≡ [] → All (λ o. OperationSubscriptionHolds document o.value.value) done × IsFalse m.conflicting
+  pub silent : All IsNoLimit added → All (λ o. OperationSubscriptionHolds document o.value.value) done → IsFalse m.conflicting →
+      All (λ o. FieldsCanMerge schema (fragments_of document) o.value.value.selection_set) undecided → added ≡ []
   pub shallow : All IsNoLimit added → IsFalse m.too_deep
 
 -- where a check reported nothing, its rule holds
@@ -74,45 +82,47 @@ module _ (schema : Schema) (document : ExecutableDocument) where
   abbrev Sub : Node Operation → Type 0
   Sub o = OperationSubscriptionHolds document o.value.value
 
-  pub validated_none : (m : Merging) (old : List DiagnosticEntry) → IsFalse m.conflicting → IsFalse m.too_deep → ValidatedSoFar schema document [] m old old
+  abbrev Merges : Node Operation → Type 0
+  Merges o = FieldsCanMerge schema (fragments_of document) o.value.value.selection_set
+
+  pub validated_none : (m : Merging) (old : List DiagnosticEntry) → IsFalse m.conflicting → IsFalse m.too_deep → ValidatedSoFar schema document [] [] m old old
   validated_none m old silent shallow = record {
     added = [];
     appended = sym (append-nil old);
     each = All-nil CheckedEntryReport;
-    silent = λ none. (λ e. (All-nil Sub, silent), λ p. refl);
+    holds = λ none e. (All-nil Sub, silent);
+    silent = λ none sub quiet merge. refl;
     shallow = λ none. shallow;
   }
 
   pub validated_more : (done : List (Node Operation)) (o : Node Operation) (m m' : Merging) {old now mid after : List DiagnosticEntry} →
-      ValidatedSoFar schema document done m old now → ReportsWithin IsLimitEntry (Sub o) CheckedEntryReport now mid →
-      MergesOneMore schema o m m' mid after → KeepsReports CheckedEntryReport mid after → ValidatedSoFar schema document (done ++ o ∷ []) m' old after
+      ValidatedSoFar schema document done [] m old now → ReportsWithin IsLimitEntry (Sub o) CheckedEntryReport now mid →
+      MergesOneMore schema o m m' mid after → KeepsReports CheckedEntryReport mid after → ValidatedSoFar schema document (done ++ o ∷ []) [] m' old after
   validated_more done o m m' {old} {now} {mid} {after} so_far sub merged kept = record {
     added = so_far.added ++ (sub.added ++ reports);
     appended = appended_then old now after so_far.added (sub.added ++ reports) so_far.appended (appended_then now mid after sub.added reports sub.appended merged.appended);
     each = All-append CheckedEntryReport so_far.added (sub.added ++ reports) so_far.each
         (All-append CheckedEntryReport sub.added reports sub.each (subst (All CheckedEntryReport) (append_cancel_left mid kept.added reports (sym kept.appended ∙ merged.appended)) kept.each));
-    silent = λ none. (
-      λ e.
-          let first = (both_nil so_far.added (sub.added ++ reports)).0 e in
-          let second = (both_nil sub.added reports).0 first.1 in
-          let third = (both_nil merged.of_shapes (merged.of_fields ++ merged.limits)).0 second.1 in
-          let fourth = (both_nil merged.of_fields merged.limits).0 third.1 in
-          let before = (so_far.silent (earlier none)).0 first.0 in
-          let now' = (sub.silent (of_sub none)).0 second.0 in
-          (All-append Sub done (o ∷ []) before.0 (All-cons Sub o [] now' (All-nil Sub)), merged.conflicting.1 (before.1, third.0, fourth.0)),
-      λ p.
-          let parts = merged.conflicting.0 p.1 in
-          let before = (so_far.silent (earlier none)).1 (All-append_left Sub done (o ∷ []) p.0, parts.0) in
-          let now' = (sub.silent (of_sub none)).1 (All-head Sub o [] (All-append_right Sub done (o ∷ []) p.0)) in
-          let last = (no_limits o m'.too_deep merged.are_limits (of_limits none)).0 in
-          (both_nil so_far.added (sub.added ++ reports)).1 (
-            before,
-            (both_nil sub.added reports).1 (
-              now',
-              (both_nil merged.of_shapes (merged.of_fields ++ merged.limits)).1 (parts.1, (both_nil merged.of_fields merged.limits).1 (parts.2, last)),
-            ),
+    holds = λ none e.
+        let first = (both_nil so_far.added (sub.added ++ reports)).0 e in
+        let second = (both_nil sub.added reports).0 first.1 in
+        let third = (both_nil merged.of_shapes (merged.of_fields ++ merged.limits)).0 second.1 in
+        let fourth = (both_nil merged.of_fields merged.limits).0 third.1 in
+        let before = so_far.holds (earlier none) first.0 in
+        let now' = (sub.silent (of_sub none)).0 second.0 in
+        (All-append Sub done (o ∷ []) before.0 (All-cons Sub o [] now' (All-nil Sub)), merged.conflicting.1 (before.1, third.0, fourth.0));
+    silent = λ none subs quiet merge.
+        let parts = merged.conflicting.0 quiet in
+        let before = so_far.silent (earlier none) (All-append_left Sub done (o ∷ []) subs) parts.0 merge in
+        let now' = (sub.silent (of_sub none)).1 (All-head Sub o [] (All-append_right Sub done (o ∷ []) subs)) in
+        let last = (no_limits o m'.too_deep merged.are_limits (of_limits none)).0 in
+        (both_nil so_far.added (sub.added ++ reports)).1 (
+          before,
+          (both_nil sub.added reports).1 (
+            now',
+            (both_nil merged.of_shapes (merged.of_fields ++ merged.limits)).1 (parts.1, (both_nil merged.of_fields merged.limits).1 (parts.2, last)),
           ),
-    );
+        );
     shallow = λ none. (no_limits o m'.too_deep merged.are_limits (of_limits none)).1;
   } where
     reports : List DiagnosticEntry
@@ -130,31 +140,185 @@ module _ (schema : Schema) (document : ExecutableDocument) where
         (All-append_right IsNoLimit merged.of_shapes (merged.of_fields ++ merged.limits)
         (All-append_right IsNoLimit sub.added reports (All-append_right IsNoLimit so_far.added (sub.added ++ reports) none)))
 
-  -- where nothing was reported, these operations hold as subscriptions
-  pub subscriptions_so_far : {done : List (Node Operation)} {m : Merging} {old now : List DiagnosticEntry} →
-      ValidatedSoFar schema document done m old now → Appends (λ added. added ≡ [] → All Sub done) old now
-  subscriptions_so_far so_far = record {
-    added = so_far.added;
-    appended = so_far.appended;
-    are = λ nothing. ((so_far.silent (subst (All IsNoLimit) (sym nothing) (All-nil IsNoLimit))).0 nothing).0;
+  abbrev IsReportOf : Node Operation → DiagnosticEntry → Type 0
+  IsReportOf o e = MergingReport schema (fragments_of document) o.value.value.selection_set e.details e.location
+
+  -- a report of merging is one of the document
+  by_merging_itself : {d : Details} {at : Option SourceSpan} (o : Node Operation) → Contains (operations_of document) o →
+      MergingReport schema (fragments_of document) o.value.value.selection_set d at → DocumentReport (Some schema) document d at
+  by_merging_itself o stands (of_conflict broken) = document_report.of_merging refl stands broken
+
+  pub of_merging_itself : (o : Node Operation) → Contains (operations_of document) o → (e : DiagnosticEntry) → IsReportOf o e → CheckedEntryReport e
+  of_merging_itself o stands e says = inl (by_merging_itself o stands says)
+
+  -- nothing true is reported of an operation that merges
+  none_of_merging : (o : Node Operation) → Merges o → (added : List DiagnosticEntry) → All (IsReportOf o) added → added ≡ []
+  none_of_merging o merges [] each = refl
+  none_of_merging o merges (e ∷ added) each =
+      absurd (report_breaks schema (fragments_of document) o.value.value.selection_set (All-head (IsReportOf o) e added each) merges)
+
+  -- one operation more was validated, and merging has not decided it
+  pub validated_open : (done undecided : List (Node Operation)) (o : Node Operation) (m : Merging) {old now mid after : List DiagnosticEntry} →
+      Contains (operations_of document) o → ValidatedSoFar schema document done undecided m old now → ReportsWithin IsLimitEntry (Sub o) CheckedEntryReport now mid →
+      KeepsReports (IsReportOf o) mid after → ValidatedSoFar schema document (done ++ o ∷ []) (undecided ++ o ∷ []) m old after
+  validated_open done undecided o m {old} {now} {mid} {after} stands so_far sub kept = record {
+    added = so_far.added ++ (sub.added ++ kept.added);
+    appended = appended_then old now after so_far.added (sub.added ++ kept.added) so_far.appended (appended_then now mid after sub.added kept.added sub.appended kept.appended);
+    each = All-append CheckedEntryReport so_far.added (sub.added ++ kept.added) so_far.each
+        (All-append CheckedEntryReport sub.added kept.added sub.each (All-weaker (IsReportOf o) CheckedEntryReport (of_merging_itself o stands) kept.added kept.each));
+    holds = λ none e.
+        let first = (both_nil so_far.added (sub.added ++ kept.added)).0 e in
+        let second = (both_nil sub.added kept.added).0 first.1 in
+        let before = so_far.holds (earlier none) first.0 in
+        let now' = (sub.silent (of_sub none)).0 second.0 in
+        (All-append Sub done (o ∷ []) before.0 (All-cons Sub o [] now' (All-nil Sub)), before.1);
+    silent = λ none subs quiet merge.
+        (both_nil so_far.added (sub.added ++ kept.added)).1 (
+          so_far.silent (earlier none) (All-append_left Sub done (o ∷ []) subs) quiet (All-append_left Merges undecided (o ∷ []) merge),
+          (both_nil sub.added kept.added).1 (
+            (sub.silent (of_sub none)).1 (All-head Sub o [] (All-append_right Sub done (o ∷ []) subs)),
+            none_of_merging o (All-head Merges o [] (All-append_right Merges undecided (o ∷ []) merge)) kept.added kept.each,
+          ),
+        );
+    shallow = λ none. so_far.shallow (earlier none);
+  } where
+    earlier : All IsNoLimit (so_far.added ++ (sub.added ++ kept.added)) → All IsNoLimit so_far.added
+    earlier none = All-append_left IsNoLimit so_far.added (sub.added ++ kept.added) none
+
+    of_sub : All IsNoLimit (so_far.added ++ (sub.added ++ kept.added)) → All IsNoLimit sub.added
+    of_sub none = All-append_left IsNoLimit sub.added kept.added (All-append_right IsNoLimit so_far.added (sub.added ++ kept.added) none)
+
+  -- where merging is: what it held when it was interrupted, if it was, and which operations it has not decided
+  pub record MergedSoFar (done undecided : List (Node Operation)) (interrupted : Bool) (current : Merging) (old now : List DiagnosticEntry) : Type 0 where
+    pub held : Merging
+    pub split : done ≡ held.operations ++ undecided
+    pub merged : HasMerged schema (fragments_of document) held
+    pub open_still : IsFalse interrupted → (current ≡ held) × (undecided ≡ [])
+    pub so_far : ValidatedSoFar schema document done undecided held old now
+
+  pub merged_none : (undecided : List (Node Operation)) (interrupted : Bool) (m : Merging) (old : List DiagnosticEntry) → undecided ≡ [] → m.operations ≡ [] →
+      HasMerged schema (fragments_of document) m → IsFalse m.conflicting → IsFalse m.too_deep → MergedSoFar [] undecided interrupted m old old
+  merged_none undecided interrupted m old none operations merged silent shallow = record {
+    held = m;
+    split = sym (ap (λ u. m.operations ++ u) none ∙ append-nil m.operations ∙ operations);
+    merged = merged;
+    open_still = λ still. (refl, none);
+    so_far = subst (λ u. ValidatedSoFar schema document [] u m old old) (sym none) (validated_none m old silent shallow);
   }
 
-  -- all operations of a document that was built were validated
-  pub validated_all : (m : Merging) {old new : List DiagnosticEntry} → IsBuilt schema document →
-      m.operations ≡ operations_of document → HasMerged schema (fragments_of document) m → ValidatedSoFar schema document (operations_of document) m old new →
-      ReportsWithin IsLimitEntry (All Sub (operations_of document) × All (λ o. FieldsCanMerge schema (fragments_of document) o.value.value.selection_set) (operations_of document)) CheckedEntryReport old new
-  validated_all m built operations was so_far = record {
-    added = so_far.added;
-    appended = so_far.appended;
-    silent = λ none.
-        let s = so_far.silent none in
-        let merge = conflicts_decide schema document m built (subst (All (Contains (operations_of document))) (sym operations) (All-contains_itself (operations_of document))) was (so_far.shallow none) in
-        let all = λ (l : List (Node Operation)). All (λ o. FieldsCanMerge schema (fragments_of document) o.value.value.selection_set) l in (
-          λ e. let p = s.0 e in (p.0, subst all operations (merge.0 p.1)),
-          λ p. s.1 (p.0, merge.1 (subst all (sym operations) p.1)),
-        );
-    each = so_far.each;
+  -- a call reports nothing once merging was interrupted
+  pub call_kept : {Q : DiagnosticEntry → Type 0} (interrupted : Bool) {mid last : List DiagnosticEntry} → (IsFalse interrupted → KeepsReports Q mid last) → (IsTrue interrupted → last ≡ mid) → KeepsReports Q mid last
+  call_kept false still over = still refl
+  call_kept {Q} true {mid} still over = subst (KeepsReports Q mid) (sym (over refl)) (kept Q mid)
+
+  -- one operation more was decided
+  pub merged_more : (done all undecided : List (Node Operation)) (o : Node Operation) (before after : Bool) (m m' : Merging) {old now mid last : List DiagnosticEntry} → all ≡ done ++ o ∷ [] →
+      IsFalse before → MergedSoFar done undecided before m old now → ReportsWithin IsLimitEntry (Sub o) CheckedEntryReport now mid →
+      MergesOneMore schema o m m' mid last → KeepsReports CheckedEntryReport mid last → HasMerged schema (fragments_of document) m' → MergedSoFar all undecided after m' old last
+  merged_more done all undecided o before after m m' {old} {now} {mid} {last} more still so_far sub merges kept merged =
+      let was = so_far.open_still still in
+      let earlier = subst (λ u. ValidatedSoFar schema document done u m old now) was.1 (subst (λ h. ValidatedSoFar schema document done undecided h old now) (sym was.0) so_far.so_far) in
+      let next = validated_more done o m m' earlier sub merges kept in
+      let operations : m.operations ≡ done = ap (λ (h : Merging). h.operations) was.0 ∙ sym (append-nil so_far.held.operations) ∙ ap (λ u. so_far.held.operations ++ u) (sym was.1) ∙ sym so_far.split in
+      record {
+        held = m';
+        split = more ∙ sym (merges.operations ∙ ap (λ l. l ++ o ∷ []) operations) ∙ sym (append-nil m'.operations) ∙ ap (λ u. m'.operations ++ u) (sym was.1);
+        merged = merged;
+        open_still = λ still'. (refl, was.1);
+        so_far = subst (λ u. ValidatedSoFar schema document all u m' old last) (sym was.1) (subst (λ l. ValidatedSoFar schema document l [] m' old last) (sym more) next);
+      }
+
+  -- one operation more was not decided
+  pub merged_open : (done all undecided open' : List (Node Operation)) (o : Node Operation) (before after : Bool) (m m' : Merging) {old now mid last : List DiagnosticEntry} → all ≡ done ++ o ∷ [] → open' ≡ undecided ++ o ∷ [] →
+      Contains (operations_of document) o → IsTrue after → MergedSoFar done undecided before m old now → ReportsWithin IsLimitEntry (Sub o) CheckedEntryReport now mid →
+      KeepsReports (IsReportOf o) mid last → MergedSoFar all open' after m' old last
+  merged_open done all undecided open' o before after m m' {old} {now} {mid} {last} more further stands over so_far sub kept = record {
+    held = so_far.held;
+    split = more ∙ ap (λ l. l ++ o ∷ []) so_far.split ∙ append_assoc so_far.held.operations undecided (o ∷ []) ∙ ap (λ u. so_far.held.operations ++ u) (sym further);
+    merged = so_far.merged;
+    open_still = λ still. absurd (let no : ⊥ = cc in no);
+    so_far = subst (λ u. ValidatedSoFar schema document all u so_far.held old last) (sym further)
+        (subst (λ l. ValidatedSoFar schema document l (undecided ++ o ∷ []) so_far.held old last) (sym more) (validated_open done undecided o so_far.held stands so_far.so_far sub kept));
   }
+
+  -- as long as it is not interrupted, what it holds is of the operations so far
+  pub operations_so_far : {done undecided : List (Node Operation)} {interrupted : Bool} {m : Merging} {old now : List DiagnosticEntry} →
+      MergedSoFar done undecided interrupted m old now → IsFalse interrupted → m.operations ≡ done
+  operations_so_far so_far still =
+      let was = so_far.open_still still in
+      ap (λ (h : Merging). h.operations) was.0 ∙ sym (append-nil so_far.held.operations) ∙ ap (λ u. so_far.held.operations ++ u) (sym was.1) ∙ sym so_far.split
+
+  -- where nothing was reported, these operations hold as subscriptions
+  pub subscriptions_so_far : {done undecided : List (Node Operation)} {m : Merging} {old now last : List DiagnosticEntry} {Q : DiagnosticEntry → Type 0} →
+      ValidatedSoFar schema document done undecided m old now → KeepsReports Q now last → Appends (λ added. added ≡ [] → All Sub done) old last
+  subscriptions_so_far {old = old} {now = now} {last = last} so_far kept = record {
+    added = so_far.added ++ kept.added;
+    appended = appended_then old now last so_far.added kept.added so_far.appended kept.appended;
+    are = λ nothing.
+        let first = ((both_nil so_far.added kept.added).0 nothing).0 in
+        (so_far.holds (subst (All IsNoLimit) (sym first) (All-nil IsNoLimit)) first).0;
+  }
+
+  -- all operations of a document that was built were validated, and pairs have decided those that were left
+  pub validated_all : {undecided : List (Node Operation)} {interrupted : Bool} {m : Merging} {old now last : List DiagnosticEntry} → IsBuilt schema document →
+      MergedSoFar (operations_of document) undecided interrupted m old now → Appends (λ added. (added ≡ []) ↔ All Merges undecided) now last → KeepsReports CheckedEntryReport now last →
+      ReportsWithin IsLimitEntry (All Sub (operations_of document) × All Merges (operations_of document)) CheckedEntryReport old last
+  validated_all {undecided} {interrupted} {m} {old} {now} {last} built merged pairs kept = record {
+    added = so_far.added ++ pairs.added;
+    appended = appended_then old now last so_far.added pairs.added so_far.appended pairs.appended;
+    silent = λ none.
+        let first = All-append_left IsNoLimit so_far.added pairs.added none in
+        let merge = conflicts_decide schema document held built own merged.merged (so_far.shallow first) in (
+          λ e.
+              let parts = (both_nil so_far.added pairs.added).0 e in
+              let before = so_far.holds first parts.0 in
+              (before.0, subst (All Merges) (sym merged.split) (All-append Merges held.operations undecided (merge.0 before.1) (pairs.are.0 parts.1))),
+          λ p.
+              let all = subst (All Merges) merged.split p.1 in
+              let rest = All-append_right Merges held.operations undecided all in
+              (both_nil so_far.added pairs.added).1 (so_far.silent first p.0 (merge.1 (All-append_left Merges held.operations undecided all)) rest, pairs.are.1 rest),
+        );
+    each = All-append CheckedEntryReport so_far.added pairs.added so_far.each (subst (All CheckedEntryReport) (append_cancel_left now kept.added pairs.added (sym kept.appended ∙ pairs.appended)) kept.each);
+  } where
+    held : Merging
+    held = merged.held
+
+    so_far : ValidatedSoFar schema document (operations_of document) undecided merged.held old now
+    so_far = merged.so_far
+
+    own : All (Contains (operations_of document)) held.operations
+    own = All-append_left (Contains (operations_of document)) held.operations undecided (subst (All (Contains (operations_of document))) merged.split (All-contains_itself (operations_of document)))
+
+  -- what pairs say of operations by references
+  pub pairs_decided : (operations : List (Bor (Node Operation))) {now last : List DiagnosticEntry} →
+      Appends (λ added. (added ≡ []) ↔ All (λ (o : Bor (Node Operation)). Merges o.now) operations) now last → Appends (λ added. (added ≡ []) ↔ All Merges (map (λ o. o.now) operations)) now last
+  pairs_decided operations pairs = record {
+    added = pairs.added;
+    appended = pairs.appended;
+    are = (
+      λ e. All-map Merges (λ (o : Bor (Node Operation)). o.now) operations (pairs.are.0 e),
+      λ all. pairs.are.1 (each_standing (λ (o : Bor (Node Operation)). Merges o.now) operations
+          (λ o stands. All-contains Merges (map (λ o. o.now) operations) o.now all (stands_mapped (λ (o : Bor (Node Operation)). o.now) operations o stands))),
+    );
+  }
+
+  pub pairs_kept : (operations : List (Bor (Node Operation))) {now last : List DiagnosticEntry} → All (λ (o : Bor (Node Operation)). Contains (operations_of document) o.now) operations →
+      KeepsReports (λ e. Any (λ (o : Bor (Node Operation)). IsReportOf o.now e) operations) now last → KeepsReports CheckedEntryReport now last
+  pairs_kept operations own kept =
+      kept_wider (λ e any. let h = any_has (λ (o : Bor (Node Operation)). IsReportOf o.now e) operations any in
+      of_merging_itself h.0.now (All-contains (λ (o : Bor (Node Operation)). Contains (operations_of document) o.now) operations h.0 own h.1) e h.2) kept
+
+  -- those that are left for pairs are of the document
+  pub left_own : (operations : List (Bor (Node Operation))) {interrupted : Bool} {m : Merging} {old now : List DiagnosticEntry} →
+      MergedSoFar (operations_of document) (map (λ o. o.now) operations) interrupted m old now → All (λ (o : Bor (Node Operation)). Contains (operations_of document) o.now) operations
+  left_own operations merged =
+      each_standing (λ (o : Bor (Node Operation)). Contains (operations_of document) o.now) operations
+      (λ o stands. subst (λ l. Contains l o.now) (sym merged.split)
+      (Contains-append_right merged.held.operations (map (λ o. o.now) operations) o.now (stands_mapped (λ (o : Bor (Node Operation)). o.now) operations o stands)))
+
+  -- nothing is left for pairs
+  pub nothing_left : (now : List DiagnosticEntry) → Appends (λ added. (added ≡ []) ↔ All Merges []) now now
+  nothing_left now = record { added = []; appended = sym (append-nil now); are = (λ e. All-nil Merges, λ all. refl) }
 
 -- an operation of a list, with those before it and those behind
 pub split_at : (xs : List (Bor (Node Operation))) (i : ℕ) (x : Bor (Node Operation)) {operations : List (Node Operation)} → map (λ b. b.now) xs ≡ operations → i < length xs → x ≡ get_or xs i x →
@@ -180,13 +344,30 @@ merged_kept {schema} {schema'} {document} {document'} {before} {before'} after o
     (subst (λ d. KeepsReports (MergedEntryReport schema d before' o) old new) is_document
     (subst (λ s. KeepsReports (MergedEntryReport s document' before' o) old new) is_schema kept)))
 
+-- the same of reports of one operation
+pub reports_as : {schema schema' : Schema} {document document' : ExecutableDocument} (o : Node Operation) {old new : List DiagnosticEntry} → schema' ≡ schema → document' ≡ document →
+    KeepsReports (λ e. MergingReport schema' (fragments_of document') o.value.value.selection_set e.details e.location) old new →
+    KeepsReports (λ e. MergingReport schema (fragments_of document) o.value.value.selection_set e.details e.location) old new
+reports_as {schema} {schema'} {document} {document'} o {old} {new} is_schema is_document kept =
+    subst (λ d. KeepsReports (λ e. MergingReport schema (fragments_of d) o.value.value.selection_set e.details e.location) old new) is_document
+    (subst (λ s. KeepsReports (λ e. MergingReport s (fragments_of document') o.value.value.selection_set e.details e.location) old new) is_schema kept)
+
+-- a vector that says that it is empty has no items
+pub no_operations : (v : Vec (Bor (Node Operation)) Global) (b : Bool) → b ≡ (vec_len v == 0) → IsTrue b → v.items ≡ []
+no_operations v b is empty = nil_from_length v.items (search rules)
+
+-- what was decided was not interrupted before
+pub open_before : (before decided : Bool) → (IsTrue before → IsFalse decided) → IsTrue decided → IsFalse before
+open_before false decided stays is = refl
+open_before true decided stays is = absurd (let other = stays refl in let no : ⊥ = cc in no)
+
 pub merged_of : {schema schema' : Schema} {document document' : ExecutableDocument} {m : Merging} → schema' ≡ schema → document' ≡ document →
     HasMerged schema' (fragments_of document') m → HasMerged schema (fragments_of document) m
 merged_of {schema} {schema'} {document} {document'} {m} is_schema is_document was =
     subst (λ d. HasMerged schema (fragments_of d) m) is_document (subst (λ s. HasMerged s (fragments_of document') m) is_schema was)
 
-pub kept_so_far : (schema : Schema) (document : ExecutableDocument) {done : List (Node Operation)} {m : Merging} {old now : List DiagnosticEntry} →
-    ValidatedSoFar schema document done m old now → KeepsReports (DocumentEntryReport (Some schema) document) old now
+pub kept_so_far : (schema : Schema) (document : ExecutableDocument) {done undecided : List (Node Operation)} {m : Merging} {old now : List DiagnosticEntry} →
+    ValidatedSoFar schema document done undecided m old now → KeepsReports (DocumentEntryReport (Some schema) document) old now
 kept_so_far schema document so_far = record { added = so_far.added; appended = so_far.appended; each = so_far.each }
 
 -- a document holds exactly where its parts do

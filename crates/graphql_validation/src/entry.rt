@@ -18,12 +18,13 @@ ghost use Rattle.graphql_documents.specs.Selections.{fragments_of};
 
 use graphql_diagnostics::DiagnosticList;
 use graphql_documents::documents::{ExecutableDocument, FieldSet, OperationMap, Schema, Valid};
-use graphql_merging::merging::FieldsInSetCanMerge;
+use graphql_merging::bounded::BoundedMerging;
 use graphql_nodes::ValidationError;
 use graphql_operations::{
     OperationValidationContext, operations_of, validate_defer, validate_fragments_used,
     validate_subscription,
 };
+use graphql_pair_merging::merging::merge_by_pairs;
 use graphql_rules::operations::{validate_operation_definitions, validate_selection_set};
 use graphql_variables::VariablesByName;
 use indexmap::IndexMap;
@@ -64,8 +65,69 @@ pub fn validate_executable_document(
         All (λ o. OperationSubscriptionHolds document.now o.value.value) (operations_of document.now))
         (entries diagnostics.old) (entries diagnostics.new)) }
 {
+    validate_against(diagnostics, schema, document, None)
+}
+
+/// Validates a document against a schema as `validate_executable_document` does, with a bound on the work of merging:
+/// that is the number of fields in the lists of fields that come together, which are listed to be compared,
+/// once for shapes and once for names and arguments, of all operations together; a list that comes up again counts again.
+/// On ordinary documents it is a small multiple of the number of fields, and on documents made for it there are
+/// exponentially many.
+///
+/// Where more fields were listed than `work`, merging by such lists stops. That operation and all later ones are
+/// decided by pairs of selection sets, all together, each pair looked at once in each pass: so the steps are at most
+/// the square of what is written in the document.
+///
+/// Reports come in the same order; those of merging are complete for the operations before. Of the operation that was
+/// interrupted there may be some; then none of merging until the end, where one conflict is reported if there
+/// is one in these operations, also where it was reported before. For these operations there is no limit of the
+/// depth. The only error is a failed allocation.
+///
+/// Specification: 5 Validation.
+pub fn validate_executable_document_within(
+    diagnostics: &mut DiagnosticList,
+    schema: &Schema,
+    document: &ExecutableDocument,
+    work: usize,
+) -> Result<(), ValidationError>
+    ensures silence { IsBuilt schema.now document.now →
+        OnOk result (Appends (λ added. All (λ e. ¬ IsLimitEntry e) added → ((added ≡ []) ↔ DocumentHolds (Some schema.now) document.now))
+        (entries diagnostics.old) (entries diagnostics.new)) }
+    ensures reports { KeepsReports (λ e. ¬ IsLimitEntry e → DocumentReport (Some schema.now) document.now e.details e.location)
+        (entries diagnostics.old) (entries diagnostics.new) }
+    ensures limits { KeepsReports (λ e. IsLimitEntry e → DocumentLimit (Some schema.now) document.now e.details e.location)
+        (entries diagnostics.old) (entries diagnostics.new) }
+    ensures parts { OnOk result (Appends (λ added. added ≡ [] →
+        All (λ o. OperationHolds (Some schema.now) document.now o.value.value) (operations_of document.now) ×
+        All (λ d. IsFragmentUsed document.now d.value.value) (values document.now.fragments) × DeferHolds document.now ×
+        All (λ o. OperationSubscriptionHolds document.now o.value.value) (operations_of document.now))
+        (entries diagnostics.old) (entries diagnostics.new)) }
+{
+    validate_against(diagnostics, schema, document, Some(work))
+}
+
+/// The same with a bound on the work of merging, or without one.
+fn validate_against(
+    diagnostics: &mut DiagnosticList,
+    schema: &Schema,
+    document: &ExecutableDocument,
+    work: Option<usize>,
+) -> Result<(), ValidationError>
+    ensures silence { IsBuilt schema.now document.now →
+        OnOk result (Appends (λ added. All (λ e. ¬ IsLimitEntry e) added → ((added ≡ []) ↔ DocumentHolds (Some schema.now) document.now))
+        (entries diagnostics.old) (entries diagnostics.new)) }
+    ensures reports { KeepsReports (λ e. ¬ IsLimitEntry e → DocumentReport (Some schema.now) document.now e.details e.location)
+        (entries diagnostics.old) (entries diagnostics.new) }
+    ensures limits { KeepsReports (λ e. IsLimitEntry e → DocumentLimit (Some schema.now) document.now e.details e.location)
+        (entries diagnostics.old) (entries diagnostics.new) }
+    ensures parts { OnOk result (Appends (λ added. added ≡ [] →
+        All (λ o. OperationHolds (Some schema.now) document.now o.value.value) (operations_of document.now) ×
+        All (λ d. IsFragmentUsed document.now d.value.value) (values document.now.fragments) × DeferHolds document.now ×
+        All (λ o. OperationSubscriptionHolds document.now o.value.value) (operations_of document.now))
+        (entries diagnostics.old) (entries diagnostics.new)) }
+{
     validate_with_or_without_schema(diagnostics, Some(schema), document)?;
-    validate_with_schema(diagnostics, schema, document)
+    validate_with_schema(diagnostics, schema, document, work)
 }
 
 /// Validates a document without a schema, by the rules that need none: all but those of subscriptions and
@@ -103,11 +165,13 @@ fn validate_with_or_without_schema(
 }
 
 /// Validates the operations of a document by the rules that need a schema, one after another: those of
-/// subscriptions, and that all fields that come together in a response agree.
+/// subscriptions, and that all fields that come together in a response agree, by sets as far as the work allows, and
+/// then by pairs.
 fn validate_with_schema(
     diagnostics: &mut DiagnosticList,
     schema: &Schema,
     document: &ExecutableDocument,
+    work: Option<usize>,
 ) -> Result<(), ValidationError>
     ensures holds { IsBuilt schema.now document.now →
         OnOk result (ReportsWithin IsLimitEntry
@@ -123,12 +187,19 @@ fn validate_with_schema(
 {
     let alloc = diagnostics.allocator();
     let operations = operations_of(alloc, document)?;
-    let mut merging = FieldsInSetCanMerge::new(alloc, schema, document);
+    let mut merging = BoundedMerging::new(alloc, schema, document, work);
+    let mut undecided = Vec::new(alloc);
     for operation in &operations {
         validate_subscription(document, operation, diagnostics)?;
-        merging.validate_operation(operation, diagnostics)?;
+        let decided = merging.validate_operation(operation, diagnostics)?;
+        if !decided {
+            undecided.push(*operation)?;
+        }
     }
-    Ok(())
+    if undecided.is_empty() {
+        return Ok(());
+    }
+    merge_by_pairs(diagnostics, schema, document, &undecided)
 }
 
 /// Validates a field set against a schema: every selection that is reached holds at its place. There are no

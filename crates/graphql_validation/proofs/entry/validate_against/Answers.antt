@@ -4,7 +4,7 @@ use Rattle.graphql_diagnostics.proofs.ReportLemmas.{appended_then, both_nil, kep
 use Rattle.graphql_diagnostics.proofs.ReportWithinLemmas.{both_within, in_words_within, kept_within}
 use Rattle.graphql_validation.proofs.LimitLemmas.{limit_if_one, report_unless_limit}
 use Rattle.graphql_validation.proofs.MergingStepLemmas.{document_holds, silent_holds}
-use Rattle.graphql_validation.proofs.entry.validate_executable_document.Goals as goal
+use Rattle.graphql_validation.proofs.entry.validate_against.Goals as goal
 
 pub returns-in_err-validate_with_or_without_schema-clause-reports : goal.returns-in_err-validate_with_or_without_schema-clause-reports
 returns-in_err-validate_with_or_without_schema-clause-reports c =
