@@ -1,6 +1,6 @@
 //! Whether a document nests within a bound.
 
-ghost use Rattle.std.specs.Prelude.{◌≡◌, ◌+◌, ◌<◌, ◌∷◌, [], IfOk, MatchOption, SomeIff, option_to_list};
+ghost use Rattle.std.specs.Prelude.{◌≡◌, ◌+◌, ◌<◌, ◌∷◌, [], IfOk, IsSome, MatchOption, SomeIff, option_to_list};
 ghost use Rattle.indexmap.specs.IndexMap.{values};
 ghost use Rattle.graphql_documents.specs.Executables.{operations_of};
 ghost use Rattle.graphql_documents.specs.Selections.{fragments_of};
@@ -34,7 +34,8 @@ pub fn check_nesting(
     document: &ExecutableDocument,
     most: usize,
 ) -> Result<Option<NestingReport>, ValidationError>
-    ensures { IfOk result (λ found. MatchOption found (NestsWithin most document.now) (IsNestingReportOf most document.now)) }
+    ensures found { IfOk result (λ found. MatchOption found (NestsWithin most document.now) (IsNestingReportOf most document.now)) }
+    ensures exact { IfOk result (λ found. IsSome found → ¬ NestsWithin most document.now) }
 {
     let fragments = find_fragment_levels(alloc, document)?;
     if let Some(report) = check_operations(alloc, &fragments, document, most)? {
