@@ -25,8 +25,9 @@ use std::alloc::Global;
 /// fragments together what is written in them. The report is about the first operation that passes the bound; else about the
 /// first fragment; else about the endless fragments, at the first of them.
 ///
-/// A walk that goes into no fragment twice on its way down is at most three times as deep as the bound. The time is linear in
-/// the document, and nothing is recursive. The only error is a failed allocation.
+/// A walk that goes into no fragment twice on its way down is then at most three times as deep as the bound. The time is linear
+/// in the document, and nothing is recursive. The only error is a failed allocation: a number of levels that does not fit is one
+/// too, since no memory holds so many sets.
 ///
 /// Specification: 2.4 Selection Sets, 2.8 Fragments; 5.5.2.2 Fragment spreads must not form cycles.
 pub fn check_nesting(
