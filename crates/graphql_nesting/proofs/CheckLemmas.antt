@@ -1,8 +1,10 @@
 -- What is found of definitions, once the levels of fragments are.
-use Rattle.std.proofs.Common.{◌≡◌, ◌≤◌, ◌<◌, ◌+◌, ℕ, Bool, true, false, suc, List, [], ◌∷◌, ◌++◌, Option, None, Some, All, Contains, arith, drop, get_or, length, refl, sym, ap, ◌∙◌, subst, inl, inr}
+use Rattle.std.proofs.Common.{◌≡◌, ◌≤◌, ◌<◌, ◌+◌, ℕ, Bool, true, false, suc, List, [], ◌∷◌, ◌++◌, Option, None, Some, All, arith, drop, get_or, length, refl, sym, ap, ◌∙◌, subst, inl, inr, take}
+use Rattle.graphql_documents.specs.Executables.{operations_of}
+use Rattle.std.proofs.lemmas.List.{append_assoc, take-append-drop, take-map}
 use Rattle.std.specs.Prelude.{◌⊎◌, MatchOption, SomeIff, is_some, not, slice_get, unwrap_or}
 use Rattle.std.proofs.lemmas.Bool.{cases_lt}
-use Rattle.std.proofs.lemmas.List.Elements.{All-append, All-cons, All-contains, All-nil, Contains-append_left, Contains-append_right, Contains-push}
+use Rattle.std.proofs.lemmas.List.Elements.{All-append, All-cons, All-contains, All-nil, All-map}
 use Rattle.std.proofs.lemmas.Option.{slice_get_past, slice_get_read}
 use Rattle.indexmap.specs.IndexMap.{values}
 use Rattle.graphql_nodes.specs.declared.nodes.Node.{Node}
@@ -12,8 +14,8 @@ use Rattle.graphql_documents.specs.declared.documents.executables.ExecutableDocu
 use Rattle.graphql_documents.specs.declared.documents.executables.Fragment.{Fragment}
 use Rattle.graphql_documents.specs.declared.documents.executables.Operation.{Operation}
 use Rattle.graphql_documents.specs.declared.documents.executables.SelectionSet.{SelectionSet}
-use Rattle.graphql_nesting.specs.Nesting.{Descends, EndlessTogether, FragmentNests, HasLevels, IsEndless, IsOfDefinition, OperationNests, endless_one, endless_operation_is_deep, no_more, operation_is_deep, other_one}
-use Rattle.graphql_nesting.specs.Checks.{ChecksOperations, EndlessFound}
+use Rattle.graphql_nesting.specs.Nesting.{Descends, EndlessTogether, FragmentNests, HasLevels, HasSomeLevels, IsEndless, IsFirstAfter, IsNestingReportOf, IsOfDefinition, NestsWithin, OperationNests, endless_one, endless_fragments_nest_deep, endless_operation_is_deep, no_more, operation_is_deep, other_one}
+use Rattle.graphql_nesting.specs.Checks.{ChecksEndless, ChecksOperations, EndlessFound}
 use Rattle.graphql_nesting.specs.Search.{AreRight, AreSettled}
 use Rattle.graphql_nesting.specs.Spreads.{GoesOn, StopsAt, known_at}
 use Rattle.graphql_nesting.specs.Written.{AreWrittenLevels, IsPlaced}
@@ -24,9 +26,8 @@ use Rattle.graphql_nesting.specs.declared.reports.NestingReport.{NestingReport}
 use Rattle.graphql_nesting.specs.declared.spreads.PlacedSpread.{PlacedSpread}
 use Rattle.graphql_nesting.specs.declared.spreads.Progress.{Progress}
 use Rattle.graphql_nesting.specs.declared.written.WrittenLevels.{WrittenLevels}
-use Rattle.graphql_documents.proofs.ListLemmas.{stands_first}
-use Rattle.graphql_nesting.proofs.DescentLemmas.{shorter}
-use Rattle.graphql_nesting.proofs.ProgressLemmas.{all_through, levels_found, nothing_from, something_at, stands_at, stops_unknown}
+use Rattle.graphql_nesting.proofs.DescentLemmas.{shorter, some_levels}
+use Rattle.graphql_nesting.proofs.ProgressLemmas.{all_through, levels_found, nothing_from, something_at, stands_at, stops_unknown, begins_at}
 use Rattle.graphql_nesting.proofs.SearchLemmas.{listed_at}
 
 -- an option that is none, and one that is some
@@ -47,6 +48,35 @@ read_by all items i x same within is = ap (λ l. slice_get l i) (sym same) ∙ s
 -- what is true of one is true of all of one
 pub one_of_one : {X : Type 0} (P : X → Type 0) (x : X) → P x → All P (x ∷ [])
 one_of_one P x holds = All-cons P x [] holds (All-nil P)
+
+-- the first of one, of a list with more behind it, and of one behind elements that all have the property
+pub first_of_one : {X : Type 0} (P : X → Type 0) (x : X) → IsFirstAfter P (x ∷ []) x
+first_of_one P x = record { before = []; after = []; is = refl; hold = All-nil P }
+
+pub first_ahead : {X : Type 0} (P : X → Type 0) (xs ys : List X) (x : X) → IsFirstAfter P xs x → IsFirstAfter P (xs ++ ys) x
+first_ahead P xs ys x first = record {
+  before = first.before;
+  after = first.after ++ ys;
+  is = ap (λ l. l ++ ys) first.is ∙ append_assoc first.before (x ∷ first.after) ys;
+  hold = first.hold;
+}
+
+pub first_behind : {X : Type 0} (P : X → Type 0) (xs ys : List X) (x : X) → All P xs → IsFirstAfter P ys x → IsFirstAfter P (xs ++ ys) x
+first_behind P xs ys x all first = record {
+  before = xs ++ first.before;
+  after = first.after;
+  is = ap (λ l. xs ++ l) first.is ∙ sym (append_assoc xs first.before (x ∷ first.after));
+  hold = All-append P xs first.before all first.hold;
+}
+
+-- what is at a number is the first after those before it
+pub first_at : {X : Type 0} (P : X → Type 0) (xs : List X) (i : ℕ) (x : X) → slice_get xs i ≡ Some x → All P (take i xs) → IsFirstAfter P xs x
+first_at P xs i x at hold = record {
+  before = take i xs;
+  after = drop (suc i) xs;
+  is = sym (take-append-drop i xs) ∙ ap (λ l. take i xs ++ l) (begins_at xs i x at);
+  hold = hold;
+}
 
 not_more : (most n m : ℕ) → ¬ (most < n) → m ≤ n → m ≤ most
 not_more most n m few le = by (cases_lt most n) where
@@ -72,9 +102,15 @@ module _ (document : ExecutableDocument) (found : FragmentNestings) (settled : A
       (HasLevels (fragments_of document) x.fragment.now.value.value.selection_set)
   fragment_at number x is = settled.each number x.fragment.now (listed_at document found.fragments.items settled.listed number x is)
 
-  pub fragment_stands : (number : ℕ) (x : FragmentNesting) → slice_get found.fragments.items number ≡ Some x → Contains (values document.fragments) x.fragment.now
-  fragment_stands number x is =
-      stands_at (values document.fragments) number x.fragment.now (listed_at document found.fragments.items settled.listed number x is)
+  pub fragment_first : (most number : ℕ) (x : FragmentNesting) → slice_get found.fragments.items number ≡ Some x →
+      All (λ x. FragmentNests (fragments_of document) most x.fragment.now) (take number found.fragments.items) →
+      IsFirstAfter (FragmentNests (fragments_of document) most) (values document.fragments) x.fragment.now
+  fragment_first most number x is nest =
+      let P = FragmentNests (fragments_of document) most in
+      let node_of = λ (x : FragmentNesting). x.fragment.now in
+      first_at P (values document.fragments) number x.fragment.now (listed_at document found.fragments.items settled.listed number x is)
+      (subst (λ l. All P (take number l)) settled.listed.all
+      (subst (All P) (sym (take-map node_of number found.fragments.items)) (All-map P node_of (take number found.fragments.items) nest)))
 
   module _ (set : SelectionSet) (x : WrittenLevels) (written : AreWrittenLevels document set x) where
     -- a set in which all spreads are of fragments with known levels
@@ -111,18 +147,25 @@ pub with_endless : (fragments : Fragments) (ds : List (Node Fragment)) (d : Node
 with_endless fragments ds d levels n sum location place is_endless has is first later f = record {
   together = subst (EndlessTogether fragments (ds ++ d ∷ [])) (let e : levels + (n + 0) ≡ sum = omega arith in e)
       (together_more fragments f.together (endless_one is_endless has no_more));
+  none = λ zero. absurd (let some = some_levels no_fragments has.descends in omega arith);
   first = λ some. by (cases_lt 0 levels);
 } where
-  by : (0 < levels) ⊎ (levels ≤ 0) → (d' : Node Fragment) × Contains (ds ++ d ∷ []) d' × IsEndless fragments d'.value.value.selection_set × (place ≡ d'.location)
-  by (inl lt) = let (d', in', ends, at) = f.first lt in (d', Contains-append_left ds (d ∷ []) d' in', ends, later lt ∙ at)
-  by (inr none) = (d, Contains-push ds d, is_endless, first (omega arith))
+  P : Node Fragment → Type 0
+  P = HasSomeLevels fragments
+
+  by : (0 < levels) ⊎ (levels ≤ 0) → (d' : Node Fragment) × IsFirstAfter P (ds ++ d ∷ []) d' × IsEndless fragments d'.value.value.selection_set × (place ≡ d'.location)
+  by (inl lt) = let (d', one, ends, at) = f.first lt in (d', first_ahead P ds (d ∷ []) d' one, ends, later lt ∙ at)
+  by (inr le) =
+      let zero : levels ≡ 0 = omega arith in
+      (d, first_behind P ds (d ∷ []) d (f.none zero) (first_of_one P d), is_endless, first zero)
 
 -- with another fragment more
 pub with_other : (fragments : Fragments) (ds : List (Node Fragment)) (d : Node Fragment) (levels n : ℕ) (location : Option SourceSpan) →
     HasLevels fragments d.value.value.selection_set n → EndlessFound fragments ds levels location → EndlessFound fragments (ds ++ d ∷ []) levels location
 with_other fragments ds d levels n location has f = record {
   together = subst (EndlessTogether fragments (ds ++ d ∷ [])) (let e : levels + 0 ≡ levels = omega arith in e) (together_more fragments f.together (other_one has no_more));
-  first = λ some. let (d', in', ends, at) = f.first some in (d', Contains-append_left ds (d ∷ []) d' in', ends, at);
+  none = λ zero. All-append (HasSomeLevels fragments) ds (d ∷ []) (f.none zero) (one_of_one (HasSomeLevels fragments) d (n, has));
+  first = λ some. let (d', one, ends, at) = f.first some in (d', first_ahead (HasSomeLevels fragments) ds (d ∷ []) d' one, ends, at);
 }
 
 -- the report of a definition
@@ -138,7 +181,7 @@ operation_checked document most o written None levels None has ends is few = one
     (inr (ends, λ n way. let le = has.within n way in not_more most written n (subst (λ l. ¬ (most < l)) is few) le))
 operation_checked document most o written None levels (Some r) has ends is many = (
   o,
-  stands_first o [],
+  first_of_one (OperationNests (fragments_of document) most) o,
   endless_operation_is_deep ends
       (subst (IsOfDefinition no_fragments most o.value.value.selection_set o.location) (sym many.1)
       (record { part = refl; is_at = refl; has = subst (HasLevels no_fragments o.value.value.selection_set) (sym is) has; bound = refl; passes = many.0 })),
@@ -147,7 +190,7 @@ operation_checked document most o written (Some n) levels None has found is few 
     (inl (λ m way. let le = found.within m way in not_more most n m (subst (λ l. ¬ (most < l)) is few) le))
 operation_checked document most o written (Some n) levels (Some r) has found is many = (
   o,
-  stands_first o [],
+  first_of_one (OperationNests (fragments_of document) most) o,
   operation_is_deep
       (subst (IsOfDefinition (fragments_of document) most o.value.value.selection_set o.location) (sym many.1)
       (record { part = refl; is_at = refl; has = subst (HasLevels (fragments_of document) o.value.value.selection_set) (sym is) found; bound = refl; passes = many.0 })),
@@ -173,4 +216,12 @@ fragment_is_deep document most d (Some n) r has many is =
 pub operations_then : (document : ExecutableDocument) (most : ℕ) (xs ys : List (Node Operation)) (r : Option NestingReport) →
     All (OperationNests (fragments_of document) most) xs → ChecksOperations most document ys r → ChecksOperations most document (xs ++ ys) r
 operations_then document most xs ys None nest others = All-append (OperationNests (fragments_of document) most) xs ys nest others
-operations_then document most xs ys (Some r) nest (o, in', report) = (o, Contains-append_right xs ys o in', report)
+operations_then document most xs ys (Some r) nest (o, first, report) = (o, first_behind (OperationNests (fragments_of document) most) xs ys o nest first, report)
+
+-- the whole document was checked
+pub document_checked : (document : ExecutableDocument) (most : ℕ) (r : Option NestingReport) →
+    All (OperationNests (fragments_of document) most) (operations_of document) → All (FragmentNests (fragments_of document) most) (values document.fragments) →
+    ChecksEndless most document (values document.fragments) r → MatchOption r (NestsWithin most document) (IsNestingReportOf most document)
+document_checked document most None operations fragments (levels, endless, within) =
+    record { operations = operations; fragments = fragments; levels = levels; endless = endless; within = within }
+document_checked document most (Some r) operations fragments report = endless_fragments_nest_deep operations fragments report

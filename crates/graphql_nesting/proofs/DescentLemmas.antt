@@ -1,5 +1,5 @@
 -- Sets below selections, and ways down.
-use Rattle.std.proofs.Common.{◌≡◌, ◌≤◌, ℕ, zero, suc, Option, None, Some, Contains, arith, length, refl, ap, inl, inr}
+use Rattle.std.proofs.Common.{◌≡◌, ◌<◌, ◌≤◌, ℕ, zero, suc, Option, None, Some, Contains, arith, length, refl, ap, inl, inr}
 use Rattle.std.specs.Prelude.{◌⊎◌, ◌==◌, filter_map, if◌then◌else◌}
 use Rattle.std.specs.Option.{option_map}
 use Rattle.graphql_nodes.specs.declared.nodes.Node.{Node}
@@ -92,3 +92,8 @@ module _ (fragments : Fragments) where
   shorter zero way le = one_level
   shorter (suc m) one_level le = absurd (omega arith)
   shorter (suc m) (one_more in' way) le = one_more in' (shorter m way (omega arith))
+
+  -- a way down has some levels
+  pub some_levels : {set : SelectionSet} {n : ℕ} → Descends fragments set n → 0 < n
+  some_levels one_level = omega arith
+  some_levels (one_more in' way) = omega arith

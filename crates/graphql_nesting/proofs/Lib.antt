@@ -1,5 +1,6 @@
 pub mod CheckLemmas
 pub mod DescentLemmas
+pub mod ExclusionLemmas
 pub mod ProgressLemmas
 pub mod SearchLemmas
 pub mod WalkLemmas

@@ -1,5 +1,5 @@
 -- How deep a document nests, spreads of fragments gone into. Specification: 2.4 Selection Sets, 2.8 Fragments.
-use Rattle.std.specs.Prelude.{◌≡◌, ◌==◌, ◌⊎◌, ◌+◌, ◌<◌, ◌≤◌, ℕ, suc, List, [], ◌∷◌, Option, None, Some, All, Contains, filter_map, length, if◌then◌else◌}
+use Rattle.std.specs.Prelude.{◌≡◌, ◌==◌, ◌⊎◌, ◌+◌, ◌++◌, ◌<◌, ◌≤◌, ℕ, suc, List, [], ◌∷◌, Option, None, Some, All, Contains, filter_map, length, if◌then◌else◌}
 use Rattle.std.specs.Option.{option_map}
 use Rattle.indexmap.specs.IndexMap.{values}
 use Rattle.graphql_nodes.specs.declared.nodes.Node.{Node}
@@ -79,6 +79,13 @@ pub record NestsWithin (most : ℕ) (document : ExecutableDocument) : Type 0 whe
   pub endless : EndlessTogether (fragments_of document) (values document.fragments) levels
   pub within : levels ≤ most
 
+-- x is an element of the list, and each one before it has the property
+pub record IsFirstAfter {X : Type 0} (Holds : X → Type 0) (all : List X) (x : X) : Type 0 where
+  pub before : List X
+  pub after : List X
+  pub is : all ≡ before ++ x ∷ after
+  pub hold : All Holds before
+
 -- the report is of a definition with this set at this place, and its levels pass the bound
 pub record IsOfDefinition (fragments : Fragments) (most : ℕ) (set : SelectionSet) (location : Option SourceSpan) (r : NestingReport) : Type 0 where
   pub part : r.part ≡ Definition
@@ -93,23 +100,32 @@ pub data OperationReport (fragments : Fragments) (most : ℕ) (o : Node Operatio
   endless_operation_is_deep : IsEndless fragments o.value.value.selection_set →
       IsOfDefinition no_fragments most o.value.value.selection_set o.location r → OperationReport fragments most o r
 
--- endless fragments nest too deep together: the report is at one of them
+-- a fragment that is not endless
+abbrev pub HasSomeLevels : Fragments → Node Fragment → Type 0
+HasSomeLevels fragments d = (levels : ℕ) × HasLevels fragments d.value.value.selection_set levels
+
+-- endless fragments nest too deep together: the report is at the first of them
 pub record EndlessReport (fragments : Fragments) (most : ℕ) (all : List (Node Fragment)) (r : NestingReport) : Type 0 where
   pub part : r.part ≡ EndlessFragments
   pub d : Node Fragment
-  pub one_of : Contains all d
+  pub first : IsFirstAfter (HasSomeLevels fragments) all d
   pub is_endless : IsEndless fragments d.value.value.selection_set
   pub is_at : r.location ≡ d.location
   pub has : EndlessTogether fragments all r.levels
   pub bound : r.most ≡ most
   pub passes : most < r.levels
 
--- the report is true of the document
+-- the report is that of the document: of the first operation that nests too deep, else of the first fragment, else of the
+-- endless fragments together
 pub data IsNestingReportOf (most : ℕ) (document : ExecutableDocument) (r : NestingReport) : Type 0 where
   operation_nests_deep : {o : Node Operation} →
-      Contains (operations_of document) o → OperationReport (fragments_of document) most o r → IsNestingReportOf most document r
+      IsFirstAfter (OperationNests (fragments_of document) most) (operations_of document) o →
+      OperationReport (fragments_of document) most o r → IsNestingReportOf most document r
   fragment_nests_deep : {d : Node Fragment} →
-      Contains (values document.fragments) d →
+      All (OperationNests (fragments_of document) most) (operations_of document) →
+      IsFirstAfter (FragmentNests (fragments_of document) most) (values document.fragments) d →
       IsOfDefinition (fragments_of document) most d.value.value.selection_set d.location r → IsNestingReportOf most document r
   endless_fragments_nest_deep :
+      All (OperationNests (fragments_of document) most) (operations_of document) →
+      All (FragmentNests (fragments_of document) most) (values document.fragments) →
       EndlessReport (fragments_of document) most (values document.fragments) r → IsNestingReportOf most document r

@@ -15,7 +15,6 @@ use crate::written::{WrittenLevels, written_levels};
 use graphql_documents::documents::{ExecutableDocument, Fragment};
 use graphql_nodes::{Node, ValidationError};
 use std::alloc::Global;
-use std::mem;
 
 /// A fragment, and what is written in it.
 #[derive(Drop)]
@@ -115,16 +114,21 @@ impl<'doc> FragmentNestings<'doc> {
     ) -> Result<(), ValidationError>
         requires { fragment < length self.old.known.items }
         ensures fragments { self.new.fragments ≡ self.old.fragments }
-        ensures known { self.new.known.items ≡ slice_set self.old.known.items fragment (FragmentLevels.Known levels) }
+        ensures known { OnOk result (self.new.known.items ≡ slice_set self.old.known.items fragment (FragmentLevels.Known levels)) }
         ensures ready { OnOk result (ready.new.items ≡ ready.old.items ++ waiting_at self.old.known.items fragment) }
     {
-        let before = mem::replace(&mut self.known[fragment], FragmentLevels::Known(levels));
-        match before {
-            FragmentLevels::Known(_) => Ok(()),
-            FragmentLevels::Awaited(waiting) => {
-                ready.extend_from_slice(&waiting)?;
-                Ok(())
-            }
+        ready.extend_from_slice(self.waiting_for(fragment))?;
+        self.known[fragment] = FragmentLevels::Known(levels);
+        Ok(())
+    }
+
+    /// The fragments that wait for the levels of a fragment.
+    fn waiting_for(&self, fragment: usize) -> &[WaitingFragment]
+        ensures { result.now ≡ waiting_at self.now.known.items fragment }
+    {
+        match self.known.get(fragment) {
+            Some(FragmentLevels::Awaited(waiting)) => waiting,
+            _ => &[],
         }
     }
 

@@ -1,6 +1,6 @@
 //! Whether a document nests within a bound.
 
-ghost use Rattle.std.specs.Prelude.{◌≡◌, ◌+◌, ◌<◌, ◌∷◌, [], IfOk, MatchOption, SomeIff, option_to_list};
+ghost use Rattle.std.specs.Prelude.{◌≡◌, ◌+◌, ◌<◌, ◌∷◌, [], IfOk, IsSome, MatchOption, SomeIff, option_to_list};
 ghost use Rattle.indexmap.specs.IndexMap.{values};
 ghost use Rattle.graphql_documents.specs.Executables.{operations_of};
 ghost use Rattle.graphql_documents.specs.Selections.{fragments_of};
@@ -25,8 +25,9 @@ use std::alloc::Global;
 /// fragments together what is written in them. The report is about the first operation that passes the bound; else about the
 /// first fragment; else about the endless fragments, at the first of them.
 ///
-/// A walk that goes into no fragment twice on its way down is at most three times as deep as the bound. The time is linear in
-/// the document, and nothing is recursive. The only error is a failed allocation.
+/// A walk that goes into no fragment twice on its way down is then at most three times as deep as the bound. The time is linear
+/// in the document, and nothing is recursive. The only error is a failed allocation: a number of levels that does not fit is one
+/// too, since no memory holds so many sets.
 ///
 /// Specification: 2.4 Selection Sets, 2.8 Fragments; 5.5.2.2 Fragment spreads must not form cycles.
 pub fn check_nesting(
@@ -34,7 +35,8 @@ pub fn check_nesting(
     document: &ExecutableDocument,
     most: usize,
 ) -> Result<Option<NestingReport>, ValidationError>
-    ensures { IfOk result (λ found. MatchOption found (NestsWithin most document.now) (IsNestingReportOf most document.now)) }
+    ensures found { IfOk result (λ found. MatchOption found (NestsWithin most document.now) (IsNestingReportOf most document.now)) }
+    ensures exact { IfOk result (λ found. IsSome found → ¬ NestsWithin most document.now) }
 {
     let fragments = find_fragment_levels(alloc, document)?;
     if let Some(report) = check_operations(alloc, &fragments, document, most)? {

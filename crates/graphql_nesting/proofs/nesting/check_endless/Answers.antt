@@ -8,7 +8,7 @@ returns c = λ document settled.
     record {
       part = refl;
       d = first.0;
-      one_of = first.1;
+      first = first.1;
       is_endless = first.2;
       is_at = first.3;
       has = f.together;

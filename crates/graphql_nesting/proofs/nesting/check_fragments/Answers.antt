@@ -1,4 +1,4 @@
-use Rattle.std.proofs.Common.{◌≡◌, ◌<◌, ◌∷◌, [], All, ap, subst, sym, take, ◌∙◌}
+use Rattle.std.proofs.Common.{◌≡◌, ◌<◌, ◌∷◌, [], All, ap, subst, sym, take, ◌∙◌, List}
 use Rattle.std.specs.Prelude.{unwrap_or}
 use Rattle.std.proofs.lemmas.List.{take_all}
 use Rattle.std.proofs.lemmas.List.Elements.{All-append, All-map}
@@ -9,7 +9,7 @@ use Rattle.graphql_documents.proofs.ListLemmas.{more_is}
 use Rattle.graphql_nesting.specs.Nesting.{FragmentNests}
 use Rattle.graphql_nesting.specs.Spreads.{known_at}
 use Rattle.graphql_nesting.specs.declared.fragments.FragmentNesting.{FragmentNesting}
-use Rattle.graphql_nesting.proofs.CheckLemmas.{definition_report, fragment_at, fragment_is_deep, fragment_nests, fragment_stands, one_of_one, read_by}
+use Rattle.graphql_nesting.proofs.CheckLemmas.{definition_report, fragment_at, fragment_is_deep, fragment_nests, fragment_first, one_of_one, read_by}
 use Rattle.graphql_nesting.proofs.nesting.check_fragments.Goals as goal
 
 pub returns-in-Some : goal.returns-in-Some
@@ -20,7 +20,8 @@ returns-in-Some c = λ document settled.
     let at = read_by found.fragments.items c.deref-nesting-items.result.now number x c.deref-nesting-items.ensures.value c.loop-number-test.true c.nesting-item.is in
     let levels : c.unwrap_or-levels.result ≡ unwrap_or (known_at found.known.items number) 0 = c.unwrap_or-levels.ensures ∙ ap (λ o. unwrap_or o 0) c.levels_at.ensures in (
       x.fragment.now,
-      fragment_stands document found settled number x at,
+      fragment_first document found settled c.args.most number x at
+          (subst (λ (l : List FragmentNesting). All (λ (x : FragmentNesting). FragmentNests (fragments_of document) c.args.most x.fragment.now) (take number l)) c.deref-nesting-items.ensures.value (c.loop-number.invariant document settled)),
       fragment_is_deep document c.args.most x.fragment.now (known_at found.known.items number) c.in-Some.report (fragment_at document found settled number x at)
           (subst (λ n. c.args.most < n) levels c.in-Some.ensures.0)
           (c.in-Some.ensures.1 ∙ ap (λ n. definition_report n c.args.most x.fragment.now.location) levels),

@@ -1,11 +1,12 @@
 use Rattle.std.proofs.Common.{◌++◌, Option, subst}
+use Rattle.graphql_nesting.specs.Nesting.{OperationNests}
 use Rattle.std.specs.Prelude.{option_to_list}
-use Rattle.std.proofs.lemmas.List.Elements.{Contains-append_left}
 use Rattle.std.proofs.lemmas.Result.{IfOk-weaker}
 use Rattle.indexmap.specs.IndexMap.{values}
+use Rattle.graphql_documents.specs.Selections.{fragments_of}
 use Rattle.graphql_nesting.specs.Checks.{ChecksOperations}
 use Rattle.graphql_nesting.specs.declared.reports.NestingReport.{NestingReport}
-use Rattle.graphql_nesting.proofs.CheckLemmas.{operations_then}
+use Rattle.graphql_nesting.proofs.CheckLemmas.{operations_then, first_ahead}
 use Rattle.graphql_nesting.proofs.nesting.check_operations.Goals as goal
 
 pub returns-in-Some : goal.returns-in-Some
@@ -13,7 +14,7 @@ returns-in-Some c =
     let document = c.args.document.now in
     let first = option_to_list document.operations.anonymous in
     let checked = subst (λ (found : Option NestingReport). ChecksOperations c.args.most document first found) c.in-Some.is c.in_ok-report.ensures in
-    (checked.0, Contains-append_left first (values document.operations.named) checked.0 checked.1, checked.2)
+    (checked.0, first_ahead (OperationNests (fragments_of document) c.args.most) first (values document.operations.named) checked.0 checked.1, checked.2)
 
 pub returns : goal.returns
 returns c =

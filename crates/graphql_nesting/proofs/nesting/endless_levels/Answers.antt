@@ -1,11 +1,12 @@
 use Rattle.std.proofs.Common.{◌≡◌, ◌+◌, ◌++◌, ◌∷◌, [], List, None, Some, ap, arith, map, subst, sym, take, ◌∙◌}
+use Rattle.std.proofs.lemmas.List.Elements.{All-nil}
 use Rattle.std.proofs.lemmas.List.{map-append, take_all}
 use Rattle.graphql_nodes.specs.declared.nodes.Node.{Node}
 use Rattle.graphql_documents.specs.Selections.{fragments_of}
 use Rattle.graphql_documents.specs.declared.documents.executables.Fragment.{Fragment}
 use Rattle.graphql_documents.proofs.ListLemmas.{more_is}
 use Rattle.graphql_nesting.specs.Checks.{EndlessFound}
-use Rattle.graphql_nesting.specs.Nesting.{no_more}
+use Rattle.graphql_nesting.specs.Nesting.{no_more, HasSomeLevels}
 use Rattle.graphql_nesting.specs.Spreads.{known_at}
 use Rattle.graphql_nesting.specs.declared.fragments.FragmentNesting.{FragmentNesting}
 use Rattle.graphql_nesting.specs.declared.nesting.EndlessLevels.{EndlessLevels}
@@ -18,7 +19,7 @@ abbrev node_of : FragmentNesting → Node Fragment
 node_of x = x.fragment.now
 
 pub loop-number-init : goal.loop-number-init
-loop-number-init c = λ document settled. record { together = no_more; first = λ some. absurd (omega arith) }
+loop-number-init c = λ document settled. record { together = no_more; none = λ zero. All-nil (HasSomeLevels (fragments_of document)); first = λ some. absurd (omega arith) }
 
 pub loop-number-preserved : goal.loop-number-preserved
 loop-number-preserved c = λ document settled.

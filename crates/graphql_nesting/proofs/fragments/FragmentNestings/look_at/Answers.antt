@@ -1,4 +1,4 @@
-use Rattle.std.proofs.Common.{◌≡◌, List, None, Some, ap, arith, length, refl, subst, sym, ◌∙◌}
+use Rattle.std.proofs.Common.{◌≡◌, List, None, Some, ap, arith, length, refl, subst, sym, ◌∙◌, Result, Ok, Err, OnOk}
 use Rattle.std.specs.Prelude.{slice_get}
 use Rattle.std.proofs.lemmas.Option.{slice_get_read}
 use Rattle.std.proofs.lemmas.Result.{on_ok_weaker}
@@ -9,6 +9,11 @@ use Rattle.graphql_nesting.specs.declared.spreads.PlacedSpread.{PlacedSpread}
 use Rattle.graphql_nesting.proofs.SearchLemmas.{searches_settled, searches_waits, settled_less, spread_within, waits_less, within_known}
 use Rattle.graphql_nesting.proofs.ProgressLemmas.{stops_unknown}
 use Rattle.graphql_nesting.proofs.fragments.FragmentNestings.look_at.Goals as goal
+
+-- two facts of a call that answered
+both : {T E : Type 0} (P Q : Type 0) (r : Result T E) → OnOk r P → OnOk r Q → OnOk r (P × Q)
+both P Q (Ok x) one other = (one, other)
+both P Q (Err e) one other = tt
 
 pub returns-in-None-clause-searches : goal.returns-in-None-clause-searches
 returns-in-None-clause-searches c = λ document s.
@@ -23,9 +28,9 @@ returns-in-None-clause-searches c = λ document s.
     (subst (λ (l : List PlacedSpread). GoesOn c.deref.result.now l c.args.waiting.progress end) c.as_slice-spreads.ensures.value c.in_ok-progress.ensures.0) in
     let none : slice_get x.written.spreads.items end.next ≡ None = ap (λ (l : List PlacedSpread). slice_get l end.next) (sym c.as_slice-spreads.ensures.value) ∙ sym c.in-None.ensures in
     on_ok_weaker c.settle.result
-    (λ more. subst (λ (f : _). Searches document f.items new.known.items c.settle.new.ready.items) (sym c.settle.ensures.fragments)
-    (searches_settled document old.fragments.items s.listed old.known.items ready c.args.waiting s x at end on new.known.items c.settle.new.ready.items none c.settle.ensures.known more))
-    c.settle.ensures.ready
+    (λ (known, more). subst (λ (f : _). Searches document f.items new.known.items c.settle.new.ready.items) (sym c.settle.ensures.fragments)
+    (searches_settled document old.fragments.items s.listed old.known.items ready c.args.waiting s x at end on new.known.items c.settle.new.ready.items none known more))
+    (both _ _ c.settle.result c.settle.ensures.known c.settle.ensures.ready)
 
 pub returns-in-None-clause-less : goal.returns-in-None-clause-less
 returns-in-None-clause-less c =
@@ -33,9 +38,9 @@ returns-in-None-clause-less c =
     let old = c.args.self.now in
     let ready = c.args.ready.now.items in
     on_ok_weaker c.settle.result
-    (λ more. settled_less old.known.items c.settle.new.self.known.items ready c.settle.new.ready.items c.args.waiting c.args.waiting.fragment c.in_ok-progress.progress.levels
-    (within_known document old.fragments.items s.listed old.known.items ready c.args.waiting s) c.settle.ensures.known more)
-    c.settle.ensures.ready
+    (λ (known, more). settled_less old.known.items c.settle.new.self.known.items ready c.settle.new.ready.items c.args.waiting c.args.waiting.fragment c.in_ok-progress.progress.levels
+    (within_known document old.fragments.items s.listed old.known.items ready c.args.waiting s) known more)
+    (both _ _ c.settle.result c.settle.ensures.known c.settle.ensures.ready)
 
 pub returns-in-Some-clause-searches : goal.returns-in-Some-clause-searches
 returns-in-Some-clause-searches c = λ document s.
