@@ -140,3 +140,36 @@ fn each_document_that_nests_too_deep_is_reported(rt: HostRuntime) {
         assert_eq!(rt; found.as_str(), *expected, "{text}");
     }
 }
+
+/// A document of so many fragments with so many levels each, of which each spreads the next at its deepest place, and the last
+/// one that is not defined.
+fn chain(rt: &impl Abort, alloc: Global, fragments: usize, levels: usize) -> String {
+    let mut text = String::from_str(alloc, "{ ...F0 }").expect(rt, "memory for a text");
+    for number in 0..fragments {
+        let head = format!(in alloc; " fragment F{number} on Query ").expect(
+            rt,
+            "memory for a text",
+        );
+        let spread = format!(in alloc; "...F{}", number + 1).expect(rt, "memory for a text");
+        let opened = "{ q ".repeat(alloc, levels).expect(rt, "memory for a text");
+        let closed = "} ".repeat(alloc, levels).expect(rt, "memory for a text");
+        for part in [&head, &opened, &spread, &closed] {
+            text.push_str(part.as_str()).expect(rt, "memory for a text");
+        }
+    }
+    text
+}
+
+#[test]
+fn levels_of_a_chain_of_fragments_are_counted(rt: HostRuntime) {
+    let alloc = rt.alloc();
+    let Ok(schema) = schema(alloc, SCHEMA) else {
+        panic!(rt; "no schema")
+    };
+    let text = chain(&rt, alloc, 99, 130);
+    let found = reported(&rt, alloc, &schema.0, text.as_str(), 500);
+    assert_eq!(rt;
+        found.as_str(),
+        "0 nests too deep: 12871 levels, at most 500"
+    );
+}
