@@ -5,4 +5,6 @@
 #[cfg(test)]
 mod bounds;
 #[cfg(test)]
+mod hostile;
+#[cfg(test)]
 mod pairs;
