@@ -1,5 +1,5 @@
 -- What a list that began empty says of a rule.
-use Rattle.std.proofs.Common.{◌≡◌, ◌≢◌, ◌↔◌, List, [], ◌∷◌, ◌++◌, Ok, Err, Result, refl, sym, subst, ◌∙◌, All}
+use Rattle.std.proofs.Common.{◌≡◌, ◌≢◌, ◌↔◌, List, [], ◌++◌, Ok, Err, Result, sym, subst, ◌∙◌, All}
 use Rattle.std.specs.Prelude.{IfOk}
 use Rattle.std.proofs.lemmas.List.Elements.{All-nil}
 use Rattle.graphql_diagnostics.specs.Reports.{Appends, KeepsReports, Reports, ReportsWithin}

@@ -1,9 +1,9 @@
 -- What texts come to as a schema.
-use Rattle.std.proofs.Common.{List, subst}
+use Rattle.std.proofs.Common.{List}
 use Rattle.graphql_trees.specs.declared.documents.Document.{Document}
 use Rattle.graphql_building_laws.proofs.OutputFieldLaws.{has_output_fields}
 use Rattle.graphql_building_laws.proofs.OwnNameLaws.{retained_under_own_names, said_under_own_names}
-use Rattle.graphql_frontend.specs.Schemas.{AcceptsOnlyUsableSchemas, JudgesTrees, does_not_build, is_built}
+use Rattle.graphql_frontend.specs.Schemas.{AcceptsOnlyUsableSchemas, JudgesTrees, is_built}
 use Rattle.graphql_frontend.specs.declared.schemas.SchemaReading.{SchemaReading}
 use Rattle.graphql_frontend.specs.declared.schemas.SchemaReading.TheVariants.{Accepted, Rejected, LacksIntrospection}
 

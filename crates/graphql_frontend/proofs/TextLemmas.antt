@@ -1,9 +1,8 @@
 -- Texts that are parsed one after another.
-use Rattle.std.proofs.Common.{rules, ◌≡◌, ◌≢◌, ℕ, ◌+◌, ◌<◌, ◌≤◌, List, [], ◌∷◌, ◌++◌, ap, length, get_or, take, take_all, refl, sym, subst, ◌∙◌, All, Contains}
+use Rattle.std.proofs.Common.{rules, ◌≡◌, ◌≢◌, ℕ, ◌+◌, ◌<◌, ◌≤◌, List, [], ◌∷◌, ◌++◌, ap, length, get_or, take, take_all, refl, sym, subst, All, Contains}
 use Rattle.std.specs.Prelude.{Bool, true, false, ◌==◌, Ok, Err, OnOk, Result, Vec}
 use Rattle.std.specs.Vec.{vec_len}
 use Rattle.std.specs.declared.alloc.Global.{Global}
-use Rattle.std.specs.List.{AllZip}
 use Rattle.std.proofs.lemmas.List.{nil_from_length, take_more}
 use Rattle.std.proofs.lemmas.List.Elements.{All-append, All-cons, All-nil}
 use Rattle.graphql_documents.proofs.ListLemmas.{stands_first}

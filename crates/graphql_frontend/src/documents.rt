@@ -1,8 +1,9 @@
 //! Executable documents, from their texts.
 
-ghost use Rattle.std.specs.Prelude.{◌≡◌, IfOk, None, Option, Some};
+ghost use Rattle.std.specs.Prelude.{◌≡◌, ℕ, IfOk, None, Option, Some};
 ghost use Rattle.std.specs.Option.{option_copied};
 ghost use Rattle.graphql_documents.specs.declared.documents.schemas.Schema as schema_type;
+ghost use Rattle.graphql_nesting.specs.Nesting.{NestsWithin};
 ghost use Rattle.graphql_parser.specs.Refusals.{IsRefusal};
 ghost use Rattle.graphql_parser.specs.declared.bounds.Bounds as source_bounds;
 ghost use Rattle.graphql_trees.specs.declared.documents.Document as document_tree;
@@ -189,9 +190,21 @@ fn validate_built(
 ) -> Result<Option<Reports>, ValidationError>
     ensures { IfOk result (JudgesDocument most (option_copied schema.entry) document.now) }
 {
-    if let Some(report) = check_nesting(alloc, document, most)? {
-        return Ok(Some(Reports::Nesting(report)));
+    match check_nesting(alloc, document, most)? {
+        None => validate_nested(alloc, schema, document, work),
+        Some(report) => Ok(Some(Reports::Nesting(report))),
     }
+}
+
+/// Validates a document that nests within a bound.
+fn validate_nested(
+    alloc: Global,
+    schema: Option<&Schema>,
+    document: &ExecutableDocument,
+    work: usize,
+) -> Result<Option<Reports>, ValidationError>
+    ensures { (most : ℕ) → NestsWithin most document.now → IfOk result (JudgesDocument most (option_copied schema.entry) document.now) }
+{
     let reports = document_reports(alloc, schema, document, work)?;
     if reports.is_empty() {
         Ok(None)

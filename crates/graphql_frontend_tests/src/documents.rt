@@ -153,7 +153,12 @@ fn reported_against(
 }
 
 /// A line for each report.
-pub(crate) fn lines(rt: &impl Abort, alloc: Global, reports: &Reports, sources: &[SourceText<'_>]) -> String {
+pub(crate) fn lines(
+    rt: &impl Abort,
+    alloc: Global,
+    reports: &Reports,
+    sources: &[SourceText<'_>],
+) -> String {
     let shown = shown_reports(alloc, reports, sources, Bounds::DEFAULT, 100).expect(
         rt,
         "memory for messages",

@@ -1,4 +1,4 @@
-use Rattle.std.proofs.Common.{◌≢◌, [], All, Contains, rules}
+use Rattle.std.proofs.Common.{◌≢◌, [], Contains, rules}
 use Rattle.std.proofs.lemmas.List.Elements.{All-contains, All-weaker}
 use Rattle.graphql_diagnostics.specs.Diagnostics.{entries}
 use Rattle.graphql_usage_rules.specs.VariableMisuses.{DocumentMisuseReport}

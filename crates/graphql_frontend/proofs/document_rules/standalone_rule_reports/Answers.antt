@@ -1,6 +1,6 @@
-use Rattle.std.proofs.Common.{None, All}
+use Rattle.std.proofs.Common.{None}
 use Rattle.std.proofs.lemmas.List.Elements.{All-weaker}
-use Rattle.graphql_diagnostics.specs.Diagnostics.{IsLimitEntry, entries}
+use Rattle.graphql_diagnostics.specs.Diagnostics.{IsLimitEntry}
 use Rattle.graphql_frontend.specs.Documents.{IsDocumentEntry}
 use Rattle.graphql_frontend.proofs.ReportLemmas.{decides_within, each_within}
 use Rattle.graphql_validation.proofs.LimitLemmas.{limit_if_one, report_unless_limit}

@@ -1,17 +1,13 @@
-use Rattle.std.proofs.Common.{◌≡◌, [], ◌∷◌, ◌++◌, ap, sym, ◌∙◌, subst, true≢false}
+use Rattle.std.proofs.Common.{◌≡◌, [], ◌∷◌, ◌++◌, ap, sym, ◌∙◌, true≢false}
 use Rattle.graphql_frontend.specs.Documents.{is_no_document}
-use Rattle.graphql_frontend.specs.declared.texts.SyntaxReport.{SyntaxReport}
 use Rattle.graphql_frontend.proofs.TextLemmas.{one_error}
 use Rattle.graphql_frontend.proofs.documents.report_syntax.Goals as goal
 
 pub returns-then-is_out_of_memory : goal.returns-then-is_out_of_memory
 returns-then-is_out_of_memory c = λ bounds schema source same only refused. tt
 
-pub returns-in_err-push : goal.returns-in_err-push
-returns-in_err-push c = λ bounds schema source same only refused. rw c.from_residual.ensures.0 tt
-
-pub returns-in_ok-push : goal.returns-in_ok-push
-returns-in_ok-push c = λ bounds schema source same only refused.
+pub returns : goal.returns
+returns c = λ bounds schema source same only refused.
     let items : c.push.new.self.items ≡ record { file_id = c.args.file_id; error = c.args.error } ∷ [] =
     c.in_ok-push.ensures.items ∙ ap (λ l. l ++ record { file_id = c.args.file_id; error = c.args.error } ∷ []) c.new-errors.ensures.items in
     let e = one_error bounds source c.args.error c.push.new.self.items (rw same items)

@@ -1,4 +1,4 @@
-use Rattle.std.proofs.Common.{◌≡◌, ◌≢◌, [], Some, true, false, rules}
+use Rattle.std.proofs.Common.{◌≡◌, ◌≢◌, [], Some, rules}
 use Rattle.graphql_building_reports.specs.Checks.{reports_of}
 use Rattle.graphql_document_building.proofs.BuiltLemmas.{document_is_built}
 use Rattle.graphql_frontend.specs.Documents.{JudgesDocument, JudgesTree, does_not_build, is_built}

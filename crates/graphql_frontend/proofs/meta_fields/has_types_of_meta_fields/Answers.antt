@@ -1,4 +1,4 @@
-use Rattle.std.proofs.Common.{◌≡◌, sym, ◌∙◌}
+use Rattle.std.proofs.Common.{sym, ◌∙◌}
 use Rattle.graphql_frontend.proofs.MetaFieldLemmas.{all_three, each_of_three}
 use Rattle.graphql_frontend.proofs.meta_fields.has_types_of_meta_fields.Goals as goal
 

@@ -1,4 +1,4 @@
-use Rattle.std.proofs.Common.{◌≡◌, ◌≢◌, [], true, false, rules}
+use Rattle.std.proofs.Common.{◌≡◌, ◌≢◌, [], rules}
 use Rattle.graphql_building_reports.specs.Checks.{reports_of}
 use Rattle.graphql_frontend.specs.Schemas.{Judges, JudgesTrees, does_not_build, is_built}
 use Rattle.graphql_frontend.proofs.ReportLemmas.{broken, each_true, if_ok, silent}

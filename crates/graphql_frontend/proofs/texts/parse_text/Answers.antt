@@ -1,4 +1,4 @@
-use Rattle.std.proofs.Common.{◌≡◌, refl, sym, ◌∙◌, true≢false}
+use Rattle.std.proofs.Common.{refl, sym, ◌∙◌, true≢false}
 use Rattle.graphql_frontend.specs.Texts.{is_document}
 use Rattle.graphql_frontend.proofs.TextLemmas.{error_added}
 use Rattle.graphql_frontend.proofs.texts.parse_text.Goals as goal

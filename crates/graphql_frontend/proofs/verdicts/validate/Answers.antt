@@ -1,4 +1,4 @@
-use Rattle.std.proofs.Common.{subst, rules}
+use Rattle.std.proofs.Common.{subst}
 use Rattle.graphql_frontend.specs.Schemas.{AcceptsOnlyUsableSchemas, ReadsSchema}
 use Rattle.graphql_frontend.specs.Verdicts.{Validates, ValidatesAgainst, lacks_introspection, schema_is_read, schema_is_rejected}
 use Rattle.graphql_frontend.proofs.ReportLemmas.{if_ok}

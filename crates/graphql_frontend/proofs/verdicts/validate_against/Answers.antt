@@ -1,4 +1,4 @@
-use Rattle.std.proofs.Common.{Some, subst, rules}
+use Rattle.std.proofs.Common.{Some, subst}
 use Rattle.graphql_frontend.specs.Documents.{ValidatesDocument}
 use Rattle.graphql_frontend.specs.Verdicts.{holds, rejected}
 use Rattle.graphql_frontend.proofs.verdicts.validate_against.Goals as goal
