@@ -1,9 +1,13 @@
 -- What texts say as a schema is the same but for places in memory.
-use Rattle.std.proofs.Common.{◌≡◌, ◌∙◌, List, sym}
+use Rattle.std.proofs.Common.{◌≡◌, ◌∙◌, ℕ, All, Bool, List, [], ◌∷◌, codes, false, refl, sym}
+use Rattle.std.proofs.lemmas.List.Elements.{All-cons, All-nil}
 use Rattle.graphql_nodes.specs.Names.{NameText}
 use Rattle.graphql_nodes.specs.declared.nodes.Node.{Node}
+use Rattle.graphql_documents.specs.MetaFields.{ComponentHasNoPlace, HasSignature}
 use Rattle.graphql_documents.specs.declared.documents.components.Component.{Component}
 use Rattle.graphql_documents.specs.declared.documents.definitions.DirectiveDefinition as typed_directive
+use Rattle.graphql_documents.specs.declared.documents.definitions.FieldDefinition.{FieldDefinition}
+use Rattle.graphql_documents.specs.declared.documents.meta_fields.MetaFields.{MetaFields}
 use Rattle.graphql_documents.specs.declared.documents.schemas.ExtendedType.{ExtendedType}
 use Rattle.graphql_documents.specs.declared.documents.schemas.ExtendedType.TheVariants as typed
 use Rattle.graphql_documents.specs.declared.documents.schemas.EnumType.{EnumType}
@@ -21,15 +25,16 @@ use Rattle.graphql_trees.specs.declared.type_system.TypeDefinition.{TypeDefiniti
 use Rattle.graphql_trees.specs.declared.type_system.TypeDefinition.TheVariants.{Scalar, Object, Interface, Union, Enum, InputObject}
 use Rattle.graphql_leaf_building.specs.Definitions.{DirectiveDefinitionSays, EnumValueSays, FieldDefinitionSays, InputValueSays}
 use Rattle.graphql_leaf_building.specs.Directives.{DirectiveSays}
+use Rattle.graphql_document_building.proofs.SameFieldLemmas.{HasNoDefault, field_of_no_text_is_same}
 use Rattle.graphql_document_building.proofs.SameLeafLemmas.{both_said, directive_definition_is_same, directive_is_same, enum_value_is_same, field_is_same, input_value_is_same}
 use Rattle.graphql_document_building.specs.SameDocuments.{SameUnderName}
 use Rattle.graphql_document_building.specs.SameLeaves.{SameDirective, SameDirectiveDefinition, SameEnumValue, SameField, SameInputValue}
 use Rattle.graphql_schema_building.specs.Parts.{ComponentsSay, EntriesSay, Originated}
-use Rattle.graphql_schema_building.specs.SchemaSays.{SchemaDefinitionSays, SchemaSays}
+use Rattle.graphql_schema_building.specs.SchemaSays.{MetaFieldsHaveNoPlace, SchemaDefinitionSays, SchemaSays}
 use Rattle.graphql_schema_building.specs.TypesSay.{EnumSays, InputObjectSays, InterfaceSays, ObjectSays, PartsSay, ScalarSays, TypeSays, UnionSays}
 use Rattle.graphql_schema_checking.specs.Definitions.{definitions_in, name_of, types}
 use Rattle.graphql_schema_building.specs.SchemaSays.{directives_said}
-use Rattle.graphql_building_laws.specs.SameSchemas.{SameComponent, SameComponents, SameEntries, SameEnum, SameInputObject, SameInterface, SameObject, SameScalar, SameSchema, SameSchemaDefinition, SameType, SameUnion}
+use Rattle.graphql_building_laws.specs.SameSchemas.{SameComponent, SameComponents, SameEntries, SameEnum, SameInputObject, SameInterface, SameMetaFields, SameObject, SameScalar, SameSchema, SameSchemaDefinition, SameType, SameUnion}
 
 module _ {X Y : Type 0} (Says : X → Node Y → Type 0) (Same : Node Y → Node Y → Type 0) (one : (t : X) (a b : Node Y) → Says t a → Says t b → Same a b) where
   components_are_same : (ts : List (Originated X)) (xs ys : List (Component Y)) → ComponentsSay Says ts xs → ComponentsSay Says ts ys → SameComponents Same xs ys
@@ -118,6 +123,20 @@ definition_is_same definitions a b p q = record {
   location = p.location ∙ sym q.location;
 }
 
+component_is_same : (a b : Component FieldDefinition) (name ty : List ℕ) (signatures : List (List ℕ × List ℕ × Bool)) → All HasNoDefault signatures →
+    HasSignature a.node.value.value name signatures ty → HasSignature b.node.value.value name signatures ty →
+    ComponentHasNoPlace a → ComponentHasNoPlace b → SameComponent SameField a b
+component_is_same a b name ty signatures none p q at there =
+    (at.origin ∙ sym there.origin, field_of_no_text_is_same a.node b.node name ty signatures none p q at.node there.node)
+
+meta_fields_are_same : (a b : MetaFields) → MetaFieldsHaveNoPlace a → MetaFieldsHaveNoPlace b → SameMetaFields a b
+meta_fields_are_same a b p q = record {
+  typename = component_is_same a.typename b.typename _ _ [] (All-nil HasNoDefault) a.is_typename b.is_typename p.typename q.typename;
+  schema = component_is_same a.schema b.schema _ _ [] (All-nil HasNoDefault) a.is_schema b.is_schema p.schema q.schema;
+  type_by_name = component_is_same a.type_by_name b.type_by_name _ _ _
+      (All-cons HasNoDefault (codes "name", codes "String!", false) [] refl (All-nil HasNoDefault)) a.is_type b.is_type p.type_by_name q.type_by_name;
+}
+
 pub schema_is_same : (trees : List Document) (a b : Schema) → SchemaSays trees a → SchemaSays trees b → SameSchema a b
 schema_is_same trees a b p q =
     let definitions = definitions_in trees in
@@ -131,4 +150,5 @@ schema_is_same trees a b p q =
           both_said (λ (d : TypeDefinition) (e : NameText × ExtendedType). (e.0 ≡ name_of d) × TypeSays definitions d e.1)
           (SameUnderName SameType) (λ t a b p q. (p.0 ∙ sym q.0, type_is_same _ t a.1 b.1 p.1 q.1))
           (types definitions) _ _ p.types_are q.types_are;
+      meta_fields = meta_fields_are_same a.meta_fields b.meta_fields p.meta_fields q.meta_fields;
     }

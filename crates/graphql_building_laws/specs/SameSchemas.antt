@@ -1,10 +1,10 @@
--- Schemas that are the same but for places in memory, in what texts say of them: all but the meta-fields, which every schema has.
--- Specification: 3 Type System.
+-- Schemas that are the same but for places in memory. Specification: 3 Type System.
 use Rattle.std.specs.Prelude.{◌≡◌, List}
 use Rattle.std.specs.List.{AllZip}
 use Rattle.graphql_nodes.specs.Names.{NameText}
 use Rattle.graphql_nodes.specs.declared.nodes.Node.{Node}
 use Rattle.graphql_documents.specs.declared.documents.components.Component.{Component}
+use Rattle.graphql_documents.specs.declared.documents.meta_fields.MetaFields.{MetaFields}
 use Rattle.graphql_documents.specs.declared.documents.schemas.EnumType.{EnumType}
 use Rattle.graphql_documents.specs.declared.documents.schemas.ExtendedType.{ExtendedType}
 use Rattle.graphql_documents.specs.declared.documents.schemas.ExtendedType.TheVariants.{Scalar, Object, Interface, Union, Enum, InputObject}
@@ -89,7 +89,14 @@ pub record SameSchemaDefinition (a b : Node SchemaDefinition) : Type 0 where
   pub subscription : a.value.value.subscription ≡ b.value.value.subscription
   pub location : a.location ≡ b.location
 
+-- 4.1 Type Name Introspection, 4.2 Schema Introspection
+pub record SameMetaFields (a b : MetaFields) : Type 0 where
+  pub typename : SameComponent SameField a.typename b.typename
+  pub schema : SameComponent SameField a.schema b.schema
+  pub type_by_name : SameComponent SameField a.type_by_name b.type_by_name
+
 pub record SameSchema (a b : Schema) : Type 0 where
   pub schema_definition : SameSchemaDefinition a.schema_definition b.schema_definition
   pub directive_definitions : AllZip (SameUnderName SameDirectiveDefinition) a.directive_definitions.entries b.directive_definitions.entries
   pub types : AllZip (SameUnderName SameType) a.types.entries b.types.entries
+  pub meta_fields : SameMetaFields a.meta_fields b.meta_fields

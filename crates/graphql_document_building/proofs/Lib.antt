@@ -3,5 +3,7 @@ pub mod BuiltLemmas
 pub mod DocumentLemmas
 pub mod MeasureLemmas
 pub mod SameDocumentLemmas
+pub mod SameFieldLemmas
 pub mod SameLeafLemmas
 pub mod SaysLemmas
+pub mod TypeTextLemmas

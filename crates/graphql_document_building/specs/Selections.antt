@@ -3,7 +3,7 @@ use Rattle.std.specs.Prelude.{◌≡◌, List, [], ◌∷◌, Option, None, Some
 use Rattle.graphql_nodes.specs.Names.{NameText}
 use Rattle.graphql_nodes.specs.Nodes.{SameNode}
 use Rattle.graphql_nodes.specs.declared.nodes.Node.{Node}
-use Rattle.graphql_documents.specs.MetaFields.{HasSignature}
+use Rattle.graphql_documents.specs.MetaFields.{FieldHasNoPlace, HasSignature}
 use Rattle.graphql_documents.specs.Schemas.{type_field}
 use Rattle.graphql_documents.specs.TypeReferences.{inner_named_type}
 use Rattle.graphql_documents.specs.declared.documents.components.Component.{Component}
@@ -26,7 +26,7 @@ use Rattle.graphql_document_building.specs.Trees.{selections_in}
 -- the definition `UNKNOWN: UNKNOWN`, which no text holds
 pub record IsUnknownField (d : Node FieldDefinition) : Type 0 where
   pub signature : HasSignature d.value.value (codes "UNKNOWN") [] (codes "UNKNOWN")
-  pub location : d.location ≡ None
+  pub place : FieldHasNoPlace d
 
 -- what defines a field of a type: the type, in a schema; without a schema no definition is known
 abbrev pub DefinesField : Option Schema → NameText → NameText → Node FieldDefinition → Type 0

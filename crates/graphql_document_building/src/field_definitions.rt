@@ -1,6 +1,7 @@
 //! The definitions of fields and the roots of operations, in a schema or without one.
 
 ghost use Rattle.std.specs.Prelude.{◌≡◌, IfOk, IsTrue, None, Some};
+ghost use Rattle.graphql_documents.specs.MetaFields.{IsNameOfNoText};
 ghost use Rattle.graphql_documents.specs.declared.documents.definitions.FieldDefinition as definition_type;
 ghost use Rattle.graphql_nodes.specs.Names.{NameText, is_name};
 ghost use Rattle.graphql_nodes.specs.declared.nodes.Node as node_type;
@@ -95,7 +96,8 @@ pub(crate) fn unknown_field(alloc: Global) -> Result<Node<FieldDefinition>, Vali
 /// The name with this text, which no text of a document holds.
 fn known_name(alloc: Global, text: &str) -> Result<Name, ValidationError>
     requires { IsTrue (is_name text.now) }
-    ensures { IfOk result (λ name. name ≡ record { text = text.now; location = None }) }
+    ensures name { IfOk result (λ name. name ≡ record { text = text.now; location = None }) }
+    ensures place { IfOk result IsNameOfNoText }
 {
     let text = String::from_str(alloc, text)?;
     match Name::new(text, None) {

@@ -2,7 +2,7 @@
 //!
 //! Each function here does nothing. Its contract is the law.
 
-ghost use Rattle.std.specs.Prelude.{Some};
+ghost use Rattle.std.specs.Prelude.{Option, Some};
 ghost use Rattle.graphql_documents.specs.Built.{IsBuilt, StandsUnderOwnNames};
 ghost use Rattle.graphql_documents.specs.declared.documents.executables.ExecutableDocument.{ExecutableDocument};
 ghost use Rattle.graphql_documents.specs.declared.documents.schemas.Schema.{Schema};
@@ -20,10 +20,11 @@ pub fn said_document_is_built()
         DocumentSays (Some schema) tree document → StandsUnderOwnNames schema → HasOutputFields schema → IsBuilt schema document }
 {}
 
-/// A tree says one document against a schema at most: two that it says are the same, part by part, but for places in memory.
+/// A tree says one document at most, against a schema or without one: two that it says are the same, part by part, but for
+/// places in memory.
 ///
 /// Specification: 2.2 Document.
 pub fn said_documents_are_the_same()
-    ensures { (schema : Schema) (tree : Document) (a b : ExecutableDocument) →
-        DocumentSays (Some schema) tree a → DocumentSays (Some schema) tree b → SameDocument a b }
+    ensures { (schema : Option Schema) (tree : Document) (a b : ExecutableDocument) →
+        DocumentSays schema tree a → DocumentSays schema tree b → SameDocument schema a b }
 {}

@@ -1,5 +1,6 @@
 -- The meta-fields that every schema has. Specification: 4.1 Type Name Introspection, 4.2 Schema Introspection.
-use Rattle.std.specs.Prelude.{ℕ, Bool, List, is_some, ◌≡◌, length, map, sum_by, [], codes, false, ◌∷◌, None, All}
+use Rattle.std.specs.Prelude.{ℕ, Bool, List, is_some, ◌≡◌, length, map, sum_by, [], codes, false, ◌∷◌, None, All, IsTrue}
+use Rattle.graphql_nodes.specs.Names.{NameText, is_name}
 use Rattle.graphql_documents.specs.TypeReferences.{type_text, inner_named_type}
 use Rattle.graphql_documents.specs.declared.documents.definitions.InputValueDefinition.{InputValueDefinition}
 use Rattle.graphql_documents.specs.declared.documents.definitions.FieldDefinition.{FieldDefinition}
@@ -31,18 +32,26 @@ IsSchemaField d = HasSignature d (codes "__schema") [] (codes "__Schema!")
 abbrev pub IsTypeField : FieldDefinition → Type 0
 IsTypeField d = HasSignature d (codes "__type") ((codes "name", codes "String!", false) ∷ []) (codes "__Type")
 
+-- a name that no text holds
+pub record IsNameOfNoText (name : NameText) : Type 0 where
+  pub text : IsTrue (is_name name.text)
+  pub location : name.location ≡ None
+
 -- no text holds the argument: it has no place, and neither have its name, its type and the name in that
 pub record ArgumentHasNoPlace (argument : Node InputValueDefinition) : Type 0 where
   pub itself : argument.location ≡ None
   pub name : argument.value.value.name.location ≡ None
   pub ty : argument.value.value.ty.location ≡ None
-  pub type_name : (inner_named_type argument.value.value.ty.value.value).location ≡ None
+  pub type_name : IsNameOfNoText (inner_named_type argument.value.value.ty.value.value)
 
--- no text holds the field: it is of no extension and has no place, and neither have its name, the name in its type
--- and its arguments
-pub record FieldHasNoPlace (field : Component FieldDefinition) : Type 0 where
+-- no text holds the field: it has no place, and neither have its name, the name in its type and its arguments
+pub record FieldHasNoPlace (field : Node FieldDefinition) : Type 0 where
+  pub itself : field.location ≡ None
+  pub name : field.value.value.name.location ≡ None
+  pub type_name : IsNameOfNoText (inner_named_type field.value.value.ty)
+  pub arguments : All ArgumentHasNoPlace field.value.value.arguments.items
+
+-- no text holds the component, and no extension brings it
+pub record ComponentHasNoPlace (field : Component FieldDefinition) : Type 0 where
   pub origin : field.origin ≡ origin.Definition
-  pub itself : field.node.location ≡ None
-  pub name : field.node.value.value.name.location ≡ None
-  pub type_name : (inner_named_type field.node.value.value.ty).location ≡ None
-  pub arguments : All ArgumentHasNoPlace field.node.value.value.arguments.items
+  pub node : FieldHasNoPlace field.node

@@ -6,7 +6,7 @@ use Rattle.graphql_nodes.specs.declared.nodes.Node.{Node}
 use Rattle.graphql_nodes.specs.declared.operation_types.OperationType.{OperationType}
 use Rattle.graphql_nodes.specs.declared.operation_types.OperationType.TheVariants.{Query, Mutation, Subscription}
 use Rattle.graphql_nodes.specs.declared.spans.SourceSpan.{SourceSpan}
-use Rattle.graphql_documents.specs.MetaFields.{FieldHasNoPlace}
+use Rattle.graphql_documents.specs.MetaFields.{ComponentHasNoPlace}
 use Rattle.graphql_documents.specs.declared.documents.components.ComponentName.{ComponentName}
 use Rattle.graphql_documents.specs.declared.documents.components.ComponentOrigin.TheVariants as origin
 use Rattle.graphql_documents.specs.declared.documents.definitions.DirectiveDefinition as typed_directive
@@ -83,9 +83,9 @@ TypesStand definitions written entries = AllZip (λ d entry. (entry.0 ≡ name_o
 
 -- the meta-fields, which no text holds. Specification: 4.1 Type Name Introspection, 4.2 Schema Introspection
 pub record MetaFieldsHaveNoPlace (fields : MetaFields) : Type 0 where
-  pub typename : FieldHasNoPlace fields.typename
-  pub schema : FieldHasNoPlace fields.schema
-  pub type_by_name : FieldHasNoPlace fields.type_by_name
+  pub typename : ComponentHasNoPlace fields.typename
+  pub schema : ComponentHasNoPlace fields.schema
+  pub type_by_name : ComponentHasNoPlace fields.type_by_name
 
 -- these definitions say the schema
 pub record DefinitionsSay (definitions : List Definition) (schema : Schema) : Type 0 where

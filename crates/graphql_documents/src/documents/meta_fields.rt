@@ -1,7 +1,7 @@
 ghost use Rattle.std.specs.Prelude.{◌≡◌, ◌∷◌, [], All, None, IsTrue, IfOk, codes, false, length};
 ghost use Rattle.std.proofs.Props.{props};
 ghost use Rattle.graphql_nodes.specs.Names.{is_name};
-ghost use Rattle.graphql_documents.specs.MetaFields.{ArgumentHasNoPlace, FieldHasNoPlace, IsTypename, IsSchemaField, IsTypeField, argument_signature};
+ghost use Rattle.graphql_documents.specs.MetaFields.{ArgumentHasNoPlace, ComponentHasNoPlace, IsNameOfNoText, IsTypename, IsSchemaField, IsTypeField, argument_signature};
 ghost use Rattle.graphql_documents.specs.TypeReferences.{inner_named_type};
 ghost use Rattle.graphql_documents.specs.declared.documents.components.ComponentOrigin.TheVariants as origin;
 
@@ -28,9 +28,9 @@ pub struct MetaFields {
 impl MetaFields {
     /// The three meta-fields. No text holds them: neither they nor any of their parts have locations.
     pub fn new(alloc: Global) -> Result<MetaFields, ValidationError>
-        ensures typename { IfOk result (λ fields. FieldHasNoPlace fields.typename) }
-        ensures schema { IfOk result (λ fields. FieldHasNoPlace fields.schema) }
-        ensures type_by_name { IfOk result (λ fields. FieldHasNoPlace fields.type_by_name) }
+        ensures typename { IfOk result (λ fields. ComponentHasNoPlace fields.typename) }
+        ensures schema { IfOk result (λ fields. ComponentHasNoPlace fields.schema) }
+        ensures type_by_name { IfOk result (λ fields. ComponentHasNoPlace fields.type_by_name) }
     {
         let typename = typename(alloc)?;
         let schema = schema_field(alloc)?;
@@ -46,7 +46,7 @@ impl MetaFields {
 /// `__typename: String!`
 fn typename(alloc: Global) -> Result<Component<FieldDefinition>, ValidationError>
     ensures field { IfOk result (λ field. IsTypename field.node.value.value) }
-    ensures place { IfOk result (λ field. FieldHasNoPlace field) }
+    ensures place { IfOk result ComponentHasNoPlace }
 {
     let name = known_name(alloc, "__typename")?;
     let ty = Type::NonNullNamed(known_name(alloc, "String")?);
@@ -56,7 +56,7 @@ fn typename(alloc: Global) -> Result<Component<FieldDefinition>, ValidationError
 /// `__schema: __Schema!`
 fn schema_field(alloc: Global) -> Result<Component<FieldDefinition>, ValidationError>
     ensures field { IfOk result (λ field. IsSchemaField field.node.value.value) }
-    ensures place { IfOk result (λ field. FieldHasNoPlace field) }
+    ensures place { IfOk result ComponentHasNoPlace }
 {
     let name = known_name(alloc, "__schema")?;
     let ty = Type::NonNullNamed(known_name(alloc, "__Schema")?);
@@ -66,7 +66,7 @@ fn schema_field(alloc: Global) -> Result<Component<FieldDefinition>, ValidationE
 /// `__type(name: String!): __Type`
 fn type_field(alloc: Global) -> Result<Component<FieldDefinition>, ValidationError>
     ensures field { IfOk result (λ field. IsTypeField field.node.value.value) }
-    ensures place { IfOk result (λ field. FieldHasNoPlace field) }
+    ensures place { IfOk result ComponentHasNoPlace }
 {
     let mut arguments = Vec::new(alloc);
     arguments.push(name_argument(alloc)?)?;
@@ -92,7 +92,8 @@ fn name_argument(alloc: Global) -> Result<Node<InputValueDefinition>, Validation
 
 fn known_name(alloc: Global, text: &str) -> Result<Name, ValidationError>
     requires { IsTrue (is_name text.now) }
-    ensures { IfOk result (λ name. name ≡ record { text = text.now; location = None }) }
+    ensures name { IfOk result (λ name. name ≡ record { text = text.now; location = None }) }
+    ensures place { IfOk result IsNameOfNoText }
 {
     let text = String::from_str(alloc, text)?;
     match Name::new(text, None) {
