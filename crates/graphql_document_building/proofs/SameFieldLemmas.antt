@@ -31,7 +31,7 @@ no_defaults None None p q = tt
 no_defaults None (Some b) p q = absurd (true≢false q)
 no_defaults (Some a) b p q = absurd (true≢false p)
 
-HasNoDirectives : Node InputValueDefinition → Type 0
+abbrev HasNoDirectives : Node InputValueDefinition → Type 0
 HasNoDirectives a = length a.value.value.directives.items ≡ 0
 
 argument_is_same : (a b : Node InputValueDefinition) → signature_of a ≡ signature_of b → HasNoDefault (signature_of a) → HasNoDefault (signature_of b) →
@@ -47,15 +47,15 @@ argument_is_same a b same none nor at there d e = record {
   location = at.itself ∙ sym there.itself;
 }
 
-is_nil : List Signature → Bool
+abbrev is_nil : List Signature → Bool
 is_nil [] = true
 is_nil (s ∷ ss) = false
 
-first_or : Signature → List Signature → Signature
+abbrev first_or : Signature → List Signature → Signature
 first_or s [] = s
 first_or s (t ∷ ts) = t
 
-rest_of : List Signature → List Signature
+abbrev rest_of : List Signature → List Signature
 rest_of [] = []
 rest_of (s ∷ ss) = ss
 
@@ -73,7 +73,7 @@ arguments_are_same (a ∷ xs) (b ∷ ys) same none nor at there d e =
       (All-tail HasNoDefault (signature_of a) (map signature_of xs) none) (All-tail HasNoDefault (signature_of b) (map signature_of ys) nor)
       (All-tail ArgumentHasNoPlace a xs at) (All-tail ArgumentHasNoPlace b ys there) (All-tail HasNoDirectives a xs d) (All-tail HasNoDirectives b ys e))
 
-on_argument : Node InputValueDefinition → ℕ
+abbrev on_argument : Node InputValueDefinition → ℕ
 on_argument a = length a.value.value.directives.items
 
 none_has_directives : (xs : List (Node InputValueDefinition)) → sum_by on_argument xs ≡ 0 → All HasNoDirectives xs

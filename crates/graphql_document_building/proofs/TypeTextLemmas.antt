@@ -1,23 +1,20 @@
 -- The text of a reference to a type, and the place of the name in it, fix the reference as it is written.
-use Rattle.std.proofs.Common.{◌≡◌, ◌∙◌, ℕ, Bool, true, false, List, [], ◌∷◌, ◌++◌, ap, codes, refl, subst, sym, true≢false}
+use Rattle.std.proofs.Common.{◌≡◌, ◌∙◌, ℕ, Bool, true, false, List, [], ◌∷◌, ◌++◌, Option, ap, ap₂, codes, refl, subst, sym, true≢false}
 use Rattle.std.specs.Prelude.{◌&&◌, ◌==◌, IsTrue}
 use Rattle.std.specs.List.{list_all}
 use Rattle.std.proofs.lemmas.List.{append_assoc, append_cancel_left, append_cancel_right}
 use Rattle.std.proofs.lemmas.List.Folds.{list_all-append}
 use Rattle.graphql_nodes.specs.Names.{NameText, continues_name, is_name, starts_name}
+use Rattle.graphql_nodes.specs.declared.spans.SourceSpan.{SourceSpan}
 use Rattle.graphql_documents.specs.TypeReferences.{TypeText, as_written, inner_named_type, list_text, name_text, non_null_list_text, non_null_name_text, type_text}
 use Rattle.graphql_documents.specs.declared.documents.type_references.Type.{«Type»}
 use Rattle.graphql_documents.specs.declared.documents.type_references.Type.TheVariants.{Named, NonNullNamed, List', NonNullList'}
 
-first_of : List ℕ → ℕ
+abbrev first_of : List ℕ → ℕ
 first_of [] = 0
 first_of (c ∷ cs) = c
 
-rest_of : List ℕ → List ℕ
-rest_of [] = []
-rest_of (c ∷ cs) = cs
-
-last_of : List ℕ → ℕ
+abbrev last_of : List ℕ → ℕ
 last_of [] = 0
 last_of (c ∷ []) = c
 last_of (c ∷ (d ∷ cs)) = last_of (d ∷ cs)
@@ -43,8 +40,11 @@ no_name_begins_so : (text rest : List ℕ) → IsTrue (is_name text) → text ++
 no_name_begins_so [] rest p e = true≢false (sym p)
 no_name_begins_so (c ∷ cs) rest p e = true≢false (sym (subst (λ d. is_name (d ∷ cs) ≡ true) (ap first_of e) p))
 
+abbrev name_of : List ℕ → Option SourceSpan → NameText
+name_of text location = record { text = text; location = location }
+
 pub one_name : (a b : NameText) → a.text ≡ b.text → a.location ≡ b.location → a ≡ b
-one_name a b text location = cc
+one_name a b text location = ap₂ name_of text location
 
 -- a list and a non-null list end differently
 ends_differ : (xs ys : List ℕ) → xs ++ codes "]" ≡ ys ++ codes "]!" → ⊥
@@ -80,7 +80,7 @@ type_is_fixed (NonNullList' place t) (NonNullList' other u) p q at e =
     ap non_null_list_text (type_is_fixed t u p q at (append_cancel_right _ _ (codes "]!") (append_cancel_left (codes "[") _ _ e)))
 
 -- the name in a type as it is written
-name_in : TypeText → NameText
+abbrev name_in : TypeText → NameText
 name_in (name_text name) = name
 name_in (non_null_name_text name) = name
 name_in (list_text item) = name_in item

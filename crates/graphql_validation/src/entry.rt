@@ -75,8 +75,8 @@ pub fn validate_executable_document(
 /// exponentially many.
 ///
 /// Where more fields were listed than `work`, merging by such lists stops. That operation and all later ones are
-/// decided by pairs of selection sets, all together, each pair looked at once in each pass: so the steps are at most
-/// the square of what is written in the document.
+/// decided by pairs of selection sets, all together, each pair looked at once in each pass: so no more pairs of fields
+/// are compared than the square of those that are written.
 ///
 /// Reports come in the same order; those of merging are complete for the operations before. Of the operation that was
 /// interrupted there may be some; then none of merging until the end, where one conflict is reported if there
