@@ -1,14 +1,15 @@
 -- The scans of whole strings and block strings answer by the grammar.
-use Rattle.std.proofs.Common.{◌≡◌, ℕ, zero, suc, ◌<◌, ◌≤◌, List, [], ◌∷◌, ◌++◌, length, Option, Some, None, refl, subst, ◌∙◌, ap, arith}
+use Rattle.std.proofs.Common.{◌≡◌, ℕ, zero, suc, ◌<◌, ◌≤◌, true, false, not, ◌||◌, ◌==◌, List, [], ◌∷◌, ◌++◌, length, Option, Some, None, refl, subst, ◌∙◌, ap, arith}
 use Rattle.graphql_tokens.specs.Characters.{is_source_byte}
-use Rattle.graphql_tokens.specs.Strings.{IsStringCharacter, plain, unicode, escaped, AreStringCharacters, none, more, IsString, empty, characters, IsBlockCharacter, AreBlockCharacters, IsBlockString}
+use Rattle.graphql_tokens.specs.Strings.{is_plain_byte, IsStringCharacter, plain, unicode, escaped, AreStringCharacters, none, more, IsString, empty, characters, IsBlockCharacter, AreBlockCharacters, IsBlockString}
 use Rattle.graphql_tokens.specs.Strings as strings
+use Rattle.std.proofs.lemmas.Bool.Decides.{nat_tests}
 use Rattle.graphql_tokens.specs.Lexical.{IsToken, string, block_string}
 use Rattle.graphql_tokens.specs.Scans.{strip, after_all, string_character_at, past_string_character, quotes_at, escaped_quotes_at, source_byte_at, block_character_at, with_kind, quoted_at}
 use Rattle.graphql_tokens.specs.declared.strings.StringPart.{StringPart}
 use Rattle.graphql_tokens.specs.declared.token.TokenKind.{TokenKind}
 use Rattle.graphql_tokens.specs.declared.token.TokenKind.TheVariants.{StringValue, BlockString}
-use Rattle.graphql_tokens.proofs.ScanLemmas.{guarded, and_then_is, strip_is, strip_it, strip_none, strip_fails, after_more, after_none}
+use Rattle.graphql_tokens.proofs.ScanLemmas.{both_pass, other_number, guarded, and_then_is, strip_is, strip_it, strip_none, strip_fails, after_more, after_none}
 use Rattle.graphql_tokens.proofs.StringScans.{character_is, character_read, character_shorter, past_shrinks, no_quote}
 
 -- all characters that come
@@ -107,6 +108,26 @@ block_shorter _ _ _ (strings.IsBlockCharacter.plain c rest is nq ne) = omega ari
 
 pub block_shrinks : (t r : List ℕ) → block_character_at t ≡ Some r → length r < length t
 block_shrinks t r e = let (raw, is) = block_is t r e in block_shorter t raw r is
+
+-- a byte that stands for itself, whatever is behind it
+plain_no_quote : (c : ℕ) → is_plain_byte c ≡ true → (c == 34) ≡ false
+plain_no_quote c is = grind (arith, nat_tests)
+
+plain_no_slash : (c : ℕ) → is_plain_byte c ≡ true → (c == 92) ≡ false
+plain_no_slash c is = grind (arith, nat_tests)
+
+first_of_both : (c b : ℕ) (cs bs : List ℕ) → c ∷ cs ≡ b ∷ bs → c ≡ b
+first_of_both c b cs bs e = cc
+
+pub plain_block : (c : ℕ) (rest : List ℕ) → is_plain_byte c ≡ true → IsBlockCharacter (c ∷ rest) (c ∷ []) rest
+plain_block c rest is =
+    let source : is_source_byte c ≡ true = (both_pass (is_source_byte c) (not (c == 34 || c == 92)) is).0 in
+    strings.IsBlockCharacter.plain c rest source
+    (λ b w. other_number c 34 (plain_no_quote c is) (first_of_both c 34 rest (34 ∷ 34 ∷ b) w))
+    (λ b w. other_number c 92 (plain_no_slash c is) (first_of_both c 92 rest (34 ∷ 34 ∷ 34 ∷ b) w))
+
+pub block_plain : (c : ℕ) (rest : List ℕ) → is_plain_byte c ≡ true → block_character_at (c ∷ rest) ≡ Some rest
+block_plain c rest is = block_read (c ∷ rest) (c ∷ []) rest (plain_block c rest is)
 
 blocks_there : (n : ℕ) (t : List ℕ) → length t ≤ n → (raw : List ℕ) × AreBlockCharacters t raw (after_all block_character_at t)
 unfolding after_all

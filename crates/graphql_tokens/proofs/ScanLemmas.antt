@@ -1,7 +1,8 @@
 -- Tests, runs and turns of scans.
-use Rattle.std.proofs.Common.{◌≡◌, ℕ, zero, suc, ◌<◌, ◌≤◌, Bool, true, false, not, cond, ◌&&◌, ◌||◌, ◌==◌, ◌⊎◌, inl, inr, List, [], ◌∷◌, ◌++◌, length, Option, Some, None, option_and_then, refl, ap, arith}
+use Rattle.std.proofs.Common.{◌≡◌, ℕ, zero, suc, ◌-◌, ◌<◌, ◌≤◌, Bool, true, false, not, cond, ◌&&◌, ◌||◌, ◌==◌, ◌⊎◌, inl, inr, List, [], ◌∷◌, ◌++◌, length, take, Option, Some, None, option_and_then, refl, sym, ◌∙◌, ap, length-append, arith}
 use Rattle.std.specs.List.{list_all}
 use Rattle.std.proofs.lemmas.Bool.Decides.{nat_tests}
+use Rattle.std.proofs.Math.Seq.{take-append_seam}
 use Rattle.graphql_tokens.specs.Characters.{begins_with, begins_with_byte, IsRun}
 use Rattle.graphql_tokens.specs.Scans.{strip, after_run, after_turns, after_all}
 
@@ -93,6 +94,22 @@ run_of test (c ∷ cs) = by (test c) refl (run_of test cs) where
   by true e (run, is) = (c ∷ run, record { written = rw e (ap (λ l. c ∷ l) is.written); each = rw e is.each; ends = rw e is.ends })
   by false e (run, is) = ([], record { written = rw e refl; each = refl; ends = rw e e })
 
+pub run_within : (test : ℕ → Bool) (text : List ℕ) → length (after_run test text) ≤ length text
+run_within test [] = omega arith
+run_within test (c ∷ cs) = by (test c) refl (run_within test cs) where
+  by : (b : Bool) → test c ≡ b → length (after_run test cs) ≤ length cs → length (after_run test (c ∷ cs)) ≤ length (c ∷ cs)
+  by true e behind = rw e (omega arith)
+  by false e behind = rw e (omega arith)
+
+-- the run, cut off by the length of the rest
+pub run_cut : (test : ℕ → Bool) (text run rest : List ℕ) → rest ≡ after_run test text → run ≡ take (length text - length rest) text → IsRun test text run rest
+run_cut test text run rest r t =
+    let (found, is) = run_of test text in
+    let written : text ≡ found ++ after_run test text = is.written in
+    let long : length text - length (after_run test text) ≡ length found = omega (arith, ap length written, length-append found (after_run test text)) in
+    let same : run ≡ found = t ∙ rw (r, long) (ap (take (length found)) written ∙ take-append_seam found (after_run test text)) in
+    rw (r, same) is
+
 -- scans that lead on to a shorter rest
 module _ (scan : List ℕ → Option (List ℕ)) (shrinks : (t r : List ℕ) → scan t ≡ Some r → length r < length t) where
   at_end : (t : List ℕ) → length t ≤ 0 → scan t ≡ None
@@ -120,3 +137,12 @@ module _ (scan : List ℕ → Option (List ℕ)) (shrinks : (t r : List ℕ) →
   unfolding after_all
   after_none [] e = refl
   after_none (c ∷ cs) e = rw (e, after_turns) refl
+
+  -- a run of bytes that the scan goes past one by one
+  pub after_passed : (test : ℕ → Bool) → ((c : ℕ) (cs : List ℕ) → test c ≡ true → scan (c ∷ cs) ≡ Some cs) →
+      (t : List ℕ) → after_all scan (after_run test t) ≡ after_all scan t
+  after_passed test passes [] = refl
+  after_passed test passes (c ∷ cs) = by (test c) refl (after_passed test passes cs) where
+    by : (b : Bool) → test c ≡ b → after_all scan (after_run test cs) ≡ after_all scan cs → after_all scan (after_run test (c ∷ cs)) ≡ after_all scan (c ∷ cs)
+    by true e next = rw e (next ∙ sym (after_more (c ∷ cs) cs (passes c cs e)))
+    by false e next = rw e refl

@@ -227,3 +227,6 @@ past_shrinks t r e =
     let (p, ep, e1) = and_then_is (λ (p : StringPart × List ℕ). Some p.1) (string_character_at t) r e in
     let same : p.1 ≡ r = cc in
     rw (← same) (character_shorter t p.0 p.1 (character_is t p ep))
+
+pub past_plain : (c : ℕ) (cs : List ℕ) → is_string_byte c ≡ true → past_string_character (c ∷ cs) ≡ Some cs
+past_plain c cs is = rw (character_read (c ∷ cs) (Byte c) cs (plain c cs is)) refl

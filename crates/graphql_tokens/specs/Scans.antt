@@ -6,10 +6,10 @@ use Rattle.graphql_nodes.specs.Names.{starts_name, continues_name}
 use Rattle.graphql_numbers.specs.Numbers.{begins_exponent}
 use Rattle.graphql_tokens.specs.Characters.{is_source_byte, begins_with}
 use Rattle.graphql_tokens.specs.Ignored.{is_comment_byte}
-use Rattle.graphql_tokens.specs.Strings.{hex_digit, is_leading_surrogate, is_trailing_surrogate, is_scalar_value, pair_value, escaped_character, is_string_byte}
+use Rattle.graphql_tokens.specs.Strings.{hex_digit, is_leading_surrogate, is_trailing_surrogate, is_scalar_value, pair_value, escaped_character, is_string_byte, is_plain_byte}
 use Rattle.graphql_tokens.specs.Lexical.{punctuator, goes_on_number}
 use Rattle.graphql_tokens.specs.declared.characters.Class.{Class}
-use Rattle.graphql_tokens.specs.declared.characters.Class.TheVariants.{Comment, Digit, NamePart}
+use Rattle.graphql_tokens.specs.declared.characters.Class.TheVariants.{Comment, Digit, NamePart, StringText, BlockText}
 use Rattle.graphql_tokens.specs.declared.strings.StringPart.{StringPart}
 use Rattle.graphql_tokens.specs.declared.strings.StringPart.TheVariants.{Byte, Escaped}
 use Rattle.graphql_tokens.specs.declared.token.TokenKind.{TokenKind}
@@ -39,6 +39,8 @@ abbrev pub belongs : Class → ℕ → Bool
 belongs Comment c = is_comment_byte c
 belongs Digit c = is_ascii_digit c
 belongs NamePart c = continues_name c
+belongs StringText c = is_string_byte c
+belongs BlockText c = is_plain_byte c
 
 -- the rest, where a scan leads from rest to rest no further, in so many turns
 abbrev pub after_turns : (List ℕ → Option (List ℕ)) → ℕ → List ℕ → List ℕ

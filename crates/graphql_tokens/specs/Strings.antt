@@ -69,6 +69,10 @@ escaped_character c =
 abbrev pub is_string_byte : ℕ → Bool
 is_string_byte c = (is_source_byte c && not (is_line_byte c)) && not (c == 34 || c == 92)
 
+-- a byte of a character that stands for itself in a block string, whatever is behind it: no `"`, no `\`
+abbrev pub is_plain_byte : ℕ → Bool
+is_plain_byte c = is_source_byte c && not (c == 34 || c == 92)
+
 -- StringCharacter
 pub data IsStringCharacter : List ℕ → StringPart → List ℕ → Type 0 where
   plain : (c : ℕ) (rest : List ℕ) → IsTrue (is_string_byte c) → IsStringCharacter (c ∷ rest) (Byte c) rest

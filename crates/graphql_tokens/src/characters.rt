@@ -2,20 +2,26 @@
 
 ghost use Rattle.std.specs.Prelude.{◌≡◌, ◌≤◌, length};
 ghost use Rattle.graphql_nodes.specs.Names.{starts_name, continues_name};
-ghost use Rattle.graphql_tokens.specs.Characters.{is_line_byte, is_source_byte, begins_with};
+ghost use Rattle.graphql_tokens.specs.Characters.{is_line_byte, is_source_byte, begins_with, IsRun};
 ghost use Rattle.graphql_tokens.specs.Ignored.{is_comment_byte};
 ghost use Rattle.graphql_tokens.specs.Lexical.{goes_on_number};
 ghost use Rattle.graphql_tokens.specs.Scans.{after_run, belongs, strip, Gives};
+ghost use Rattle.graphql_tokens.specs.Strings.{is_string_byte, is_plain_byte};
 
 /// What a run of bytes is made of.
 #[derive(Clone, Copy)]
-pub(crate) enum Class {
+pub enum Class {
     Comment,
     Digit,
     NamePart,
+    /// Bytes that stand for themselves in a string.
+    StringText,
+    /// Bytes that stand for themselves in a block string, whatever is behind them.
+    BlockText,
 }
 
 impl Class {
+    #[inline(always)]
     pub(crate) fn contains(self, c: u8) -> bool
         ensures { result ≡ belongs self c }
     {
@@ -23,6 +29,8 @@ impl Class {
             Class::Comment => is_comment_byte(c),
             Class::Digit => c.is_ascii_digit(),
             Class::NamePart => c.is_ascii_alphanumeric() || c == b'_',
+            Class::StringText => is_string_byte(c),
+            Class::BlockText => is_plain_byte(c),
         }
     }
 }
@@ -49,6 +57,21 @@ fn is_comment_byte(c: u8) -> bool
     ensures { result ≡ is_comment_byte c }
 {
     is_source_byte(c) && !is_line_byte(c)
+}
+
+/// Whether this is a byte of a character that stands for itself in a string.
+///
+/// Specification: 2.9.4 String Value.
+pub(crate) fn is_string_byte(c: u8) -> bool
+    ensures { result ≡ is_string_byte c }
+{
+    is_source_byte(c) && !is_line_byte(c) && !(c == b'"' || c == b'\\')
+}
+
+fn is_plain_byte(c: u8) -> bool
+    ensures { result ≡ is_plain_byte c }
+{
+    is_source_byte(c) && !(c == b'"' || c == b'\\')
 }
 
 pub(crate) fn is_name_start(c: u8) -> bool
@@ -79,6 +102,7 @@ pub fn strip(text: &[u8], byte: u8) -> Option<&[u8]>
 }
 
 /// The text behind the bytes of the class at its start.
+#[inline(always)]
 pub(crate) fn after_run(text: &[u8], class: Class) -> &[u8]
     ensures { result.now ≡ after_run (belongs class) text.now }
 {
@@ -90,4 +114,13 @@ pub(crate) fn after_run(text: &[u8], class: Class) -> &[u8]
         rest = behind;
     }
     rest
+}
+
+/// The bytes of the class at the start of the text, and the text behind them.
+pub fn split_run(text: &[u8], class: Class) -> (&[u8], &[u8])
+    ensures { IsRun (belongs class) text.now result.0.now result.1.now }
+{
+    let rest = after_run(text, class);
+    let (run, _) = text.split_at(text.len() - rest.len());
+    (run, rest)
 }

@@ -3,7 +3,7 @@
 ghost use Rattle.std.specs.Prelude.{◌≡◌};
 ghost use Rattle.graphql_tokens.specs.Scans.{Gives, quotes_at, escaped_quotes_at, source_byte_at, block_character_at, past_string_character, after_all, quoted_at};
 
-use crate::characters::{is_source_byte, strip};
+use crate::characters::{Class, after_run, is_source_byte, strip};
 use crate::strings::string_character;
 use crate::token::TokenKind;
 
@@ -32,9 +32,9 @@ pub(crate) fn quoted(text: &[u8]) -> Option<(TokenKind, &[u8])>
 fn after_string_characters(text: &[u8]) -> &[u8]
     ensures { result.now ≡ after_all past_string_character text.now }
 {
-    let mut rest = text;
+    let mut rest = after_run(text, Class::StringText);
     while let Some((_part, behind)) = string_character(rest) {
-        rest = behind;
+        rest = after_run(behind, Class::StringText);
     }
     rest
 }
@@ -42,9 +42,9 @@ fn after_string_characters(text: &[u8]) -> &[u8]
 fn after_block_characters(text: &[u8]) -> &[u8]
     ensures { result.now ≡ after_all block_character_at text.now }
 {
-    let mut rest = text;
+    let mut rest = after_run(text, Class::BlockText);
     while let Some(behind) = block_character(rest) {
-        rest = behind;
+        rest = after_run(behind, Class::BlockText);
     }
     rest
 }

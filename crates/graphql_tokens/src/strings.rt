@@ -1,10 +1,10 @@
 //! The characters of strings.
 
 ghost use Rattle.std.specs.Prelude.{◌≡◌, ◌<◌, IfSome, IsTrue};
-ghost use Rattle.graphql_tokens.specs.Strings.{hex_digit, is_leading_surrogate, is_trailing_surrogate, is_scalar_value, escaped_character, is_string_byte};
+ghost use Rattle.graphql_tokens.specs.Strings.{hex_digit, is_leading_surrogate, is_trailing_surrogate, is_scalar_value, escaped_character};
 ghost use Rattle.graphql_tokens.specs.Scans.{Gives, hex_digit_at, four_digits_at, digits_behind, scalar_with, braced_at, trailing_at, fixed_at, unicode_at, escape_at, string_character_at};
 
-use crate::characters::{is_line_byte, is_source_byte, strip};
+use crate::characters::{is_string_byte, strip};
 
 /// What a character of a string stands for: a byte for itself, as one of its value's text, or an
 /// escape for a character.
@@ -34,12 +34,6 @@ pub fn string_character(text: &[u8]) -> Option<(StringPart, &[u8])>
     } else {
         None
     }
-}
-
-fn is_string_byte(c: u8) -> bool
-    ensures { result ≡ is_string_byte c }
-{
-    is_source_byte(c) && !is_line_byte(c) && !(c == b'"' || c == b'\\')
 }
 
 /// The character that an escape stands for, its text without the backslash.
