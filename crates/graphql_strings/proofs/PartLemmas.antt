@@ -1,16 +1,22 @@
 -- The scans of all string characters, and of all block string characters, answer by the grammar.
-use Rattle.std.proofs.Common.{◌≡◌, ℕ, zero, suc, ◌<◌, ◌≤◌, List, [], ◌∷◌, ◌++◌, length, flat_map, Option, Some, None, refl, sym, subst, ◌∙◌, ap, append_assoc, arith}
-use Rattle.std.proofs.lemmas.List.{append-nil}
-use Rattle.graphql_tokens.specs.Characters.{is_source_byte}
-use Rattle.graphql_tokens.specs.Strings.{IsStringCharacter, AreStringCharacters, none, more, IsBlockCharacter, AreBlockCharacters}
+use Rattle.std.proofs.Common.{◌≡◌, ℕ, zero, suc, ◌<◌, ◌≤◌, Bool, true, List, [], ◌∷◌, ◌++◌, length, flat_map, Option, Some, None, refl, sym, subst, ◌∙◌, ap, append_assoc, arith}
+use Rattle.std.specs.List.{list_all}
+use Rattle.std.proofs.lemmas.List.{append-nil, length-append}
+use Rattle.graphql_tokens.specs.Characters.{is_source_byte, IsRun}
+use Rattle.graphql_tokens.specs.Strings.{is_string_byte, is_plain_byte, IsStringCharacter, AreStringCharacters, none, more, IsBlockCharacter, AreBlockCharacters}
 use Rattle.graphql_tokens.specs.Strings as strings
 use Rattle.graphql_tokens.specs.Scans.{strip, string_character_at, quotes_at, escaped_quotes_at}
 use Rattle.graphql_tokens.specs.declared.strings.StringPart.{StringPart}
-use Rattle.graphql_tokens.proofs.ScanLemmas.{guarded, and_then_is}
+use Rattle.graphql_tokens.specs.declared.strings.StringPart.TheVariants.{Byte}
+use Rattle.graphql_tokens.proofs.ScanLemmas.{both_pass, guarded, and_then_is}
 use Rattle.graphql_tokens.proofs.StringScans.{character_is, character_read, character_shorter}
-use Rattle.graphql_tokens.proofs.QuotedScans.{quotes_read, escaped_quotes_are, escaped_quotes_read, no_quotes, no_escaped_quotes, block_shorter}
+use Rattle.graphql_tokens.proofs.QuotedScans.{quotes_read, escaped_quotes_are, escaped_quotes_read, no_quotes, no_escaped_quotes, plain_block, block_shorter}
 use Rattle.graphql_strings.specs.Values.{part_value}
 use Rattle.graphql_strings.specs.Scans.{string_part_at, source_part_at, block_part_at, with_part, parts_in_turns, all_parts}
+
+-- the rest behind a run
+pub run_leaves : (test : ℕ → Bool) (text run rest : List ℕ) → IsRun test text run rest → length rest ≤ length text
+run_leaves test text run rest is = omega (arith, ap length is.written, length-append run rest)
 
 -- scans that lead on to a shorter rest
 module _ (scan : List ℕ → Option (List ℕ × List ℕ)) (shrinks : (t : List ℕ) (p : List ℕ × List ℕ) → scan t ≡ Some p → length p.1 < length t) where
@@ -40,7 +46,22 @@ module _ (scan : List ℕ → Option (List ℕ × List ℕ)) (shrinks : (t : Lis
   all_none [] e = refl
   all_none (c ∷ cs) e = rw (e, parts_in_turns) refl
 
+  -- a run of bytes that the scan gives as they are, one by one
+  all_run : (test : ℕ → Bool) → ((c : ℕ) (cs : List ℕ) → test c ≡ true → scan (c ∷ cs) ≡ Some (c ∷ [], cs)) →
+      (run rest : List ℕ) → list_all test run ≡ true → all_parts scan (run ++ rest) ≡ with_part run (all_parts scan rest)
+  all_run test gives [] rest e = refl
+  all_run test gives (c ∷ cs) rest e =
+      let (here, behind) = both_pass (test c) (list_all test cs) e in
+      all_more (c ∷ (cs ++ rest)) (c ∷ [], cs ++ rest) (gives c (cs ++ rest) here) ∙ ap (with_part (c ∷ [])) (all_run test gives cs rest behind)
+
   -- steps of a walk over the parts: what is gathered, and what is to come
+  pub run_more : (test : ℕ → Bool) → ((c : ℕ) (cs : List ℕ) → test c ≡ true → scan (c ∷ cs) ≡ Some (c ∷ [], cs)) →
+      (old new run text rest : List ℕ) (whole : List ℕ × List ℕ) → IsRun test text run rest → new ≡ old ++ run →
+      with_part old (all_parts scan text) ≡ whole → with_part new (all_parts scan rest) ≡ whole
+  run_more test gives old new run text rest whole is pushed so_far =
+      let parts : all_parts scan text ≡ with_part run (all_parts scan rest) = ap (all_parts scan) is.written ∙ all_run test gives run rest is.each in
+      rw (pushed, append_assoc old run (all_parts scan rest).0) (rw parts at so_far)
+
   pub one_more : (old new value rest behind : List ℕ) (whole : List ℕ × List ℕ) → scan rest ≡ Some (value, behind) → new ≡ old ++ value →
       with_part old (all_parts scan rest) ≡ whole → with_part new (all_parts scan behind) ≡ whole
   one_more old new value rest behind whole e pushed so_far =
@@ -65,6 +86,9 @@ part_read t part r is = rw (character_read t part r is, string_part_at) refl
 
 pub part_shrinks : (t : List ℕ) (p : List ℕ × List ℕ) → string_part_at t ≡ Some p → length p.1 < length t
 part_shrinks t p e = let (part, is, value) = part_is t p e in character_shorter t part p.1 is
+
+pub plain_part : (c : ℕ) (cs : List ℕ) → is_string_byte c ≡ true → string_part_at (c ∷ cs) ≡ Some (c ∷ [], cs)
+plain_part c cs is = part_read (c ∷ cs) (Byte c) cs (strings.IsStringCharacter.plain c cs is)
 
 pub parts_there : (n : ℕ) (t : List ℕ) → length t ≤ n →
     (parts : List StringPart) × AreStringCharacters t parts (all_parts string_part_at t).1 × (flat_map part_value parts ≡ (all_parts string_part_at t).0)
@@ -131,6 +155,9 @@ unfolding block_part_at
 block_part_read _ _ _ (strings.IsBlockCharacter.quotes rest) = rw (escaped_quotes_read rest, block_part_at) refl
 block_part_read _ _ _ (strings.IsBlockCharacter.plain c rest is nq ne) =
     rw (no_escaped_quotes (c ∷ rest) ne, no_quotes (c ∷ rest) nq, is, block_part_at) refl
+
+pub plain_block_part : (c : ℕ) (cs : List ℕ) → is_plain_byte c ≡ true → block_part_at (c ∷ cs) ≡ Some (c ∷ [], cs)
+plain_block_part c cs is = block_part_read (c ∷ cs) (c ∷ []) cs (plain_block c cs is)
 
 pub block_part_shrinks : (t : List ℕ) (p : List ℕ × List ℕ) → block_part_at t ≡ Some p → length p.1 < length t
 block_part_shrinks t p e = block_shorter t p.0 p.1 (block_part_is t p e)

@@ -11,8 +11,11 @@ ghost use Rattle.graphql_tokens.specs.Strings.{is_string_byte, is_plain_byte};
 /// What a run of bytes is made of.
 #[derive(Clone, Copy)]
 pub enum Class {
+    /// Bytes of a comment, behind its number sign.
     Comment,
+    /// Decimal digits.
     Digit,
+    /// Bytes of a name, behind its first.
     NamePart,
     /// Bytes that stand for themselves in a string.
     StringText,
@@ -117,6 +120,7 @@ pub(crate) fn after_run(text: &[u8], class: Class) -> &[u8]
 }
 
 /// The bytes of the class at the start of the text, and the text behind them.
+#[inline(always)]
 pub fn split_run(text: &[u8], class: Class) -> (&[u8], &[u8])
     ensures { IsRun (belongs class) text.now result.0.now result.1.now }
 {
