@@ -68,13 +68,14 @@ fn is_comment_byte(c: u8) -> bool
 pub(crate) fn is_string_byte(c: u8) -> bool
     ensures { result ≡ is_string_byte c }
 {
-    is_source_byte(c) && !is_line_byte(c) && !(c == b'"' || c == b'\\')
+    // Small letters first: of most texts most bytes are.
+    b'\\' < c || (is_source_byte(c) && !is_line_byte(c) && !(c == b'"' || c == b'\\'))
 }
 
 fn is_plain_byte(c: u8) -> bool
     ensures { result ≡ is_plain_byte c }
 {
-    is_source_byte(c) && !(c == b'"' || c == b'\\')
+    b'\\' < c || (is_source_byte(c) && !(c == b'"' || c == b'\\'))
 }
 
 pub(crate) fn is_name_start(c: u8) -> bool
