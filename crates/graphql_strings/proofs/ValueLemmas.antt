@@ -125,11 +125,18 @@ one_value text value other a b =
 one_line : (raw : List ℕ) → list_all (λ c. not (is_line_byte c)) raw ≡ true → split_lines raw ≡ raw ∷ []
 one_line raw e = lines_none raw (no_line_at raw e)
 
+pub blank_line_is : (raw : List ℕ) → list_all (λ c. not (is_line_byte c)) raw ≡ true → is_blank raw ≡ true → block_string_value raw ≡ []
+unfolding block_string_value
+blank_line_is raw e q = rw (one_line raw e, q, block_string_value) refl
+
+pub line_is : (raw : List ℕ) → list_all (λ c. not (is_line_byte c)) raw ≡ true → is_blank raw ≡ false → block_string_value raw ≡ raw
+unfolding block_string_value
+line_is raw e q = rw (one_line raw e, q, q, block_string_value) (append-nil raw)
+
 -- a block string of one line is that line, its white space included, unless it is blank
 pub one_line_value : (text raw : List ℕ) → IsBlockString text raw [] → list_all (λ c. not (is_line_byte c)) raw ≡ true →
     StandsFor text (if is_blank raw then [] else raw)
-unfolding block_string_value
 one_line_value text raw is e = subst (StandsFor text) (by (is_blank raw) refl) (block_string text raw is) where
   by : (b : Bool) → is_blank raw ≡ b → block_string_value raw ≡ (if is_blank raw then [] else raw)
-  by true q = rw (q, one_line raw e, q, block_string_value) refl
-  by false q = rw (q, one_line raw e, q, q, block_string_value) (append-nil raw)
+  by true q = rw q (blank_line_is raw e q)
+  by false q = rw q (line_is raw e q)

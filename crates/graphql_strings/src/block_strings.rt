@@ -3,8 +3,23 @@
 ghost use Rattle.std.specs.Prelude.{◌≡◌, ◌∷◌, ◌++◌, map, drop, flat_map, IfOk, OnOk};
 ghost use Rattle.graphql_strings.specs.BlockStrings.{block_string_value, least_indent, common_indent, without_common_indent, without_first_blanks, without_last_blanks, join_lines};
 
-use crate::lines::{indent, is_blank, split_lines};
+use crate::lines::{indent, is_blank, is_one_line, split_lines};
 use std::alloc::{AllocError, Global};
+
+/// What a block string with this raw value stands for. A raw value of one line keeps its memory.
+///
+/// Specification: 2.9.4 String Value, BlockStringValue().
+pub(crate) fn block_value(alloc: Global, raw: Vec<u8>) -> Result<Vec<u8>, AllocError>
+    ensures { IfOk result (λ value. value.items ≡ block_string_value raw.items) }
+{
+    if !is_one_line(raw.as_slice()) {
+        block_string_value(alloc, raw.as_slice())
+    } else if is_blank(raw.as_slice()) {
+        Ok(Vec::new(alloc))
+    } else {
+        Ok(raw)
+    }
+}
 
 /// What a block string with this raw value stands for.
 ///
@@ -18,6 +33,7 @@ pub(crate) fn block_string_value(alloc: Global, raw: &[u8]) -> Result<Vec<u8>, A
     join_lines(
         alloc,
         without_last_blanks(without_first_blanks(lines.as_slice())),
+        raw.len(),
     )
 }
 
@@ -25,7 +41,7 @@ pub(crate) fn block_string_value(alloc: Global, raw: &[u8]) -> Result<Vec<u8>, A
 fn without_common_indent<'a>(alloc: Global, lines: &[&'a [u8]]) -> Result<Vec<&'a [u8]>, AllocError>
     ensures { IfOk result (λ cut. map (λ line. line.now) cut.items ≡ without_common_indent (map (λ line. line.now) lines.now)) }
 {
-    let mut cut = Vec::new(alloc);
+    let mut cut = Vec::with_capacity(alloc, lines.len())?;
     let [first, rest @ ..] = lines else {
         return Ok(cut);
     };
@@ -112,10 +128,11 @@ fn without_last_blanks<'a, 'b>(lines: &'a [&'b [u8]]) -> &'a [&'b [u8]]
     rest
 }
 
-fn join_lines(alloc: Global, lines: &[&[u8]]) -> Result<Vec<u8>, AllocError>
+/// The lines, joined by line feeds. So many bytes are made room for at once.
+fn join_lines(alloc: Global, lines: &[&[u8]], capacity: usize) -> Result<Vec<u8>, AllocError>
     ensures { IfOk result (λ joined. joined.items ≡ join_lines (map (λ line. line.now) lines.now)) }
 {
-    let mut joined = Vec::new(alloc);
+    let mut joined = Vec::with_capacity(alloc, capacity)?;
     if let [first, rest @ ..] = lines {
         joined.extend_from_slice(first)?;
         push_lines(&mut joined, rest)?;

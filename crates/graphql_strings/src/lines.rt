@@ -1,6 +1,7 @@
 //! Lines of a text, and their white space.
 
-ghost use Rattle.std.specs.Prelude.{◌≡◌, ◌≤◌, map, length, position, IfOk, OnOk};
+ghost use Rattle.std.specs.Prelude.{◌≡◌, ◌≤◌, not, map, length, position, IfOk, OnOk};
+ghost use Rattle.std.specs.List.{list_all};
 ghost use Rattle.graphql_tokens.specs.Characters.{is_line_byte};
 ghost use Rattle.graphql_tokens.specs.Scans.{Gives};
 ghost use Rattle.graphql_strings.specs.BlockStrings.{is_white_space, is_blank, split_lines, indent};
@@ -72,6 +73,13 @@ pub(crate) fn indent(line: &[u8]) -> usize
         rest = behind;
     }
     count
+}
+
+/// Whether the text contains no line terminator.
+pub(crate) fn is_one_line(text: &[u8]) -> bool
+    ensures { result ≡ list_all (λ c. not (is_line_byte c)) text.now }
+{
+    text.iter().all(|c| !is_line_byte(*c))
 }
 
 /// Whether the line contains only white space.

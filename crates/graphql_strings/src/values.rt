@@ -8,7 +8,7 @@ ghost use Rattle.graphql_tokens.specs.Scans.{Gives};
 ghost use Rattle.graphql_strings.specs.Values.{HasStringValue};
 ghost use Rattle.graphql_strings.specs.Scans.{ended, characters_bytes_at, block_bytes_at, quoted_bytes_at, string_bytes_at, in_utf8, string_value_at};
 
-use crate::block_strings::block_string_value;
+use crate::block_strings::block_value;
 use crate::parts::{block_characters, string_characters};
 use graphql_tokens::characters::strip;
 use graphql_tokens::quoted::quotes;
@@ -122,7 +122,7 @@ fn block_bytes(alloc: Global, text: &[u8]) -> Result<Option<Vec<u8>>, AllocError
     let (raw, rest) = block_characters(alloc, text)?;
     match quotes(rest) {
         None => Ok(None),
-        Some(behind) => Ok(ended(block_string_value(alloc, raw.as_slice())?, behind)),
+        Some(behind) => Ok(ended(block_value(alloc, raw)?, behind)),
     }
 }
 

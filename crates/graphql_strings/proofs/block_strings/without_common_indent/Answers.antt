@@ -19,6 +19,6 @@ cut_is d n (x ∷ xs) all start common h s w u e =
 pub returns : goal.returns
 returns c =
     let started : c.push.new.self.items ≡ get_or c.args.lines.now 0 _ ∷ [] =
-    c.in_ok-push.ensures.items ∙ ap (λ (l : List (Bor (List ℕ))). l ++ get_or c.args.lines.now 0 (record { ref_ptr = (0, 0); now = [] }) ∷ []) c.new-cut.ensures.items in
+    c.in_ok-push.ensures.items ∙ ap (λ (l : List (Bor (List ℕ))). l ++ get_or c.args.lines.now 0 (record { ref_ptr = (0, 0); now = [] }) ∷ []) c.in_ok-cut.ensures.items in
     cut_is _ c.unwrap_or.result c.args.lines.now c.push_without_indent.new.cut.items c.push.new.self.items c.common_indent.result
     (omega (arith, c.in-len1-up.len_at_least)) started c.common_indent.ensures c.unwrap_or.ensures c.in_ok-push_without_indent.ensures
