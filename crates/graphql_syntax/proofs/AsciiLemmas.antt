@@ -1,9 +1,12 @@
 -- Names and numbers are ASCII.
-use Rattle.std.proofs.Common.{◌≡◌, ℕ, Bool, true, false, cond, ◌==◌, ◌&&◌, ◌||◌, ◌⊎◌, inl, inr, List, [], ◌∷◌, ◌++◌, refl, ◌∙◌, arith}
+use Rattle.std.proofs.Common.{◌≡◌, ℕ, Bool, true, false, cond, ◌<◌, ◌==◌, ◌&&◌, ◌||◌, ◌⊎◌, inl, inr, List, [], ◌∷◌, ◌++◌, refl, ◌∙◌, arith}
 use Rattle.std.specs.List.{list_all}
 use Rattle.std.specs.Char.{is_ascii, is_ascii_digit}
+use Rattle.std.specs.Str.{IsAscii, IsUtf8}
 use Rattle.std.proofs.lemmas.Bool.Decides.{nat_tests}
 use Rattle.std.proofs.lemmas.List.Folds.{list_all-append}
+use Rattle.std.proofs.lemmas.Str.{IsUtf8-from_ascii}
+use Rattle.std.proofs.lemmas.Str.Ascii.{IsAscii-nil, IsAscii-cons}
 use Rattle.graphql_nodes.specs.Names.{is_name, starts_name, continues_name}
 use Rattle.graphql_numbers.specs.Numbers.{is_whole_number, is_integer, is_digits, is_fraction, begins_exponent, is_signed_digits, is_exponent, is_nothing, is_fraction_or_exponent, IsFloat}
 use Rattle.graphql_tokens.proofs.ScanLemmas.{both_pass, chosen}
@@ -104,3 +107,16 @@ float_ascii text is =
     let h = behind_ascii is.fraction is.exponent is.goes_on in
     let written = is.written in
     rw written (joined_ascii is.whole (is.fraction ++ is.exponent) (integer_ascii is.whole is.begins) (joined_ascii is.fraction is.exponent h.0 h.1))
+
+-- and so they are UTF-8
+below_128 : (c : ℕ) → is_ascii c ≡ true → c < 128
+below_128 c e = grind (arith, nat_tests)
+
+each_below : (bytes : List ℕ) → list_all is_ascii bytes ≡ true → IsAscii bytes
+each_below [] e = IsAscii-nil
+each_below (c ∷ cs) e =
+    let h = both_pass (is_ascii c) (list_all is_ascii cs) e in
+    IsAscii-cons c cs (below_128 c h.0) (each_below cs h.1)
+
+pub ascii_utf8 : (bytes : List ℕ) → list_all is_ascii bytes ≡ true → IsUtf8 bytes
+ascii_utf8 bytes e = IsUtf8-from_ascii bytes (each_below bytes e)

@@ -14,6 +14,7 @@ use crate::refusals::{Expected, Refusal};
 use graphql_nodes::{Name, SourceSpan};
 use graphql_tokens::{Token, TokenKind};
 use std::alloc::{AllocError, Global};
+use std::str;
 
 impl<'a> Cursor<'a> {
     /// Whether a token of this kind comes next.
@@ -187,9 +188,8 @@ pub fn ascii_text(alloc: Global, bytes: &[u8]) -> Result<String, AllocError>
     requires { IsTrue (list_all is_ascii bytes.now) }
     ensures { IfOk result (λ text. string_bytes text ≡ bytes.now) }
 {
-    let mut text = String::with_capacity(alloc, bytes.len())?;
-    for byte in bytes {
-        text.push(char::from(*byte))?;
+    match str::from_utf8(bytes) {
+        Ok(text) => String::from_str(alloc, text),
+        Err(_) => unreachable!(),
     }
-    Ok(text)
 }
