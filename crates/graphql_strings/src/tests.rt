@@ -6,7 +6,7 @@ const HELLO: &str = "\"\"\"\n    Hello,\n      World!\n\n    Yours,\n      Graph
 const HELLO_QUOTED: &str = "\"Hello,\\n  World!\\n\\nYours,\\n  GraphQL.\"";
 
 /// Strings, and what graphql-core reads in them.
-const STRINGS: [(&str, &str); 8] = [
+const STRINGS: [(&str, &str); 10] = [
     ("\"\"", ""),
     ("\" white space \"", " white space "),
     ("\"quote \\\"\"", "quote \""),
@@ -20,11 +20,19 @@ const STRINGS: [(&str, &str); 8] = [
         "\"outside \u{1F600} \\u{1F600} \\uD83D\\uDE00\"",
         "outside \u{1F600} \u{1F600} \u{1F600}",
     ),
+    (
+        "\"\\na long run of plain bytes, a tab\t, then \\u00e9 in the middle, and at the end \\t\"",
+        "\na long run of plain bytes, a tab\t, then \u{E9} in the middle, and at the end \t",
+    ),
+    (
+        "\"\u{E9}\u{E9} run \\\\ \u{1F600}\\\"\u{439}\\\"\"",
+        "\u{E9}\u{E9} run \\ \u{1F600}\"\u{439}\"",
+    ),
     (HELLO_QUOTED, "Hello,\n  World!\n\nYours,\n  GraphQL."),
 ];
 
 /// Block strings, and what graphql-core reads in them.
-const BLOCK_STRINGS: [(&str, &str); 9] = [
+const BLOCK_STRINGS: [(&str, &str); 13] = [
     ("\"\"\"\"\"\"", ""),
     ("\"\"\"   \"\"\"", ""),
     ("\"\"\"\t a \t\"\"\"", "\t a \t"),
@@ -42,6 +50,19 @@ const BLOCK_STRINGS: [(&str, &str); 9] = [
         "\"\"\"  first\n    second\n\t\n  third\"\"\"",
         "  first\n  second\n\nthird",
     ),
+    (
+        "\"\"\"a run of plain bytes \\\"\"\" and \\ alone, \\\"\" \u{E9}\u{1F600}\"\"\"",
+        "a run of plain bytes \"\"\" and \\ alone, \\\"\" \u{E9}\u{1F600}",
+    ),
+    (
+        "\"\"\"\\\"\"\" first\\\"\"\"\\\"\"\"\"\"\"",
+        "\"\"\" first\"\"\"\"\"\"",
+    ),
+    (
+        "\"\"\"\n    one \\\"\"\" line\n    \u{439} \\ \"two\" \"\"quoted\\\"\n  \"\"\"",
+        "one \"\"\" line\n\u{439} \\ \"two\" \"\"quoted\\\"",
+    ),
+    ("\"\"\"\n  the only line\n  \"\"\"", "the only line"),
     (HELLO, "Hello,\n  World!\n\nYours,\n  GraphQL."),
 ];
 
