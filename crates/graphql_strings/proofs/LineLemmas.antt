@@ -1,17 +1,76 @@
 -- Lines, one after another, and the steps of the walks over them.
-use Rattle.std.proofs.Common.{◌≡◌, ℕ, suc, ◌+◌, ◌<◌, Bool, true, false, not, cond, ◌&&◌, ◌==◌, nat_lt, List, [], ◌∷◌, ◌++◌, length, take, drop, map, position, unwrap_or, Option, Some, None, option_and_then, refl, sym, subst, ap, append_assoc, arith}
+use Rattle.std.proofs.Common.{◌≡◌, ℕ, zero, suc, ◌+◌, ◌-◌, ◌<◌, ◌≤◌, Bool, Bor, get_or, set, true, false, not, cond, ◌&&◌, ◌==◌, nat_lt, List, [], ◌∷◌, ◌++◌, length, take, drop, map, position, unwrap_or, Option, Some, None, option_and_then, refl, sym, subst, ap, ◌∙◌, append_assoc, arith}
 use Rattle.std.specs.List.{list_all, position_or_len}
 use Rattle.std.proofs.lemmas.Bool.Decides.{nat_tests}
 use Rattle.std.proofs.lemmas.List.{map-id, length-drop}
 use Rattle.graphql_tokens.specs.Characters.{is_line_byte}
 use Rattle.graphql_tokens.proofs.ScanLemmas.{and_then_is, guarded, both_pass, not_true}
-use Rattle.graphql_strings.specs.BlockStrings.{in_first_line, split_lines, without_indent}
+use Rattle.graphql_strings.specs.BlockStrings.{in_first_line, split_lines, common_indent, without_indent, without_common_indent}
 use Rattle.graphql_strings.specs.Scans.{after_terminator, line_at}
 
 -- no indent in common is one of no characters
 pub indent_or_none : (common : Option ℕ) (lines : List (List ℕ)) → without_indent common lines ≡ map (drop (unwrap_or common 0)) lines
 indent_or_none None lines = sym (map-id lines)
 indent_or_none (Some n) lines = refl
+
+-- the first lines, so many, cut by an indent, and those behind them as they are
+abbrev pub cut_first : ℕ → ℕ → List (List ℕ) → List (List ℕ)
+cut_first n zero lines = lines
+cut_first n (suc k) [] = []
+cut_first n (suc k) (line ∷ lines) = drop n line ∷ cut_first n k lines
+
+-- the same of the lines up to a place, but the very first as it is
+abbrev pub cut_up_to : ℕ → ℕ → List (List ℕ) → List (List ℕ)
+cut_up_to n i [] = []
+cut_up_to n i (line ∷ lines) = line ∷ cut_first n (i - 1) lines
+
+cut_next : (n k : ℕ) (old : List (List ℕ)) (new : List (Bor (List ℕ))) (x d : Bor (List ℕ)) → k < length old →
+    map (λ line. line.now) new ≡ cut_first n k old → x.now ≡ drop n (get_or new k d).now →
+    map (λ line. line.now) (set new k x) ≡ cut_first n (suc k) old
+cut_next n zero (o ∷ os) (m ∷ ms) x d h e w = cc
+cut_next n (suc k) (o ∷ os) (m ∷ ms) x d h e w =
+    let here : m.now ≡ drop n o = cc in
+    let behind : map (λ line. line.now) ms ≡ cut_first n k os = cc in
+    let next : map (λ line. line.now) (set ms k x) ≡ cut_first n (suc k) os = cut_next n k os ms x d (omega arith) behind w in
+    cc
+cut_next n k [] new x d h e w = absurd (omega arith)
+cut_next n zero (o ∷ os) [] x d h e w = absurd (let b : ⊥ = cc in b)
+cut_next n (suc k) (o ∷ os) [] x d h e w = absurd (let b : ⊥ = cc in b)
+
+-- a step of the walk over lines that cuts all but the first
+pub cut_more : (n i : ℕ) (old : List (List ℕ)) (new : List (Bor (List ℕ))) (x d : Bor (List ℕ)) → 1 ≤ i → i < length old →
+    map (λ line. line.now) new ≡ cut_up_to n i old → x.now ≡ drop n (get_or new i d).now →
+    map (λ line. line.now) (set new i x) ≡ cut_up_to n (i + 1) old
+cut_more n zero old new x d l h e w = absurd (omega arith)
+cut_more n (suc k) [] new x d l h e w = absurd (omega arith)
+cut_more n (suc k) (o ∷ os) [] x d l h e w = absurd (let b : ⊥ = cc in b)
+cut_more n (suc k) (o ∷ os) (m ∷ ms) x d l h e w =
+    let one_less : suc k - 1 ≡ k = omega arith in
+    let still : suc k + 1 - 1 ≡ suc k = omega arith in
+    let here : m.now ≡ o = cc in
+    let behind : map (λ line. line.now) ms ≡ cut_first n (suc k - 1) os = cc in
+    let so_far : map (λ line. line.now) ms ≡ cut_first n k os = rw one_less at behind in
+    let next : map (λ line. line.now) (set ms k x) ≡ cut_first n (suc k) os = cut_next n k os ms x d (omega arith) so_far w in
+    rw still cc
+
+-- no line is cut yet
+pub cut_none : (n : ℕ) (lines : List (List ℕ)) → lines ≡ cut_up_to n 1 lines
+cut_none n [] = refl
+cut_none n (line ∷ lines) = refl
+
+cut_each : (n k : ℕ) (lines : List (List ℕ)) → length lines ≤ k → cut_first n k lines ≡ map (drop n) lines
+cut_each n zero [] h = refl
+cut_each n zero (line ∷ lines) h = absurd (omega arith)
+cut_each n (suc k) [] h = refl
+cut_each n (suc k) (line ∷ lines) h = ap (λ (l : List (List ℕ)). drop n line ∷ l) (cut_each n k lines (omega arith))
+
+-- all are cut
+pub cut_all : (n i : ℕ) (lines : List (List ℕ)) → length lines ≤ i → n ≡ unwrap_or (common_indent (drop 1 lines)) 0 →
+    cut_up_to n i lines ≡ without_common_indent lines
+cut_all n i [] h e = refl
+cut_all n i (line ∷ lines) h e =
+    ap (λ (l : List (List ℕ)). line ∷ l)
+    (cut_each n (i - 1) lines (omega arith) ∙ rw e (sym (indent_or_none (common_indent lines) lines)))
 
 -- the place of the first line byte, behind one byte more
 first_later : (c : ℕ) (cs : List ℕ) (k : ℕ) → is_line_byte c ≡ false → position is_line_byte cs ≡ Some k → position is_line_byte (c ∷ cs) ≡ Some (suc k)

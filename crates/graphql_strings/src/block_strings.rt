@@ -1,6 +1,6 @@
 //! The values of block strings.
 
-ghost use Rattle.std.specs.Prelude.{◌≡◌, ◌∷◌, ◌++◌, map, drop, flat_map, IfOk, OnOk};
+ghost use Rattle.std.specs.Prelude.{◌≡◌, ◌∷◌, ◌++◌, map, drop, flat_map, unwrap_or, IfOk, OnOk};
 ghost use Rattle.graphql_strings.specs.BlockStrings.{block_string_value, least_indent, common_indent, without_common_indent, without_first_blanks, without_last_blanks, join_lines};
 
 use crate::lines::{indent, is_blank, is_one_line, split_lines};
@@ -28,8 +28,7 @@ pub(crate) fn block_value(alloc: Global, raw: Vec<u8>) -> Result<Vec<u8>, AllocE
 pub(crate) fn block_string_value(alloc: Global, raw: &[u8]) -> Result<Vec<u8>, AllocError>
     ensures { IfOk result (λ value. value.items ≡ block_string_value raw.now) }
 {
-    let lines = split_lines(alloc, raw)?;
-    let lines = without_common_indent(alloc, lines.as_slice())?;
+    let lines = without_common_indent(split_lines(alloc, raw)?);
     join_lines(
         alloc,
         without_last_blanks(without_first_blanks(lines.as_slice())),
@@ -38,29 +37,24 @@ pub(crate) fn block_string_value(alloc: Global, raw: &[u8]) -> Result<Vec<u8>, A
 }
 
 /// The lines, all but the first without the indent that they have in common.
-fn without_common_indent<'a>(alloc: Global, lines: &[&'a [u8]]) -> Result<Vec<&'a [u8]>, AllocError>
-    ensures { IfOk result (λ cut. map (λ line. line.now) cut.items ≡ without_common_indent (map (λ line. line.now) lines.now)) }
+fn without_common_indent(mut lines: Vec<&[u8]>) -> Vec<&[u8]>
+    ensures { map (λ line. line.now) result.items ≡ without_common_indent (map (λ line. line.now) lines.entry.items) }
 {
-    let mut cut = Vec::with_capacity(alloc, lines.len())?;
-    let [first, rest @ ..] = lines else {
-        return Ok(cut);
-    };
-    cut.push(*first)?;
-    push_without_indent(&mut cut, rest, common_indent(rest).unwrap_or(0))?;
-    Ok(cut)
+    let indent = indent_behind_first(lines.as_slice());
+    for i in 1..lines.len() {
+        lines[i] = without_front(lines[i], indent);
+    }
+    lines
 }
 
-fn push_without_indent<'a>(
-    cut: &mut Vec<&'a [u8]>,
-    lines: &[&'a [u8]],
-    indent: usize,
-) -> Result<(), AllocError>
-    ensures { OnOk result (map (λ line. line.now) cut.new.items ≡ map (λ line. line.now) cut.old.items ++ map (drop indent) (map (λ line. line.now) lines.now)) }
+/// The indent that all lines but the first have in common, or none.
+fn indent_behind_first(lines: &[&[u8]]) -> usize
+    ensures { result ≡ unwrap_or (common_indent (map (λ line. line.now) (drop 1 lines.now))) 0 }
 {
-    for line in lines {
-        cut.push(without_front(line, indent))?;
+    match lines {
+        [] => 0,
+        [_, rest @ ..] => common_indent(rest).unwrap_or(0),
     }
-    Ok(())
 }
 
 fn without_front(line: &[u8], count: usize) -> &[u8]
