@@ -31,7 +31,7 @@ impl Class {
         match self {
             Class::Comment => is_comment_byte(c),
             Class::Digit => c.is_ascii_digit(),
-            Class::NamePart => c.is_ascii_alphanumeric() || c == b'_',
+            Class::NamePart => c.is_ascii_lowercase() || c.is_ascii_alphanumeric() || c == b'_',
             Class::StringText => is_string_byte(c),
             Class::BlockText => is_plain_byte(c),
         }

@@ -1,4 +1,4 @@
-use Rattle.std.proofs.Common.{◌≡◌, ◌≤◌, List, ℕ, length, Some, None, refl, sym, ◌∙◌, ap, arith}
+use Rattle.std.proofs.Common.{◌≡◌, List, ℕ, length, Some, None, refl, sym, ◌∙◌, ap, arith}
 use Rattle.graphql_tokens.specs.Strings.{is_string_byte}
 use Rattle.graphql_tokens.specs.Scans.{after_run, after_all, past_string_character}
 use Rattle.graphql_tokens.proofs.ScanLemmas.{run_within, after_more, after_none, after_passed}
