@@ -3,7 +3,7 @@ use Rattle.graphql_tokens.specs.Strings.{is_string_byte}
 use Rattle.graphql_tokens.specs.Scans.{belongs}
 use Rattle.graphql_tokens.specs.declared.characters.Class.TheVariants.{StringText}
 use Rattle.graphql_strings.specs.Values.{part_value}
-use Rattle.graphql_strings.specs.Scans.{with_part, string_part_at, all_parts}
+use Rattle.graphql_strings.specs.Scans.{string_part_at}
 use Rattle.graphql_strings.proofs.PartLemmas.{part_shrinks, plain_part, run_leaves, run_more, one_more, no_more}
 use Rattle.graphql_strings.proofs.parts.string_characters.Goals as goal
 
