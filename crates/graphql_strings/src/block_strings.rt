@@ -122,15 +122,22 @@ fn without_last_blanks<'a, 'b>(lines: &'a [&'b [u8]]) -> &'a [&'b [u8]]
     rest
 }
 
-/// The lines, joined by line feeds. So many bytes are made room for at once.
-fn join_lines(alloc: Global, lines: &[&[u8]], capacity: usize) -> Result<Vec<u8>, AllocError>
+/// The lines, joined by line feeds. Room is made once: for a line alone as much as it takes, for more
+/// lines `at_most` bytes.
+fn join_lines(alloc: Global, lines: &[&[u8]], at_most: usize) -> Result<Vec<u8>, AllocError>
     ensures { IfOk result (λ joined. joined.items ≡ join_lines (map (λ line. line.now) lines.now)) }
 {
+    let [first, rest @ ..] = lines else {
+        return Ok(Vec::new(alloc));
+    };
+    let capacity = if rest.is_empty() {
+        first.len()
+    } else {
+        at_most
+    };
     let mut joined = Vec::with_capacity(alloc, capacity)?;
-    if let [first, rest @ ..] = lines {
-        joined.extend_from_slice(first)?;
-        push_lines(&mut joined, rest)?;
-    }
+    joined.extend_from_slice(first)?;
+    push_lines(&mut joined, rest)?;
     Ok(joined)
 }
 
