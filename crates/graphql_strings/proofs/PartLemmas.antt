@@ -10,7 +10,7 @@ use Rattle.graphql_tokens.specs.declared.strings.StringPart.{StringPart}
 use Rattle.graphql_tokens.specs.declared.strings.StringPart.TheVariants.{Byte}
 use Rattle.graphql_tokens.proofs.ScanLemmas.{both_pass, guarded, and_then_is}
 use Rattle.graphql_tokens.proofs.StringScans.{character_is, character_read, character_shorter}
-use Rattle.graphql_tokens.proofs.QuotedScans.{quotes_read, escaped_quotes_are, escaped_quotes_read, no_quotes, no_escaped_quotes, plain_block, block_shorter}
+use Rattle.graphql_tokens.proofs.QuotedScans.{quotes_are, quotes_read, escaped_quotes_are, escaped_quotes_read, no_quotes, no_escaped_quotes, plain_block, block_shorter}
 use Rattle.graphql_strings.specs.Values.{part_value}
 use Rattle.graphql_strings.specs.Scans.{string_part_at, source_part_at, block_part_at, with_part, parts_in_turns, all_parts}
 
@@ -187,3 +187,14 @@ blocks_read _ _ _ (strings.AreBlockCharacters.more t middle rest raw raws is are
 pub block_part_stops : (r : List ℕ) → block_part_at (34 ∷ 34 ∷ 34 ∷ r) ≡ None
 unfolding block_part_at escaped_quotes_at strip quotes_at
 block_part_stops r = refl
+
+-- a run of plain bytes up to three quotes is all that there is
+pub all_plain : (text run rest behind : List ℕ) → IsRun is_plain_byte text run rest → quotes_at rest ≡ Some behind →
+    all_parts block_part_at text ≡ (run, rest)
+all_plain text run rest behind is q =
+    let stops : block_part_at rest ≡ None = rw (quotes_are rest behind q) (block_part_stops behind) in
+    let written : text ≡ run ++ rest = is.written in
+    ap (all_parts block_part_at) written
+    ∙ all_run block_part_at block_part_shrinks is_plain_byte plain_block_part run rest is.each
+    ∙ ap (with_part run) (all_none block_part_at block_part_shrinks rest stops)
+    ∙ ap (λ (l : List ℕ). (l, rest)) (append-nil run)

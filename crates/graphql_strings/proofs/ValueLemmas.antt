@@ -5,8 +5,8 @@ use Rattle.std.specs.Str.{is_utf8}
 use Rattle.std.proofs.lemmas.Str.{IsUtf8-from_is_utf8, is_utf8-from_IsUtf8}
 use Rattle.std.proofs.Common.{◌↔◌, ◌≡◌, ℕ, Bool, true, false, not, List, [], ◌∷◌, length, flat_map, Option, Some, None, refl, sym, subst, ◌∙◌, ap, arith}
 use Rattle.std.proofs.lemmas.List.{append-nil}
-use Rattle.graphql_tokens.specs.Characters.{is_line_byte}
-use Rattle.graphql_tokens.specs.Strings.{AreStringCharacters, none, more, IsString, empty, characters, IsBlockString, block}
+use Rattle.graphql_tokens.specs.Characters.{is_line_byte, IsRun}
+use Rattle.graphql_tokens.specs.Strings.{is_plain_byte, AreStringCharacters, none, more, IsString, empty, characters, IsBlockString, block}
 use Rattle.graphql_tokens.specs.Scans.{strip, quotes_at}
 use Rattle.graphql_tokens.specs.declared.strings.StringPart.{StringPart}
 use Rattle.graphql_tokens.proofs.ScanLemmas.{guarded, and_then_is, strip_is, strip_it, strip_none}
@@ -15,7 +15,7 @@ use Rattle.graphql_strings.specs.BlockStrings.{is_blank, split_lines, block_stri
 use Rattle.graphql_strings.specs.Values.{part_value, StandsFor, string, block_string, HasStringValue}
 use Rattle.graphql_strings.specs.Scans.{string_part_at, block_part_at, all_parts, ended, characters_bytes_at, block_bytes_at, quoted_bytes_at, string_bytes_at, in_utf8, string_value_at}
 use Rattle.graphql_strings.proofs.LineLemmas.{lines_none, no_line_at}
-use Rattle.graphql_strings.proofs.PartLemmas.{parts_there, parts_read, string_part_stops, blocks_there, blocks_read, block_part_stops}
+use Rattle.graphql_strings.proofs.PartLemmas.{parts_there, parts_read, string_part_stops, blocks_there, blocks_read, block_part_stops, all_plain}
 
 -- nothing is left behind a value
 ended_is : (bytes rest value : List ℕ) → ended bytes rest ≡ Some value → (rest ≡ []) × (bytes ≡ value)
@@ -140,3 +140,9 @@ one_line_value text raw is e = subst (StandsFor text) (by (is_blank raw) refl) (
   by : (b : Bool) → is_blank raw ≡ b → block_string_value raw ≡ (if is_blank raw then [] else raw)
   by true q = rw q (blank_line_is raw e q)
   by false q = rw q (line_is raw e q)
+
+-- what is read of a block string of plain bytes alone
+pub plain_block_read : (text run rest behind value : List ℕ) → IsRun is_plain_byte text run rest → quotes_at rest ≡ Some behind →
+    value ≡ block_string_value run → block_bytes_at text ≡ ended value behind
+unfolding block_bytes_at
+plain_block_read text run rest behind value is q e = rw (all_plain text run rest behind is q, q, e, block_bytes_at) refl

@@ -6,18 +6,18 @@ ghost use Rattle.graphql_strings.specs.BlockStrings.{block_string_value, least_i
 use crate::lines::{indent, is_blank, is_one_line, split_lines};
 use std::alloc::{AllocError, Global};
 
-/// What a block string with this raw value stands for. A raw value of one line keeps its memory.
+/// What a block string with this raw value stands for. A raw value of one line is not cut up.
 ///
 /// Specification: 2.9.4 String Value, BlockStringValue().
-pub(crate) fn block_value(alloc: Global, raw: Vec<u8>) -> Result<Vec<u8>, AllocError>
-    ensures { IfOk result (λ value. value.items ≡ block_string_value raw.items) }
+pub(crate) fn block_value(alloc: Global, raw: &[u8]) -> Result<Vec<u8>, AllocError>
+    ensures { IfOk result (λ value. value.items ≡ block_string_value raw.now) }
 {
-    if !is_one_line(raw.as_slice()) {
-        block_string_value(alloc, raw.as_slice())
-    } else if is_blank(raw.as_slice()) {
+    if !is_one_line(raw) {
+        block_string_value(alloc, raw)
+    } else if is_blank(raw) {
         Ok(Vec::new(alloc))
     } else {
-        Ok(raw)
+        Vec::from_slice(alloc, raw)
     }
 }
 

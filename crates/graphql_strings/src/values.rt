@@ -10,7 +10,7 @@ ghost use Rattle.graphql_strings.specs.Scans.{ended, characters_bytes_at, block_
 
 use crate::block_strings::block_value;
 use crate::parts::{block_characters, string_characters};
-use graphql_tokens::characters::strip;
+use graphql_tokens::characters::{Class, split_run, strip};
 use graphql_tokens::quoted::quotes;
 use std::alloc::{AllocError, Global};
 use std::marker::Model;
@@ -115,14 +115,25 @@ fn characters_bytes(alloc: Global, text: &[u8]) -> Result<Option<Vec<u8>>, Alloc
     }
 }
 
-#[tactic(auto, unfolding(crate::specs::Scans::block_bytes_at))]
 fn block_bytes(alloc: Global, text: &[u8]) -> Result<Option<Vec<u8>>, AllocError>
+    ensures { IfOk result (λ found. Gives (λ bytes. bytes.items) found (block_bytes_at text.now)) }
+{
+    let (run, rest) = split_run(text, Class::BlockText);
+    match quotes(rest) {
+        None => mixed_block_bytes(alloc, text),
+        Some(behind) => Ok(ended(block_value(alloc, run)?, behind)),
+    }
+}
+
+/// The same, where quotes or backslashes are within the block string: its raw value is put together.
+#[tactic(auto, unfolding(crate::specs::Scans::block_bytes_at))]
+fn mixed_block_bytes(alloc: Global, text: &[u8]) -> Result<Option<Vec<u8>>, AllocError>
     ensures { IfOk result (λ found. Gives (λ bytes. bytes.items) found (block_bytes_at text.now)) }
 {
     let (raw, rest) = block_characters(alloc, text)?;
     match quotes(rest) {
         None => Ok(None),
-        Some(behind) => Ok(ended(block_value(alloc, raw)?, behind)),
+        Some(behind) => Ok(ended(block_value(alloc, raw.as_slice())?, behind)),
     }
 }
 

@@ -7,12 +7,12 @@ use Rattle.graphql_strings.proofs.block_strings.block_value.Goals as goal
 
 pub returns-then-is_blank : goal.returns-then-is_blank
 returns-then-is_blank c =
-    let one : list_all (λ c. not (is_line_byte c)) c.args.raw.items ≡ true = search rules in
-    let blank : is_blank c.args.raw.items ≡ true = search rules in
-    c.new.ensures.items ∙ sym (blank_line_is c.args.raw.items one blank)
+    let one : list_all (λ c. not (is_line_byte c)) c.args.raw.now ≡ true = search rules in
+    let blank : is_blank c.args.raw.now ≡ true = search rules in
+    c.new.ensures.items ∙ sym (blank_line_is c.args.raw.now one blank)
 
 pub returns-else-is_blank : goal.returns-else-is_blank
 returns-else-is_blank c =
-    let one : list_all (λ c. not (is_line_byte c)) c.args.raw.items ≡ true = search rules in
-    let line : is_blank c.args.raw.items ≡ false = search rules in
-    sym (line_is c.args.raw.items one line)
+    let one : list_all (λ c. not (is_line_byte c)) c.args.raw.now ≡ true = search rules in
+    let line : is_blank c.args.raw.now ≡ false = search rules in
+    rw (line_is c.args.raw.now one line) c.from_slice.ensures.items
