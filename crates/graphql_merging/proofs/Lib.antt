@@ -1,4 +1,5 @@
 pub mod ArgumentComparisonLemmas
+pub mod ByNameLemmas
 pub mod ConflictLemmas
 pub mod ConflictReportLemmas
 pub mod CopyLemmas
@@ -12,4 +13,5 @@ pub mod MergedOperationLemmas
 pub mod MergingReportLemmas
 pub mod PassLemmas
 pub mod PassStepLemmas
+pub mod PositionLemmas
 pub mod ValueComparisonLemmas

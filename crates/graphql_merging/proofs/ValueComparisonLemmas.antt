@@ -26,7 +26,7 @@ same_opened {a = a} {b = b} x y is_x is_y r decides = (
 )
 
 -- the name of an entry
-abbrev key : NameText × Node Value → NameText
+abbrev pub key : NameText × Node Value → NameText
 key e = e.0
 
 -- the value of the first entry of a name is that of the entry found
@@ -47,13 +47,13 @@ entry_alike a b same entries = ap (option_map (λ (entry : NameText × Node Valu
 has_alike : (others : List (NameText × Node Value)) (a b : NameText) (e : NameText × Node Value) → SameName a b → HasEntry others a e.1 → HasEntry others b e.1
 has_alike others a b e same (y, found, alike) = (y, sym (entry_alike a b same others) ∙ found, alike)
 
-known_entry : (name : NameText) (entries : List (NameText × Node Value)) → IsSome (entry_named name entries) → IsSome (first_named key name entries)
+pub known_entry : (name : NameText) (entries : List (NameText × Node Value)) → IsSome (entry_named name entries) → IsSome (first_named key name entries)
 known_entry name entries known = by (first_named key name entries) known where
   by : (o : Option (NameText × Node Value)) → IsSome (option_map (λ (entry : NameText × Node Value). entry.1) o) → IsSome o
   by None h = h
   by (Some e) h = refl
 
-some_value : (o : Option (NameText × Node Value)) → IsSome o → IsSome (option_map (λ (entry : NameText × Node Value). entry.1) o)
+pub some_value : (o : Option (NameText × Node Value)) → IsSome o → IsSome (option_map (λ (entry : NameText × Node Value). entry.1) o)
 some_value None h = h
 some_value (Some e) h = refl
 

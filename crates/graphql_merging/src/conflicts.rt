@@ -11,7 +11,7 @@ ghost use Rattle.graphql_merging.specs.Groups.{pass_of};
 ghost use Rattle.graphql_merging.specs.Passes.{IsConflictAmong, counted};
 ghost use Rattle.graphql_merging.specs.Stages.{examined_lists};
 
-use super::comparisons::{same_name_and_arguments, same_output_type_shape};
+use super::comparisons::{find_field_conflict, same_output_type_shape};
 use super::conflict_reports::{report_conflict, report_types};
 use super::examined::Examined;
 use super::field_selections::FieldSelection;
@@ -81,7 +81,11 @@ fn compare<'doc>(
             }
             report_types(diagnostics, first, field)
         }
-        Pass::NamesAndArguments => match same_name_and_arguments(first, field) {
+        Pass::NamesAndArguments => match find_field_conflict(
+            diagnostics.allocator(),
+            first,
+            field,
+        )? {
             None => Ok(()),
             Some(conflict) => report_conflict(diagnostics, first, field, conflict),
         },

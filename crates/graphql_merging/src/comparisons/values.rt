@@ -93,7 +93,10 @@ fn is_repeated(before: &[(Name, Node<Value>)], key: &Name) -> bool
 }
 
 /// The value of the first entry with this key.
-fn value_of<'a>(entries: &'a [(Name, Node<Value>)], key: &Name) -> Option<&'a Node<Value>>
+pub(super) fn value_of<'a>(
+    entries: &'a [(Name, Node<Value>)],
+    key: &Name,
+) -> Option<&'a Node<Value>>
     ensures { option_copied result ≡ entry_named key.now entries.now }
 {
     entries

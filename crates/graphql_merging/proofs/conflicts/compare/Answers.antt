@@ -1,9 +1,11 @@
 use Rattle.std.proofs.Common.{◌∷◌, [], ◌∙◌, subst, sym}
+use Rattle.std.specs.Prelude.{MatchOption}
 use Rattle.graphql_diagnostics.specs.Diagnostics.{entries}
-use Rattle.graphql_specification.specs.Merging.{field_pass, shape_pass}
+use Rattle.graphql_specification.specs.Merging.{SameNameAndArguments, field_pass, shape_pass}
 use Rattle.graphql_specification.specs.MergedSets.{ConflictsWith}
 use Rattle.graphql_diagnostics.specs.Reports.{Appends}
 use Rattle.graphql_merging.proofs.ConflictLemmas.{compared_alike, compared_apart}
+use Rattle.graphql_merging.specs.Comparisons.{Conflicts}
 use Rattle.graphql_merging.specs.Conflicts.{ComparesField}
 use Rattle.graphql_merging.specs.FieldSelections.{selection_of}
 use Rattle.graphql_merging.specs.Groups.{pass_of}
@@ -34,7 +36,9 @@ returns-in-None-clause-reports c =
     let y = selection_of c.args.field in
     let reports = entries c.args.diagnostics.now in
     subst (λ pass. Appends (ConflictsWith schema (pass_of pass) x (y ∷ [])) reports reports) (sym c.in-NamesAndArguments.is)
-    (compared_alike schema field_pass x y reports c.in-None.ensures)
+    (compared_alike schema field_pass x y reports
+    (subst (λ o. MatchOption o (SameNameAndArguments x.field.value.value y.field.value.value) (Conflicts x.field.value.value y.field.value.value)) c.in-None.is
+    c.in_ok-find_field_conflict-in-NamesAndArguments.ensures))
 
 pub returns-in-Some-clause-reports : goal.returns-in-Some-clause-reports
 returns-in-Some-clause-reports c =
@@ -42,4 +46,6 @@ returns-in-Some-clause-reports c =
     let x = selection_of c.args.first in
     let y = selection_of c.args.field in
     subst (λ pass. ComparesField c.report_conflict.result schema (pass_of pass) x y c.args.diagnostics.now c.report_conflict.new.diagnostics) (sym c.in-NamesAndArguments.is)
-    (compared_apart schema field_pass c.report_conflict.result x y _ _ (c.report_conflict.ensures schema c.in-Some.ensures))
+    (compared_apart schema field_pass c.report_conflict.result x y _ _ (c.report_conflict.ensures schema
+    (subst (λ o. MatchOption o (SameNameAndArguments x.field.value.value y.field.value.value) (Conflicts x.field.value.value y.field.value.value)) c.in-Some.is
+    c.in_ok-find_field_conflict-in-NamesAndArguments.ensures)))
