@@ -19,6 +19,7 @@ use graphql_report_formats::named_texts::{NamedText, Subject};
 use graphql_report_formats::schema_texts::{schema_subject, sources_of};
 use std::alloc::Global;
 use std::io::{Read, Write};
+use std::mem;
 use std::rt::Files;
 
 /// The paths of a run.
@@ -70,7 +71,10 @@ fn check_against<R: Files + AllocGlobal, I: Read, O: Write, F: Write>(
     let sources = sources_of(rt.alloc(), named)?;
     match read_schema(rt.alloc(), &sources, Bounds::DEFAULT)? {
         SchemaReading::Accepted(schema) => {
-            check_documents(rt, &schema, paths, presentation, input, output, faults)
+            let status = check_documents(rt, &schema, paths, presentation, input, output, faults);
+            // The process ends here, and its memory is freed at once, not part by part.
+            mem::forget(schema);
+            status
         }
         SchemaReading::Rejected(reports) => {
             let subject = schema_subject(named, &sources);

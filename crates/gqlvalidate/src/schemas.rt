@@ -11,6 +11,7 @@ use graphql_report_formats::named_texts::{NamedText, Subject};
 use graphql_report_formats::schema_texts::{schema_subject, sources_of};
 use std::alloc::Global;
 use std::io::{Read, Write};
+use std::mem;
 use std::rt::Files;
 
 /// Validates the schema of these files.
@@ -40,7 +41,8 @@ fn check_texts<O: Write, F: Write>(
     let sources = sources_of(alloc, named)?;
     match read_schema(alloc, &sources, Bounds::DEFAULT)? {
         SchemaReading::Accepted(schema) => {
-            drop(schema);
+            // The process ends here, and its memory is freed at once, not part by part.
+            mem::forget(schema);
             accept(alloc, presentation, output, faults)
         }
         SchemaReading::Rejected(reports) => {
