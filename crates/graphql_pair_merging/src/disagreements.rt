@@ -1,6 +1,6 @@
 //! Two fields in sets that come together: whether they are put together, and what they do not agree on.
 
-ghost use Rattle.std.specs.Prelude.{◌↔◌, IsTrue, MatchOption};
+ghost use Rattle.std.specs.Prelude.{◌↔◌, IfOk, IsTrue, MatchOption};
 ghost use Rattle.graphql_documents.specs.declared.documents.schemas.Schema.{Schema};
 ghost use Rattle.graphql_specification.specs.MergedSets.{Agree, ArePutTogether};
 ghost use Rattle.graphql_specification.specs.Merging as merging;
@@ -12,13 +12,12 @@ ghost use Rattle.graphql_pair_merging.specs.Disagreements.{Disagrees};
 
 use graphql_diagnostics::DiagnosticList;
 use graphql_documents::documents::{ExtendedType, Schema};
-use graphql_merging::comparisons::{
-    FieldConflict, same_name_and_arguments, same_output_type_shape,
-};
+use graphql_merging::comparisons::{FieldConflict, find_field_conflict, same_output_type_shape};
 use graphql_merging::conflict_reports::{report_conflict, report_types};
 use graphql_merging::field_selections::FieldSelection;
 use graphql_merging::groups::Pass;
 use graphql_nodes::ValidationError;
+use std::alloc::Global;
 
 /// What two fields that were put together do not agree on.
 #[derive(Clone, Copy, Debug)]
@@ -53,23 +52,24 @@ impl<'doc> Conflict<'doc> {
     }
 }
 
-/// What two fields do not agree on in this pass, if they do not.
+/// What two fields do not agree on in this pass, if they do not. The only error is a failed allocation.
 pub(crate) fn disagreement_of<'doc>(
+    alloc: Global,
     schema: &Schema,
     pass: Pass,
     first: FieldSelection<'doc>,
     second: FieldSelection<'doc>,
-) -> Option<Disagreement<'doc>>
-    ensures { MatchOption result
+) -> Result<Option<Disagreement<'doc>>, ValidationError>
+    ensures { IfOk result (λ found. MatchOption found
         (Agree schema.now (pass_of pass) (selection_of first.entry) (selection_of second.entry))
-        (Disagrees schema.now (pass_of pass) (selection_of first.entry) (selection_of second.entry)) }
+        (Disagrees schema.now (pass_of pass) (selection_of first.entry) (selection_of second.entry))) }
 {
     match pass {
-        Pass::Shapes if same_output_type_shape(schema, first, second) => None,
-        Pass::Shapes => Some(Disagreement::Shapes),
-        Pass::NamesAndArguments => match same_name_and_arguments(first, second) {
-            None => None,
-            Some(conflict) => Some(Disagreement::NamesOrArguments(conflict)),
+        Pass::Shapes if same_output_type_shape(schema, first, second) => Ok(None),
+        Pass::Shapes => Ok(Some(Disagreement::Shapes)),
+        Pass::NamesAndArguments => match find_field_conflict(alloc, first, second)? {
+            None => Ok(None),
+            Some(conflict) => Ok(Some(Disagreement::NamesOrArguments(conflict))),
         },
     }
 }

@@ -152,11 +152,12 @@ impl<'s, 'doc> PairPass<'s, 'doc> {
             return Ok(None);
         }
         if let Some(disagreement) = disagreement_of(
+            *pairs.allocator(),
             self.schema,
             self.pass,
             first.field,
             second.field,
-        ) {
+        )? {
             return Ok(Some(Conflict {
                 first: first.field,
                 second: second.field,
