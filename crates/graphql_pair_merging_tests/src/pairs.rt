@@ -1,7 +1,6 @@
 use graphql_diagnostics::{BuildError, Details, DiagnosticList};
 use graphql_documents::documents::Schema;
-use graphql_examples::build::{document_in_file, schema};
-use graphql_nodes::FileId;
+use graphql_examples::build::{document, schema};
 use graphql_pair_merging::merging::merge_by_pairs;
 use std::alloc::Global;
 use std::process::Abort;
@@ -20,6 +19,20 @@ const DOCUMENTS: &[(&str, &str)] = &[
     ("{ k: a k: b }", "names"),
     ("{ a(n: 1) a(n: 2) }", "arguments"),
     ("{ k: a k: c }", "types"),
+    // more arguments, or entries, than are looked through one by one
+    ("{ a(<1-12:n%: %, >) a(<7-12:n%: %, ><1-6:n%: %, >) }", ""),
+    (
+        "{ a(<1-12:n%: %, >) a(<7-12:n%: %, ><1-6:n%: 0, >) }",
+        "arguments",
+    ),
+    (
+        "{ a(n: {<1-12:e%: %, >}) a(n: {<7-12:e%: %, ><1-6:e%: %, >}) }",
+        "",
+    ),
+    (
+        "{ a(n: {<1-12:e%: %, >}) a(n: {<6-12:e%: %, ><1-4:e%: %, >}) }",
+        "arguments",
+    ),
     // below fields of one key
     ("{ q { k: a } q { k: a } }", ""),
     ("{ q { k: a } q { k: b } }", "names"),
@@ -50,7 +63,7 @@ fn told(diagnostics: &DiagnosticList) -> &'static str {
 
 /// The operation of the text has this report, or none.
 fn reports(rt: &impl Abort, alloc: Global, schema: &Schema, text: &str, expected: &str) {
-    let Ok(document) = document_in_file(alloc, schema, text, FileId(1)) else {
+    let Ok(document) = document(alloc, schema, text) else {
         panic!(rt; "no document: {text}")
     };
     let Some(operation) = &document.operations.anonymous else {

@@ -1,6 +1,7 @@
 use super::fixtures::reports_in_full;
 use graphql_diagnostics::DiagnosticList;
 use graphql_documents::documents::{ExecutableDocument, Schema};
+use graphql_examples::build::{document, schema};
 use graphql_examples::{BuiltExample, Example, Subject, Validated, build_example};
 use graphql_merging::merging::FieldsInSetCanMerge;
 use graphql_more_examples::find;
@@ -108,4 +109,80 @@ fn conflicts_name_the_first_field_and_the_one_that_conflicts(rt: HostRuntime) {
     }
     let first = "- ConflictingFieldArgument f Query.f(m:) Query.f(m:)\n";
     brings(&rt, rt.alloc(), &TWO_ARGUMENTS, first);
+}
+
+/// Fields with more arguments than are looked through one by one, or with objects of more entries, and what
+/// merging reports of them.
+const LONG_FIELDS: &[(&str, &str)] = &[
+    // in another order
+    ("{ f(<1-12:a%: %, >) f(<7-12:a%: %, ><1-6:a%: %, >) }", ""),
+    // with other values: the first argument of the first field
+    (
+        "{ f(<1-12:a%: %, >) f(<7-12:a%: 0, ><1-4:a%: %, >a6: 6 a5: 0) }",
+        "- ConflictingFieldArgument f Query.f(a5:) Query.f(a5:)\n",
+    ),
+    // without one of the first field, and of the second
+    (
+        "{ f(<1-12:a%: %, >) f(<6-13:a%: %, ><1-4:a%: %, >) }",
+        "- ConflictingFieldArgument f Query.f(a5:) Query.f(a5:)\n",
+    ),
+    (
+        "{ f(<1-9:a%: %, >) f(<4-12:a%: %, ><1-3:a%: %, >) }",
+        "- ConflictingFieldArgument f Query.f(a10:) Query.f(a10:)\n",
+    ),
+    // of repeated ones the first counts
+    (
+        "{ f(<1-12:a%: %, ><1-12:a%: 0, >) f(<7-12:a%: %, ><1-6:a%: %, >a9: 0) }",
+        "",
+    ),
+    (
+        "{ f(<1-12:a%: %, >) f(a9: 0 <1-12:a%: %, >) }",
+        "- ConflictingFieldArgument f Query.f(a9:) Query.f(a9:)\n",
+    ),
+    // the same of the entries of objects
+    (
+        "{ f(o: [{<1-12:e%: %, >}]) f(o: [{<7-12:e%: %, ><1-6:e%: %, >}]) }",
+        "",
+    ),
+    (
+        "{ f(o: {<1-12:e%: %, >}) f(o: {<7-12:e%: %, ><1-6:e%: 0, >}) }",
+        "- ConflictingFieldArgument f Query.f(o:) Query.f(o:)\n",
+    ),
+    (
+        "{ f(o: {<1-12:e%: %, >}) f(o: {<1-11:e%: %, >}) }",
+        "- ConflictingFieldArgument f Query.f(o:) Query.f(o:)\n",
+    ),
+    (
+        "{ f(o: {<1-11:e%: %, >}) f(o: {<1-12:e%: %, >}) }",
+        "- ConflictingFieldArgument f Query.f(o:) Query.f(o:)\n",
+    ),
+    (
+        "{ f(o: {<1-12:e%: %, >e3: 0}) f(o: {<7-12:e%: %, ><1-6:e%: %, >e9: 0}) }",
+        "",
+    ),
+    (
+        "{ f(o: {<1-12:e%: %, >}) f(o: {e3: 0 <1-12:e%: %, >}) }",
+        "- ConflictingFieldArgument f Query.f(o:) Query.f(o:)\n",
+    ),
+];
+
+/// Merging reports this of the operations of the document.
+fn merges(rt: &impl Abort, alloc: Global, schema: &Schema, text: &str, expected: &str) {
+    let document = document(alloc, schema, text).expect(rt, "a document");
+    let operations = operations_of(alloc, &document).expect(rt, "memory for a list");
+    let mut found = DiagnosticList::new(alloc);
+    let mut merging = FieldsInSetCanMerge::new(alloc, schema, &document);
+    for operation in &operations {
+        let merged = merging.validate_operation(*operation, &mut found);
+        merged.expect(rt, "memory for reports");
+    }
+    reports_in_full(rt, alloc, &found, expected);
+}
+
+#[test]
+fn many_arguments_and_entries_are_compared_by_name(rt: HostRuntime) {
+    let schema = schema(rt.alloc(), "type Query { f: Int }").expect(&rt, "a schema");
+    for (text, expected) in LONG_FIELDS {
+        merges(&rt, rt.alloc(), &schema.0, text, expected);
+    }
 }
