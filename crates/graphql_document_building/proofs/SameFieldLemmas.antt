@@ -65,13 +65,14 @@ arguments_are_same : (xs ys : List (Node InputValueDefinition)) → map signatur
 arguments_are_same [] [] same none nor at there d e = tt
 arguments_are_same [] (b ∷ ys) same none nor at there d e = absurd (true≢false (ap is_nil same))
 arguments_are_same (a ∷ xs) [] same none nor at there d e = absurd (true≢false (sym (ap is_nil same)))
-arguments_are_same (a ∷ xs) (b ∷ ys) same none nor at there d e =
-    (argument_is_same a b (ap (first_or (signature_of a)) same)
+arguments_are_same (a ∷ xs) (b ∷ ys) same none nor at there d e = (
+  argument_is_same a b (ap (first_or (signature_of a)) same)
       (All-head HasNoDefault (signature_of a) (map signature_of xs) none) (All-head HasNoDefault (signature_of b) (map signature_of ys) nor)
       (All-head ArgumentHasNoPlace a xs at) (All-head ArgumentHasNoPlace b ys there) (All-head HasNoDirectives a xs d) (All-head HasNoDirectives b ys e),
-    arguments_are_same xs ys (ap rest_of same)
+  arguments_are_same xs ys (ap rest_of same)
       (All-tail HasNoDefault (signature_of a) (map signature_of xs) none) (All-tail HasNoDefault (signature_of b) (map signature_of ys) nor)
-      (All-tail ArgumentHasNoPlace a xs at) (All-tail ArgumentHasNoPlace b ys there) (All-tail HasNoDirectives a xs d) (All-tail HasNoDirectives b ys e))
+      (All-tail ArgumentHasNoPlace a xs at) (All-tail ArgumentHasNoPlace b ys there) (All-tail HasNoDirectives a xs d) (All-tail HasNoDirectives b ys e),
+)
 
 abbrev on_argument : Node InputValueDefinition → ℕ
 on_argument a = length a.value.value.directives.items
