@@ -167,11 +167,16 @@ const LONG_FIELDS: &[(&str, &str)] = &[
 ];
 
 /// Merging reports this of the operations of the document.
-fn merges(rt: &impl Abort, alloc: Global, schema: &Schema, text: &str, expected: &str) {
-    let document = document(alloc, schema, text).expect(rt, "a document");
-    let operations = operations_of(alloc, &document).expect(rt, "memory for a list");
+fn merges<'a>(
+    rt: &impl Abort,
+    alloc: Global,
+    schema: &'a Schema,
+    document: &'a ExecutableDocument,
+    expected: &str,
+) {
+    let operations = operations_of(alloc, document).expect(rt, "memory for a list");
     let mut found = DiagnosticList::new(alloc);
-    let mut merging = FieldsInSetCanMerge::new(alloc, schema, &document);
+    let mut merging = FieldsInSetCanMerge::new(alloc, schema, document);
     for operation in &operations {
         let merged = merging.validate_operation(*operation, &mut found);
         merged.expect(rt, "memory for reports");
@@ -183,6 +188,7 @@ fn merges(rt: &impl Abort, alloc: Global, schema: &Schema, text: &str, expected:
 fn many_arguments_and_entries_are_compared_by_name(rt: HostRuntime) {
     let schema = schema(rt.alloc(), "type Query { f: Int }").expect(&rt, "a schema");
     for (text, expected) in LONG_FIELDS {
-        merges(&rt, rt.alloc(), &schema.0, text, expected);
+        let document = document(rt.alloc(), &schema.0, text).expect(&rt, "a document");
+        merges(&rt, rt.alloc(), &schema.0, &document, expected);
     }
 }
