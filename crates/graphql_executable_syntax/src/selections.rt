@@ -80,7 +80,7 @@ fn selections_behind<'a>(
 {
     let mut found = found;
     let mut here = cursor;
-    for _turn in 0..cursor.tokens.len() {
+    for _turn in 0..cursor.left {
         if !here.has_more(More::Until(TokenKind::RightBrace)) {
             return Ok((packed(found), here));
         }
@@ -136,7 +136,7 @@ fn field_from<'a>(
     alloc: Global,
     cursor: Cursor<'a>,
     depth: usize,
-    start: usize,
+    start: u32,
     alias: Option<Boxed<Name>>,
     name: Name,
 ) -> Result<(Selection, Cursor<'a>), Refusal>
@@ -206,7 +206,7 @@ fn inline_fragment<'a>(
     alloc: Global,
     cursor: Cursor<'a>,
     depth: usize,
-    start: usize,
+    start: u32,
     type_condition: Option<Name>,
 ) -> Result<(Selection, Cursor<'a>), Refusal>
     ensures { Reads (λ found. (found.0, input found.1)) result
@@ -232,7 +232,7 @@ fn fragment_spread<'a>(
     alloc: Global,
     cursor: Cursor<'a>,
     depth: usize,
-    start: usize,
+    start: u32,
 ) -> Result<(Selection, Cursor<'a>), Refusal>
     ensures { Reads (λ found. (found.0, input found.1)) result
         (fragment_spread_behind depth start (input cursor.entry)) }

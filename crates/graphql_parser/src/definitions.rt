@@ -63,7 +63,7 @@ fn definitions_behind<'a>(
 {
     let mut found = found;
     let mut here = cursor;
-    for _turn in 0..cursor.tokens.len() {
+    for _turn in 0..cursor.left {
         if !here.has_more(More::UntilEnd) {
             return Ok((packed(found), here));
         }
@@ -112,8 +112,8 @@ pub(crate) fn whole_document(
     ensures { Reads (λ tree. tree) result (whole_document_at depth (input cursor.entry)) }
 {
     let (document, end) = document(alloc, cursor, depth)?;
-    match end.tokens {
-        [] => Ok(document),
-        _ => Err(end.refusal(Expected::Definition)),
+    match end.next {
+        None => Ok(document),
+        Some(_) => Err(end.refusal(Expected::Definition)),
     }
 }

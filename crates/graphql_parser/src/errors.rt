@@ -36,7 +36,9 @@ impl SyntaxError {
             SyntaxError::OutOfMemory => 0,
             SyntaxError::NoToken(at) | SyntaxError::TooManyTokens(at) => at,
             SyntaxError::Unexpected(None, _) => text.len(),
-            SyntaxError::Unexpected(Some(token), _) | SyntaxError::TooDeep(token) => token.start,
+            SyntaxError::Unexpected(Some(token), _) | SyntaxError::TooDeep(token) => {
+                token.start as usize
+            }
         }
     }
 }

@@ -1,11 +1,12 @@
 //! Whole texts.
 
-ghost use Rattle.std.specs.Prelude.{◌≡◌, ◌≤◌, List, length, IfErr, IfOk, MatchResult};
+ghost use Rattle.std.specs.Prelude.{◌≡◌, ◌^◌, ◌<◌, length, IfErr, IfOk, MatchResult};
 ghost use Rattle.graphql_parser.specs.Parses.{ParsesDocument, whole_input};
 ghost use Rattle.graphql_parser.specs.Refusals.{IsRefusal, refused_token, refusal_error, stop_error};
 ghost use Rattle.graphql_parser.specs.declared.errors.SyntaxError.TheVariants.{OutOfMemory};
-ghost use Rattle.graphql_syntax.specs.Reading.{Reads};
-ghost use Rattle.graphql_tokens.specs.Lexical.{Scans, Lexes};
+ghost use Rattle.graphql_syntax.specs.Reading.{Reads, input};
+ghost use Rattle.graphql_tokens.specs.Ahead.{first_tokens};
+ghost use Rattle.graphql_tokens.specs.Lexical.{Scans};
 ghost use Rattle.graphql_trees.specs.declared.documents.Document.{Document};
 
 use crate::bounds::Bounds;
@@ -13,14 +14,14 @@ use crate::definitions::whole_document;
 use crate::errors::SyntaxError;
 use graphql_nodes::FileId;
 use graphql_syntax::{Cursor, Refusal};
-use graphql_tokens::{Scanned, Stop, Token, scan};
+use graphql_tokens::{Extent, Stop, Token, measure};
 use graphql_trees::Document;
 use std::alloc::Global;
 
 /// The document that the text is, with the places of its parts in this file. Where the text is no
 /// document within the bounds, the error is where no token begins, at the first token above the bound,
 /// at a token with which no document begins after those before it, at a bracket or brace that opens too
-/// deep, or at the end. Fails too where an allocation fails.
+/// deep, or at the end. Fails too where an allocation fails, and of a text of 4 GiB or more.
 ///
 /// Specification: 2.2 Document, and Appendix B Grammar Summary.
 pub fn parse_document(
@@ -34,10 +35,16 @@ pub fn parse_document(
         MatchResult result (λ found. found ≡ tree) (λ error. error ≡ OutOfMemory) }
     ensures refused { IfErr result (IsRefusal bounds file_id text.now) }
 {
-    let Ok(Scanned { tokens, stop }) = scan(alloc, text, bounds.tokens) else {
+    if text.len() > u32::MAX as usize {
         return Err(SyntaxError::OutOfMemory);
-    };
-    document_of_tokens(alloc, file_id, text, tokens.as_slice(), stop, bounds)
+    }
+    document_of_tokens(
+        alloc,
+        file_id,
+        text,
+        measure(text, bounds.tokens),
+        bounds,
+    )
 }
 
 /// The document that the tokens up to where their scan stopped are.
@@ -45,20 +52,21 @@ fn document_of_tokens(
     alloc: Global,
     file_id: FileId,
     text: &str,
-    tokens: &[Token],
-    stop: Stop,
+    extent: Extent,
     bounds: Bounds,
 ) -> Result<Document, SyntaxError>
-    requires scanned { Scans bounds.tokens text.now tokens.now stop }
+    requires small { length text.now < 2 ^ 32 }
+    requires scanned { Scans bounds.tokens text.now (first_tokens (length text.now) extent.tokens text.now) extent.stop }
+    requires counted { length (first_tokens (length text.now) extent.tokens text.now) ≡ extent.tokens }
     ensures found { IfOk result (ParsesDocument bounds file_id text.now) }
     ensures only { (tree : Document) → ParsesDocument bounds file_id text.now tree →
         MatchResult result (λ found. found ≡ tree) (λ error. error ≡ OutOfMemory) }
     ensures refused { IfErr result (IsRefusal bounds file_id text.now) }
 {
-    let cursor = Cursor::new(file_id, text.as_bytes(), tokens);
+    let cursor = Cursor::new(file_id, text.as_bytes(), extent.tokens);
     match whole_document(alloc, cursor, bounds.depth) {
-        Err(refusal) => Err(refusal_error(refusal, tokens, stop)),
-        Ok(document) => match stop_error(stop) {
+        Err(refusal) => Err(refusal_error(refusal, cursor, extent.stop)),
+        Ok(document) => match stop_error(extent.stop) {
             Some(error) => Err(error),
             None => Ok(document),
         },
@@ -76,21 +84,21 @@ fn stop_error(stop: Stop) -> Option<SyntaxError>
     }
 }
 
-/// The refusal of these tokens, as an error of the text that begins with them. Where none of them is
-/// refused but their end, and the scan stopped there, the error is that of the scan.
-fn refusal_error(refusal: Refusal, tokens: &[Token], stop: Stop) -> SyntaxError
-    ensures { result ≡ refusal_error refusal tokens.now stop }
+/// The refusal of the tokens from here on, as an error of the text that begins with them. Where none of
+/// them is refused but their end, and the scan stopped there, the error is that of the scan.
+fn refusal_error(refusal: Refusal, cursor: Cursor, stop: Stop) -> SyntaxError
+    ensures { result ≡ refusal_error refusal (input cursor.entry).tokens stop }
 {
     match refusal {
         Refusal::OutOfMemory => SyntaxError::OutOfMemory,
-        Refusal::Unexpected(left, expected) => match refused_token(tokens, left) {
+        Refusal::Unexpected(left, expected) => match refused_token(cursor, left) {
             Some(token) => SyntaxError::Unexpected(Some(token), expected),
             None => match stop_error(stop) {
                 Some(error) => error,
                 None => SyntaxError::Unexpected(None, expected),
             },
         },
-        Refusal::TooDeep(left) => match refused_token(tokens, left) {
+        Refusal::TooDeep(left) => match refused_token(cursor, left) {
             Some(token) => SyntaxError::TooDeep(token),
             None => SyntaxError::OutOfMemory,
         },
@@ -99,15 +107,15 @@ fn refusal_error(refusal: Refusal, tokens: &[Token], stop: Stop) -> SyntaxError
 
 /// The token from which on so many are left.
 #[tactic(auto, unfolding(crate::specs::Refusals::refused_token))]
-fn refused_token(tokens: &[Token], left: usize) -> Option<Token>
-    ensures { result ≡ refused_token left tokens.now }
+fn refused_token(cursor: Cursor, left: usize) -> Option<Token>
+    ensures { result ≡ refused_token left (input cursor.entry).tokens }
 {
-    if left > tokens.len() {
+    if left > cursor.left {
         return None;
     }
-    let (_, rest) = tokens.split_at(tokens.len() - left);
-    match rest {
-        [] => None,
-        [token, ..] => Some(*token),
+    let mut here = cursor;
+    for _turn in 0..cursor.left - left {
+        here = here.behind();
     }
+    here.next
 }

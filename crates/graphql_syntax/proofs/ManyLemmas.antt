@@ -5,10 +5,10 @@ use Rattle.graphql_syntax.specs.Reading.{Reader, Fails, sequence, choose, answer
 use Rattle.graphql_syntax.specs.declared.refusals.Refusal.{Refusal}
 use Rattle.graphql_syntax.specs.declared.refusals.Refusal.TheVariants.{OutOfMemory, Unexpected, TooDeep}
 
-pub first_turn : {A : Type 0} (test : TokenTest) (item : Reader A) (found : List A) (i : Input) →
-    many_behind test item found i ≡ many_from test item (length i.tokens - 0) found i
+pub first_turn : {A : Type 0} (test : TokenTest) (item : Reader A) (found : List A) (i : Input) (left : ℕ) → length i.tokens ≡ left →
+    many_behind test item found i ≡ many_from test item (left - 0) found i
 unfolding many_behind
-first_turn test item found i = let same : length i.tokens - 0 ≡ length i.tokens = omega arith in rw same refl
+first_turn test item found i left counted = let same : left - 0 ≡ length i.tokens = omega (arith, counted) in rw same refl
 
 pub one_more : {A : Type 0} (test : TokenTest) (item : Reader A) (turns : ℕ) (found : List A) (i : Input) (x : A) (j : Input) →
     next_passes test i ≡ true → 0 < turns → item i ≡ Ok (x, j) → many_from test item turns found i ≡ many_from test item (turns - 1) (found ++ x ∷ []) j

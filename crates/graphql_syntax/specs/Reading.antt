@@ -3,6 +3,7 @@
 use Rattle.std.specs.Prelude.{◌≡◌, ℕ, zero, suc, not, true, List, [], ◌∷◌, ◌++◌, length, Option, None, Some, Result, Ok, Err, if◌then◌else◌}
 use Rattle.graphql_nodes.specs.Names.{NameText}
 use Rattle.graphql_nodes.specs.declared.spans.SourceSpan.{SourceSpan}
+use Rattle.graphql_tokens.specs.Ahead.{with_next}
 use Rattle.graphql_tokens.specs.declared.token.TokenKind.{TokenKind}
 use Rattle.graphql_tokens.specs.declared.token.TokenKind.TheVariants.{Name}
 use Rattle.graphql_syntax.specs.declared.cursor.Cursor.{Cursor}
@@ -20,7 +21,12 @@ Reader A = Input → Result (A × Input) Refusal
 
 -- the input that a cursor stands for
 abbrev pub input : Cursor → Input
-input c = record { file_id = c.file_id; source = c.source.now; tokens = c.tokens.now; ended = c.ended }
+input c = record {
+  file_id = c.file_id;
+  source = c.source.now;
+  tokens = with_next (length c.source.now) c.next c.left c.rest.now;
+  ended = c.ended;
+}
 
 -- what a call answered, seen by view, is what a reader answers, unless memory is refused
 abbrev pub Fails : {Y : Type 0} → Refusal → Result Y Refusal → Type 0

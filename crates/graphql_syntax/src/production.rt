@@ -58,7 +58,7 @@ pub fn items_behind<'a, P: Production>(
 {
     let mut found = found;
     let mut here = cursor;
-    for _turn in 0..cursor.tokens.len() {
+    for _turn in 0..cursor.left {
         if !here.has_more(more) {
             return Ok((packed(found), here));
         }

@@ -22,9 +22,9 @@ impl<'a> Cursor<'a> {
     pub fn sees(self, kind: TokenKind) -> bool
         ensures { result ≡ next_passes (is_kind kind) (input self.entry) }
     {
-        match self.tokens {
-            [] => false,
-            [token, ..] => token.kind == kind,
+        match self.next {
+            None => false,
+            Some(token) => token.kind == kind,
         }
     }
 
@@ -33,10 +33,10 @@ impl<'a> Cursor<'a> {
     pub fn sees_keyword(self, keyword: Keyword) -> bool
         ensures { result ≡ next_passes (is_keyword keyword) (input self.entry) }
     {
-        match self.tokens {
-            [] => false,
-            [token, ..] => token.kind == TokenKind::Name
-                && text_of(self.source, *token) == keyword.text().as_bytes(),
+        match self.next {
+            None => false,
+            Some(token) => token.kind == TokenKind::Name
+                && text_of(self.source, token) == keyword.text().as_bytes(),
         }
     }
 
@@ -45,9 +45,9 @@ impl<'a> Cursor<'a> {
     pub fn sees_string(self) -> bool
         ensures { result ≡ next_passes is_string (input self.entry) }
     {
-        match self.tokens {
-            [] => false,
-            [token, ..] => token.kind == TokenKind::StringValue
+        match self.next {
+            None => false,
+            Some(token) => token.kind == TokenKind::StringValue
                 || token.kind == TokenKind::BlockString,
         }
     }
@@ -57,9 +57,9 @@ impl<'a> Cursor<'a> {
     pub fn has_more(self, more: More) -> bool
         ensures { result ≡ next_passes (more_test more) (input self.entry) }
     {
-        match self.tokens {
-            [] => false,
-            [token, ..] => match more {
+        match self.next {
+            None => false,
+            Some(token) => match more {
                 More::Until(closing) => token.kind != closing,
                 More::While(opening) => token.kind == opening,
                 More::UntilEnd => true,
@@ -72,30 +72,34 @@ impl<'a> Cursor<'a> {
     pub fn behind(self) -> Cursor<'a>
         ensures { input result ≡ behind (input self.entry) }
     {
-        let [token, rest @ ..] = self.tokens else {
+        let Some(token) = self.next else {
             return self;
         };
+        let left = self.left - 1;
+        let (next, rest) = next_token(self.source.len() as u32, self.rest, left);
         Cursor {
             file_id: self.file_id,
             source: self.source,
-            tokens: rest,
+            next,
+            rest,
+            left,
             ended: token.end,
         }
     }
 
     /// Where the next token begins.
     #[tactic(auto, unfolding(crate::specs::Inputs::start_of))]
-    pub fn start(self) -> usize
+    pub fn start(self) -> u32
         ensures { result ≡ start_of (input self.entry) }
     {
-        match self.tokens {
-            [] => self.ended,
-            [token, ..] => token.start,
+        match self.next {
+            None => self.ended,
+            Some(token) => token.start,
         }
     }
 
     /// The place from a byte up to where the last token ended.
-    pub fn span_from(self, start: usize) -> SourceSpan
+    pub fn span_from(self, start: u32) -> SourceSpan
         ensures { result ≡ span_from start (input self.entry) }
     {
         SourceSpan {
@@ -107,16 +111,16 @@ impl<'a> Cursor<'a> {
 
     /// The refusal of the next token.
     pub fn refusal(self, expected: Expected) -> Refusal
-        ensures { result ≡ Unexpected (length self.entry.tokens.now) expected }
+        ensures { result ≡ Unexpected (length (input self.entry).tokens) expected }
     {
-        Refusal::Unexpected(self.tokens.len(), expected)
+        Refusal::Unexpected(self.left, expected)
     }
 
     /// The refusal of the next token, with which one bracket more opens than may be open.
     pub fn too_deep(self) -> Refusal
-        ensures { result ≡ TooDeep (length self.entry.tokens.now) }
+        ensures { result ≡ TooDeep (length (input self.entry).tokens) }
     {
-        Refusal::TooDeep(self.tokens.len())
+        Refusal::TooDeep(self.left)
     }
 
     /// The cursor behind the next token, which is to be of this kind.
@@ -166,9 +170,9 @@ impl<'a> Cursor<'a> {
     pub fn next_text(self) -> &'a [u8]
         ensures { result.now ≡ next_text (input self.entry) }
     {
-        match self.tokens {
-            [] => &[],
-            [token, ..] => text_of(self.source, *token),
+        match self.next {
+            None => &[],
+            Some(token) => text_of(self.source, token),
         }
     }
 }
@@ -178,8 +182,8 @@ fn text_of(source: &[u8], token: Token) -> &[u8]
     requires within { token.end ≤ length source.now }
     ensures { result.now ≡ text_of source.now token }
 {
-    let (front, _) = source.split_at(token.end);
-    let (_, text) = front.split_at(token.start);
+    let (front, _) = source.split_at(token.end as usize);
+    let (_, text) = front.split_at(token.start as usize);
     text
 }
 

@@ -49,7 +49,7 @@ fn list<'a>(
 #[tactic(auto, unfolding(crate::specs::TypeReaders::list_type_behind, crate::specs::Reading::sequence, crate::specs::Reading::choose, crate::specs::Reading::place, crate::specs::Reading::answer))]
 fn list_end<'a>(
     alloc: Global,
-    start: usize,
+    start: u32,
     item: TypeReference,
     end: Cursor<'a>,
 ) -> Result<(TypeReference, Cursor<'a>), Refusal>

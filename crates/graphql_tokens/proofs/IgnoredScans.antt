@@ -84,3 +84,10 @@ ignored_shorter _ _ (line_terminator t r is) = ended t r is where
   ended _ _ (carriage_return rest n) = omega arith
   ended _ _ (carriage_return_line_feed rest) = omega arith
 ignored_shorter _ _ (comment t run rest is) = omega (arith, ap length is.written, length-append run rest)
+
+pub ignored_shrinks : (t r : List ℕ) → ignored_at t ≡ Some r → length r < length t
+ignored_shrinks t r e = ignored_shorter t r (ignored_is t r e)
+
+pub blank_ignored : (c : ℕ) (cs : List ℕ) → is_blank c ≡ true → ignored_at (c ∷ cs) ≡ Some cs
+unfolding ignored_at
+blank_ignored c cs e = rw e refl

@@ -5,3 +5,4 @@ pub mod QuotedScans
 pub mod IgnoredScans
 pub mod TokenScans
 pub mod LexingLemmas
+pub mod AheadLemmas

@@ -1,3 +1,4 @@
+pub mod Ahead
 pub mod Characters
 pub mod Ignored
 pub mod Lexical

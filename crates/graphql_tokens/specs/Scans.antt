@@ -9,7 +9,7 @@ use Rattle.graphql_tokens.specs.Ignored.{is_comment_byte}
 use Rattle.graphql_tokens.specs.Strings.{hex_digit, is_leading_surrogate, is_trailing_surrogate, is_scalar_value, pair_value, escaped_character, is_string_byte, is_plain_byte}
 use Rattle.graphql_tokens.specs.Lexical.{punctuator, goes_on_number}
 use Rattle.graphql_tokens.specs.declared.characters.Class.{Class}
-use Rattle.graphql_tokens.specs.declared.characters.Class.TheVariants.{Comment, Digit, NamePart, StringText, BlockText}
+use Rattle.graphql_tokens.specs.declared.characters.Class.TheVariants.{Blank, Comment, Digit, NamePart, StringText, BlockText}
 use Rattle.graphql_tokens.specs.declared.strings.StringPart.{StringPart}
 use Rattle.graphql_tokens.specs.declared.strings.StringPart.TheVariants.{Byte, Escaped}
 use Rattle.graphql_tokens.specs.declared.token.TokenKind.{TokenKind}
@@ -34,8 +34,13 @@ abbrev pub after_run : (ℕ → Bool) → List ℕ → List ℕ
 after_run test [] = []
 after_run test (c ∷ rest) = if test c then after_run test rest else c ∷ rest
 
+-- tab, line feed, space and comma
+abbrev pub is_blank : ℕ → Bool
+is_blank c = (c == 9 || c == 10) || (c == 32 || c == 44)
+
 -- the bytes of a class
 abbrev pub belongs : Class → ℕ → Bool
+belongs Blank c = is_blank c
 belongs Comment c = is_comment_byte c
 belongs Digit c = is_ascii_digit c
 belongs NamePart c = continues_name c
@@ -50,10 +55,6 @@ after_turns scan (suc turns) text = elim (scan text) [ None ↦ text | Some rest
 -- the same, in as many turns as it takes
 unfoldable pub after_all : (List ℕ → Option (List ℕ)) → List ℕ → List ℕ
 after_all scan text = after_turns scan (length text) text
-
--- tab, line feed, space and comma
-abbrev pub is_blank : ℕ → Bool
-is_blank c = (c == 9 || c == 10) || (c == 32 || c == 44)
 
 -- behind a line terminator that begins with a carriage return
 abbrev pub after_return : List ℕ → List ℕ

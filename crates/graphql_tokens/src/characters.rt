@@ -5,12 +5,14 @@ ghost use Rattle.graphql_nodes.specs.Names.{starts_name, continues_name};
 ghost use Rattle.graphql_tokens.specs.Characters.{is_line_byte, is_source_byte, begins_with, IsRun};
 ghost use Rattle.graphql_tokens.specs.Ignored.{is_comment_byte};
 ghost use Rattle.graphql_tokens.specs.Lexical.{goes_on_number};
-ghost use Rattle.graphql_tokens.specs.Scans.{after_run, belongs, strip, Gives};
+ghost use Rattle.graphql_tokens.specs.Scans.{after_run, belongs, is_blank, strip, Gives};
 ghost use Rattle.graphql_tokens.specs.Strings.{is_string_byte, is_plain_byte};
 
 /// What a run of bytes is made of.
 #[derive(Clone, Copy)]
 pub enum Class {
+    /// White space, line feeds and commas.
+    Blank,
     /// Bytes of a comment, behind its number sign.
     Comment,
     /// Decimal digits.
@@ -29,6 +31,7 @@ impl Class {
         ensures { result ≡ belongs self c }
     {
         match self {
+            Class::Blank => is_blank(c),
             Class::Comment => is_comment_byte(c),
             Class::Digit => c.is_ascii_digit(),
             Class::NamePart => c.is_ascii_lowercase() || c.is_ascii_alphanumeric() || c == b'_',
@@ -36,6 +39,13 @@ impl Class {
             Class::BlockText => is_plain_byte(c),
         }
     }
+}
+
+#[inline(always)]
+pub(crate) fn is_blank(c: u8) -> bool
+    ensures { result ≡ is_blank c }
+{
+    c == b' ' || c == b'\n' || c == b',' || c == b'\t'
 }
 
 /// Whether this is a byte of a line terminator.

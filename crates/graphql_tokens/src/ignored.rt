@@ -1,15 +1,15 @@
 //! What is between tokens.
 
 ghost use Rattle.std.specs.Prelude.{◌≡◌};
-ghost use Rattle.graphql_tokens.specs.Scans.{Gives, ignored_at, after_return, is_blank};
+ghost use Rattle.graphql_tokens.specs.Scans.{Gives, ignored_at, after_return, after_all};
 
-use crate::characters::{Class, after_run, strip};
+use crate::characters::{Class, after_run, is_blank, strip};
 
 /// The text behind the ignored token that it begins with, if it begins with one.
 ///
 /// Specification: 2.1.7 Ignored Tokens.
 #[tactic(auto, unfolding(crate::specs::Scans::ignored_at))]
-pub(crate) fn ignored(text: &[u8]) -> Option<&[u8]>
+fn ignored(text: &[u8]) -> Option<&[u8]>
     ensures { Gives (λ rest. rest.now) result (ignored_at text.now) }
 {
     let [first, rest @ ..] = text else {
@@ -28,10 +28,15 @@ pub(crate) fn ignored(text: &[u8]) -> Option<&[u8]>
     }
 }
 
-fn is_blank(c: u8) -> bool
-    ensures { result ≡ is_blank c }
+/// The text behind all that is ignored at its start.
+pub(crate) fn after_ignored(text: &[u8]) -> &[u8]
+    ensures { result.now ≡ after_all ignored_at text.now }
 {
-    c == b'\t' || c == b'\n' || c == b' ' || c == b','
+    let mut rest = after_run(text, Class::Blank);
+    while let Some(behind) = ignored(rest) {
+        rest = after_run(behind, Class::Blank);
+    }
+    rest
 }
 
 fn after_return(rest: &[u8]) -> &[u8]

@@ -1,10 +1,11 @@
 //! The tokens of a whole text.
 
 ghost use Rattle.std.specs.Prelude.{◌≡◌, ◌≤◌, List, length, IfOk, IfErr, MatchResult};
+ghost use Rattle.graphql_tokens.specs.Ahead.{first_tokens, with_next};
 ghost use Rattle.graphql_tokens.specs.Lexical.{AreTokens, IsRefusal, Scans};
 ghost use Rattle.graphql_tokens.specs.declared.token.Token.{Token};
 
-use crate::ignored::ignored;
+use crate::ignored::after_ignored;
 use crate::scanner;
 use crate::token::Token;
 use std::alloc::{AllocError, Global};
@@ -42,7 +43,7 @@ pub enum LexicalError {
 }
 
 /// The tokens of the text. Fails at the first place where no token begins, at the first token above
-/// the bound, and where memory is refused.
+/// the bound, where an allocation fails, and of a text of 4 GiB or more.
 ///
 /// Specification: 2.1.6 Lexical Tokens.
 pub fn tokens(alloc: Global, text: &str, bound: usize) -> Result<Vec<Token>, LexicalError>
@@ -65,39 +66,95 @@ pub fn tokens(alloc: Global, text: &str, bound: usize) -> Result<Vec<Token>, Lex
 }
 
 /// The tokens of the text, up to its end, to the first place where no token begins, or to the first
-/// token above the bound. Fails where memory is refused.
+/// token above the bound. Fails where an allocation fails, and of a text of 4 GiB or more.
 ///
 /// Specification: 2.1.6 Lexical Tokens.
 pub fn scan(alloc: Global, text: &str, bound: usize) -> Result<Scanned, AllocError>
     ensures { IfOk result (λ scanned. Scans bound text.now scanned.tokens.items scanned.stop) }
 {
+    let Ok(total) = u32::try_from(text.len()) else {
+        return Err(AllocError);
+    };
+    let extent = measure(text, bound);
+    let mut tokens = Vec::new(alloc);
+    let mut rest = text.as_bytes();
+    let mut left = extent.tokens;
+    while let (Some(token), behind) = next_token(total, rest, left) {
+        tokens.push(token)?;
+        rest = behind;
+        left -= 1;
+    }
+    Ok(Scanned {
+        tokens,
+        stop: extent.stop,
+    })
+}
+
+/// How many tokens a text has up to where a scan stops, and where that is.
+#[derive(Clone, Copy, Debug, PartialEq, Eq)]
+pub struct Extent {
+    pub tokens: usize,
+    pub stop: Stop,
+}
+
+/// Counts the tokens of the text, up to its end, to the first place where no token begins, or to the
+/// first token above the bound.
+///
+/// Specification: 2.1.6 Lexical Tokens.
+pub fn measure(text: &str, bound: usize) -> Extent
+    ensures scans { Scans bound text.now (first_tokens (length text.now) result.tokens text.now) result.stop }
+    ensures count { length (first_tokens (length text.now) result.tokens text.now) ≡ result.tokens }
+{
     let source = text.as_bytes();
     let total = source.len();
-    let mut tokens = Vec::new(alloc);
-    let mut rest = source;
+    let mut count = 0;
+    let mut rest = after_ignored(source);
     while !rest.is_empty() {
-        match ignored(rest) {
-            Some(behind) => rest = behind,
-            None => match scanner::token(rest) {
-                None => {
-                    let stop = Stop::NoToken(total - rest.len());
-                    return Ok(Scanned { tokens, stop });
-                }
-                Some((kind, behind)) => {
-                    if tokens.len() == bound {
-                        let stop = Stop::TooMany(total - rest.len());
-                        return Ok(Scanned { tokens, stop });
-                    }
-                    tokens.push(Token {
-                        kind,
-                        start: total - rest.len(),
-                        end: total - behind.len(),
-                    })?;
-                    rest = behind;
-                }
-            },
+        let Some((_kind, behind)) = scanner::token(rest) else {
+            let stop = Stop::NoToken(total - rest.len());
+            return Extent {
+                tokens: count,
+                stop,
+            };
+        };
+        if count == bound {
+            let stop = Stop::TooMany(total - rest.len());
+            return Extent {
+                tokens: count,
+                stop,
+            };
         }
+        count += 1;
+        rest = after_ignored(behind);
     }
     let stop = Stop::End;
-    Ok(Scanned { tokens, stop })
+    Extent {
+        tokens: count,
+        stop,
+    }
+}
+
+/// The next of so many tokens that are left of a text of so many bytes in all, and the text behind it.
+///
+/// Specification: 2.1.6 Lexical Tokens.
+pub fn next_token(total: u32, text: &[u8], left: usize) -> (Option<Token>, &[u8])
+    requires { length text.now ≤ total }
+    ensures tokens { first_tokens total left text.now ≡ with_next total result.0 left result.1.now }
+    ensures within { length result.1.now ≤ total }
+{
+    if left == 0 {
+        return (None, text);
+    }
+    let start = after_ignored(text);
+    match scanner::token(start) {
+        None => (None, text),
+        Some((kind, behind)) => {
+            let token = Token {
+                kind,
+                start: total - start.len() as u32,
+                end: total - behind.len() as u32,
+            };
+            (Some(token), behind)
+        }
+    }
 }

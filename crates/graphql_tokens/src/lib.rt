@@ -13,6 +13,6 @@ mod scanner;
 pub mod strings;
 pub mod token;
 
-pub use lexer::{LexicalError, Scanned, Stop, scan, tokens};
+pub use lexer::{Extent, LexicalError, Scanned, Stop, measure, next_token, scan, tokens};
 pub use strings::StringPart;
 pub use token::{Token, TokenKind};

@@ -45,7 +45,7 @@ pub fn begins_type_system_definition(cursor: Cursor) -> bool
 fn definition_behind<'a>(
     alloc: Global,
     cursor: Cursor<'a>,
-    start: usize,
+    start: u32,
     description: Option<Boxed<StringLiteral>>,
     depth: usize,
 ) -> Result<(Definition, Cursor<'a>), Refusal>
@@ -83,7 +83,7 @@ pub fn type_system_definition<'a>(
 fn extension_behind<'a>(
     alloc: Global,
     cursor: Cursor<'a>,
-    start: usize,
+    start: u32,
     depth: usize,
 ) -> Result<(Definition, Cursor<'a>), Refusal>
     ensures { Reads (λ found. (found.0, input found.1)) result (extension_behind depth start (input cursor.entry)) }

@@ -56,7 +56,7 @@ fn repeatable(cursor: Cursor) -> Result<(bool, Cursor), Refusal>
 pub fn directive<'a>(
     alloc: Global,
     cursor: Cursor<'a>,
-    start: usize,
+    start: u32,
     description: Option<Boxed<StringLiteral>>,
     depth: usize,
 ) -> Result<(DirectiveDefinition, Cursor<'a>), Refusal>

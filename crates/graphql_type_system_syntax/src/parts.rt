@@ -69,7 +69,7 @@ fn more_until<'a, P: Part>(
 {
     let mut found = found;
     let mut here = cursor;
-    for _turn in 0..cursor.tokens.len() {
+    for _turn in 0..cursor.left {
         if !here.has_more(More::Until(closing)) {
             return Ok((packed(found), here));
         }
@@ -107,7 +107,7 @@ pub fn more_separated<'a, P: Part>(
 {
     let mut found = found;
     let mut here = cursor;
-    for _turn in 0..cursor.tokens.len() {
+    for _turn in 0..cursor.left {
         if !here.sees(separator) {
             return Ok((packed(found), here));
         }

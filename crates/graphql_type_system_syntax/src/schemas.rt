@@ -45,7 +45,7 @@ impl Part for RootOperationTypeDefinition {
 pub fn schema<'a>(
     alloc: Global,
     cursor: Cursor<'a>,
-    start: usize,
+    start: u32,
     description: Option<Boxed<StringLiteral>>,
     depth: usize,
 ) -> Result<(SchemaDefinition, Cursor<'a>), Refusal>
@@ -73,7 +73,7 @@ pub fn schema<'a>(
 pub fn schema_extension<'a>(
     alloc: Global,
     cursor: Cursor<'a>,
-    start: usize,
+    start: u32,
     depth: usize,
 ) -> Result<(SchemaDefinition, Cursor<'a>), Refusal>
     ensures { Reads (λ found. (found.0, input found.1)) result (schema_added depth start (input cursor.entry)) }

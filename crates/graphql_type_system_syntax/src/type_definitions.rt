@@ -27,7 +27,7 @@ use std::alloc::Global;
 pub fn type_definition<'a>(
     alloc: Global,
     cursor: Cursor<'a>,
-    start: usize,
+    start: u32,
     description: Option<Boxed<StringLiteral>>,
     depth: usize,
 ) -> Result<(TypeDefinition, Cursor<'a>), Refusal>
@@ -67,7 +67,7 @@ pub fn type_definition<'a>(
 pub fn scalar_type<'a>(
     alloc: Global,
     cursor: Cursor<'a>,
-    start: usize,
+    start: u32,
     description: Option<Boxed<StringLiteral>>,
     depth: usize,
 ) -> Result<(ScalarTypeDefinition, Cursor<'a>), Refusal>
@@ -95,7 +95,7 @@ pub fn scalar_type<'a>(
 pub fn object_type<'a>(
     alloc: Global,
     cursor: Cursor<'a>,
-    start: usize,
+    start: u32,
     description: Option<Boxed<StringLiteral>>,
     depth: usize,
 ) -> Result<(ObjectTypeDefinition, Cursor<'a>), Refusal>
@@ -127,7 +127,7 @@ pub fn object_type<'a>(
 pub fn interface_type<'a>(
     alloc: Global,
     cursor: Cursor<'a>,
-    start: usize,
+    start: u32,
     description: Option<Boxed<StringLiteral>>,
     depth: usize,
 ) -> Result<(InterfaceTypeDefinition, Cursor<'a>), Refusal>
@@ -159,7 +159,7 @@ pub fn interface_type<'a>(
 pub fn union_type<'a>(
     alloc: Global,
     cursor: Cursor<'a>,
-    start: usize,
+    start: u32,
     description: Option<Boxed<StringLiteral>>,
     depth: usize,
 ) -> Result<(UnionTypeDefinition, Cursor<'a>), Refusal>
@@ -189,7 +189,7 @@ pub fn union_type<'a>(
 pub fn enum_type<'a>(
     alloc: Global,
     cursor: Cursor<'a>,
-    start: usize,
+    start: u32,
     description: Option<Boxed<StringLiteral>>,
     depth: usize,
 ) -> Result<(EnumTypeDefinition, Cursor<'a>), Refusal>
@@ -219,7 +219,7 @@ pub fn enum_type<'a>(
 pub fn input_object_type<'a>(
     alloc: Global,
     cursor: Cursor<'a>,
-    start: usize,
+    start: u32,
     description: Option<Boxed<StringLiteral>>,
     depth: usize,
 ) -> Result<(InputObjectTypeDefinition, Cursor<'a>), Refusal>

@@ -20,7 +20,7 @@ use std::alloc::Global;
 pub fn type_extension<'a>(
     alloc: Global,
     cursor: Cursor<'a>,
-    start: usize,
+    start: u32,
     depth: usize,
 ) -> Result<(TypeDefinition, Cursor<'a>), Refusal>
     ensures { Reads (λ found. (found.0, input found.1)) result (type_extension_behind depth start (input cursor.entry)) }
@@ -59,7 +59,7 @@ pub fn type_extension<'a>(
 fn scalar_extension<'a>(
     alloc: Global,
     cursor: Cursor<'a>,
-    start: usize,
+    start: u32,
     depth: usize,
 ) -> Result<(ScalarTypeDefinition, Cursor<'a>), Refusal>
     ensures { Reads (λ found. (found.0, input found.1)) result (scalar_added depth start (input cursor.entry)) }
@@ -76,7 +76,7 @@ fn scalar_extension<'a>(
 fn object_extension<'a>(
     alloc: Global,
     cursor: Cursor<'a>,
-    start: usize,
+    start: u32,
     depth: usize,
 ) -> Result<(ObjectTypeDefinition, Cursor<'a>), Refusal>
     ensures { Reads (λ found. (found.0, input found.1)) result (object_added depth start (input cursor.entry)) }
@@ -95,7 +95,7 @@ fn object_extension<'a>(
 fn interface_extension<'a>(
     alloc: Global,
     cursor: Cursor<'a>,
-    start: usize,
+    start: u32,
     depth: usize,
 ) -> Result<(InterfaceTypeDefinition, Cursor<'a>), Refusal>
     ensures { Reads (λ found. (found.0, input found.1)) result (interface_added depth start (input cursor.entry)) }
@@ -114,7 +114,7 @@ fn interface_extension<'a>(
 fn union_extension<'a>(
     alloc: Global,
     cursor: Cursor<'a>,
-    start: usize,
+    start: u32,
     depth: usize,
 ) -> Result<(UnionTypeDefinition, Cursor<'a>), Refusal>
     ensures { Reads (λ found. (found.0, input found.1)) result (union_added depth start (input cursor.entry)) }
@@ -131,7 +131,7 @@ fn union_extension<'a>(
 fn enum_extension<'a>(
     alloc: Global,
     cursor: Cursor<'a>,
-    start: usize,
+    start: u32,
     depth: usize,
 ) -> Result<(EnumTypeDefinition, Cursor<'a>), Refusal>
     ensures { Reads (λ found. (found.0, input found.1)) result (enum_added depth start (input cursor.entry)) }
@@ -148,7 +148,7 @@ fn enum_extension<'a>(
 fn input_object_extension<'a>(
     alloc: Global,
     cursor: Cursor<'a>,
-    start: usize,
+    start: u32,
     depth: usize,
 ) -> Result<(InputObjectTypeDefinition, Cursor<'a>), Refusal>
     ensures { Reads (λ found. (found.0, input found.1)) result (input_object_added depth start (input cursor.entry)) }

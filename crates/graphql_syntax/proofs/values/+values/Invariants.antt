@@ -27,9 +27,9 @@ decreases-object_field l = 4 * l.depth + 1
 abbrev pub invariant-values-loop-turn : goal.invariant-values-loop-turn
 invariant-values-loop-turn l =
     many_behind (more_test (Until RightBracket)) (value_at l.constant l.depth) [] (input l.fn.cursor) ≡
-    many_from (more_test (Until RightBracket)) (value_at l.constant l.depth) (length l.fn.cursor.tokens.now - l._turn) l.found.items (input l.here)
+    many_from (more_test (Until RightBracket)) (value_at l.constant l.depth) (l.fn.cursor.left - l._turn) l.found.items (input l.here)
 
 abbrev pub invariant-object_fields-loop-turn : goal.invariant-object_fields-loop-turn
 invariant-object_fields-loop-turn l =
     many_behind (more_test (Until RightBrace)) (object_field_with (value_at l.constant l.depth)) [] (input l.fn.cursor) ≡
-    many_from (more_test (Until RightBrace)) (object_field_with (value_at l.constant l.depth)) (length l.fn.cursor.tokens.now - l._turn) l.found.items (input l.here)
+    many_from (more_test (Until RightBrace)) (object_field_with (value_at l.constant l.depth)) (l.fn.cursor.left - l._turn) l.found.items (input l.here)

@@ -1,13 +1,13 @@
-use Rattle.std.proofs.Common.{◌≤◌, length}
-use Rattle.graphql_tokens.specs.Lexical.{Lexes}
+use Rattle.std.proofs.Common.{◌≡◌, ◌≤◌, ◌++◌, length}
+use Rattle.graphql_tokens.specs.Ahead.{first_tokens}
 use Rattle.graphql_tokens.proofs.lexer.scan.Given as goal
 
-abbrev pub invariant-loop-rest : goal.invariant-loop-rest
-invariant-loop-rest l = record {
-  lexes : Lexes (length l.text) l.text l.tokens.items l.rest;
-  within : length l.rest ≤ length l.text;
-  count : length l.tokens.items ≤ l.bound;
+-- those found, and those that are left, are all
+abbrev pub invariant-loop-token : goal.invariant-loop-token
+invariant-loop-token l = record {
+  all : l.tokens.items ++ first_tokens l.total l.left l.rest ≡ first_tokens l.total l.extent.tokens l.text;
+  within : length l.rest ≤ l.total;
 }
 
-abbrev pub decreases-loop-rest : goal.decreases-loop-rest
-decreases-loop-rest l = length l.rest
+abbrev pub decreases-loop-token : goal.decreases-loop-token
+decreases-loop-token l = l.left

@@ -8,4 +8,4 @@ use Rattle.graphql_type_system_syntax.proofs.parts.more_separated.Given as goal
 abbrev pub invariant-loop-turn : goal.invariant-loop-turn
 invariant-loop-turn g l =
     many_behind (is_kind l.separator) (separated_with l.separator (g.P.Part.read_at l.depth)) l.fn.found.items (input l.fn.cursor) ≡
-    many_from (is_kind l.separator) (separated_with l.separator (g.P.Part.read_at l.depth)) (length l.fn.cursor.tokens.now - l._turn) l.found.items (input l.here)
+    many_from (is_kind l.separator) (separated_with l.separator (g.P.Part.read_at l.depth)) (l.fn.cursor.left - l._turn) l.found.items (input l.here)
