@@ -1,4 +1,5 @@
 pub mod DirectiveLocations
+pub mod NameParts
 pub mod Names
 pub mod Nodes
 pub mod OperationTypes

@@ -7,6 +7,7 @@ pub mod errors;
 pub mod names;
 pub mod nodes;
 pub mod operation_types;
+mod short_names;
 pub mod spans;
 
 pub use directive_locations::DirectiveLocation;

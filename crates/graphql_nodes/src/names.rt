@@ -5,33 +5,47 @@ ghost use Rattle.std.specs.List.{list_all};
 ghost use Rattle.std.specs.Cmp.Rules.{comparing, hashing};
 ghost use Rattle.graphql_nodes.specs.Names.{is_name, starts_name, continues_name, same_name};
 
+use super::short_names::{MAX_SHORT_LENGTH, ShortName, name_text};
 use super::spans::SourceSpan;
 use std::alloc::{AllocError, Global};
 use std::fmt;
 use std::hash::{Hash, Hasher};
 use std::marker::Model;
 
-/// A GraphQL name, and where it is. Names are compared by their text alone.
+/// A GraphQL name, and where it is. Names are compared by their text alone. A text of up to 26 bytes is in the
+/// name itself, and only a longer one in memory of its own.
 ///
 /// Specification: 2.1.9 Names.
-#[derive(Debug, Drop)]
+#[derive(Drop)]
 pub struct Name {
-    text: String,
-    location: Option<SourceSpan>,
+    parts: Parts,
 }
+
+// The variants say whether there is a place, since an `Option` beside the text would make each name larger.
+#[derive(Drop)]
+enum Parts {
+    Short(ShortName),
+    ShortAt(ShortName, SourceSpan),
+    Long(String),
+    LongAt(SourceSpan, String),
+}
+
+const _: () = prove!(size_of::<Name>() == 40);
 
 /// The name of a type.
 pub type NamedType = Name;
 
 impl Model for Name {
-    ghost use Rattle.std.specs.Prelude.{◌≡◌, IsTrue, string_bytes};
+    ghost use Rattle.std.specs.Prelude.{◌≡◌, IsTrue};
     ghost use Rattle.graphql_nodes.specs.Names.{NameText, is_name};
 
     ghost Value = { NameText };
 
-    ghost view = { λ n. record { text = string_bytes n.text; location = n.location } };
+    ghost use Rattle.graphql_nodes.specs.NameParts.{text_of, location_of};
 
-    ghost invariant = { λ n. IsTrue (is_name (string_bytes n.text)) };
+    ghost view = { λ n. record { text = text_of n.parts; location = location_of n.parts } };
+
+    ghost invariant = { λ n. IsTrue (is_name (text_of n.parts)) };
 }
 
 impl Name {
@@ -42,21 +56,50 @@ impl Name {
         ensures text { IfSome result (λ name. name.text ≡ string_bytes text) }
         ensures location { IfSome result (λ name. name.location ≡ location) }
     {
-        if is_name_text(text.as_bytes()) {
-            Some(Name { text, location })
-        } else {
-            None
+        if !is_name_text(text.as_bytes()) {
+            return None;
         }
+        let parts = if text.len() <= MAX_SHORT_LENGTH {
+            Parts::short(ShortName::new(text.as_bytes()), location)
+        } else {
+            Parts::long(text, location)
+        };
+        Some(Name { parts })
+    }
+
+    /// The name with these bytes as its text, which have to be those of a name. It allocates only where they are
+    /// more than 26.
+    pub fn from_bytes(
+        alloc: Global,
+        bytes: &[u8],
+        location: Option<SourceSpan>,
+    ) -> Result<Name, AllocError>
+        requires { IsTrue (is_name bytes.now) }
+        ensures text { IfOk result (λ name. name.text ≡ bytes.now) }
+        ensures location { IfOk result (λ name. name.location ≡ location) }
+    {
+        let parts = if bytes.len() <= MAX_SHORT_LENGTH {
+            Parts::short(ShortName::new(bytes), location)
+        } else {
+            Parts::long(String::from_str(alloc, name_text(bytes))?, location)
+        };
+        Ok(Name { parts })
     }
 
     /// A copy of the name, its place included, in memory of this allocator.
     pub fn clone_in(&self, alloc: Global) -> Result<Name, AllocError>
         ensures { IfOk result (λ copy. copy ≡ self.now) }
     {
-        Ok(Name {
-            text: String::from_str(alloc, self.as_str())?,
-            location: self.location,
-        })
+        let parts = match &self.parts {
+            Parts::Short(text) => Parts::Short(*text),
+            Parts::ShortAt(text, span) => Parts::ShortAt(*text, *span),
+            Parts::Long(text) => Parts::Long(String::from_str(alloc, text.as_str())?),
+            Parts::LongAt(span, text) => Parts::LongAt(
+                *span,
+                String::from_str(alloc, text.as_str())?,
+            ),
+        };
+        Ok(Name { parts })
     }
 
     /// The text of the name.
@@ -64,14 +107,44 @@ impl Name {
         ensures text { result.now ≡ self.now.text }
         ensures name { IsTrue (is_name self.now.text) }
     {
-        self.text.as_str()
+        match &self.parts {
+            Parts::Short(text) | Parts::ShortAt(text, _) => text.as_str(),
+            Parts::Long(text) | Parts::LongAt(_, text) => text.as_str(),
+        }
     }
 
     /// Where the name is.
     pub fn location(&self) -> Option<SourceSpan>
         ensures { result ≡ self.now.location }
     {
-        self.location
+        match &self.parts {
+            Parts::Short(_) | Parts::Long(_) => None,
+            Parts::ShortAt(_, span) | Parts::LongAt(span, _) => Some(*span),
+        }
+    }
+}
+
+impl Parts {
+    ghost use Rattle.graphql_nodes.specs.NameParts.{short_text, text_of, location_of};
+
+    fn short(text: ShortName, location: Option<SourceSpan>) -> Parts
+        ensures text { text_of result ≡ short_text text }
+        ensures location { location_of result ≡ location }
+    {
+        match location {
+            None => Parts::Short(text),
+            Some(span) => Parts::ShortAt(text, span),
+        }
+    }
+
+    fn long(text: String, location: Option<SourceSpan>) -> Parts
+        ensures text { text_of result ≡ string_bytes text }
+        ensures location { location_of result ≡ location }
+    {
+        match location {
+            None => Parts::Long(text),
+            Some(span) => Parts::LongAt(span, text),
+        }
     }
 }
 
@@ -130,10 +203,13 @@ impl Clone for Name {
     ghost is_clone = { λ name copy. copy ≡ name };
 
     fn clone(&self) -> Result<Name, AllocError> {
-        Ok(Name {
-            text: self.text.clone()?,
-            location: self.location,
-        })
+        let parts = match &self.parts {
+            Parts::Short(text) => Parts::Short(*text),
+            Parts::ShortAt(text, span) => Parts::ShortAt(*text, *span),
+            Parts::Long(text) => Parts::Long(text.clone()?),
+            Parts::LongAt(span, text) => Parts::LongAt(*span, text.clone()?),
+        };
+        Ok(Name { parts })
     }
 }
 
@@ -142,5 +218,14 @@ impl fmt::Display for Name {
 
     fn fmt<W: fmt::Write>(&self, f: &mut fmt::Formatter<W>) -> fmt::Result {
         write!(f, "{}", self.as_str())
+    }
+}
+
+impl fmt::Debug for Name {
+    fn fmt<W: fmt::Write>(&self, f: &mut fmt::Formatter<W>) -> fmt::Result {
+        f.debug_struct("Name")
+            .field("text", &self.as_str())
+            .field("location", &self.location())
+            .finish()
     }
 }
