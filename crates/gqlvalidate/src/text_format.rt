@@ -73,7 +73,11 @@ fn push_line(
         end,
         ..
     } = palette;
-    let line = Line::of(located.text, located.span.start, located.span.end);
+    let line = Line::of(
+        located.text,
+        located.span.start as usize,
+        located.span.end as usize,
+    );
     let before = shown_end(alloc, line.before)?;
     let marked = shown_beginning(alloc, line.marked)?;
     let behind = shown_beginning(alloc, line.behind)?;

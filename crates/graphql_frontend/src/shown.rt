@@ -152,7 +152,7 @@ fn shown_syntax(
     Ok(ShownReport {
         location: Some(SourceSpan {
             file_id: report.file_id,
-            start: report.error.at(text),
+            start: narrow(report.error.at(text)),
             end: end_of(report.error, text),
         }),
         rule: "Syntax",
@@ -173,11 +173,16 @@ fn text_of<'a>(report: &SyntaxReport, sources: &[SourceText<'a>]) -> &'a str {
 }
 
 /// The byte behind what the error is about.
-fn end_of(error: SyntaxError, text: &str) -> usize {
+fn end_of(error: SyntaxError, text: &str) -> u32 {
     match error {
         SyntaxError::Unexpected(Some(token), _) | SyntaxError::TooDeep(token) => token.end,
-        _ => error.at(text),
+        _ => narrow(error.at(text)),
     }
+}
+
+/// The byte as a place has it. No text is longer than places reach.
+fn narrow(at: usize) -> u32 {
+    u32::try_from(at).unwrap_or(u32::MAX)
 }
 
 fn shown_building(alloc: Global, report: &BuildingReport) -> Result<ShownReport, ValidationError> {

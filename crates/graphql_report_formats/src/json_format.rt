@@ -109,8 +109,8 @@ fn add_file(json: &mut Writer, path: Option<&str>) -> Result<(), AllocError> {
 fn add_span(json: &mut Writer, span: SourceSpan) -> Result<(), AllocError> {
     json.key("span")?;
     json.begin_object()?;
-    add_number(json, "start", span.start)?;
-    add_number(json, "end", span.end)?;
+    add_number(json, "start", span.start as usize)?;
+    add_number(json, "end", span.end as usize)?;
     json.end_object()
 }
 

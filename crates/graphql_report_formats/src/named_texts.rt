@@ -94,8 +94,8 @@ impl<'a> CountedText<'a> {
             path: self.path,
             text,
             span,
-            start: self.lines.place(span.start.min(text.len())),
-            end: self.lines.place(span.end.min(text.len())),
+            start: self.lines.place((span.start as usize).min(text.len())),
+            end: self.lines.place((span.end as usize).min(text.len())),
         }
     }
 }

@@ -1,4 +1,4 @@
--- Names and numbers are ASCII.
+-- Numbers are ASCII.
 use Rattle.std.proofs.Common.{◌≡◌, ℕ, Bool, true, false, cond, ◌<◌, ◌==◌, ◌&&◌, ◌||◌, ◌⊎◌, inl, inr, List, [], ◌∷◌, ◌++◌, refl, ◌∙◌, arith}
 use Rattle.std.specs.List.{list_all}
 use Rattle.std.specs.Char.{is_ascii, is_ascii_digit}
@@ -7,7 +7,7 @@ use Rattle.std.proofs.lemmas.Bool.Decides.{nat_tests}
 use Rattle.std.proofs.lemmas.List.Folds.{list_all-append}
 use Rattle.std.proofs.lemmas.Str.{IsUtf8-from_ascii}
 use Rattle.std.proofs.lemmas.Str.Ascii.{IsAscii-nil, IsAscii-cons}
-use Rattle.graphql_nodes.specs.Names.{is_name, starts_name, continues_name}
+use Rattle.graphql_nodes.proofs.AsciiLemmas.{all_ascii}
 use Rattle.graphql_numbers.specs.Numbers.{is_whole_number, is_integer, is_digits, is_fraction, begins_exponent, is_signed_digits, is_exponent, is_nothing, is_fraction_or_exponent, IsFloat}
 use Rattle.graphql_tokens.proofs.ScanLemmas.{both_pass, chosen}
 
@@ -15,26 +15,8 @@ pub one_of : (a b : Bool) → (a || b) ≡ true → (a ≡ true) ⊎ (b ≡ true
 one_of true b e = inl refl
 one_of false b e = inr e
 
-continues_ascii : (c : ℕ) → continues_name c ≡ true → is_ascii c ≡ true
-continues_ascii c e = grind (arith, nat_tests)
-
-starts_ascii : (c : ℕ) → starts_name c ≡ true → is_ascii c ≡ true
-starts_ascii c e = grind (arith, nat_tests)
-
 digit_ascii : (c : ℕ) → is_ascii_digit c ≡ true → is_ascii c ≡ true
 digit_ascii c e = grind (arith, nat_tests)
-
-all_ascii : (test : ℕ → Bool) → ((c : ℕ) → test c ≡ true → is_ascii c ≡ true) → (cs : List ℕ) → list_all test cs ≡ true → list_all is_ascii cs ≡ true
-all_ascii test step [] e = refl
-all_ascii test step (c ∷ cs) e =
-    let h = both_pass (test c) (list_all test cs) e in
-    rw (step c h.0) (all_ascii test step cs h.1)
-
-pub name_ascii : (text : List ℕ) → is_name text ≡ true → list_all is_ascii text ≡ true
-name_ascii [] e = absurd (let b : ⊥ = cc in b)
-name_ascii (c ∷ cs) e =
-    let h = both_pass (starts_name c) (list_all continues_name cs) e in
-    rw (starts_ascii c h.0) (all_ascii continues_name continues_ascii cs h.1)
 
 whole_ascii : (text : List ℕ) → is_whole_number text ≡ true → list_all is_ascii text ≡ true
 whole_ascii [] e = absurd (let b : ⊥ = cc in b)
@@ -109,14 +91,3 @@ float_ascii text is =
     rw written (joined_ascii is.whole (is.fraction ++ is.exponent) (integer_ascii is.whole is.begins) (joined_ascii is.fraction is.exponent h.0 h.1))
 
 -- and so they are UTF-8
-below_128 : (c : ℕ) → is_ascii c ≡ true → c < 128
-below_128 c e = grind (arith, nat_tests)
-
-each_below : (bytes : List ℕ) → list_all is_ascii bytes ≡ true → IsAscii bytes
-each_below [] e = IsAscii-nil
-each_below (c ∷ cs) e =
-    let h = both_pass (is_ascii c) (list_all is_ascii cs) e in
-    IsAscii-cons c cs (below_128 c h.0) (each_below cs h.1)
-
-pub ascii_utf8 : (bytes : List ℕ) → list_all is_ascii bytes ≡ true → IsUtf8 bytes
-ascii_utf8 bytes e = IsUtf8-from_ascii bytes (each_below bytes e)

@@ -12,7 +12,7 @@ use crate::keywords::Keyword;
 use crate::production::More;
 use crate::refusals::{Expected, Refusal};
 use graphql_nodes::{Name, SourceSpan};
-use graphql_tokens::{Token, TokenKind};
+use graphql_tokens::{Token, TokenKind, next_token};
 use std::alloc::{AllocError, Global};
 use std::str;
 
@@ -158,11 +158,9 @@ impl<'a> Cursor<'a> {
             return Err(self.refusal(Expected::Token(TokenKind::Name)));
         }
         let behind = self.behind();
-        let text = ascii_text(alloc, self.next_text())?;
-        match Name::new(text, Some(behind.span_from(self.start()))) {
-            Some(name) => Ok((name, behind)),
-            None => Err(self.refusal(Expected::Token(TokenKind::Name))),
-        }
+        let place = behind.span_from(self.start());
+        let name = Name::from_bytes(alloc, self.next_text(), Some(place))?;
+        Ok((name, behind))
     }
 
     /// The text of the next token.

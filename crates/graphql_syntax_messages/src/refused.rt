@@ -28,7 +28,7 @@ fn unexpected(token: Option<Token>, expected: Expected, text: &str) -> SyntaxMes
 {
     match token {
         Some(token) => {
-            let found = part(text, token.start, token.end);
+            let found = part(text, token.start as usize, token.end as usize);
             SyntaxMessage::Unexpected(expected, excerpt(found))
         }
         None => SyntaxMessage::UnexpectedEnd(expected),

@@ -158,8 +158,8 @@ impl<'a> Reader<'a> {
             Place::Nowhere => None,
             Place::In(file_id) => Some(SourceSpan {
                 file_id,
-                start,
-                end: self.end,
+                start: narrow(start),
+                end: narrow(self.end),
             }),
             Place::At(span) => Some(span),
         }
@@ -169,6 +169,11 @@ impl<'a> Reader<'a> {
         self.end = self.length.saturating_sub(rest.len());
         self.rest = rest.trim_start_matches(is_ignored);
     }
+}
+
+/// The byte as a place has it. No example is longer than places reach.
+fn narrow(at: usize) -> u32 {
+    u32::try_from(at).unwrap_or(u32::MAX)
 }
 
 fn is_ignored(c: char) -> bool {

@@ -1,4 +1,4 @@
-use Rattle.graphql_syntax.proofs.AsciiLemmas.{ascii_utf8}
+use Rattle.graphql_nodes.proofs.AsciiLemmas.{ascii_utf8}
 use Rattle.graphql_syntax.proofs.steps.ascii_text.Goals as goal
 
 pub unreachable-requires : goal.unreachable-requires
