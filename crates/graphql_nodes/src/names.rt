@@ -16,9 +16,15 @@ use std::marker::Model;
 /// name itself, and only a longer one in memory of its own.
 ///
 /// Specification: 2.1.9 Names.
-#[derive(Drop)]
 pub struct Name {
     parts: Parts,
+}
+
+// By hand, so that wherever a name is dropped this is called: the match over the variants is proved once, here.
+impl Drop for Name {
+    fn drop(self) {
+        let Name { parts: _parts } = self;
+    }
 }
 
 // The variants say whether there is a place, since an `Option` beside the text would make each name larger.

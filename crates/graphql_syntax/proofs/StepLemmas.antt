@@ -71,3 +71,6 @@ next_is_float i s e none = first_float i.source i.tokens s e none
 -- what holds of all tokens holds of those behind the first
 pub floats_behind : (source : List ℕ) (t : Token) (rest : List Token) → AreFloats source (t ∷ rest) → AreFloats source rest
 floats_behind source t rest s = λ x is kind none. s x (Contains-append_right (t ∷ []) rest x is) kind none
+
+pub spelled_behind : (source : List ℕ) (t : Token) (rest : List Token) → are_spelled source (t ∷ rest) ≡ true → are_spelled source rest ≡ true
+spelled_behind source t rest s = (both_pass (is_spelled source t) (are_spelled source rest) s).1
