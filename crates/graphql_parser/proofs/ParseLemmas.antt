@@ -2,6 +2,7 @@
 use Rattle.std.proofs.Common.{◌≡◌, ℕ, zero, suc, List, [], ◌∷◌, ◌++◌, length, None, Some, Result, Ok, Err, refl, sym, subst, ◌∙◌, ap, arith}
 use Rattle.std.proofs.lemmas.List.{append_assoc, length-append}
 use Rattle.graphql_nodes.specs.declared.spans.FileId.{FileId}
+use Rattle.graphql_tokens.specs.Ahead.{first_tokens}
 use Rattle.graphql_tokens.specs.Lexical.{AreTokens, Lexes, Scans}
 use Rattle.graphql_tokens.specs.declared.lexer.Stop.{Stop}
 use Rattle.graphql_tokens.specs.declared.lexer.Stop.TheVariants.{End, NoToken, TooMany}
@@ -149,10 +150,16 @@ stopped bounds file_id text tokens (NoToken at) error s e = let same : errors.No
 stopped bounds file_id text tokens (TooMany at) error s e = let same : errors.TooManyTokens at ≡ error = cc in subst (IsRefusal bounds file_id text) same (tokens, s.0, s.1)
 
 -- a cursor before all tokens
-pub same_input : (i : Input) (file_id : FileId) (text : List ℕ) (tokens : List Token) → i.file_id ≡ file_id → i.source ≡ text → i.tokens ≡ tokens → i.ended ≡ 0 →
+same_input : (i : Input) (file_id : FileId) (text : List ℕ) (tokens : List Token) → i.file_id ≡ file_id → i.source ≡ text → i.tokens ≡ tokens → i.ended ≡ 0 →
     i ≡ whole_input file_id text tokens
 same_input i file_id text tokens a b c d =
     ap (λ x. of x i.source i.tokens i.ended) a ∙ ap (λ x. of file_id x i.tokens i.ended) b ∙ ap (λ x. of file_id text x i.ended) c ∙
     ap (λ x. of file_id text tokens x) d where
       of : FileId → List ℕ → List Token → ℕ → Input
       of f s t e = record { file_id = f; source = s; tokens = t; ended = e }
+
+-- a cursor before the tokens that were counted
+pub before_all : (i : Input) (file_id : FileId) (text source : List ℕ) (count : ℕ) → source ≡ text → i.file_id ≡ file_id → i.source ≡ source →
+    i.tokens ≡ first_tokens (length source) count source → i.ended ≡ 0 → i ≡ whole_input file_id text (first_tokens (length text) count text)
+before_all i file_id text source count s a b c d =
+    same_input i file_id text (first_tokens (length text) count text) a (b ∙ s) (c ∙ ap (λ x. first_tokens (length x) count x) s) d

@@ -38,13 +38,7 @@ pub fn parse_document(
     if text.len() > u32::MAX as usize {
         return Err(SyntaxError::OutOfMemory);
     }
-    document_of_tokens(
-        alloc,
-        file_id,
-        text,
-        measure(text, bounds.tokens),
-        bounds,
-    )
+    document_of_tokens(alloc, file_id, text, measure(text, bounds.tokens), bounds)
 }
 
 /// The document that the tokens up to where their scan stopped are.

@@ -1,5 +1,5 @@
 -- The text of the token that comes next is one of its kind.
-use Rattle.std.proofs.Common.{◌≡◌, ℕ, Bool, true, List, [], ◌∷◌, length, nat_le, Contains, ◌&&◌}
+use Rattle.std.proofs.Common.{◌≡◌, ℕ, Bool, true, List, [], ◌∷◌, length, drop, nat_le, refl, Contains, ◌&&◌}
 use Rattle.std.specs.List.{list_all}
 use Rattle.std.specs.Char.{is_ascii}
 use Rattle.std.proofs.lemmas.List.Elements.{Contains-append_left, Contains-append_right, Contains-push}
@@ -9,7 +9,7 @@ use Rattle.graphql_tokens.specs.declared.token.Token.{Token}
 use Rattle.graphql_tokens.specs.declared.token.TokenKind.{TokenKind}
 use Rattle.graphql_tokens.specs.declared.token.TokenKind.TheVariants.{Name, IntValue, FloatValue}
 use Rattle.graphql_tokens.proofs.ScanLemmas.{both_pass}
-use Rattle.graphql_syntax.specs.Inputs.{same_kind, Input, is_kind, first_passes, next_passes, next_text, first_text, text_of, spells, is_spelled, are_spelled, AreFloats}
+use Rattle.graphql_syntax.specs.Inputs.{behind, behind_first, same_kind, Input, is_kind, first_passes, next_passes, next_text, first_text, text_of, spells, is_spelled, are_spelled, AreFloats}
 
 -- kinds
 name_spells : (kind : TokenKind) (text : List ℕ) → same_kind kind Name ≡ true → spells kind text ≡ true → is_name text ≡ true
@@ -74,3 +74,11 @@ floats_behind source t rest s = λ x is kind none. s x (Contains-append_right (t
 
 pub spelled_behind : (source : List ℕ) (t : Token) (rest : List Token) → are_spelled source (t ∷ rest) ≡ true → are_spelled source rest ≡ true
 spelled_behind source t rest s = (both_pass (is_spelled source t) (are_spelled source rest) s).1
+
+-- one token less is left behind the next one
+pub tokens_behind : (i : Input) → (behind i).tokens ≡ drop 1 i.tokens
+unfolding behind
+tokens_behind i = by i i.tokens refl where
+  by : (i : Input) (tokens : List Token) → i.tokens ≡ tokens → (behind_first i tokens).tokens ≡ drop 1 tokens
+  by i [] e = e
+  by i (t ∷ rest) e = refl

@@ -1,5 +1,5 @@
 -- Readers of tokens, of names and of what is in brackets answer by what they read and the token behind it.
-use Rattle.std.proofs.Common.{◌≡◌, ℕ, suc, ◌+◌, ◌-◌, Bool, true, false, cond, ◌⊎◌, inl, inr, List, [], ◌∷◌, ◌++◌, length, Ok, Err, Option, Some, None, refl, sym, ◌∙◌, ap, arith}
+use Rattle.std.proofs.Common.{◌≡◌, ℕ, suc, Bool, true, false, cond, ◌⊎◌, inl, inr, List, [], ◌∷◌, ◌++◌, length, Ok, Err, Option, Some, None, refl, sym, ◌∙◌, ap, arith}
 use Rattle.std.proofs.lemmas.List.{append_assoc}
 use Rattle.graphql_tokens.specs.declared.token.Token.{Token}
 use Rattle.graphql_tokens.specs.declared.token.TokenKind.{TokenKind}
@@ -11,7 +11,7 @@ use Rattle.graphql_syntax.specs.declared.refusals.Refusal.{Refusal}
 use Rattle.graphql_syntax.specs.declared.refusals.Refusal.TheVariants.{Unexpected, TooDeep}
 use Rattle.graphql_syntax.specs.Depths.{is_opening, is_closing, OpensTooDeep}
 use Rattle.graphql_syntax.specs.Inputs.{same_kind, Input, TokenTest, is_kind, first_passes, next_passes, behind_first, behind, next_text, span_from, TakesOne}
-use Rattle.graphql_syntax.specs.Reading.{Reader, refuse, too_deep, sequence, choose, place, take_one, expect, value_or_refuse, text_with, name_here, name_at}
+use Rattle.graphql_syntax.specs.Reading.{Reader, refuse, too_deep, sequence, choose, take_one, expect, value_or_refuse, text_with, name_here, name_at}
 use Rattle.graphql_syntax.proofs.ReaderLemmas.{sequence_ok, sequence_err, choose_ok, choose_err, take_one_ok, take_one_read, take_one_err, take_one_fails, text_with_ok, text_with_read, name_ok, name_read, too_deep_not_ok}
 use Rattle.graphql_syntax.proofs.TokenKinds.{same_kinds}
 use Rattle.graphql_syntax.proofs.Locality.{IsPlain, Local, Near, Steps, changed, deep_behind, how_many_append, kind_is_plain, near_choose, near_sequence, same_behind, same_next, same_start, same_text, steps_both, steps_one, takes_less}

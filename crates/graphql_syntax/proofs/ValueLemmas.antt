@@ -1,8 +1,8 @@
 -- The reader of values answers by their grammar.
-use Rattle.std.proofs.Common.{◌≡◌, ℕ, zero, suc, ◌-◌, ◌<◌, ◌≢◌, Bool, true, false, inl, inr, List, [], ◌∷◌, length, Result, Ok, Err, refl, sym, subst, ◌∙◌, ap, arith}
+use Rattle.std.proofs.Common.{◌≡◌, ℕ, zero, suc, ◌-◌, ◌<◌, ◌≢◌, Bool, true, false, inl, inr, List, ◌∷◌, length, Result, Ok, Err, refl, sym, subst, ◌∙◌, ap, arith}
 use Rattle.graphql_nodes.specs.Names.{NameText}
 use Rattle.graphql_strings.proofs.ValueLemmas.{string_value_is, string_value_found}
-use Rattle.graphql_tokens.specs.declared.token.TokenKind.TheVariants.{Name, Dollar, Colon, LeftBracket, LeftBrace}
+use Rattle.graphql_tokens.specs.declared.token.TokenKind.TheVariants.{Dollar, Colon, LeftBracket, LeftBrace}
 use Rattle.graphql_trees.specs.declared.values.Value.{Value}
 use Rattle.graphql_trees.specs.declared.values.Value.TheVariants as tree
 use Rattle.graphql_trees.specs.declared.values.ObjectField.{ObjectField, roll-ObjectField}
@@ -15,7 +15,7 @@ use Rattle.graphql_syntax.specs.Many.{Many, nothing, more}
 use Rattle.graphql_syntax.specs.Reading.{choose, too_deep}
 use Rattle.graphql_syntax.specs.ValueReaders.{variable_at, string_literal_at, variable_value_at, int_at, float_at, boolean_at, null_at, word_value_at, plain_value_at, object_field_with, list_with, object_with, value_with, value_at}
 use Rattle.graphql_syntax.specs.Values.{IsVariable, IsStringLiteral, IsValue, variable, int, float, string, true_value, false_value, null_value, enum_value, list, object, AreValues, no_values, more_values, AreObjectFields, no_fields, more_fields}
-use Rattle.graphql_syntax.proofs.Locality.{Local, takes_less, local_sequence, local_choose, local_answer, local_place, local_starting, kind_is_plain, string_is_plain}
+use Rattle.graphql_syntax.proofs.Locality.{Local, takes_less, local_sequence, local_answer, local_place, local_starting, kind_is_plain, string_is_plain}
 use Rattle.graphql_syntax.proofs.TokenLocality.{local_take_one, local_text_with, local_name}
 use Rattle.graphql_syntax.proofs.ReaderLemmas.{sequence_ok, sequence_read, choose_ok, starting_ok, starting_read, placed_is, placed_read, answer_is, take_one_ok, take_one_read, text_with_ok, text_with_read, name_ok, name_read, too_deep_not_ok, refuse_not_ok}
 use Rattle.graphql_syntax.proofs.RepetitionLemmas.{many_sound}

@@ -1,5 +1,5 @@
 -- Each way to write a value is read, and by what is read and the token behind it alone.
-use Rattle.std.proofs.Common.{◌≡◌, ℕ, zero, suc, ◌-◌, ◌<◌, ◌≤◌, Bool, true, false, not, ◌&&◌, ◌||◌, List, [], length, Ok, refl, subst, ◌∙◌, arith}
+use Rattle.std.proofs.Common.{◌≡◌, ℕ, zero, suc, ◌<◌, ◌≤◌, Bool, true, false, not, ◌&&◌, ◌||◌, List, [], length, Ok, refl, subst, ◌∙◌, arith}
 use Rattle.graphql_nodes.specs.Names.{NameText}
 use Rattle.graphql_tokens.specs.declared.token.TokenKind.{TokenKind}
 use Rattle.graphql_tokens.specs.declared.token.TokenKind.TheVariants.{Name, Dollar, Colon, LeftBracket, RightBracket, LeftBrace, RightBrace, IntValue, FloatValue}

@@ -27,6 +27,8 @@ pub struct Cursor<'a> {
 }
 
 impl<'a> Cursor<'a> {
+    ghost use Rattle.graphql_syntax.specs.Reading.{input};
+
     /// Before the first of so many tokens, with which the text begins.
     pub fn new(file_id: FileId, source: &'a [u8], count: usize) -> Cursor<'a>
         requires small { length source.now < 2 ^ 32 }
@@ -34,7 +36,7 @@ impl<'a> Cursor<'a> {
         requires tokens { (rest : List ℕ) × Lexes (length source.now) source.now (first_tokens (length source.now) count source.now) rest }
         ensures file_id { result.file_id ≡ file_id }
         ensures source { result.source.now ≡ source.now }
-        ensures tokens { with_next (length source.now) result.next result.left result.rest.now ≡ first_tokens (length source.now) count source.now }
+        ensures tokens { (input result).tokens ≡ first_tokens (length source.now) count source.now }
         ensures ended { result.ended ≡ 0 }
     {
         let (next, rest) = next_token(source.len() as u32, source, count);

@@ -15,8 +15,6 @@ use Rattle.graphql_type_system_syntax.specs.TypeExtensions.{IsFieldsAddition, Is
 use Rattle.graphql_type_system_syntax.specs.TypeExtensions as grammar
 use Rattle.graphql_type_system_syntax.proofs.BraceLemmas.{many_some, some_many, some_filled, in_braces_filled, filled_or, or_filled}
 use Rattle.graphql_type_system_syntax.proofs.SeparatorLemmas.{separated_filled}
-use Rattle.graphql_type_system_syntax.proofs.MemberTypeLemmas.{UnionBehind, EnumBehind, InputObjectBehind, union_behind_sound, union_behind_read, union_behind_moves, union_behind_local, enum_behind_sound, enum_behind_read, enum_behind_moves, enum_behind_local, input_object_behind_sound, input_object_behind_read, input_object_behind_moves, input_object_behind_local}
-use Rattle.graphql_type_system_syntax.proofs.MemberTypeLemmas.{UnionBehind, EnumBehind, InputObjectBehind, union_behind_sound, union_behind_read, union_behind_moves, union_behind_local, enum_behind_sound, enum_behind_read, enum_behind_moves, enum_behind_local, input_object_behind_sound, input_object_behind_read, input_object_behind_moves, input_object_behind_local}
 
 left_filled : (a : Bool) → (a || false) ≡ true → a ≡ true
 left_filled true e = refl

@@ -1,4 +1,4 @@
-use Rattle.std.proofs.Common.{◌≡◌, ◌-◌, ◌+◌, length, sym, ◌∙◌, arith, rules}
+use Rattle.std.proofs.Common.{◌≡◌, ◌-◌, ◌+◌, sym, ◌∙◌, arith, rules}
 use Rattle.graphql_syntax.specs.Reading.{input, more_test}
 use Rattle.graphql_syntax.specs.declared.production.More.TheVariants.{Until}
 use Rattle.graphql_tokens.specs.declared.token.TokenKind.TheVariants.{RightParenthesis}

@@ -1,4 +1,4 @@
-use Rattle.std.proofs.Common.{◌≡◌, ◌-◌, length}
+use Rattle.std.proofs.Common.{◌≡◌, ◌-◌}
 use Rattle.graphql_syntax.specs.Reading.{input, many_from, many_behind, more_test}
 use Rattle.graphql_syntax.specs.declared.production.More.TheVariants.{Until}
 use Rattle.graphql_tokens.specs.declared.token.TokenKind.TheVariants.{RightParenthesis}

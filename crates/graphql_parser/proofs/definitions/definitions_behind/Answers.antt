@@ -1,4 +1,4 @@
-use Rattle.std.proofs.Common.{◌≡◌, ◌-◌, ◌+◌, length, sym, ◌∙◌, arith, rules}
+use Rattle.std.proofs.Common.{◌≡◌, ◌-◌, ◌+◌, sym, ◌∙◌, arith, rules}
 use Rattle.graphql_syntax.specs.Reading.{input, more_test}
 use Rattle.graphql_syntax.proofs.ManyLemmas.{first_turn, one_more, no_more, no_turns, broken}
 use Rattle.graphql_syntax.specs.declared.production.More.TheVariants.{UntilEnd}

@@ -1,4 +1,4 @@
-use Rattle.std.proofs.Common.{◌≡◌, ◌-◌, ◌+◌, length, refl, sym, ◌∙◌, arith, rules}
+use Rattle.std.proofs.Common.{◌≡◌, ◌-◌, ◌+◌, refl, sym, ◌∙◌, arith, rules}
 use Rattle.graphql_syntax.specs.Reading.{input, more_test}
 use Rattle.graphql_syntax.specs.ValueReaders.{value_at, object_field_with}
 use Rattle.graphql_syntax.specs.declared.production.More.TheVariants.{Until}

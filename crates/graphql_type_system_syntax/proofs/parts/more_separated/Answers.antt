@@ -1,4 +1,4 @@
-use Rattle.std.proofs.Common.{◌≡◌, ◌-◌, ◌+◌, length, sym, ◌∙◌, arith, rules}
+use Rattle.std.proofs.Common.{◌≡◌, ◌-◌, ◌+◌, sym, ◌∙◌, arith, rules}
 use Rattle.graphql_syntax.specs.Inputs.{is_kind}
 use Rattle.graphql_syntax.specs.Reading.{input}
 use Rattle.graphql_type_system_syntax.specs.BodyReaders.{separated_with}

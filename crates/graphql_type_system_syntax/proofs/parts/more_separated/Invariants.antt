@@ -1,4 +1,4 @@
-use Rattle.std.proofs.Common.{◌≡◌, ◌-◌, length}
+use Rattle.std.proofs.Common.{◌≡◌, ◌-◌}
 use Rattle.graphql_syntax.specs.Inputs.{is_kind}
 use Rattle.graphql_syntax.specs.Reading.{input, many_from, many_behind}
 use Rattle.graphql_type_system_syntax.specs.BodyReaders.{separated_with}
