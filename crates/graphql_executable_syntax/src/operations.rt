@@ -13,7 +13,7 @@ use graphql_nodes::{Name, OperationType};
 use graphql_syntax::default_values::default_value;
 use graphql_syntax::directives::directives;
 use graphql_syntax::operation_types::operation_type;
-use graphql_syntax::production::packed;
+use graphql_syntax::production::{make_room, packed};
 use graphql_syntax::types::type_reference;
 use graphql_syntax::values::variable;
 use graphql_syntax::{Cursor, Keyword, More, Refusal};
@@ -151,6 +151,7 @@ fn definitions<'a>(
 {
     let (first, behind) = variable_definition(alloc, cursor, depth)?;
     let mut found = Vec::new(alloc);
+    make_room(&mut found)?;
     found.push(first)?;
     definitions_behind(alloc, behind, found, depth)
 }
@@ -172,6 +173,7 @@ fn definitions_behind<'a>(
             return Ok((packed(found), here));
         }
         let (item, behind) = variable_definition(alloc, here, depth)?;
+        make_room(&mut found)?;
         found.push(item)?;
         here = behind;
     }

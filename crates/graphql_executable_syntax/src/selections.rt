@@ -8,7 +8,7 @@ ghost use Rattle.graphql_executable_syntax.specs.SelectionReaders.{field_behind,
 
 use graphql_nodes::Name;
 use graphql_syntax::directives::{arguments, directives};
-use graphql_syntax::production::packed;
+use graphql_syntax::production::{make_room, packed};
 use graphql_syntax::{Cursor, Expected, Keyword, More, Refusal};
 use graphql_tokens::TokenKind;
 use graphql_trees::{Field, FragmentSpread, InlineFragment, Selection, SelectionSet};
@@ -64,6 +64,7 @@ fn selections<'a>(
 {
     let (first, behind) = selection(alloc, cursor, depth)?;
     let mut found = Vec::new(alloc);
+    make_room(&mut found)?;
     found.push(first)?;
     selections_behind(alloc, behind, found, depth)
 }
@@ -85,6 +86,7 @@ fn selections_behind<'a>(
             return Ok((packed(found), here));
         }
         let (item, behind) = selection(alloc, here, depth)?;
+        make_room(&mut found)?;
         found.push(item)?;
         here = behind;
     }

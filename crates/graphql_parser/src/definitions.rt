@@ -6,7 +6,7 @@ ghost use Rattle.graphql_syntax.specs.declared.production.More.TheVariants.{Unti
 ghost use Rattle.graphql_parser.specs.DocumentReaders.{definition_at, document_at, executable_definition_at, whole_document_at};
 
 use graphql_executable_syntax::{begins_operation, fragment_definition, operation_definition};
-use graphql_syntax::production::packed;
+use graphql_syntax::production::{make_room, packed};
 use graphql_syntax::{Cursor, Expected, Keyword, More, Refusal};
 use graphql_trees::{Definition, Document};
 use graphql_type_system_syntax::{
@@ -68,6 +68,7 @@ fn definitions_behind<'a>(
             return Ok((packed(found), here));
         }
         let (item, behind) = definition(alloc, here, depth)?;
+        make_room(&mut found)?;
         found.push(item)?;
         here = behind;
     }
@@ -85,6 +86,7 @@ fn definitions<'a>(
 {
     let (first, behind) = definition(alloc, cursor, depth)?;
     let mut found = Vec::new(alloc);
+    make_room(&mut found)?;
     found.push(first)?;
     definitions_behind(alloc, behind, found, depth)
 }

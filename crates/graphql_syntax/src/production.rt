@@ -9,7 +9,7 @@ use crate::cursor::Cursor;
 use crate::refusals::Refusal;
 use graphql_tokens::TokenKind;
 use sqlite_items::Items;
-use std::alloc::Global;
+use std::alloc::{AllocError, Global};
 
 /// How far one goes on to read.
 #[derive(Clone, Copy, Debug, PartialEq, Eq)]
@@ -33,6 +33,17 @@ pub trait Production: Sized + Drop {
         depth: usize,
     ) -> Result<(Self, Cursor<'a>), Refusal>
         ensures { Reads (λ found. (found.0, input found.1)) result (read_at constant depth (input cursor.entry)) };
+}
+
+/// Makes room for one more where there is none: for one at first, and then for twice as many, since most
+/// lists are short, and more is read while they are held.
+pub fn make_room<T: Drop>(found: &mut Vec<T>) -> Result<(), AllocError>
+    ensures { found.new.items ≡ found.old.items }
+{
+    if found.len() < found.capacity() {
+        return Ok(());
+    }
+    found.reserve_exact(found.len().max(1))
 }
 
 /// What was found, in no more memory than it takes.
@@ -63,6 +74,7 @@ pub fn items_behind<'a, P: Production>(
             return Ok((packed(found), here));
         }
         let (item, behind) = P::read(alloc, here, constant, depth)?;
+        make_room(&mut found)?;
         found.push(item)?;
         here = behind;
     }
@@ -83,6 +95,7 @@ pub fn items<'a, P: Production>(
 {
     let (first, behind) = P::read(alloc, cursor, constant, depth)?;
     let mut found = Vec::new(alloc);
+    make_room(&mut found)?;
     found.push(first)?;
     items_behind(alloc, behind, found, more, constant, depth)
 }

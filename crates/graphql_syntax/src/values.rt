@@ -9,7 +9,7 @@ ghost use Rattle.graphql_tokens.specs.declared.token.TokenKind.TheVariants.{Righ
 
 use crate::cursor::Cursor;
 use crate::keywords::Keyword;
-use crate::production::{More, packed};
+use crate::production::{More, make_room, packed};
 use crate::refusals::{Expected, Refusal};
 use crate::steps::ascii_text;
 use graphql_numbers::{FloatValue, IntValue};
@@ -80,6 +80,7 @@ fn values<'a>(
             return Ok((packed(found), here));
         }
         let (item, behind) = value(alloc, here, constant, depth)?;
+        make_room(&mut found)?;
         found.push(item)?;
         here = behind;
     }
@@ -122,6 +123,7 @@ fn object_fields<'a>(
             return Ok((packed(found), here));
         }
         let (item, behind) = object_field(alloc, here, constant, depth)?;
+        make_room(&mut found)?;
         found.push(item)?;
         here = behind;
     }

@@ -8,7 +8,7 @@ ghost use Rattle.graphql_syntax.specs.declared.refusals.Refusal.{Refusal};
 ghost use Rattle.graphql_type_system_syntax.specs.BodyReaders.{separated_with};
 
 use graphql_nodes::Name;
-use graphql_syntax::production::packed;
+use graphql_syntax::production::{make_room, packed};
 use graphql_syntax::{Cursor, More, Refusal};
 use graphql_tokens::TokenKind;
 use sqlite_items::Items;
@@ -52,6 +52,7 @@ pub fn parts_until<'a, P: Part>(
 {
     let (first, behind) = P::read(alloc, cursor, depth)?;
     let mut found = Vec::new(alloc);
+    make_room(&mut found)?;
     found.push(first)?;
     more_until(alloc, behind, found, closing, depth)
 }
@@ -74,6 +75,7 @@ fn more_until<'a, P: Part>(
             return Ok((packed(found), here));
         }
         let (item, behind) = P::read(alloc, here, depth)?;
+        make_room(&mut found)?;
         found.push(item)?;
         here = behind;
     }
@@ -112,6 +114,7 @@ pub fn more_separated<'a, P: Part>(
             return Ok((packed(found), here));
         }
         let (item, behind) = separated::<P>(alloc, here, separator, depth)?;
+        make_room(&mut found)?;
         found.push(item)?;
         here = behind;
     }

@@ -31,7 +31,7 @@ selections_behind-loop-turn-preserved t c =
     c.loop-turn.invariant ∙
     one_more (more_test (Until RightBrace)) (selection_at c.args.depth) (c.args.cursor.left - c.loop-turn._turn) c.loop-turn.found.items (input c.loop-turn.here)
     c.in_ok-item.item (input c.in_ok-item.behind) (sym c.has_more.ensures ∙ c.if-not-has_more.false) (omega arith) c.in_ok-item.ensures in
-    rw (c.in_ok-push.ensures.items, ← same) turn
+    rw (c.in_ok-push.ensures.items, c.make_room.ensures, ← same) turn
 
 pub selections_behind-returns : goal.selections_behind-returns
 selections_behind-returns t c =

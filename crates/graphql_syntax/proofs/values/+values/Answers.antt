@@ -31,7 +31,7 @@ values-loop-turn-preserved t c =
     c.loop-turn.invariant ∙
     one_more (more_test (Until RightBracket)) (value_at c.args.constant c.args.depth) (c.args.cursor.left - c.loop-turn._turn) c.loop-turn.found.items (input c.loop-turn.here)
     c.in_ok-item.item (input c.in_ok-item.behind) (sym c.has_more.ensures ∙ c.if-not-has_more.false) (omega arith) c.in_ok-item.ensures in
-    rw (c.in_ok-push.ensures.items, ← same) turn
+    rw (c.in_ok-push.ensures.items, c.make_room.ensures, ← same) turn
 
 pub values-returns : goal.values-returns
 values-returns t c =
@@ -63,7 +63,7 @@ object_fields-loop-turn-preserved t c =
     c.loop-turn.invariant ∙
     one_more (more_test (Until RightBrace)) (object_field_with (value_at c.args.constant c.args.depth)) (c.args.cursor.left - c.loop-turn._turn) c.loop-turn.found.items (input c.loop-turn.here)
     c.in_ok-item.item (input c.in_ok-item.behind) (sym c.has_more.ensures ∙ c.if-not-has_more.false) (omega arith) c.in_ok-item.ensures in
-    rw (c.in_ok-push.ensures.items, ← same) turn
+    rw (c.in_ok-push.ensures.items, c.make_room.ensures, ← same) turn
 
 pub object_fields-returns : goal.object_fields-returns
 object_fields-returns t c =

@@ -29,7 +29,7 @@ loop-turn-preserved g c =
     c.loop-turn.invariant ∙
     one_more (is_kind c.args.separator) (separated_with c.args.separator (g.P.Part.read_at c.args.depth)) (c.args.cursor.left - c.loop-turn._turn) c.loop-turn.found.items (input c.loop-turn.here)
     c.in_ok-item.item (input c.in_ok-item.behind) (sym c.sees.ensures ∙ c.if-not-sees.false) (omega arith) c.in_ok-item.ensures in
-    rw (c.in_ok-push.ensures.items, ← same) turn
+    rw (c.in_ok-push.ensures.items, c.make_room.ensures, ← same) turn
 
 pub returns : goal.returns
 returns g c =

@@ -1,5 +1,8 @@
-use Rattle.std.proofs.Common.{refl, subst, rules}
+use Rattle.std.proofs.Common.{◌∙◌, refl, subst, sym, rules, true≢false}
+use Rattle.std.specs.Prelude.{IsTrue}
 use Rattle.graphql_diagnostics.proofs.ReportLemmas.{holds, checks-push}
+use Rattle.graphql_documents.specs.declared.documents.definitions.InputValueDefinition.{InputValueDefinition}
+use Rattle.graphql_documents.specs.Schemas.{is_required}
 use Rattle.graphql_specification.specs.Values.{IsFieldProvided, within_itself}
 use Rattle.graphql_values.proofs.value.objects.check_required_field.Goals as goal
 
@@ -10,7 +13,10 @@ returns-then-is_satisfied c = λ schema variables ty is.
 
 pub returns : goal.returns
 returns c = λ schema variables ty is.
-    let missing : ¬ IsFieldProvided c.args.entries.now (c.args.name.now, c.args.field.now) = search rules in
+    let missing : ¬ IsFieldProvided c.args.entries.now (c.args.name.now, c.args.field.now) =
+    λ provided. true≢false (sym (c.is_satisfied.ensures.1
+    (λ required. provided (subst (λ (d : InputValueDefinition). IsTrue (is_required d)) c.deref.ensures required))) ∙
+    c.if-is_satisfied.false) in
     checks-push _ _ _ _ _ _ c.push.ensures.ok c.push.ensures.err missing
     (record {
       inner_ty = ty;
