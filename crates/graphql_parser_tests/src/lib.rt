@@ -6,6 +6,8 @@ mod bounds;
 #[cfg(test)]
 mod executables;
 #[cfg(test)]
+mod names;
+#[cfg(test)]
 mod places;
 #[cfg(test)]
 mod texts;

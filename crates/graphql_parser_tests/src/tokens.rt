@@ -1,4 +1,4 @@
-use graphql_tokens::{LexicalError, Stop, scan, tokens};
+use graphql_tokens::{LexicalError, Stop, Token, TokenKind, measure, next_token, scan, tokens};
 
 /// Texts, and how many tokens graphql-core reads in them.
 const COUNTS: [(&str, usize); 7] = [
@@ -48,4 +48,32 @@ fn tokens_above_the_bound_are_refused(rt: HostRuntime) {
         Err(error) => assert_eq!(rt; error, LexicalError::TooManyTokens(4)),
         Ok(_) => panic!(rt; "three tokens"),
     }
+}
+
+#[test]
+fn tokens_are_counted_up_to_the_bound(rt: HostRuntime) {
+    for (text, count) in COUNTS {
+        let extent = measure(text, 100);
+        assert_eq!(rt;
+            (extent.tokens, extent.stop),
+            (count, Stop::End),
+            "in {text}"
+        );
+    }
+    let extent = measure("a b c", 2);
+    assert_eq!(rt; (extent.tokens, extent.stop), (2, Stop::TooMany(4)));
+}
+
+#[test]
+fn the_next_token_is_cut_from_the_text(rt: HostRuntime) {
+    let text = " # first\r\n{ a }".as_bytes();
+    let (next, rest) = next_token(15, text, 3);
+    let brace = Token {
+        kind: TokenKind::LeftBrace,
+        start: 10,
+        end: 11,
+    };
+    assert_eq!(rt; next, Some(brace));
+    assert_eq!(rt; rest, " a }".as_bytes());
+    assert_eq!(rt; next_token(15, text, 0).0, None);
 }
