@@ -35,7 +35,7 @@ enum graphql_status {
   GRAPHQL_REPORTED = 1,
   /* `ends` does not go up, or goes beyond `documents`. There is no answer. */
   GRAPHQL_BAD_ARGUMENTS = 2,
-  /* Memory was refused. There is no answer. */
+  /* Memory was refused, or a text has 4 GiB or more. There is no answer. */
   GRAPHQL_OUT_OF_MEMORY = 3,
   /* A text is no UTF-8. There is no answer. */
   GRAPHQL_NOT_UTF8 = 5
