@@ -1,50 +1,51 @@
-use Rattle.std.proofs.Common.{◌≡◌, ◌↔◌, List, Option, None, Some, refl, sym, ◌∙◌, subst, inl, inr, take}
-use Rattle.std.specs.Prelude.{IsSome, IsTrue, MatchOption}
+use Rattle.std.proofs.Common.{◌≡◌, None, not, ap, ◌∙◌, rules, subst, inl, inr, take}
+use Rattle.std.specs.Prelude.{MatchOption}
+use Rattle.std.specs.Option.{option_copied}
 use Rattle.std.proofs.lemmas.List.{take_all}
 use Rattle.graphql_documents.specs.Directives.{argument_named}
 use Rattle.graphql_documents.specs.declared.documents.directives.Argument.{Argument}
-use Rattle.graphql_nodes.specs.declared.nodes.Node.{Node}
 use Rattle.graphql_merging.proofs.ArgumentComparisonLemmas.{more_among, reachable_at}
-use Rattle.graphql_merging.specs.Comparisons.{ArgumentConflicts, ArgumentsConflict, HasArgument, StandAmong}
+use Rattle.graphql_merging.proofs.ByNameLemmas.{nothing_found, something_found}
+use Rattle.graphql_merging.specs.Comparisons.{ArgumentConflicts, HasArgument, StandAmong}
 use Rattle.graphql_merging.proofs.comparisons.field_conflicts.conflict_of_arguments.Goals as goal
+use Rattle.graphql_merging.proofs.comparisons.field_conflicts.conflict_of_arguments.Goals.{else-is_none-via-else-is_none, else-is_none-via-then-is_none+in_ok-conflict+in-None-1}
 
--- what is not there is none
-lacking : {X : Type 0} (o : Option X) → ¬ IsSome o → o ≡ None
-lacking None missing = refl
-lacking (Some x) missing = absurd (missing refl)
-
-pub loop-i-preserved-then-is_before : goal.loop-i-preserved-then-is_before
-loop-i-preserved-then-is_before c =
-    let list = c.as_slice-list.result.now in
+pub returns-in-loop-i : goal.returns-in-loop-i
+returns-in-loop-i c =
+    let arguments = c.args.arguments.now in
     let i = c.loop-i.i in
-    let known = subst (λ (a : Argument). IsTrue c.is_before.result ↔ IsSome (argument_named a.name (take i list))) c.deref.ensures
-    (subst (λ (l : List (Node Argument)). IsTrue c.is_before.result ↔ IsSome (argument_named c.deref.result.now.name (take i l))) (sym c.as_slice-list.ensures) c.is_before.ensures) in
-    more_among list i c.index-list-i.result c.args.others.now c.loop-i-test.true c.index-list-i.is c.loop-i.invariant (inl (known.0 c.if-is_before.true))
+    let x = c.index-arguments-i.result in
+    let others = c.args.others.now in
+    let found : option_copied c.find.result ≡ argument_named x.value.value.name (take i arguments) =
+    c.find.ensures ∙ ap (λ (a : Argument). argument_named a.name c.loop-i.seen) c.deref.ensures ∙ ap (argument_named x.value.value.name) c.loop-i.invariant.seen in
+    record {
+      argument = x;
+      reachable = reachable_at arguments i x others c.loop-i-test.true c.index-arguments-i.is c.loop-i.invariant.agree
+          (nothing_found c.find.result (argument_named x.value.value.name (take i arguments)) found (c.is_none.ensures ∙ ap not c.if-is_none.true));
+      conflicts = subst (λ o. MatchOption o (HasArgument others x.value.value.name x) (ArgumentConflicts others x)) c.in-Some.is c.in_ok-conflict.ensures;
+    }
 
 pub loop-i-preserved : goal.loop-i-preserved
 loop-i-preserved c =
-    let x = c.index-list-i.result in
-    let others = c.args.others.now in
-    let agrees = subst (λ o. MatchOption o (HasArgument others x.value.value.name x) (ArgumentConflicts others x)) c.in_default.is c.in_ok-conflict.ensures in
-    more_among c.as_slice-list.result.now c.loop-i.i x others c.loop-i-test.true c.index-list-i.is c.loop-i.invariant (inr agrees)
-
-pub returns-in-Some : goal.returns-in-Some
-returns-in-Some c =
-    let list = c.as_slice-list.result.now in
+    let arguments = c.args.arguments.now in
     let i = c.loop-i.i in
-    let x = c.index-list-i.result in
+    let x = c.index-arguments-i.result in
     let others = c.args.others.now in
-    let known = subst (λ (a : Argument). IsTrue c.is_before.result ↔ IsSome (argument_named a.name (take i list))) c.deref.ensures
-    (subst (λ (l : List (Node Argument)). IsTrue c.is_before.result ↔ IsSome (argument_named c.deref.result.now.name (take i l))) (sym c.as_slice-list.ensures) c.is_before.ensures) in
-    let new = lacking (argument_named x.value.value.name (take i list)) (λ some. let is = sym (known.1 some) ∙ c.if-is_before.false in let no : ⊥ = cc in no) in
-    let conflict : ArgumentsConflict list others c.in-Some.conflict = record {
-      argument = x;
-      reachable = reachable_at list i x others c.loop-i-test.true c.index-list-i.is c.loop-i.invariant new;
-      conflicts = subst (λ o. MatchOption o (HasArgument others x.value.value.name x) (ArgumentConflicts others x)) c.in-Some.is c.in_ok-conflict.ensures;
-    } in
-    subst (λ (l : List (Node Argument)). ArgumentsConflict l others c.in-Some.conflict) c.as_slice-list.ensures conflict
+    let found : option_copied c.find.result ≡ argument_named x.value.value.name (take i arguments) =
+    c.find.ensures ∙ ap (λ (a : Argument). argument_named a.name c.loop-i.seen) c.deref.ensures ∙ ap (argument_named x.value.value.name) c.loop-i.invariant.seen in
+    record {
+      agree = more_among arguments i x others c.loop-i-test.true c.index-arguments-i.is c.loop-i.invariant.agree
+          (elim c.else-is_none.branch [
+            | else-is_none-via-else-is_none w ↦
+                inl (something_found c.find.result (argument_named x.value.value.name (take i arguments)) found (c.is_none.ensures ∙ ap not w.if-is_none.false))
+            | else-is_none-via-then-is_none+in_ok-conflict+in-None-1 w ↦
+                let none : w.in_ok-conflict.field-0 ≡ None = search rules in
+                inr (subst (λ o. MatchOption o (HasArgument others x.value.value.name x) (ArgumentConflicts others x)) none w.in_ok-conflict.ensures)
+          ]);
+      seen = c.in_ok-grow.ensures;
+    }
 
 pub returns : goal.returns
 returns c =
-    subst (λ (l : List (Node Argument)). StandAmong l c.args.others.now) c.as_slice-list.ensures
-    (subst (λ (l : List (Node Argument)). StandAmong l c.args.others.now) (take_all c.loop-i.i c.as_slice-list.result.now c.loop-i-test.false) c.loop-i.invariant)
+    let whole = take_all c.loop-i.i c.args.arguments.now c.loop-i-test.false in
+    (subst (λ l. StandAmong l c.args.others.now) whole c.loop-i.invariant.agree, c.loop-i.invariant.seen ∙ whole)
