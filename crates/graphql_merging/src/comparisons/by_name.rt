@@ -1,7 +1,7 @@
 //! Arguments of a field and entries of an input object, each found by its name.
 
 ghost use Rattle.std.specs.Option.{option_copied};
-ghost use Rattle.std.specs.Prelude.{◌≡◌, ◌++◌, ◌∷◌, [], IfOk, find};
+ghost use Rattle.std.specs.Prelude.{◌≡◌, ◌↔◌, ◌++◌, ◌∷◌, [], IfOk, IsNone, IsTrue, find};
 ghost use Rattle.graphql_nodes.specs.Names.{NameText, same_name};
 ghost use Rattle.graphql_merging.specs.FirstPlaces.{HasPlaces};
 
@@ -42,7 +42,7 @@ impl Named for (Name, Node<Value>) {
 #[derive(Drop)]
 pub(super) struct ByName<'a, T: Named> {
     elements: &'a [T],
-    // where there are more than a few
+    // none only while each name first comes among the first few
     places: Option<HashMap<&'a Name, usize>>,
 }
 
@@ -89,18 +89,23 @@ impl<'a, T: Named> ByName<'a, T> {
         }
     }
 
-    /// Has these elements from now on: one more, the last. It takes about constant time. The only error is a
-    /// failed allocation.
+    /// Has these elements from now on: one more, the last. Answers whether none before it has its name. Growing
+    /// one by one takes about linear time in all. The only error is a failed allocation.
     pub(super) fn grow(
         &mut self,
         alloc: Global,
         elements: &'a [T],
         last: &'a T,
-    ) -> Result<(), AllocError>
+    ) -> Result<bool, AllocError>
         requires { elements.now ≡ self.old ++ last.now ∷ [] }
-        ensures { IfOk result (λ _. self.new ≡ elements.now) }
+        ensures elements { IfOk result (λ _. self.new ≡ elements.now) }
+        ensures first { IfOk result (λ first. IsTrue first ↔ IsNone (find (λ x. same_name (T.name_of x) (T.name_of last.now)) self.old)) }
     {
         let place = self.elements.len();
+        if self.find(last.name()).is_some() {
+            self.elements = elements;
+            return Ok(false);
+        }
         // taken out, since a table that could not grow is of no use
         let places = match self.places.take() {
             Some(mut places) => {
@@ -112,7 +117,7 @@ impl<'a, T: Named> ByName<'a, T> {
         };
         self.elements = elements;
         self.places = places;
-        Ok(())
+        Ok(true)
     }
 }
 

@@ -54,13 +54,12 @@ fn have_same_entries(
     ensures { IfOk result (λ same. IsTrue same ↔ SameEntries a.now b.now) }
 {
     let others = ByName::new(alloc, b)?;
-    // grows no further than the two agree
+    // grows up to the first entry on which the two differ
     let mut seen = ByName::new(alloc, &a[..0])?;
     for (i, entry) in a.iter().enumerate() {
-        if seen.find(&entry.0).is_none() && !stands_in(alloc, entry, &others)? {
+        if seen.grow(alloc, &a[..i + 1], entry)? && !stands_in(alloc, entry, &others)? {
             return Ok(false);
         }
-        seen.grow(alloc, &a[..i + 1], entry)?;
     }
     Ok(has_keys_of(&seen, b))
 }

@@ -47,8 +47,8 @@ pub fn find_field_conflict<'a>(
     }
 }
 
-/// The first of these arguments that the others lack, or give another value. Those before it have been seen
-/// then, all if there is none: what is seen grows no further than the two agree.
+/// The first of these arguments that the others lack, or give another value. What is seen grows up to it, and
+/// is all of them if there is none.
 fn conflict_of_arguments<'a>(
     alloc: Global,
     arguments: &'a [Node<Argument>],
@@ -61,12 +61,11 @@ fn conflict_of_arguments<'a>(
         (ArgumentsConflict arguments.now others.now)) }
 {
     for (i, argument) in arguments.iter().enumerate() {
-        if seen.find(&argument.value.name).is_none()
+        if seen.grow(alloc, &arguments[..i + 1], argument)?
             && let Some(conflict) = conflict_of_argument(alloc, argument, others)?
         {
             return Ok(Some(conflict));
         }
-        seen.grow(alloc, &arguments[..i + 1], argument)?;
     }
     Ok(None)
 }

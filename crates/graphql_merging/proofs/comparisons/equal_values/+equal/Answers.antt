@@ -1,21 +1,19 @@
-use Rattle.std.proofs.Common.{◌≡◌, ◌↔◌, ap, sym, not, ◌∙◌, subst, take, List, [], ◌∷◌, ◌++◌, inl, inr}
+use Rattle.std.proofs.Common.{◌↔◌, ap, sym, ◌∙◌, subst, take, List, inl, inr}
 use Rattle.graphql_documents.specs.declared.documents.values.Value.TheOpen as Open
 use Rattle.graphql_documents.specs.declared.documents.values.Value.TheVariants as literal
 use Rattle.std.proofs.lemmas.List.{take_all}
 use Rattle.std.proofs.lemmas.Result.{IfOk-weaker}
-use Rattle.std.specs.Option.{option_copied}
-use Rattle.std.specs.Prelude.{IsSome, IsTrue}
+use Rattle.std.specs.Prelude.{IsNone, IsSome, IsTrue}
 use Rattle.graphql_nodes.specs.Names.{NameText}
-use Rattle.graphql_documents.proofs.ListLemmas.{more_is}
 use Rattle.graphql_documents.specs.Values.{SameValue}
 use Rattle.graphql_nodes.specs.declared.nodes.Node.{Node}
 use Rattle.graphql_documents.specs.declared.documents.values.Value.{Value, out-Value}
 use Rattle.graphql_merging.specs.Comparisons.{HasEntry, HasKeysOf, SameEntries, SameItems, StandIn}
-use Rattle.graphql_merging.proofs.ByNameLemmas.{nothing_found, something_found}
+use Rattle.graphql_merging.proofs.ByNameLemmas.{is_nothing, is_something}
 use Rattle.graphql_merging.proofs.FirstNamedLemmas.{first_named}
 use Rattle.graphql_merging.proofs.ValueComparisonLemmas.{entry_decides, key, known_entry, more_stand_in, must_have, none_stand_in, same_objects, same_opened, some_value}
 use Rattle.graphql_merging.proofs.comparisons.equal_values.+equal.Goals as goal
-use Rattle.graphql_merging.proofs.comparisons.equal_values.+equal.Goals.{have_same_entries-else-is_none-via-then-is_none+in_ok-stands_in+else-not-branch, have_same_entries-else-is_none-via-else-is_none}
+use Rattle.graphql_merging.proofs.comparisons.equal_values.+equal.Goals.{have_same_entries-else-branch-via-then-branch+in_ok-stands_in+else-not-branch, have_same_entries-else-branch-via-else-branch}
 
 pub is_same_value-returns-in-List-List : goal.is_same_value-returns-in-List-List
 is_same_value-returns-in-List-List t c =
@@ -50,8 +48,8 @@ have_same_entries-returns-then-not-branch t c =
     let b = c.args.b.now in
     let i = c.loop-i.i in
     let e = c.index-a-i.result in
-    let found : option_copied c.find.result ≡ first_named key e.0 (take i a) = c.find.ensures ∙ ap (first_named key e.0) c.loop-i.invariant.seen in
-    let none = nothing_found c.find.result (first_named key e.0 (take i a)) found (c.is_none.ensures ∙ ap not c.if-is_none.true) in
+    let first = subst (λ (l : List (NameText × Node Value)). IsTrue c.in_ok-grow.field-0 ↔ IsNone (first_named key e.0 l)) c.loop-i.invariant.seen c.in_ok-grow.ensures.first in
+    let none = is_nothing (first_named key e.0 (take i a)) (first.0 c.if-branch.true) in
     let decides = subst (λ (l : List (NameText × Node Value)). IsTrue c.in_ok-stands_in.field-0 ↔ HasEntry l e.0 e.1) c.in_ok-others.ensures c.in_ok-stands_in.ensures in (
       λ e. absurd (let no : ⊥ = cc in no),
       λ same. sym c.if-not-branch.true ∙ decides.1
@@ -59,29 +57,24 @@ have_same_entries-returns-then-not-branch t c =
           (λ before. let some = subst IsSome none (known_entry e.0 (take i a) before) in let no : ⊥ = cc in no) same.1),
     )
 
-pub have_same_entries-grow-requires : goal.have_same_entries-grow-requires
-have_same_entries-grow-requires t c =
-    let e = c.index-a-i.result in
-    more_is c.args.a.now c.loop-i.i e c.loop-i-test.true c.index-a-i.is ∙ ap (λ (l : List (NameText × Node Value)). l ++ e ∷ []) (sym c.loop-i.invariant.seen)
-
 pub have_same_entries-loop-i-preserved : goal.have_same_entries-loop-i-preserved
 have_same_entries-loop-i-preserved t c =
     let a = c.args.a.now in
     let b = c.args.b.now in
     let i = c.loop-i.i in
     let e = c.index-a-i.result in
-    let found : option_copied c.find.result ≡ first_named key e.0 (take i a) = c.find.ensures ∙ ap (first_named key e.0) c.loop-i.invariant.seen in
+    let first = subst (λ (l : List (NameText × Node Value)). IsTrue c.in_ok-grow.field-0 ↔ IsNone (first_named key e.0 l)) c.loop-i.invariant.seen c.in_ok-grow.ensures.first in
     record {
       stand = more_stand_in a i e b c.loop-i-test.true c.index-a-i.is c.loop-i.invariant.stand
-          (elim c.else-is_none.branch [
-            | have_same_entries-else-is_none-via-then-is_none+in_ok-stands_in+else-not-branch w ↦
+          (elim c.else-branch.branch [
+            | have_same_entries-else-branch-via-then-branch+in_ok-stands_in+else-not-branch w ↦
                 let decides = subst (λ (l : List (NameText × Node Value)). IsTrue w.in_ok-stands_in.field-0 ↔ HasEntry l e.0 e.1) c.in_ok-others.ensures w.in_ok-stands_in.ensures in
                 inr (decides.0 w.if-not-branch.false)
-            | have_same_entries-else-is_none-via-else-is_none w ↦
-                let some = something_found c.find.result (first_named key e.0 (take i a)) found (c.is_none.ensures ∙ ap not w.if-is_none.false) in
-                inl (some_value (first_named key e.0 (take i a)) some)
+            | have_same_entries-else-branch-via-else-branch w ↦
+                let known = first_named key e.0 (take i a) in
+                inl (some_value known (is_something known (λ none. let is = first.1 none in let no : ⊥ = cc in no)))
           ]);
-      seen = c.in_ok-grow.ensures;
+      seen = c.in_ok-grow.ensures.elements;
     }
 
 pub have_same_entries-returns : goal.have_same_entries-returns

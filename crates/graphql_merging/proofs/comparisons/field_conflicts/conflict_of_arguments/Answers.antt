@@ -1,14 +1,14 @@
-use Rattle.std.proofs.Common.{◌≡◌, None, not, ap, ◌∙◌, rules, subst, inl, inr, take}
-use Rattle.std.specs.Prelude.{MatchOption}
-use Rattle.std.specs.Option.{option_copied}
+use Rattle.std.proofs.Common.{◌≡◌, ◌↔◌, List, None, ◌∙◌, rules, subst, inl, inr, take}
+use Rattle.std.specs.Prelude.{IsNone, IsTrue, MatchOption}
 use Rattle.std.proofs.lemmas.List.{take_all}
 use Rattle.graphql_documents.specs.Directives.{argument_named}
 use Rattle.graphql_documents.specs.declared.documents.directives.Argument.{Argument}
+use Rattle.graphql_nodes.specs.declared.nodes.Node.{Node}
 use Rattle.graphql_merging.proofs.ArgumentComparisonLemmas.{more_among, reachable_at}
-use Rattle.graphql_merging.proofs.ByNameLemmas.{nothing_found, something_found}
+use Rattle.graphql_merging.proofs.ByNameLemmas.{is_nothing, is_something}
 use Rattle.graphql_merging.specs.Comparisons.{ArgumentConflicts, HasArgument, StandAmong}
 use Rattle.graphql_merging.proofs.comparisons.field_conflicts.conflict_of_arguments.Goals as goal
-use Rattle.graphql_merging.proofs.comparisons.field_conflicts.conflict_of_arguments.Goals.{else-is_none-via-else-is_none, else-is_none-via-then-is_none+in_ok-conflict+in-None-1}
+use Rattle.graphql_merging.proofs.comparisons.field_conflicts.conflict_of_arguments.Goals.{else-branch-via-else-branch, else-branch-via-then-branch+in_ok-conflict+in-None-1}
 
 pub returns-in-loop-i : goal.returns-in-loop-i
 returns-in-loop-i c =
@@ -16,12 +16,11 @@ returns-in-loop-i c =
     let i = c.loop-i.i in
     let x = c.index-arguments-i.result in
     let others = c.args.others.now in
-    let found : option_copied c.find.result ≡ argument_named x.value.value.name (take i arguments) =
-    c.find.ensures ∙ ap (λ (a : Argument). argument_named a.name c.loop-i.seen) c.deref.ensures ∙ ap (argument_named x.value.value.name) c.loop-i.invariant.seen in
+    let first = subst (λ (l : List (Node Argument)). IsTrue c.in_ok-grow.field-0 ↔ IsNone (argument_named x.value.value.name l)) c.loop-i.invariant.seen c.in_ok-grow.ensures.first in
     record {
       argument = x;
       reachable = reachable_at arguments i x others c.loop-i-test.true c.index-arguments-i.is c.loop-i.invariant.agree
-          (nothing_found c.find.result (argument_named x.value.value.name (take i arguments)) found (c.is_none.ensures ∙ ap not c.if-is_none.true));
+          (is_nothing (argument_named x.value.value.name (take i arguments)) (first.0 c.if-branch.true));
       conflicts = subst (λ o. MatchOption o (HasArgument others x.value.value.name x) (ArgumentConflicts others x)) c.in-Some.is c.in_ok-conflict.ensures;
     }
 
@@ -31,18 +30,17 @@ loop-i-preserved c =
     let i = c.loop-i.i in
     let x = c.index-arguments-i.result in
     let others = c.args.others.now in
-    let found : option_copied c.find.result ≡ argument_named x.value.value.name (take i arguments) =
-    c.find.ensures ∙ ap (λ (a : Argument). argument_named a.name c.loop-i.seen) c.deref.ensures ∙ ap (argument_named x.value.value.name) c.loop-i.invariant.seen in
+    let first = subst (λ (l : List (Node Argument)). IsTrue c.in_ok-grow.field-0 ↔ IsNone (argument_named x.value.value.name l)) c.loop-i.invariant.seen c.in_ok-grow.ensures.first in
     record {
       agree = more_among arguments i x others c.loop-i-test.true c.index-arguments-i.is c.loop-i.invariant.agree
-          (elim c.else-is_none.branch [
-            | else-is_none-via-else-is_none w ↦
-                inl (something_found c.find.result (argument_named x.value.value.name (take i arguments)) found (c.is_none.ensures ∙ ap not w.if-is_none.false))
-            | else-is_none-via-then-is_none+in_ok-conflict+in-None-1 w ↦
+          (elim c.else-branch.branch [
+            | else-branch-via-else-branch w ↦
+                inl (is_something (argument_named x.value.value.name (take i arguments)) (λ none. let is = first.1 none in let no : ⊥ = cc in no))
+            | else-branch-via-then-branch+in_ok-conflict+in-None-1 w ↦
                 let none : w.in_ok-conflict.field-0 ≡ None = search rules in
                 inr (subst (λ o. MatchOption o (HasArgument others x.value.value.name x) (ArgumentConflicts others x)) none w.in_ok-conflict.ensures)
           ]);
-      seen = c.in_ok-grow.ensures;
+      seen = c.in_ok-grow.ensures.elements;
     }
 
 pub returns : goal.returns
