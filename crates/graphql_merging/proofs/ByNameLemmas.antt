@@ -1,37 +1,56 @@
 -- Tables of the places of the first elements of each name: what one more element changes, and what is found.
-use Rattle.std.proofs.Common.{◌≡◌, ◌↔◌, ℕ, ◌<◌, ◌≤◌, ◌+◌, Bool, List, [], ◌∷◌, ◌++◌, Bor, Option, Some, None, cond, find, length, get_or, take, sym, ap, subst, ◌∙◌, arith}
+use Rattle.std.proofs.Common.{◌≡◌, ℕ, ◌<◌, ◌+◌, Bool, true, Bor, List, [], ◌∷◌, ◌++◌, Option, Some, None, cond, refl, length, get_or, take, sym, ap, subst, ◌∙◌, arith}
 use Rattle.std.specs.HashMap.{HashMap}
 use Rattle.std.specs.List.{position}
-use Rattle.std.specs.Option.{option_or}
+use Rattle.std.specs.Option.{option_copied, option_or}
+use Rattle.std.specs.Prelude.{IsNone, IsSome, is_some}
 use Rattle.std.proofs.lemmas.List.{length-take-le}
 use Rattle.graphql_nodes.specs.Names.{NameText, same_name}
-use Rattle.graphql_nodes.specs.declared.nodes.Node.{Node}
 use Rattle.graphql_documents.proofs.ListLemmas.{more_is}
-use Rattle.graphql_documents.specs.declared.documents.directives.Argument.{Argument}
-use Rattle.graphql_documents.specs.declared.documents.values.Value.{Value}
-use Rattle.graphql_merging.proofs.PositionLemmas.{position-push}
-use Rattle.graphql_merging.specs.FirstPlaces.{AddsPlace, HasArgumentPlaces, HasEntryPlaces}
+use Rattle.graphql_merging.proofs.PositionLemmas.{none_at, position-push}
+use Rattle.graphql_merging.proofs.FirstNamedLemmas.{first_alike, first_named}
+use Rattle.graphql_variables.proofs.FirstPlaceLemmas.{kept_or}
+use Rattle.graphql_merging.specs.FirstPlaces.{AddsPlace, HasPlaces}
 
--- the first place among one element more
-position_more : {X : Type 0} (p : X → Bool) (xs : List X) (i : ℕ) (x : X) → i < length xs → x ≡ get_or xs i x →
-    position p (take (i + 1) xs) ≡ option_or (position p (take i xs)) (cond (p x) (Some i) None)
-position_more p xs i x within item =
-    let below : i ≤ length xs = omega arith in
-    ap (position p) (more_is xs i x within item) ∙ position-push p (take i xs) x ∙
-    ap (λ n. option_or (position p (take i xs)) (cond (p x) (Some n) None)) (length-take-le i xs below)
+module _ {T S : Type 0} (name_of : T → NameText) where
+  -- one element more, behind the others
+  pub places_push : {old new : HashMap (Bor NameText) ℕ S} (xs : List T) (x : T) →
+      AddsPlace old new (name_of x) (length xs) → HasPlaces name_of old xs → HasPlaces name_of new (xs ++ x ∷ [])
+  places_push xs x adds has = record {
+    look_up = λ name.
+        adds.look_up name ∙ ap (λ o. option_or o (cond (same_name (name_of x) name) (Some (length xs)) None)) (has.look_up name) ∙
+        sym (position-push (λ (y : T). same_name (name_of y) name) xs x);
+  }
 
-pub argument_places_more : {S : Type 0} {old new : HashMap (Bor NameText) ℕ S} (xs : List (Node Argument)) (i : ℕ) (x : Node Argument) →
-    i < length xs → x ≡ get_or xs i x → AddsPlace old new x.value.value.name i → HasArgumentPlaces old (take i xs) → HasArgumentPlaces new (take (i + 1) xs)
-argument_places_more xs i x within item adds has = record {
-  look_up = λ name.
-      adds.look_up name ∙ ap (λ o. option_or o (cond (same_name x.value.value.name name) (Some i) None)) (has.look_up name) ∙
-      sym (position_more (λ (y : Node Argument). same_name y.value.value.name name) xs i x within item);
-}
+  -- the table stays as it is where an element before has the name
+  pub places_stay : {places : HashMap (Bor NameText) ℕ S} (xs : List T) (x : T) →
+      IsSome (first_named name_of (name_of x) xs) → HasPlaces name_of places xs → HasPlaces name_of places (xs ++ x ∷ [])
+  places_stay xs x known has = record {
+    look_up = λ name.
+        let first : T → Bool = λ y. same_name (name_of y) name in
+        has.look_up name ∙
+        kept_or (same_name (name_of x) name) (length xs) (position first xs)
+        (λ same none. let there = subst IsSome (first_alike name_of (name_of x) name same xs ∙ none_at first xs none) known in let no : ⊥ = cc in no) ∙
+        sym (position-push first xs x);
+  }
 
-pub entry_places_more : {S : Type 0} {old new : HashMap (Bor NameText) ℕ S} (xs : List (NameText × Node Value)) (i : ℕ) (x : NameText × Node Value) →
-    i < length xs → x ≡ get_or xs i x → AddsPlace old new x.0 i → HasEntryPlaces old (take i xs) → HasEntryPlaces new (take (i + 1) xs)
-entry_places_more xs i x within item adds has = record {
-  look_up = λ name.
-      adds.look_up name ∙ ap (λ o. option_or o (cond (same_name x.0 name) (Some i) None)) (has.look_up name) ∙
-      sym (position_more (λ (y : NameText × Node Value). same_name y.0 name) xs i x within item);
-}
+  -- the same of the first elements of a list
+  pub places_more : {old new : HashMap (Bor NameText) ℕ S} (xs : List T) (i : ℕ) (x : T) →
+      i < length xs → x ≡ get_or xs i x → AddsPlace old new (name_of x) i → HasPlaces name_of old (take i xs) → HasPlaces name_of new (take (i + 1) xs)
+  places_more {old} {new} xs i x within item adds has =
+      let count : length (take i xs) ≡ i = length-take-le i xs (omega arith) in
+      subst (HasPlaces name_of new) (sym (more_is xs i x within item))
+      (places_push (take i xs) x (subst (AddsPlace old new (name_of x)) (sym count) adds) has)
+
+-- whether something is found
+pub something_found : {X : Type 0} (got : Option (Bor X)) (found : Option X) → option_copied got ≡ found → is_some got ≡ true → IsSome found
+something_found None found same some = absurd (let no : ⊥ = cc in no)
+something_found (Some x) found same some = subst IsSome same refl
+
+pub is_nothing : {X : Type 0} (o : Option X) → IsNone o → o ≡ None
+is_nothing None none = refl
+is_nothing (Some x) none = absurd (let no : ⊥ = cc in no)
+
+pub is_something : {X : Type 0} (o : Option X) → ¬ IsNone o → IsSome o
+is_something None some = absurd (some refl)
+is_something (Some x) some = refl

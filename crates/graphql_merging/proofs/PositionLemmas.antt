@@ -1,9 +1,9 @@
 -- The first place at which a test passes in a list, and what is found there.
-use Rattle.std.proofs.Common.{◌≡◌, ◌↔◌, ℕ, zero, suc, ◌<◌, ◌+◌, Bool, true, false, cond, List, [], ◌∷◌, ◌++◌, Option, Some, None, find, take, length, get_or, refl, sym, ap, ◌∙◌, subst, arith}
-use Rattle.std.specs.Prelude.{IsSome, nat_lt}
+use Rattle.std.proofs.Common.{◌≡◌, ℕ, Bor, ltb, suc, ◌<◌, ◌+◌, Bool, true, false, cond, List, [], ◌∷◌, ◌++◌, Option, Some, None, find, length, get_or, refl, sym, ap, ◌∙◌, subst, arith}
+use Rattle.std.specs.Prelude.{IfSome, is_some, nat_lt}
 use Rattle.std.specs.List.{position}
-use Rattle.std.specs.Option.{option_map, option_or}
-use Rattle.std.proofs.lemmas.Bool.Decides.{nat_tests}
+use Rattle.std.specs.Option.{option_copied, option_map, option_or}
+use Rattle.std.proofs.lemmas.Bool.Decides.{Decides-ltb, nat_tests}
 
 -- a place that is below a number, one further
 below_next : (n m : ℕ) → cond (nat_lt (1 + n) (suc m)) (Some (1 + n)) None ≡ option_map (λ k. suc k) (cond (nat_lt n m) (Some n) None)
@@ -48,20 +48,11 @@ module _ {X : Type 0} (p : X → Bool) where
         by true behind = refl
         by false behind = ap (option_map (λ k. suc k)) behind ∙ further_or (position p ys) (p x) (length ys)
 
-  -- where there is no such place none is found, among the first elements neither
+  -- where there is no such place none is found
   pub none_at : (xs : List X) → position p xs ≡ None → find p xs ≡ None
   none_at [] none = refl
   none_at (y ∷ ys) none = by (p y) (sym (position-cons y ys) ∙ none) (none_at ys) where
     by : (b : Bool) → cond b (Some 0) (option_map (λ k. suc k) (position p ys)) ≡ None → (position p ys ≡ None → find p ys ≡ None) → cond b (Some y) (find p ys) ≡ None
-    by true e behind = absurd (let no : ⊥ = cc in no)
-    by false e behind = behind (further_none (position p ys) e)
-
-  pub none_before : (xs : List X) (n : ℕ) → position p xs ≡ None → find p (take n xs) ≡ None
-  none_before xs zero none = refl
-  none_before [] (suc n) none = refl
-  none_before (y ∷ ys) (suc n) none = by (p y) (sym (position-cons y ys) ∙ none) (none_before ys n) where
-    by : (b : Bool) → cond b (Some 0) (option_map (λ k. suc k) (position p ys)) ≡ None → (position p ys ≡ None → find p (take n ys) ≡ None) →
-        cond b (Some y) (find p (take n ys)) ≡ None
     by true e behind = absurd (let no : ⊥ = cc in no)
     by false e behind = behind (further_none (position p ys) e)
 
@@ -87,15 +78,9 @@ module _ {X : Type 0} (p : X → Bool) where
         let (k, is, next) = further_some (position p ys) i e in
         behind k x is (subst (λ j. x ≡ get_or (y ∷ ys) j x) next item)
 
-  -- it is found among the first elements where the place is before their end
-  pub found_before : (xs : List X) (n i : ℕ) → position p xs ≡ Some i → (i < n) ↔ IsSome (find p (take n xs))
-  found_before [] n i at = absurd (let no : ⊥ = cc in no)
-  found_before (y ∷ ys) zero i at = (λ h. absurd (omega arith), λ h. absurd (let no : ⊥ = cc in no))
-  found_before (y ∷ ys) (suc n) i at = by (p y) (sym (position-cons y ys) ∙ at) (found_before ys n) where
-    by : (b : Bool) → cond b (Some 0) (option_map (λ k. suc k) (position p ys)) ≡ Some i →
-        ((k : ℕ) → position p ys ≡ Some k → (k < n) ↔ IsSome (find p (take n ys))) →
-        (i < suc n) ↔ IsSome (cond b (Some y) (find p (take n ys)))
-    by true e behind = (λ h. refl, λ h. let start : 0 ≡ i = cc in omega arith)
-    by false e behind =
-        let (k, is, next) = further_some (position p ys) i e in
-        (λ h. (behind k is).0 (omega arith), λ h. let before = (behind k is).1 h in omega arith)
+  -- what a look at the place gives is what is found
+  pub copied_there : (xs : List X) (i : ℕ) (got : Option (Bor X)) → position p xs ≡ Some i →
+      is_some got ≡ ltb i (length xs) → IfSome got (λ x. x.now ≡ get_or xs i x.now) → option_copied got ≡ find p xs
+  copied_there xs i (Some x) at there item = sym (found_there xs i x.now at item)
+  copied_there xs i None at there item =
+      absurd (let within = (Decides-ltb i (length xs)).1 (place_within xs i at) in let no : ⊥ = cc in no)

@@ -1,8 +1,7 @@
 //! When two fields agree: on their values, on the shapes of their types, and on their names and arguments.
 
 mod arguments;
-mod arguments_by_name;
-mod entries_by_name;
+mod by_name;
 mod equal_values;
 mod field_conflicts;
 mod first_places;

@@ -1,18 +1,20 @@
-//! Whether two values are the same, in about the time that it takes to read them.
+//! Whether two values are the same, in about the time that it takes to read the second, and the first as far
+//! as the two agree.
 
+ghost use Rattle.std.specs.Option.{option_copied};
 ghost use Rattle.std.specs.Prelude.{◌≡◌, ◌↔◌, IfOk, IsTrue};
-ghost use Rattle.graphql_documents.specs.Values.{SameValue};
-ghost use Rattle.graphql_merging.specs.Comparisons.{HasEntry, HasKeysOf, SameEntries, SameItems, StandIn};
+ghost use Rattle.graphql_documents.specs.Values.{SameValue, entry_named};
+ghost use Rattle.graphql_merging.specs.Comparisons.{HasEntry, HasKeysOf, SameEntries, SameItems};
 
-use super::entries_by_name::EntriesByName;
+use super::by_name::ByName;
 use super::values::same_value;
 use graphql_documents::documents::Value;
 use graphql_nodes::{Name, Node};
 use std::alloc::{AllocError, Global};
 
 /// Whether two values are the same, as `same_value` says. The entries of large objects are found by tables, so
-/// the time is about linear in the size of the values; objects of few entries take no memory. The only error
-/// is a failed allocation.
+/// the time is about linear in the size of the second value and in what the first has as far as the two agree;
+/// objects of few entries take no memory. The only error is a failed allocation.
 ///
 /// Specification: 5.3.2 Field Selection Merging.
 #[cycle(equal)]
@@ -51,53 +53,44 @@ fn have_same_entries(
 ) -> Result<bool, AllocError>
     ensures { IfOk result (λ same. IsTrue same ↔ SameEntries a.now b.now) }
 {
-    let first = EntriesByName::new(alloc, a)?;
-    let second = EntriesByName::new(alloc, b)?;
-    if !has_keys_of(&first, b) {
-        return Ok(false);
-    }
-    each_stands_in(alloc, a, &first, &second)
-}
-
-/// Whether each key of the other entries is among these.
-fn has_keys_of(entries: &EntriesByName, others: &[(Name, Node<Value>)]) -> bool
-    ensures { IsTrue result ↔ HasKeysOf entries.now others.now }
-{
-    others.iter().all(|(key, _)| entries.find(key).is_some())
-}
-
-/// Whether under each of the keys the others have a first entry of the same value. The entries are also
-/// `named`.
-#[cycle(equal)]
-fn each_stands_in(
-    alloc: Global,
-    entries: &[(Name, Node<Value>)],
-    named: &EntriesByName,
-    others: &EntriesByName,
-) -> Result<bool, AllocError>
-    requires { named.now ≡ entries.now }
-    ensures { IfOk result (λ all. IsTrue all ↔ StandIn entries.now others.now) }
-{
-    for (i, (key, value)) in entries.iter().enumerate() {
-        if !named.is_before(key, i) && !stands_in(alloc, key, value, others)? {
+    let others = ByName::new(alloc, b)?;
+    // grows up to the first entry on which the two differ
+    let mut seen = ByName::new(alloc, &a[..0])?;
+    for (i, entry) in a.iter().enumerate() {
+        if seen.grow(alloc, &a[..i + 1], entry)? && !stands_in(alloc, entry, &others)? {
             return Ok(false);
         }
     }
-    Ok(true)
+    Ok(has_keys_of(&seen, b))
 }
 
-/// Whether the first of these entries under the key has the same value.
+/// Whether the first of these entries under the key of this one has the same value.
 #[cycle(equal)]
 fn stands_in(
     alloc: Global,
-    key: &Name,
-    value: &Node<Value>,
-    entries: &EntriesByName,
+    entry: &(Name, Node<Value>),
+    entries: &ByName<(Name, Node<Value>)>,
 ) -> Result<bool, AllocError>
-    ensures { IfOk result (λ stands. IsTrue stands ↔ HasEntry entries.now key.now value.now) }
+    ensures { IfOk result (λ stands. IsTrue stands ↔ HasEntry entries.now entry.now.0 entry.now.1) }
 {
-    match entries.find(key) {
-        Some(other) => is_same_value(alloc, &value.value, &other.value),
+    match value_of(entries, &entry.0) {
+        Some(other) => is_same_value(alloc, &entry.1.value, &other.value),
         None => Ok(false),
     }
+}
+
+/// Whether each key of the other entries is among these.
+fn has_keys_of(entries: &ByName<(Name, Node<Value>)>, others: &[(Name, Node<Value>)]) -> bool
+    ensures { IsTrue result ↔ HasKeysOf entries.now others.now }
+{
+    others
+        .iter()
+        .all(|(key, _)| value_of(entries, key).is_some())
+}
+
+/// The value of the first entry under the key.
+fn value_of<'a>(entries: &ByName<'a, (Name, Node<Value>)>, key: &Name) -> Option<&'a Node<Value>>
+    ensures { option_copied result ≡ entry_named key.now entries.now }
+{
+    entries.find(key).map(|(_, value)| value)
 }

@@ -1,13 +1,14 @@
-//! What two fields disagree on, in about the time that it takes to read them.
+//! What two fields disagree on, in about the time that it takes to read the second, and the first as far as
+//! the two agree.
 
 ghost use Rattle.std.specs.Option.{option_copied};
-ghost use Rattle.std.specs.Prelude.{◌≡◌, IfOk, MatchOption, find, is_some, not};
+ghost use Rattle.std.specs.Prelude.{◌≡◌, [], IfOk, MatchOption, find, is_some, not};
 ghost use Rattle.graphql_documents.specs.Directives.{argument_named};
 ghost use Rattle.graphql_specification.specs.Merging.{SameNameAndArguments};
 ghost use Rattle.graphql_merging.specs.Comparisons.{ArgumentConflicts, ArgumentsConflict, Conflicts, HasArgument, StandAmong};
 
 use super::arguments::FieldConflict;
-use super::arguments_by_name::ArgumentsByName;
+use super::by_name::ByName;
 use super::equal_values::is_same_value;
 use crate::field_selections::FieldSelection;
 use graphql_documents::documents::Argument;
@@ -15,8 +16,10 @@ use graphql_nodes::Node;
 use std::alloc::{AllocError, Global};
 
 /// What two fields disagree on first, if they do, as `same_name_and_arguments` says. Arguments and entries of
-/// objects are found by tables where there are many, so the time is about linear in the size of the fields;
-/// where there are few it takes no memory. The only error is a failed allocation.
+/// objects are found by tables where there are many, so the time is about linear in the size of the second
+/// field and in what the first has as far as the two agree; where there are few it takes no memory. So one
+/// long field is compared with many short ones in about the time that it takes to read them all. The only
+/// error is a failed allocation.
 ///
 /// Specification: 5.3.2 Field Selection Merging, FieldsInSetCanMerge.
 pub fn find_field_conflict<'a>(
@@ -33,31 +36,34 @@ pub fn find_field_conflict<'a>(
     if first.name != second.name {
         return Ok(Some(FieldConflict::Names));
     }
-    let arguments = ArgumentsByName::new(alloc, &first.arguments)?;
-    let others = ArgumentsByName::new(alloc, &second.arguments)?;
-    match conflict_of_arguments(alloc, &arguments, &others)? {
+    let others = ByName::new(alloc, &second.arguments)?;
+    let mut seen = ByName::new(alloc, &first.arguments[..0])?;
+    match conflict_of_arguments(alloc, &first.arguments, &mut seen, &others)? {
         Some(conflict) => Ok(Some(conflict)),
-        None => match missing_argument(others.as_slice(), &arguments) {
+        None => match missing_argument(&second.arguments, &seen) {
             Some(argument) => Ok(Some(FieldConflict::SecondAlone(argument))),
             None => Ok(None),
         },
     }
 }
 
-/// The first of these arguments that the others lack, or give another value.
+/// The first of these arguments that the others lack, or give another value. What is seen grows up to it, and
+/// is all of them if there is none.
 fn conflict_of_arguments<'a>(
     alloc: Global,
-    arguments: &ArgumentsByName<'a>,
-    others: &ArgumentsByName<'a>,
+    arguments: &'a [Node<Argument>],
+    seen: &mut ByName<'a, Node<Argument>>,
+    others: &ByName<'a, Node<Argument>>,
 ) -> Result<Option<FieldConflict<'a>>, AllocError>
-    ensures { IfOk result (λ found. MatchOption found (StandAmong arguments.now others.now) (ArgumentsConflict arguments.now others.now)) }
+    requires { seen.old ≡ [] }
+    ensures { IfOk result (λ found. MatchOption found
+        (StandAmong arguments.now others.now × (seen.new ≡ arguments.now))
+        (ArgumentsConflict arguments.now others.now)) }
 {
-    let list = arguments.as_slice();
-    for (i, argument) in list.iter().enumerate() {
-        if arguments.is_before(&argument.value.name, i) {
-            continue;
-        }
-        if let Some(conflict) = conflict_of_argument(alloc, argument, others)? {
+    for (i, argument) in arguments.iter().enumerate() {
+        if seen.grow(alloc, &arguments[..i + 1], argument)?
+            && let Some(conflict) = conflict_of_argument(alloc, argument, others)?
+        {
             return Ok(Some(conflict));
         }
     }
@@ -68,7 +74,7 @@ fn conflict_of_arguments<'a>(
 fn conflict_of_argument<'a>(
     alloc: Global,
     argument: &'a Node<Argument>,
-    others: &ArgumentsByName<'a>,
+    others: &ByName<'a, Node<Argument>>,
 ) -> Result<Option<FieldConflict<'a>>, AllocError>
     ensures { IfOk result (λ found. MatchOption found
         (HasArgument others.now argument.now.value.value.name argument.now)
@@ -86,7 +92,7 @@ fn conflict_of_argument<'a>(
 /// The first of these arguments that the others lack.
 fn missing_argument<'a>(
     arguments: &'a [Node<Argument>],
-    others: &ArgumentsByName,
+    others: &ByName<Node<Argument>>,
 ) -> Option<&'a Node<Argument>>
     ensures { option_copied result ≡ find (λ a. not (is_some (argument_named a.value.value.name others.now))) arguments.now }
 {

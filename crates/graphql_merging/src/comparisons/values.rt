@@ -93,10 +93,7 @@ fn is_repeated(before: &[(Name, Node<Value>)], key: &Name) -> bool
 }
 
 /// The value of the first entry with this key.
-pub(super) fn value_of<'a>(
-    entries: &'a [(Name, Node<Value>)],
-    key: &Name,
-) -> Option<&'a Node<Value>>
+fn value_of<'a>(entries: &'a [(Name, Node<Value>)], key: &Name) -> Option<&'a Node<Value>>
     ensures { option_copied result ≡ entry_named key.now entries.now }
 {
     entries

@@ -1,17 +1,19 @@
-use Rattle.std.proofs.Common.{◌≡◌, ◌↔◌, Bool, ap, sym, ◌∙◌, refl, subst, take, List, inl, inr}
+use Rattle.std.proofs.Common.{◌↔◌, ap, sym, ◌∙◌, subst, take, List, inl, inr}
 use Rattle.graphql_documents.specs.declared.documents.values.Value.TheOpen as Open
 use Rattle.graphql_documents.specs.declared.documents.values.Value.TheVariants as literal
 use Rattle.std.proofs.lemmas.List.{take_all}
 use Rattle.std.proofs.lemmas.Result.{IfOk-weaker}
-use Rattle.std.specs.Prelude.{IsSome, IsTrue}
+use Rattle.std.specs.Prelude.{IsNone, IsSome, IsTrue}
 use Rattle.graphql_nodes.specs.Names.{NameText}
-use Rattle.graphql_documents.specs.Values.{SameValue, entry_named}
+use Rattle.graphql_documents.specs.Values.{SameValue}
 use Rattle.graphql_nodes.specs.declared.nodes.Node.{Node}
 use Rattle.graphql_documents.specs.declared.documents.values.Value.{Value, out-Value}
 use Rattle.graphql_merging.specs.Comparisons.{HasEntry, HasKeysOf, SameEntries, SameItems, StandIn}
-use Rattle.graphql_merging.proofs.ValueComparisonLemmas.{entry_decides, more_stand_in, must_have, same_objects, same_opened}
+use Rattle.graphql_merging.proofs.ByNameLemmas.{is_nothing, is_something}
+use Rattle.graphql_merging.proofs.FirstNamedLemmas.{first_named}
+use Rattle.graphql_merging.proofs.ValueComparisonLemmas.{entry_decides, key, known_entry, more_stand_in, must_have, none_stand_in, same_objects, same_opened, some_value}
 use Rattle.graphql_merging.proofs.comparisons.equal_values.+equal.Goals as goal
-use Rattle.graphql_merging.proofs.comparisons.equal_values.+equal.Goals.{each_stands_in-else-not-is_before-via-then-not-is_before+in_ok-stands_in+else-not-branch, each_stands_in-else-not-is_before-via-else-not-is_before}
+use Rattle.graphql_merging.proofs.comparisons.equal_values.+equal.Goals.{have_same_entries-else-branch-via-then-branch+in_ok-stands_in+else-not-branch, have_same_entries-else-branch-via-else-branch}
 
 pub is_same_value-returns-in-List-List : goal.is_same_value-returns-in-List-List
 is_same_value-returns-in-List-List t c =
@@ -37,50 +39,61 @@ is_same_value-returns-in-Object-Object t c =
     (λ e. alike.0 (decided.0 e), λ s. decided.1 (alike.1 s)))
     c.have_same_entries.ensures
 
+pub have_same_entries-loop-i-init : goal.have_same_entries-loop-i-init
+have_same_entries-loop-i-init t c = record { stand = none_stand_in c.args.b.now; seen = c.in_ok-seen.ensures }
+
+pub have_same_entries-returns-then-not-branch : goal.have_same_entries-returns-then-not-branch
+have_same_entries-returns-then-not-branch t c =
+    let a = c.args.a.now in
+    let b = c.args.b.now in
+    let i = c.loop-i.i in
+    let e = c.index-a-i.result in
+    let first = subst (λ (l : List (NameText × Node Value)). IsTrue c.in_ok-grow.field-0 ↔ IsNone (first_named key e.0 l)) c.loop-i.invariant.seen c.in_ok-grow.ensures.first in
+    let none = is_nothing (first_named key e.0 (take i a)) (first.0 c.if-branch.true) in
+    let decides = subst (λ (l : List (NameText × Node Value)). IsTrue c.in_ok-stands_in.field-0 ↔ HasEntry l e.0 e.1) c.in_ok-others.ensures c.in_ok-stands_in.ensures in (
+      λ e. absurd (let no : ⊥ = cc in no),
+      λ same. sym c.if-not-branch.true ∙ decides.1
+          (must_have a i e b c.loop-i-test.true c.index-a-i.is
+          (λ before. let some = subst IsSome none (known_entry e.0 (take i a) before) in let no : ⊥ = cc in no) same.1),
+    )
+
+pub have_same_entries-loop-i-preserved : goal.have_same_entries-loop-i-preserved
+have_same_entries-loop-i-preserved t c =
+    let a = c.args.a.now in
+    let b = c.args.b.now in
+    let i = c.loop-i.i in
+    let e = c.index-a-i.result in
+    let first = subst (λ (l : List (NameText × Node Value)). IsTrue c.in_ok-grow.field-0 ↔ IsNone (first_named key e.0 l)) c.loop-i.invariant.seen c.in_ok-grow.ensures.first in
+    record {
+      stand = more_stand_in a i e b c.loop-i-test.true c.index-a-i.is c.loop-i.invariant.stand
+          (elim c.else-branch.branch [
+            | have_same_entries-else-branch-via-then-branch+in_ok-stands_in+else-not-branch w ↦
+                let decides = subst (λ (l : List (NameText × Node Value)). IsTrue w.in_ok-stands_in.field-0 ↔ HasEntry l e.0 e.1) c.in_ok-others.ensures w.in_ok-stands_in.ensures in
+                inr (decides.0 w.if-not-branch.false)
+            | have_same_entries-else-branch-via-else-branch w ↦
+                let known = first_named key e.0 (take i a) in
+                inl (some_value known (is_something known (λ none. let is = first.1 none in let no : ⊥ = cc in no)))
+          ]);
+      seen = c.in_ok-grow.ensures.elements;
+    }
+
 pub have_same_entries-returns : goal.have_same_entries-returns
 have_same_entries-returns t c =
     let a = c.args.a.now in
     let b = c.args.b.now in
-    IfOk-weaker c.each_stands_in.result (λ same. IsTrue same ↔ StandIn a c.in_ok-second.second) (λ same. IsTrue same ↔ SameEntries a b)
-    (λ same decides.
-    let stand = subst (λ (l : List (NameText × Node Value)). IsTrue same ↔ StandIn a l) c.in_ok-second.ensures decides in
-    let keys = subst (λ (l : List (NameText × Node Value)). HasKeysOf l b) c.in_ok-first.ensures (c.has_keys_of.ensures.0 c.if-not-has_keys_of.false) in
-    (λ e. (keys, stand.0 e), λ all. stand.1 all.1))
-    c.each_stands_in.ensures
+    let whole = take_all c.loop-i.i a c.loop-i-test.false in
+    let keys = subst (λ (l : List (NameText × Node Value)). IsTrue c.has_keys_of.result ↔ HasKeysOf l b) (c.loop-i.invariant.seen ∙ whole) c.has_keys_of.ensures in
+    (λ has. (keys.0 has, subst (λ l. StandIn l b) whole c.loop-i.invariant.stand), λ same. keys.1 same.0)
 
 pub stands_in-returns-in-Some : goal.stands_in-returns-in-Some
 stands_in-returns-in-Some t c =
+    let entries = c.args.entries.now in
+    let entry = c.args.entry.now in
     let other = c.in-Some.other.now in
     IfOk-weaker c.is_same_value.result (λ same. IsTrue same ↔ SameValue c.deref.result.now c.deref-in-Some.result.now)
-    (λ same. IsTrue same ↔ HasEntry c.args.entries.now c.args.key.now c.args.value.now)
+    (λ same. IsTrue same ↔ HasEntry entries entry.0 entry.1)
     (λ same decides.
-    entry_decides c.args.entries.now c.args.key.now c.args.value.now other c.in-Some.ensures same
+    entry_decides entries entry.0 entry.1 other c.in-Some.ensures same
     (subst (λ (x : Value). IsTrue same ↔ SameValue x other.value.value) c.deref.ensures
     (subst (λ (y : Value). IsTrue same ↔ SameValue c.deref.result.now y) c.deref-in-Some.ensures decides)))
     c.is_same_value.ensures
-
-pub each_stands_in-loop-i-preserved : goal.each_stands_in-loop-i-preserved
-each_stands_in-loop-i-preserved t c =
-    let entries = c.args.entries.now in
-    let e = c.index-entries-i.result in
-    let known = subst (λ (l : List (NameText × Node Value)). IsTrue c.is_before.result ↔ IsSome (entry_named e.0 (take c.loop-i.i l))) c.requires c.is_before.ensures in
-    more_stand_in entries c.loop-i.i e c.args.others.now c.loop-i-test.true c.index-entries-i.is c.loop-i.invariant
-    (elim c.else-not-is_before.branch [
-      | each_stands_in-else-not-is_before-via-then-not-is_before+in_ok-stands_in+else-not-branch w ↦ inr (w.in_ok-stands_in.ensures.0 w.if-not-branch.false)
-      | each_stands_in-else-not-is_before-via-else-not-is_before w ↦ inl (known.0 w.if-not-is_before.false)
-    ])
-
-pub each_stands_in-returns-then-not-branch : goal.each_stands_in-returns-then-not-branch
-each_stands_in-returns-then-not-branch t c =
-    let entries = c.args.entries.now in
-    let e = c.index-entries-i.result in
-    let known = subst (λ (l : List (NameText × Node Value)). IsTrue c.is_before.result ↔ IsSome (entry_named e.0 (take c.loop-i.i l))) c.requires c.is_before.ensures in (
-      λ e. absurd (let no : ⊥ = cc in no),
-      λ stand. sym c.if-not-branch.true ∙ c.in_ok-stands_in.ensures.1
-          (must_have entries c.loop-i.i e c.args.others.now c.loop-i-test.true c.index-entries-i.is
-          (λ before. let is = sym (known.1 before) ∙ c.if-not-is_before.true in let no : ⊥ = cc in no) stand),
-    )
-
-pub each_stands_in-returns : goal.each_stands_in-returns
-each_stands_in-returns t c =
-    (λ e. subst (λ l. StandIn l c.args.others.now) (take_all c.loop-i.i c.args.entries.now c.loop-i-test.false) c.loop-i.invariant, λ stand. refl)

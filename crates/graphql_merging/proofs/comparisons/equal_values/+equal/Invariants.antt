@@ -16,9 +16,6 @@ decreases-have_same_items l = 4 * goal.size-have_same_items l + 4
 abbrev pub decreases-have_same_entries : goal.decreases-have_same_entries
 decreases-have_same_entries l = 4 * goal.size-have_same_entries l + 6
 
-abbrev pub decreases-each_stands_in : goal.decreases-each_stands_in
-decreases-each_stands_in l = 4 * goal.size-each_stands_in l + 5
-
 abbrev pub decreases-stands_in : goal.decreases-stands_in
 decreases-stands_in l = 4 * goal.size-stands_in l + 4
 
@@ -26,5 +23,6 @@ abbrev pub invariant-have_same_items-loop-x : goal.invariant-have_same_items-loo
 invariant-have_same_items-loop-x l =
     (k : ℕ) (x y : Node Value) → k < length l.yielded → slice_get l.a k ≡ Some x → slice_get l.b k ≡ Some y → SameValue x.value.value y.value.value
 
-abbrev pub invariant-each_stands_in-loop-i : goal.invariant-each_stands_in-loop-i
-invariant-each_stands_in-loop-i l = StandIn (take l.i l.entries) l.others
+-- the entries so far have been seen, and stand in the others
+abbrev pub invariant-have_same_entries-loop-i : goal.invariant-have_same_entries-loop-i
+invariant-have_same_entries-loop-i l = record { stand : StandIn (take l.i l.a) l.b; seen : l.seen ≡ take l.i l.a }

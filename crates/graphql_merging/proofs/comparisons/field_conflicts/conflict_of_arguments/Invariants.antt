@@ -1,6 +1,7 @@
-use Rattle.std.proofs.Common.{take}
+use Rattle.std.proofs.Common.{◌≡◌, take}
 use Rattle.graphql_merging.specs.Comparisons.{StandAmong}
 use Rattle.graphql_merging.proofs.comparisons.field_conflicts.conflict_of_arguments.Given as goal
 
+-- those so far have been seen, and agree
 abbrev pub invariant-loop-i : goal.invariant-loop-i
-invariant-loop-i l = StandAmong (take l.i l.list) l.others
+invariant-loop-i l = record { agree : StandAmong (take l.i l.arguments) l.others; seen : l.seen ≡ take l.i l.arguments }
