@@ -1,7 +1,15 @@
-use Rattle.std.proofs.Common.{rules}
-use Rattle.graphql_diagnostics.proofs.ReportLemmas.{broken}
+use Rattle.std.proofs.Common.{rules, subst, sym}
+use Rattle.graphql_diagnostics.specs.Reports.{KeepsReports}
+use Rattle.graphql_diagnostics.proofs.ReportLemmas.{broken, checks-err, kept}
 use Rattle.graphql_input_rules.specs.InputFields.{RepetitionReport}
 use Rattle.graphql_input_rules.proofs.values.report_repetition.Goals as goal
+
+pub returns-in_err-push : goal.returns-in_err-push
+returns-in_err-push c = λ all before first next found place.
+    let Report = RepetitionReport all in
+    let old = c.args.reports.now.items in
+    checks-err c.from_residual-in_err-push.result ⊥ Report old c.push.new.self.items c.from_residual-in_err-push.ensures.0
+    (subst (λ l. KeepsReports Report old l) (sym c.in_err-push.ensures.items) (kept Report old))
 
 pub returns : goal.returns
 returns c = λ all before first next found place.
