@@ -1,6 +1,6 @@
 use graphql_nodes::{FileId, SourceSpan};
 
-fn span(file: u32, start: usize, end: usize) -> Option<SourceSpan> {
+fn span(file: u32, start: u32, end: u32) -> Option<SourceSpan> {
     Some(SourceSpan {
         file_id: FileId(file),
         start,
