@@ -16,6 +16,10 @@ fn lists_keep_the_order_of_push(rt: HostRuntime) {
     }
     assert_eq!(rt; list.len(), 3);
     for (start, entry) in list.iter().enumerate() {
-        assert!(rt; entry.location.is_some_and(|place| place.start as usize == start));
+        assert!(rt;
+            entry
+                .location
+                .is_some_and(|place| place.start as usize == start)
+        );
     }
 }
