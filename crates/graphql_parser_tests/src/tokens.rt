@@ -67,13 +67,18 @@ fn tokens_are_counted_up_to_the_bound(rt: HostRuntime) {
 #[test]
 fn the_next_token_is_cut_from_the_text(rt: HostRuntime) {
     let text = " # first\r\n{ a }".as_bytes();
-    let (next, rest) = next_token(15, text, 3);
+    let next = next_token(text, 0, 3);
     let brace = Token {
         kind: TokenKind::LeftBrace,
         start: 10,
         end: 11,
     };
     assert_eq!(rt; next, Some(brace));
-    assert_eq!(rt; rest, " a }".as_bytes());
-    assert_eq!(rt; next_token(15, text, 0).0, None);
+    let name = Token {
+        kind: TokenKind::Name,
+        start: 12,
+        end: 13,
+    };
+    assert_eq!(rt; next_token(text, 11, 2), Some(name));
+    assert_eq!(rt; next_token(text, 0, 0), None);
 }

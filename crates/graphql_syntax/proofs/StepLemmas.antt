@@ -1,8 +1,9 @@
 -- The text of the token that comes next is one of its kind.
-use Rattle.std.proofs.Common.{◌≡◌, ℕ, Bool, true, List, [], ◌∷◌, length, drop, nat_le, refl, Contains, ◌&&◌}
+use Rattle.std.proofs.Common.{◌≡◌, ◌≤◌, arith, ℕ, Bool, true, List, [], ◌∷◌, length, drop, nat_le, refl, Contains, ◌&&◌}
 use Rattle.std.specs.List.{list_all}
 use Rattle.std.specs.Char.{is_ascii}
 use Rattle.std.proofs.lemmas.List.Elements.{Contains-append_left, Contains-append_right, Contains-push}
+use Rattle.std.proofs.lemmas.Bool.Decides.{nat_tests}
 use Rattle.graphql_nodes.specs.Names.{is_name}
 use Rattle.graphql_numbers.specs.Numbers.{is_integer, IsFloat}
 use Rattle.graphql_tokens.specs.declared.token.Token.{Token}
@@ -82,3 +83,10 @@ tokens_behind i = by i i.tokens refl where
   by : (i : Input) (tokens : List Token) → i.tokens ≡ tokens → (behind_first i tokens).tokens ≡ drop 1 tokens
   by i [] e = e
   by i (t ∷ rest) e = refl
+
+pub first_within : (source : List ℕ) (t : Token) (rest : List Token) → are_spelled source (t ∷ rest) ≡ true → t.end ≤ length source
+first_within source t rest s =
+    let h = both_pass (is_spelled source t) (are_spelled source rest) s in
+    let k = both_pass (nat_le t.start t.end && nat_le t.end (length source)) (spells t.kind (text_of source t)) h.0 in
+    let l = both_pass (nat_le t.start t.end) (nat_le t.end (length source)) k.0 in
+    grind (arith, nat_tests)

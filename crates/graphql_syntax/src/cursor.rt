@@ -2,7 +2,7 @@
 
 ghost use Rattle.std.specs.Prelude.{◌≡◌, ◌^◌, ◌<◌, ◌≤◌, ℕ, List, IsTrue, length};
 ghost use Rattle.graphql_syntax.specs.Inputs.{AreFloats, are_spelled};
-ghost use Rattle.graphql_tokens.specs.Ahead.{first_tokens, with_next};
+ghost use Rattle.graphql_tokens.specs.Ahead.{ahead, first_tokens};
 ghost use Rattle.graphql_tokens.specs.Lexical.{Lexes};
 
 use graphql_nodes::FileId;
@@ -12,18 +12,15 @@ use graphql_tokens::{Token, next_token};
 /// are cut from the text as they are read, so that none has to be kept.
 #[derive(Clone, Copy)]
 pub struct Cursor<'a> {
-    pub file_id: FileId,
     pub source: &'a [u8],
-    /// The next token, and the text behind it.
-    pub next: Option<Token>,
-    pub rest: &'a [u8],
     pub left: usize,
+    pub next: Option<Token>,
     pub ended: u32,
+    pub file_id: FileId,
     ghost small: { length source.now < 2 ^ 32 },
-    ghost within: { length rest.now ≤ length source.now },
-    ghost counted: { length (with_next (length source.now) next left rest.now) ≡ left },
-    ghost spelled: { IsTrue (are_spelled source.now (with_next (length source.now) next left rest.now)) },
-    ghost floats: { AreFloats source.now (with_next (length source.now) next left rest.now) },
+    ghost counted: { length (ahead source.now next left) ≡ left },
+    ghost spelled: { IsTrue (are_spelled source.now (ahead source.now next left)) },
+    ghost floats: { AreFloats source.now (ahead source.now next left) },
 }
 
 impl<'a> Cursor<'a> {
@@ -39,14 +36,12 @@ impl<'a> Cursor<'a> {
         ensures tokens { (input result).tokens ≡ first_tokens (length source.now) count source.now }
         ensures ended { result.ended ≡ 0 }
     {
-        let (next, rest) = next_token(source.len() as u32, source, count);
         Cursor {
-            file_id,
             source,
-            next,
-            rest,
             left: count,
+            next: next_token(source, 0, count),
             ended: 0,
+            file_id,
         }
     }
 }

@@ -76,14 +76,12 @@ impl<'a> Cursor<'a> {
             return self;
         };
         let left = self.left - 1;
-        let (next, rest) = next_token(self.source.len() as u32, self.rest, left);
         Cursor {
-            file_id: self.file_id,
             source: self.source,
-            next,
-            rest,
             left,
+            next: next_token(self.source, token.end, left),
             ended: token.end,
+            file_id: self.file_id,
         }
     }
 

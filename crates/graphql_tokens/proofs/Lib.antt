@@ -5,4 +5,5 @@ pub mod QuotedScans
 pub mod IgnoredScans
 pub mod TokenScans
 pub mod LexingLemmas
+pub mod SuffixLemmas
 pub mod AheadLemmas

@@ -1,5 +1,5 @@
 -- The tokens that are left of a text, so many of them. That they are its tokens by the grammar is proved.
-use Rattle.std.specs.Prelude.{ℕ, zero, suc, ◌-◌, List, [], ◌∷◌, Option, None, Some}
+use Rattle.std.specs.Prelude.{ℕ, zero, suc, ◌-◌, List, [], ◌∷◌, length, drop, Option, None, Some}
 use Rattle.graphql_tokens.specs.Lexical.{token_between}
 use Rattle.graphql_tokens.specs.Scans.{after_all, ignored_at, token_at}
 use Rattle.graphql_tokens.specs.declared.token.Token.{Token}
@@ -16,7 +16,7 @@ abbrev pub first_tokens : ℕ → ℕ → List ℕ → List Token
 first_tokens total zero text = []
 first_tokens total (suc left) text = begin_with total (first_tokens total left) (after_all ignored_at text)
 
--- this one, where there is one, and those behind it, so many in all
-abbrev pub with_next : ℕ → Option Token → ℕ → List ℕ → List Token
-with_next total None left behind = []
-with_next total (Some token) left behind = token ∷ first_tokens total (left - 1) behind
+-- this one, where there is one, and those behind it in the text, so many in all
+abbrev pub ahead : List ℕ → Option Token → ℕ → List Token
+ahead source None left = []
+ahead source (Some token) left = token ∷ first_tokens (length source) (left - 1) (drop token.end source)

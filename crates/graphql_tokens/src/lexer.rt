@@ -1,7 +1,7 @@
 //! The tokens of a whole text.
 
-ghost use Rattle.std.specs.Prelude.{◌≡◌, ◌≤◌, List, length, IfOk, IfErr, MatchResult};
-ghost use Rattle.graphql_tokens.specs.Ahead.{first_tokens, with_next};
+ghost use Rattle.std.specs.Prelude.{◌≡◌, ◌^◌, ◌<◌, ◌≤◌, List, length, drop, IfOk, IfErr, IfSome, MatchResult};
+ghost use Rattle.graphql_tokens.specs.Ahead.{ahead, first_tokens};
 ghost use Rattle.graphql_tokens.specs.Lexical.{AreTokens, IsRefusal, Scans};
 ghost use Rattle.graphql_tokens.specs.declared.token.Token.{Token};
 
@@ -72,16 +72,17 @@ pub fn tokens(alloc: Global, text: &str, bound: usize) -> Result<Vec<Token>, Lex
 pub fn scan(alloc: Global, text: &str, bound: usize) -> Result<Scanned, AllocError>
     ensures { IfOk result (λ scanned. Scans bound text.now scanned.tokens.items scanned.stop) }
 {
-    let Ok(total) = u32::try_from(text.len()) else {
+    let source = text.as_bytes();
+    if source.len() > u32::MAX as usize {
         return Err(AllocError);
-    };
+    }
     let extent = measure(text, bound);
     let mut tokens = Vec::new(alloc);
-    let mut rest = text.as_bytes();
+    let mut at = 0;
     let mut left = extent.tokens;
-    while let (Some(token), behind) = next_token(total, rest, left) {
+    while let Some(token) = next_token(source, at, left) {
         tokens.push(token)?;
-        rest = behind;
+        at = token.end;
         left -= 1;
     }
     Ok(Scanned {
@@ -134,27 +135,29 @@ pub fn measure(text: &str, bound: usize) -> Extent
     }
 }
 
-/// The next of so many tokens that are left of a text of so many bytes in all, and the text behind it.
+/// The next of so many tokens that are left of the text from this byte on, in a text below 4 GiB.
 ///
 /// Specification: 2.1.6 Lexical Tokens.
-pub fn next_token(total: u32, text: &[u8], left: usize) -> (Option<Token>, &[u8])
-    requires { length text.now ≤ total }
-    ensures tokens { first_tokens total left text.now ≡ with_next total result.0 left result.1.now }
-    ensures within { length result.1.now ≤ total }
+pub fn next_token(source: &[u8], at: u32, left: usize) -> Option<Token>
+    requires small { length source.now < 2 ^ 32 }
+    requires within { at ≤ length source.now }
+    ensures tokens { first_tokens (length source.now) left (drop at source.now) ≡ ahead source.now result left }
+    ensures end { IfSome result (λ token. token.end ≤ length source.now) }
 {
     if left == 0 {
-        return (None, text);
+        return None;
     }
+    let (_, text) = source.split_at(at as usize);
     let start = after_ignored(text);
     match scanner::token(start) {
-        None => (None, text),
+        None => None,
         Some((kind, behind)) => {
-            let token = Token {
+            let total = source.len() as u32;
+            Some(Token {
                 kind,
                 start: total - start.len() as u32,
                 end: total - behind.len() as u32,
-            };
-            (Some(token), behind)
+            })
         }
     }
 }
