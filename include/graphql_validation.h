@@ -8,7 +8,7 @@
      never null, also where the length is 0;
    - an `out` that overlaps nothing else that is passed, and that no other thread uses during the call. What is passed
      besides may be shared, and is only read;
-   - stack: 2 MiB are enough. Brackets and braces may open 500 deep in one another, and each level takes up to 3.2 KB;
+   - stack: 2 MiB are enough. Brackets and braces may open 500 deep in one another, and each level takes up to 3.7 KB;
      a text that nests deeper is reported, and so is a document that does so through its fragments. A stack that is too
      small ends the process;
    - memory: the library asks for it by three functions, below.
