@@ -27,9 +27,12 @@ pub enum Selection {
 /// A field, with the definition that it was built from.
 ///
 /// Specification: 2.5 Fields.
-#[derive(Debug, Drop, PartialEq, Eq, Hash)]
+#[derive(Debug, Drop, PartialEq, Eq)]
+#[derive_where(Hash)]
 #[cycle(selection)]
 pub struct Field {
+    // Fields that are alike but for their definitions are rare, and a definition is longer than what is written.
+    #[derive_where(skip(Hash))]
     pub definition: Node<FieldDefinition>,
     pub alias: Option<Name>,
     pub name: Name,
