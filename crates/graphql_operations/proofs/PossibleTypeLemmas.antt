@@ -18,9 +18,13 @@ use Rattle.graphql_documents.specs.declared.documents.components.ComponentName.{
 use Rattle.graphql_documents.specs.declared.documents.implementers.Implementers.{Implementers}
 use Rattle.graphql_documents.specs.declared.documents.schemas.ExtendedType.{ExtendedType}
 use Rattle.graphql_documents.specs.declared.documents.schemas.ExtendedType.TheVariants.{Scalar, Object, Interface, Union, Enum, InputObject}
+use Rattle.graphql_documents.specs.declared.documents.schemas.InterfaceType.{InterfaceType}
+use Rattle.graphql_documents.specs.declared.documents.schemas.ObjectType.{ObjectType}
 use Rattle.graphql_documents.specs.declared.documents.schemas.Schema.{Schema}
+use Rattle.graphql_documents.specs.declared.documents.schemas.UnionType.{UnionType}
+use Rattle.graphql_nodes.specs.declared.nodes.Node.{Node}
 use Rattle.graphql_documents.proofs.ImplementerLemmas.{found_as_names, stands_folded, stands_same}
-use Rattle.graphql_documents.proofs.ListLemmas.{kept_by_filter, made_of, stands_flat, stands_mapped}
+use Rattle.graphql_documents.proofs.ListLemmas.{kept_by_filter, made_of, stands_behind, stands_first, stands_flat, stands_mapped}
 use Rattle.graphql_nodes.proofs.NameLemmas.{same_name_back, same_name_itself, same_text}
 use Rattle.graphql_variables.proofs.UseLemmas.{any_has, has_any}
 
@@ -175,6 +179,28 @@ module _ (schema : Schema) where
 
   pub common_swapped : (a b : ExtendedType) → HaveCommonObject schema a b → HaveCommonObject schema b a
   common_swapped a b (name, other, is_a, is_b, same) = (other, name, is_b, is_a, same_name_back name other same)
+
+-- an object that a schema has, and that says itself that its values are of another type
+module _ (schema : Schema) (key : NameText) (d : Node ObjectType) (stands : Contains schema.types.entries (key, Object d)) where
+  pub object_of_interface : (i : Node InterfaceType) → IsListed i.value.value.name d.value.value.implements_interfaces.keys → HaveCommonObject schema (Object d) (Interface i)
+  object_of_interface i listed =
+      let own = d.value.value.name in
+      (own, own, same_name_itself own, (key, d, stands, same_name_itself own, listed), same_name_itself own)
+
+  pub object_of_union : (u : Node UnionType) → IsListed d.value.value.name u.value.value.members.keys → HaveCommonObject schema (Object d) (Union u)
+  object_of_union u listed =
+      let own = d.value.value.name in
+      (own, own, same_name_itself own, listed, same_name_itself own)
+
+-- what a name finds is in an entry
+pub entry_found : (test : NameText → Bool) (entries : List (NameText × ExtendedType)) (d : ExtendedType) → lookup test entries ≡ Some d →
+    (key : NameText) × Contains entries (key, d)
+entry_found test [] d found = absurd (let no : ⊥ = cc in no)
+entry_found test (e ∷ es) d found = by (test e.0) (λ later. entry_found test es d later) found where
+  by : (b : Bool) → (lookup test es ≡ Some d → (key : NameText) × Contains es (key, d)) → cond b (Some e.1) (lookup test es) ≡ Some d →
+      (key : NameText) × Contains (e ∷ es) (key, d)
+  by true more is = (e.0, subst (λ (t : ExtendedType). Contains (e ∷ es) (e.0, t)) (same_Some e.1 d is) (stands_first e es))
+  by false more is = let m = more is in (m.0, stands_behind e es (m.0, d) m.1)
 
 -- what is selected on a condition can be visited on a type, or not
 module _ (schema : Schema) (condition parent : NameText) where

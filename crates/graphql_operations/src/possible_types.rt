@@ -1,9 +1,10 @@
 ghost use Rattle.std.specs.List.{list_any};
-ghost use Rattle.std.specs.Prelude.{◌≡◌, ◌↔◌, IfOk, IsTrue, length};
+ghost use Rattle.std.specs.Prelude.{◌≡◌, ◌↔◌, Contains, IfOk, IsTrue, length};
 ghost use Rattle.graphql_specification.specs.Fragments.{HaveCommonObject};
 ghost use Rattle.graphql_documents.specs.Implementers.{implementer_entries};
 ghost use Rattle.graphql_nodes.specs.Names.{NameText, stands_on};
 ghost use Rattle.graphql_documents.specs.Schemas.{IsImplementedBy, IsPossibleType, implementers_map};
+ghost use Rattle.graphql_documents.specs.declared.documents.schemas.Schema.{Schema};
 ghost use Rattle.graphql_operations.specs.PossibleTypes.{object_names};
 
 use graphql_documents::documents::{ComponentName, ExtendedType, Implementers, Schema};
@@ -19,6 +20,32 @@ pub(crate) struct PossibleTypes<'a> {
     schema: &'a Schema,
     implementers: IndexMap<&'a Name, Implementers<'a>>,
     ghost made: { implementer_entries implementers.entries ≡ implementers_map schema.now },
+}
+
+/// Whether one of two types of a schema is an object that says itself that its values are of the other. It is so of most
+/// fragments that can be visited, and needs nothing that would have to be found of the schema first.
+pub(crate) fn one_is_object_of_other(a: &ExtendedType, b: &ExtendedType) -> bool
+    ensures { (schema : Schema) (key other : NameText) → Contains schema.types.entries (key, a.now) → Contains schema.types.entries (other, b.now) →
+        IsTrue result → HaveCommonObject schema a.now b.now }
+{
+    is_object_of(a, b) || is_object_of(b, a)
+}
+
+/// Whether the first type is an object that lists the second as an interface, or is a member of it as a union.
+fn is_object_of(object: &ExtendedType, ty: &ExtendedType) -> bool
+    ensures { (schema : Schema) (key : NameText) → Contains schema.types.entries (key, object.now) → IsTrue result → HaveCommonObject schema object.now ty.now }
+{
+    let ExtendedType::Object(definition) = object else {
+        return false;
+    };
+    match ty {
+        ExtendedType::Interface(interface) => definition
+            .value
+            .implements_interfaces
+            .contains(&interface.value.name),
+        ExtendedType::Union(union_type) => union_type.value.members.contains(&definition.value.name),
+        _ => false,
+    }
 }
 
 /// The own names of the objects that are values of a type, where the schema has them.

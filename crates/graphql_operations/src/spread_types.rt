@@ -8,6 +8,7 @@ ghost use Rattle.graphql_documents.specs.declared.documents.schemas.Schema.{Sche
 ghost use Rattle.graphql_operations.specs.FragmentUses.{UseReport};
 
 use super::context::OperationValidationContext;
+use super::possible_types::one_is_object_of_other;
 use graphql_diagnostics::{Details, DiagnosticData, DiagnosticList};
 use graphql_documents::documents::{
     ExtendedType, Fragment, FragmentSpread, InlineFragment, Schema,
@@ -53,6 +54,9 @@ pub fn validate_fragment_spread_type<'a>(
     let Some(around) = schema.types.get(parent) else {
         return Ok(());
     };
+    if one_is_object_of_other(selected, around) {
+        return Ok(());
+    }
     if context.have_common_object(diagnostics.allocator(), schema, selected, around)? {
         return Ok(());
     }

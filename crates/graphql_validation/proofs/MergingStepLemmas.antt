@@ -3,7 +3,7 @@ use Rattle.std.proofs.Common.{rules, ◌≡◌, ◌↔◌, ◌⊎◌, ℕ, ◌+�
 use Rattle.std.proofs.lemmas.List.{append-nil, append_assoc, append_cancel_left, map-append, nil_from_length, take-append-drop}
 use Rattle.std.proofs.lemmas.List.Elements.{All-append, All-cons, All-contains, All-contains_itself, All-head, All-map, All-nil, All-weaker, Contains-append_right}
 use Rattle.std.specs.List.{Any}
-use Rattle.std.specs.Prelude.{◌==◌, IsFalse, IsTrue, Option, Vec}
+use Rattle.std.specs.Prelude.{◌==◌, Err, IsFalse, IsTrue, MatchResult, Ok, OnOk, Option, Result, Vec}
 use Rattle.std.specs.Vec.{vec_len}
 use Rattle.std.specs.declared.alloc.Global.{Global}
 use Rattle.graphql_documents.specs.Built.{IsBuilt}
@@ -29,10 +29,14 @@ use Rattle.graphql_nodes.specs.declared.nodes.Node.{Node}
 use Rattle.graphql_documents.specs.declared.documents.schemas.Schema.{Schema}
 use Rattle.graphql_nodes.specs.declared.spans.SourceSpan.{SourceSpan}
 use Rattle.graphql_diagnostics.proofs.ReportLemmas.{appended_then, both_nil, kept, kept_wider}
+use Rattle.graphql_diagnostics.proofs.ReportWithinLemmas.{in_words_within, kept_within}
+use Rattle.graphql_lone_fields.specs.LoneFields.{HasLoneFields}
+use Rattle.graphql_lone_fields.proofs.LoneFieldLemmas.{lone_merge}
 use Rattle.graphql_documents.proofs.ListLemmas.{All-append_left, All-append_right, each_standing, more_is, stands_first, stands_mapped}
 use Rattle.graphql_merging.specs.MergedOperations.{AreLimits, HasMerged, MergesOneMore, Merging, beyond_bound, within_bound}
 use Rattle.graphql_merging.proofs.MergedOperationLemmas.{conflicts_decide}
 use Rattle.graphql_pair_merging.proofs.ReportedLemmas.{report_breaks}
+use Rattle.graphql_variables.proofs.ReferenceLemmas.{all_referred}
 use Rattle.graphql_variables.proofs.UseLemmas.{any_has}
 use Rattle.graphql_validation.proofs.DocumentLemmas.{DocumentEntryReport}
 
@@ -369,6 +373,35 @@ merged_of {schema} {schema'} {document} {document'} {m} is_schema is_document wa
 pub kept_so_far : (schema : Schema) (document : ExecutableDocument) {done undecided : List (Node Operation)} {m : Merging} {old now : List DiagnosticEntry} →
     ValidatedSoFar schema document done undecided m old now → KeepsReports (DocumentEntryReport (Some schema) document) old now
 kept_so_far schema document so_far = record { added = so_far.added; appended = so_far.appended; each = so_far.each }
+
+-- operations in which no fields come together: what is said of them as subscriptions is all that is said
+module _ (schema : Schema) (document : ExecutableDocument) where
+  pub lone_merges : IsBuilt schema document → (operations : List (Bor (Node Operation))) → map (λ o. o.now) operations ≡ operations_of document →
+      All (λ (o : Bor (Node Operation)). HasLoneFields (fragments_of document) o.now.value.value.selection_set) operations → All (Merges schema document) (operations_of document)
+  lone_merges built operations are lone =
+      let P = λ (o : Node Operation). HasLoneFields (fragments_of document) o.value.value.selection_set in
+      let all = subst (All P) are ((all_referred P operations).0 lone) in
+      each_standing (Merges schema document) (operations_of document)
+      (λ o stands. lone_merge schema document built o stands (All-contains P (operations_of document) o all stands))
+
+  abbrev SaidOfSubscriptions : {T E : Type 0} → Result T E → (old new : List DiagnosticEntry) → Type 0
+  SaidOfSubscriptions r old new = MatchResult r
+      (λ _. ReportsWithin IsLimitEntry (All (Sub schema document) (operations_of document)) (CheckedEntryReport schema document) old new)
+      (λ _. KeepsReports (CheckedEntryReport schema document) old new)
+
+  pub lone_hold : {T E : Type 0} (r : Result T E) (old new : List DiagnosticEntry) → All (Merges schema document) (operations_of document) → SaidOfSubscriptions r old new →
+      OnOk r (ReportsWithin IsLimitEntry (All (Sub schema document) (operations_of document) × All (Merges schema document) (operations_of document)) (CheckedEntryReport schema document) old new)
+  lone_hold (Ok x) old new merge said = in_words_within IsLimitEntry (λ sub. (sub, merge), λ both. both.0) said
+  lone_hold (Err x) old new merge said = tt
+
+  pub lone_kept : {T E : Type 0} (r : Result T E) (old new : List DiagnosticEntry) → SaidOfSubscriptions r old new → KeepsReports (CheckedEntryReport schema document) old new
+  lone_kept (Ok x) old new said = kept_within IsLimitEntry said
+  lone_kept (Err x) old new said = said
+
+  pub lone_subscriptions : {T E : Type 0} (r : Result T E) (old new : List DiagnosticEntry) → SaidOfSubscriptions r old new →
+      OnOk r (Appends (λ added. added ≡ [] → All (Sub schema document) (operations_of document)) old new)
+  lone_subscriptions (Ok x) old new said = record { added = said.added; appended = said.appended; are = silent_holds said }
+  lone_subscriptions (Err x) old new said = tt
 
 -- a document holds exactly where its parts do
 pub document_holds : (schema : Schema) (document : ExecutableDocument) →

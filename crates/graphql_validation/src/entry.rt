@@ -2,7 +2,7 @@
 
 ghost use Rattle.indexmap.specs.IndexMap.{values};
 ghost use Rattle.std.specs.Option.{option_copied};
-ghost use Rattle.std.specs.Prelude.{◌≡◌, ◌↔◌, ◌⊎◌, [], All, None, OnOk, Some};
+ghost use Rattle.std.specs.Prelude.{◌≡◌, ◌↔◌, ◌⊎◌, [], All, IfOk, IsTrue, None, OnOk, Some, map};
 ghost use Rattle.graphql_documents.specs.Built.{IsBuilt};
 ghost use Rattle.graphql_specification.specs.Defer.{DeferHolds};
 ghost use Rattle.graphql_documents.specs.Executables.{operations_of};
@@ -15,11 +15,15 @@ ghost use Rattle.graphql_specification.specs.FieldSets.{FieldSetHolds, FieldSetR
 ghost use Rattle.graphql_specification.specs.Merging.{FieldsCanMerge};
 ghost use Rattle.graphql_diagnostics.specs.Reports.{Appends, Checks, ChecksWithin, KeepsReports, ReportsWithin};
 ghost use Rattle.graphql_documents.specs.Selections.{fragments_of};
+ghost use Rattle.graphql_lone_fields.specs.LoneFields.{HasLoneFields};
 
 use graphql_diagnostics::DiagnosticList;
-use graphql_documents::documents::{ExecutableDocument, FieldSet, OperationMap, Schema, Valid};
+use graphql_documents::documents::{
+    ExecutableDocument, FieldSet, Operation, OperationMap, Schema, Valid,
+};
+use graphql_lone_fields::lone_fields::have_lone_fields;
 use graphql_merging::bounded::BoundedMerging;
-use graphql_nodes::ValidationError;
+use graphql_nodes::{Node, ValidationError};
 use graphql_operations::{
     OperationValidationContext, operations_of, validate_defer, validate_fragments_used,
     validate_subscription,
@@ -165,8 +169,8 @@ fn validate_with_or_without_schema(
 }
 
 /// Validates the operations of a document by the rules that need a schema, one after another: those of
-/// subscriptions, and that all fields that come together in a response agree, by sets as far as the work allows, and
-/// then by pairs.
+/// subscriptions, and that all fields that come together in a response agree: where some do, by sets as far as the work
+/// allows, and then by pairs.
 fn validate_with_schema(
     diagnostics: &mut DiagnosticList,
     schema: &Schema,
@@ -187,9 +191,70 @@ fn validate_with_schema(
 {
     let alloc = diagnostics.allocator();
     let operations = operations_of(alloc, document)?;
+    if have_nothing_to_merge(alloc, document, &operations, work)? {
+        return validate_subscriptions(diagnostics, document, &operations);
+    }
+    validate_and_merge(diagnostics, schema, document, &operations, work)
+}
+
+/// Whether it is found that no fields come together in these operations. It is sought where the work of merging is bounded.
+fn have_nothing_to_merge(
+    alloc: Global,
+    document: &ExecutableDocument,
+    operations: &[&Node<Operation>],
+    work: Option<usize>,
+) -> Result<bool, ValidationError>
+    ensures { IfOk result (λ nothing. IsTrue nothing → All (λ o. HasLoneFields (fragments_of document.now) o.now.value.value.selection_set) operations.now) }
+{
+    match work {
+        Some(work) => have_lone_fields(alloc, document, operations, work),
+        None => Ok(false),
+    }
+}
+
+/// Validates operations by the rules of subscriptions, one after another.
+fn validate_subscriptions(
+    diagnostics: &mut DiagnosticList,
+    document: &ExecutableDocument,
+    operations: &[&Node<Operation>],
+) -> Result<(), ValidationError>
+    requires { map (λ o. o.now) operations.now ≡ operations_of document.now }
+    ensures { (schema : Schema) → ChecksWithin result (All (λ o. OperationSubscriptionHolds document.now o.value.value) (operations_of document.now))
+        (λ e. DocumentReport (Some schema) document.now e.details e.location)
+        (λ e. DocumentLimit (Some schema) document.now e.details e.location)
+        diagnostics.old diagnostics.new }
+{
+    for operation in operations {
+        validate_subscription(document, operation, diagnostics)?;
+    }
+    Ok(())
+}
+
+/// Validates operations by the rules that need a schema, one after another.
+fn validate_and_merge(
+    diagnostics: &mut DiagnosticList,
+    schema: &Schema,
+    document: &ExecutableDocument,
+    operations: &[&Node<Operation>],
+    work: Option<usize>,
+) -> Result<(), ValidationError>
+    requires { map (λ o. o.now) operations.now ≡ operations_of document.now }
+    ensures holds { IsBuilt schema.now document.now →
+        OnOk result (ReportsWithin IsLimitEntry
+        (All (λ o. OperationSubscriptionHolds document.now o.value.value) (operations_of document.now) ×
+        All (λ o. FieldsCanMerge schema.now (fragments_of document.now) o.value.value.selection_set) (operations_of document.now))
+        (λ e. DocumentReport (Some schema.now) document.now e.details e.location ⊎ DocumentLimit (Some schema.now) document.now e.details e.location)
+        (entries diagnostics.old) (entries diagnostics.new)) }
+    ensures truth { KeepsReports
+        (λ e. DocumentReport (Some schema.now) document.now e.details e.location ⊎ DocumentLimit (Some schema.now) document.now e.details e.location)
+        (entries diagnostics.old) (entries diagnostics.new) }
+    ensures subscriptions { OnOk result (Appends (λ added. added ≡ [] → All (λ o. OperationSubscriptionHolds document.now o.value.value) (operations_of document.now))
+        (entries diagnostics.old) (entries diagnostics.new)) }
+{
+    let alloc = diagnostics.allocator();
     let mut merging = BoundedMerging::new(alloc, schema, document, work);
     let mut undecided = Vec::new(alloc);
-    for operation in &operations {
+    for operation in operations {
         validate_subscription(document, operation, diagnostics)?;
         let decided = merging.validate_operation(operation, diagnostics)?;
         if !decided {

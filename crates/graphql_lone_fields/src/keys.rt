@@ -1,0 +1,77 @@
+//! Whether fields have different response keys.
+
+ghost use Rattle.std.specs.List.{list_any};
+ghost use Rattle.std.specs.Prelude.{◌≡◌, ◌++◌, ◌∷◌, [], AllPairs, IfOk, IsFalse, IsTrue, List, OnOk, map, not};
+ghost use Rattle.graphql_nodes.specs.Names.{same_name, stands_on, with_name};
+ghost use Rattle.graphql_specification.specs.MergedSets.{key_of};
+ghost use Rattle.graphql_merging.specs.FieldSelections.{listed, selection_of};
+ghost use Rattle.graphql_lone_fields.specs.LoneFields.{HaveOtherKeys};
+
+use graphql_merging::field_selections::FieldSelection;
+use graphql_nodes::{Name, ValidationError};
+use indexmap::IndexSet;
+use std::alloc::Global;
+
+/// Up to how many fields each is compared with each, which takes no memory.
+const FEW: usize = 16;
+
+/// Whether no two of the fields have the same response key. The only error is a failed allocation.
+pub(crate) fn have_different_keys(
+    alloc: Global,
+    fields: &[FieldSelection<'_>],
+) -> Result<bool, ValidationError>
+    ensures { IfOk result (λ different. IsTrue different → AllPairs HaveOtherKeys (listed fields.now)) }
+{
+    if fields.len() <= FEW {
+        Ok(few_have_different_keys(fields))
+    } else {
+        many_have_different_keys(alloc, fields)
+    }
+}
+
+/// The same, by comparing each with each.
+fn few_have_different_keys(fields: &[FieldSelection<'_>]) -> bool
+    ensures { IsTrue result → AllPairs HaveOtherKeys (listed fields.now) }
+{
+    match fields {
+        [] => true,
+        [first, rest @ ..] => !is_key_of_one(first, rest) && few_have_different_keys(rest),
+    }
+}
+
+/// Whether the key of a field is that of one of the others.
+fn is_key_of_one(field: &FieldSelection<'_>, others: &[FieldSelection<'_>]) -> bool
+    ensures { result ≡ list_any (λ other. same_name (key_of (selection_of field.now)) (key_of other)) (listed others.now) }
+{
+    let key = field.field.value.response_key();
+    others
+        .iter()
+        .any(|other| key == other.field.value.response_key())
+}
+
+/// The same, by a set of the keys.
+fn many_have_different_keys(
+    alloc: Global,
+    fields: &[FieldSelection<'_>],
+) -> Result<bool, ValidationError>
+    ensures { IfOk result (λ different. IsTrue different → AllPairs HaveOtherKeys (listed fields.now)) }
+{
+    let mut keys = IndexSet::with_capacity(alloc, fields.len())?;
+    for field in fields {
+        if !add_key(&mut keys, field.field.value.response_key())? {
+            return Ok(false);
+        }
+    }
+    Ok(true)
+}
+
+/// Adds a key to those that were met, and answers whether it is new.
+fn add_key<'doc>(
+    keys: &mut IndexSet<&'doc Name>,
+    key: &'doc Name,
+) -> Result<bool, ValidationError>
+    ensures is_new { IfOk result (λ new. new ≡ not (stands_on (map (λ b. b.now) keys.old.keys) key.now)) }
+    ensures keys { OnOk result (map (λ b. b.now) keys.new.keys ≡ with_name (map (λ b. b.now) keys.old.keys) key.now) }
+{
+    Ok(keys.insert(key)?)
+}
