@@ -66,10 +66,7 @@ fn many_have_different_keys(
 }
 
 /// Adds a key to those that were met, and answers whether it is new.
-fn add_key<'doc>(
-    keys: &mut IndexSet<&'doc Name>,
-    key: &'doc Name,
-) -> Result<bool, ValidationError>
+fn add_key<'doc>(keys: &mut IndexSet<&'doc Name>, key: &'doc Name) -> Result<bool, ValidationError>
     ensures is_new { IfOk result (λ new. new ≡ not (stands_on (map (λ b. b.now) keys.old.keys) key.now)) }
     ensures keys { OnOk result (map (λ b. b.now) keys.new.keys ≡ with_name (map (λ b. b.now) keys.old.keys) key.now) }
 {

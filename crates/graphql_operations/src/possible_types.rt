@@ -43,7 +43,10 @@ fn is_object_of(object: &ExtendedType, ty: &ExtendedType) -> bool
             .value
             .implements_interfaces
             .contains(&interface.value.name),
-        ExtendedType::Union(union_type) => union_type.value.members.contains(&definition.value.name),
+        ExtendedType::Union(union_type) => union_type
+            .value
+            .members
+            .contains(&definition.value.name),
         _ => false,
     }
 }

@@ -7,4 +7,6 @@ mod bounds;
 #[cfg(test)]
 mod hostile;
 #[cfg(test)]
+mod lone;
+#[cfg(test)]
 mod pairs;
