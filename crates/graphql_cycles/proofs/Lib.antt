@@ -7,3 +7,4 @@ pub mod FragmentSearchLemmas
 pub mod InputObjectSearchLemmas
 pub mod ReferenceLemmas
 pub mod SeenNameLemmas
+pub mod SpreadLevelLemmas

@@ -1,4 +1,4 @@
-ghost use Rattle.std.specs.Prelude.{◌≡◌, ◌+◌, List, Option, OnOk};
+ghost use Rattle.std.specs.Prelude.{◌≡◌, ◌+◌, IsTrue, List, Option, OnOk, Some};
 ghost use Rattle.graphql_diagnostics.specs.Diagnostics.{IsDiagnostic};
 ghost use Rattle.graphql_specification.specs.Fragments.{FragmentHasNoCycle, HasLongSpreadPath, IsFragmentCycle, FragmentLimit, fragment_depth_limit, FragmentFormReport};
 ghost use Rattle.graphql_diagnostics.specs.Reports.{ChecksWithin};
@@ -17,6 +17,7 @@ use graphql_documents::documents::{
     ExecutableDocument, Fragment, FragmentSpread, Selection, SelectionSet,
 };
 use graphql_guards::{CycleError, RecursionStack};
+use graphql_nesting::DocumentLevels;
 use graphql_nodes::{Name, Node, SourceSpan, ValidationError};
 use indexmap::IndexSet;
 use std::alloc::Global;
@@ -55,6 +56,30 @@ pub fn validate_fragment_cycles(
         Err(CycleError::Recursed(trace)) => report_cycle(diagnostics, fragment, trace),
         Err(CycleError::Limit) => report_nesting(diagnostics, fragment),
         Err(CycleError::Memory) => Err(ValidationError::OutOfMemory),
+    }
+}
+
+/// Whether a fragment that the document has under a name is known by its levels to lead to no cycle, and to no path of spreads
+/// that goes through more than 100 fragments: `validate_fragment_cycles` reports nothing of such a fragment. It is not known
+/// where the levels of the document were not found, where they are 100 or more, and where the fragment has another name itself.
+///
+/// Specification: 5.5.2.2 Fragment Spreads Must Not Form Cycles.
+pub fn is_known_without_cycle(
+    document: &DocumentLevels,
+    name: &Name,
+    fragment: &Node<Fragment>,
+) -> bool
+    ensures no_cycle { IsTrue result → fragments_of document.now.document.now name.now ≡ Some fragment.now →
+        FragmentHasNoCycle (fragments_of document.now.document.now) fragment.now }
+    ensures no_long_path { IsTrue result → fragments_of document.now.document.now name.now ≡ Some fragment.now →
+        ¬ HasLongSpreadPath (fragments_of document.now.document.now) fragment.now (fragment_depth_limit + 1) }
+{
+    if *name != fragment.value.name {
+        return false;
+    }
+    match document.levels_of(name) {
+        Some(levels) => levels < FRAGMENT_LIMIT,
+        None => false,
     }
 }
 

@@ -3,10 +3,12 @@
 #![tactic(auto)]
 
 mod fragments;
+mod levels;
 mod nesting;
 mod reports;
 mod spreads;
 mod written;
 
+pub use levels::DocumentLevels;
 pub use nesting::check_nesting;
 pub use reports::{NestedPart, NestingReport};
