@@ -78,6 +78,9 @@ pub fn validate_executable_document(
 /// On ordinary documents it is a small multiple of the number of fields, and on documents made for it there are
 /// exponentially many.
 ///
+/// First it is asked whether any fields come together at all, for which at most `work` fields are listed, too. Where none do,
+/// as in most documents, nothing of merging is left to do.
+///
 /// Where more fields were listed than `work`, merging by such lists stops. That operation and all later ones are
 /// decided by pairs of selection sets, all together, each pair looked at once in each pass: so no more pairs of fields
 /// are compared than the square of those that are written.
