@@ -1,9 +1,11 @@
 -- Sets with lone fields: how they are found, and that their fields can merge.
-use Rattle.std.proofs.Common.{◌≡◌, ℕ, ◌+◌, ◌<◌, ◌⊎◌, inl, inr, Bool, true, false, List, [], ◌∷◌, Some, refl, sym, ◌∙◌, ap, subst, All, Contains, length, get_or, arith}
-use Rattle.std.specs.Prelude.{IsTrue, AllPairs}
+use Rattle.std.proofs.Common.{rules, ◌≡◌, ℕ, ◌<◌, inl, inr, Bool, true, false, List, [], ◌∷◌, Some, refl, sym, ◌∙◌, ap, subst, All, Contains, length, get_or}
+use Rattle.std.specs.Prelude.{◌==◌, AllPairs, Err, IfOk, IsTrue, Ok, Result, Vec}
+use Rattle.std.specs.Vec.{vec_len}
+use Rattle.std.specs.declared.alloc.Global.{Global}
 use Rattle.std.specs.Map.{lookup}
 use Rattle.std.proofs.lemmas.Bool.{cases_order}
-use Rattle.std.proofs.lemmas.List.{get_or_default}
+use Rattle.std.proofs.lemmas.List.{get_or_default, nil_from_length}
 use Rattle.std.proofs.lemmas.List.Elements.{All-contains}
 use Rattle.std.proofs.lemmas.Option.{same_Some}
 use Rattle.graphql_nodes.specs.Names.{NameText, SameName, same_name}
@@ -18,19 +20,19 @@ use Rattle.graphql_documents.specs.declared.documents.executables.ExecutableDocu
 use Rattle.graphql_documents.specs.declared.documents.executables.Field.{Field}
 use Rattle.graphql_documents.specs.declared.documents.executables.Fragment.{Fragment}
 use Rattle.graphql_documents.specs.declared.documents.executables.Operation.{Operation}
+use Rattle.graphql_documents.specs.declared.documents.executables.Selection.{Selection}
 use Rattle.graphql_documents.specs.declared.documents.executables.Selection.TheVariants as kind
 use Rattle.graphql_documents.specs.declared.documents.executables.SelectionSet.{SelectionSet}
 use Rattle.graphql_documents.specs.declared.documents.schemas.Schema.{Schema}
 use Rattle.graphql_documents.specs.declared.documents.schemas.ExtendedType.{ExtendedType}
 use Rattle.graphql_documents.proofs.ListLemmas.{none_stands, stands_behind, stands_first}
-use Rattle.graphql_documents.proofs.SelectionLemmas.{one_fragment_found}
 use Rattle.graphql_specification.specs.Merging.{FieldInExpandedSet, FieldSelection, FieldsCanMerge, Pass, SameKey, field_pass, set_of, shape_pass, type_of}
 use Rattle.graphql_specification.specs.MergedSets.{Agree, ArePutTogether, Expansion, Meet, key_of, meet_below, meet_here}
 use Rattle.graphql_laws.proofs.ExpandedListLaws.{lists_what_is_inside}
 use Rattle.graphql_laws.proofs.MeetingLaws.{merges_by_meeting}
 use Rattle.graphql_laws.proofs.MergingLaws.{same_shape_itself}
 use Rattle.graphql_laws.proofs.ValueLaws.{same_arguments_itself}
-use Rattle.graphql_lone_fields.specs.LoneFields.{HasLoneFields, HaveOtherKeys, KeysAreOfOneField, lone_fields}
+use Rattle.graphql_lone_fields.specs.LoneFields.{HasLoneFields, HaveOtherKeys, lone_fields}
 
 -- of fields with different keys one alone has a key
 module _ (fields : List FieldSelection) (different : AllPairs HaveOtherKeys fields) where
@@ -135,3 +137,12 @@ module _ (schema : Schema) (document : ExecutableDocument) (built : IsBuilt sche
       let operation = All-contains (λ (p : Node Operation). OperationIsBuilt schema p.value.value) (operations_of document) o built.operations stands in
       (merges_by_meeting schema F set).1
       (λ pass x y meet. subst (Agree schema pass x) (one_meets refl lone meet) (agrees_itself pass x (meets_output operation.sets meet)))
+
+-- what follows from an answer
+pub if_ok_wider : {X E : Type 0} {P Q : X → Type 0} (r : Result X E) → ((x : X) → P x → Q x) → IfOk r P → IfOk r Q
+if_ok_wider (Ok x) wider p = wider x p
+if_ok_wider (Err e) wider p = tt
+
+-- a vector that says that it is empty has no items
+pub no_selections : (v : Vec Selection Global) (b : Bool) → b ≡ (vec_len v == 0) → IsTrue b → v.items ≡ []
+no_selections v b is empty = nil_from_length v.items (search rules)

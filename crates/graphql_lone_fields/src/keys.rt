@@ -33,20 +33,25 @@ pub(crate) fn have_different_keys(
 fn few_have_different_keys(fields: &[FieldSelection<'_>]) -> bool
     ensures { IsTrue result → AllPairs HaveOtherKeys (listed fields.now) }
 {
-    match fields {
-        [] => true,
-        [first, rest @ ..] => !is_key_of_one(first, rest) && few_have_different_keys(rest),
-    }
+    let Some((first, rest)) = fields.split_first() else {
+        return true;
+    };
+    let key = first.field.value.response_key();
+    !is_key_of_one(key, rest) && few_have_different_keys(rest)
 }
 
-/// Whether the key of a field is that of one of the others.
-fn is_key_of_one(field: &FieldSelection<'_>, others: &[FieldSelection<'_>]) -> bool
-    ensures { result ≡ list_any (λ other. same_name (key_of (selection_of field.now)) (key_of other)) (listed others.now) }
+/// Whether this is the key of one of the fields.
+fn is_key_of_one(key: &Name, fields: &[FieldSelection<'_>]) -> bool
+    ensures { result ≡ list_any (λ field. same_name key.now (key_of (selection_of field))) fields.now }
 {
-    let key = field.field.value.response_key();
-    others
-        .iter()
-        .any(|other| key == other.field.value.response_key())
+    fields.iter().any(|field| has_key(field, key))
+}
+
+/// Whether this is the key of a field.
+fn has_key(field: &FieldSelection<'_>, key: &Name) -> bool
+    ensures { result ≡ same_name key.now (key_of (selection_of field.now)) }
+{
+    key == field.field.value.response_key()
 }
 
 /// The same, by a set of the keys.
