@@ -37,10 +37,33 @@ pub(crate) fn groups_of<'doc>(
 ) -> Result<Vec<Vec<FieldSelection<'doc>>>, ValidationError>
     ensures { IfOk result (λ groups. lists_of groups.items ≡ groups_of schema.now (pass_of pass) (listed fields.now)) }
 {
+    if fields.len() == 1 {
+        return groups_of_one(alloc, schema, pass, fields[0]);
+    }
     let fields_by_key = fields_by_key(alloc, fields)?;
     match pass {
         Pass::Shapes => Ok(fields_by_key.into_values().collect(alloc)?),
         Pass::NamesAndArguments => groups_by_types(alloc, schema, fields_by_key),
+    }
+}
+
+/// The groups of a list of one field: itself, unless types are looked at and it is on none with fields to select.
+fn groups_of_one<'doc>(
+    alloc: Global,
+    schema: &Schema,
+    pass: Pass,
+    field: FieldSelection<'doc>,
+) -> Result<Vec<Vec<FieldSelection<'doc>>>, ValidationError>
+    ensures { IfOk result (λ groups. lists_of groups.items ≡ groups_of schema.now (pass_of pass) (selection_of field.entry ∷ [])) }
+{
+    let group = vec![in alloc; field]?;
+    match pass {
+        Pass::Shapes => Ok(vec![in alloc; group]?),
+        Pass::NamesAndArguments => {
+            let mut groups = Vec::new(alloc);
+            push_alone(&mut groups, schema, group)?;
+            Ok(groups)
+        }
     }
 }
 
@@ -70,7 +93,7 @@ pub fn fields_by_key<'doc>(
 ) -> Result<IndexMap<&'doc Name, Vec<FieldSelection<'doc>>>, ValidationError>
     ensures { IfOk result (λ found. named_fields found.entries ≡ by_keys (listed fields.now)) }
 {
-    let mut fields_by_key = IndexMap::new(alloc);
+    let mut fields_by_key = IndexMap::with_capacity(alloc, fields.len())?;
     for field in fields {
         push_under(
             &mut fields_by_key,
