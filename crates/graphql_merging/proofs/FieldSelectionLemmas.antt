@@ -1,12 +1,10 @@
 -- Lists of fields that compare as the same.
-use Rattle.std.proofs.Common.{subst, Vec, not, ◌++◌, ap, ◌≡◌, ◌↔◌, Bool, true, false, ◌&&◌, List, [], ◌∷◌, refl, sym, ◌∙◌}
-use Rattle.std.specs.Prelude.{IsFalse, IsTrue}
+use Rattle.std.proofs.Common.{subst, Vec, ◌↔◌, Bool, true, false, ◌&&◌, List, [], ◌∷◌, refl, sym}
+use Rattle.std.specs.Prelude.{IsTrue}
 use Rattle.std.specs.Cmp.Lexicographic.{pointwise}
 use Rattle.std.specs.List.{Any, list_any}
 use Rattle.std.proofs.lemmas.List.Folds.{Any-from_list_any, list_any-from_Any}
 use Rattle.std.specs.declared.alloc.Global.{Global}
-use Rattle.std.proofs.lemmas.List.{map-append}
-use Rattle.indexmap.specs.IndexSet.{insert_key}
 use Rattle.graphql_documents.proofs.ContentLemmas.{equality_of_fields}
 use Rattle.graphql_documents.proofs.ListLemmas.{made_of, stands_mapped}
 use Rattle.graphql_variables.proofs.UseLemmas.{any_has, has_any}
@@ -49,16 +47,3 @@ compared_with_any fields known = (there, back) where
       list_any-from_Any (λ k. pointwise same_selection fields k.items) known
       (has_any (λ k. IsTrue (pointwise same_selection fields k.items)) known k.0 k.1
       ((compared_lists fields k.0.items).1 (subst (SameFields (listed fields)) (sym k.2) h.2)))
-
--- a copy of a list whose fields are not among those of a set goes in behind them
-pub added_list : (fields : List FieldSelection) (known keys : List (Vec FieldSelection Global)) (copy : Vec FieldSelection Global) (new : Bool) →
-    copy.items ≡ fields → IsFalse (list_any (λ k. pointwise same_selection fields k.items) known) →
-    new ≡ not (list_any (λ k. pointwise same_selection copy.items k.items) known) →
-    keys ≡ insert_key (λ x y. pointwise same_selection x.items y.items) known copy →
-    IsTrue new × (lists_of keys ≡ lists_of known ++ listed fields ∷ [])
-added_list fields known keys copy new same other is_new inserted =
-    let missing : list_any (λ k. pointwise same_selection copy.items k.items) known ≡ false =
-    subst (λ items. list_any (λ k. pointwise same_selection items k.items) known ≡ false) (sym same) other in (
-      is_new ∙ ap not missing,
-      ap lists_of (inserted ∙ rw missing refl) ∙ map-append (λ k. listed k.items) known (copy ∷ []) ∙ ap (λ items. lists_of known ++ listed items ∷ []) same,
-    )

@@ -1,24 +1,25 @@
 -- The fields of a list under names, one more field at a time.
-use Rattle.std.proofs.Common.{◌≡◌, Bool, true, false, cond, List, [], ◌∷◌, ◌++◌, Option, Some, None, Vec, refl, sym, ◌∙◌, ap, fold, length, map}
+use Rattle.std.proofs.Common.{◌≡◌, Bool, true, false, cond, List, [], ◌∷◌, ◌++◌, Option, Some, None, Vec, refl, sym, ◌∙◌, ap, fold, get_or, length, map, arith}
 use Rattle.std.specs.Prelude.{filter, filter_map, unwrap_or}
 use Rattle.std.specs.Borrow.{Bor}
 use Rattle.std.specs.List.{cons_option}
-use Rattle.std.specs.Map.{lookup, set_value}
-use Rattle.std.specs.Option.{option_map}
+use Rattle.std.specs.Map.{lookup}
+use Rattle.std.specs.Option.{option_map, option_map_or}
 use Rattle.std.specs.declared.alloc.Global.{Global}
 use Rattle.std.proofs.lemmas.Grind.{fold-append}
 use Rattle.std.proofs.lemmas.List.{append-nil, append_assoc, length-map, map-append}
 use Rattle.std.proofs.lemmas.Simd.{map-map}
 use Rattle.std.proofs.lemmas.List.Elements.{filter-append, filter_map-append}
 use Rattle.indexmap.specs.IndexMap.{insert_entry}
-use Rattle.graphql_specification.specs.MergedSets.{is_abstract, is_object_named, with_parents, groups_of, groups_on, key_of, keys_of, object_name, objects_of, on_object, under_key}
+use Rattle.graphql_specification.specs.MergedSets.{is_abstract, is_object_named, with_parents, groups_of, groups_on, key_of, keys_of, object_name, objects_of, on_object, under_key, unless_empty}
 use Rattle.graphql_specification.specs.Merging.{shape_pass}
 use Rattle.graphql_specification.specs.Merging as merging
 use Rattle.graphql_nodes.specs.Names.{NameText, different_names, same_name, stands_on, with_name}
-use Rattle.graphql_documents.specs.Schemas.{type_definition}
+use Rattle.graphql_documents.specs.Schemas.{is_composite, type_definition}
 use Rattle.graphql_documents.specs.declared.documents.schemas.ExtendedType.TheVariants.{Object}
 use Rattle.graphql_documents.specs.declared.documents.schemas.ExtendedType.{ExtendedType}
 use Rattle.graphql_documents.specs.declared.documents.schemas.Schema.{Schema}
+use Rattle.graphql_nodes.proofs.NameLemmas.{same_name_itself}
 use Rattle.graphql_documents.proofs.ImplementerLemmas.{Apart, apart_folded, inserted, neither, same_swapped, stands_folded}
 use Rattle.graphql_merging.specs.FieldSelections.{listed, lists_of, selection_of}
 use Rattle.graphql_merging.specs.Groups.{NamedFields, by_keys, by_objects, named_fields, with_field, with_field_if, with_keyed, with_owned}
@@ -140,16 +141,6 @@ found_as_fields (e ∷ es) n = by (same_name n e.0.now) (found_as_fields es n) w
   by false behind = behind
 
 module _ (new : Vec FieldSelection Global) where
-  set_viewed : (entries : Entries) (n : NameText) (known : Vec FieldSelection Global) → lookup (λ b. same_name n b.now) entries ≡ Some known →
-      named_fields (set_value (λ b. same_name n b.now) entries new) ≡ insert_entry same_name (named_fields entries) n (listed new.items)
-  set_viewed [] n known e = absurd (let h : ⊥ = cc in h)
-  set_viewed (entry ∷ es) n known e = by (same_name n entry.0.now) refl (set_viewed es n known) where
-    by : (b : Bool) → same_name n entry.0.now ≡ b →
-        (lookup (λ b. same_name n b.now) es ≡ Some known → named_fields (set_value (λ b. same_name n b.now) es new) ≡ insert_entry same_name (named_fields es) n (listed new.items)) →
-        named_fields (set_value (λ b. same_name n b.now) (entry ∷ es) new) ≡ insert_entry same_name (named_fields (entry ∷ es)) n (listed new.items)
-    by true same behind = rw same refl
-    by false other behind = rw other (ap (λ l. (entry.0.now, listed entry.1.items) ∷ l) (behind (rw other at e)))
-
   entry_viewed : (entries : Entries) (k : Bor NameText) →
       named_fields (insert_entry (λ a b. same_name a.now b.now) entries k new) ≡ insert_entry same_name (named_fields entries) k.now (listed new.items)
   entry_viewed [] k = refl
@@ -160,27 +151,24 @@ module _ (new : Vec FieldSelection Global) where
     by true same behind = rw same refl
     by false other behind = rw other (ap (λ l. (entry.0.now, listed entry.1.items) ∷ l) behind)
 
--- a field that is put behind those under a name that was there
-pub set_as_fields : (entries : Entries) (n : NameText) (x : FieldSelection) (known new : Vec FieldSelection Global) →
-    lookup (λ b. same_name n b.now) entries ≡ Some known → new.items ≡ known.items ++ x ∷ [] →
-    named_fields (set_value (λ b. same_name n b.now) entries new) ≡ with_field (named_fields entries) n (selection_of x)
-set_as_fields entries n x known new e is =
-    set_viewed new entries n known e ∙
-    ap (insert_entry same_name (named_fields entries) n)
-    (ap listed is ∙ map-append selection_of known.items (x ∷ []) ∙
-    ap (λ o. unwrap_or o [] ++ selection_of x ∷ [])
-    (sym (found_as_fields entries n ∙ ap (option_map (λ (fields : Vec FieldSelection Global). listed fields.items)) e)))
+-- what was under a name, or nothing
+known_under : (o : Option (Vec FieldSelection Global)) (none : Vec FieldSelection Global) → none.items ≡ [] →
+    listed (unwrap_or o none).items ≡ unwrap_or (option_map (λ (fields : Vec FieldSelection Global). listed fields.items) o) []
+known_under None none empty = ap listed empty
+known_under (Some fields) none empty = refl
 
--- a field that is put under a new name
-pub inserted_as_fields : (entries : Entries) (k : Bor NameText) (x : FieldSelection) (new : Vec FieldSelection Global) →
-    lookup (λ b. same_name k.now b.now) entries ≡ None → new.items ≡ x ∷ [] →
+-- a field that is put behind those under a name, if there are some
+pub put_as_fields : (entries : Entries) (k : Bor NameText) (x : FieldSelection) (none known new : Vec FieldSelection Global) → none.items ≡ [] →
+    known ≡ unwrap_or (lookup (λ b. same_name k.now b.now) entries) none → new.items ≡ known.items ++ x ∷ [] →
     named_fields (insert_entry (λ a b. same_name a.now b.now) entries k new) ≡ with_field (named_fields entries) k.now (selection_of x)
-inserted_as_fields entries k x new e is =
+put_as_fields entries k x none known new empty found is =
     entry_viewed new entries k ∙
     ap (insert_entry same_name (named_fields entries) k.now)
-    (ap listed is ∙
-    ap (λ o. unwrap_or o [] ++ selection_of x ∷ [])
-    (sym (found_as_fields entries k.now ∙ ap (option_map (λ (fields : Vec FieldSelection Global). listed fields.items)) e)))
+    (ap listed is ∙ map-append selection_of known.items (x ∷ []) ∙
+    ap (λ l. l ++ selection_of x ∷ [])
+    (ap (λ (fields : Vec FieldSelection Global). listed fields.items) found ∙
+    known_under (lookup (λ b. same_name k.now b.now) entries) none empty ∙
+    ap (λ o. unwrap_or o []) (sym (found_as_fields entries k.now))))
 
 -- the lists of a map, as those under its names
 pub lists_viewed : (entries : Entries) → lists_of (map (λ e. e.1) entries) ≡ map (λ entry. entry.1) (named_fields entries)
@@ -213,3 +201,43 @@ lists_on_objects schema fields entries rest found on_abstract some =
     ap (λ l. map (λ name. on_named name ++ l) (objects_of schema fields)) on_abstract ∙
     groups_on_objects schema fields (objects_of schema fields)
     (λ none. some (sym (length-map entries (λ entry. (entry.0.now, listed entry.1.items))) ∙ ap length (found ∙ ap (map (λ name. (name, on_named name))) none)))
+
+-- the list of the only field
+only_field : (fields : List FieldSelection) (x : FieldSelection) → length fields ≡ 1 → x ≡ get_or fields 0 x → listed fields ≡ selection_of x ∷ []
+only_field [] x one is = absurd (let no : ⊥ = cc in no)
+only_field (y ∷ []) x one is = ap (λ z. selection_of z ∷ []) (sym is)
+only_field (y ∷ z ∷ rest) x one is = absurd (let no : ⊥ = omega arith in no)
+
+module _ (schema : Schema) where
+  -- a field alone is a group where it is on a composite type
+  alone_among : (x : merging.FieldSelection) (t : Option ExtendedType) → type_definition schema x.parent ≡ t →
+      groups_on schema (x ∷ []) (different_names (cons_option (object_name t) [])) ≡ cond (option_map_or is_composite t false) ((x ∷ []) ∷ []) []
+  alone_among x (Some (Object d)) e =
+      let name = d.value.value.name in
+      ap (λ t. (cond (is_object_named name t) (x ∷ []) [] ++ cond (is_abstract t) (x ∷ []) []) ∷ []) e ∙
+      ap (λ b. (cond b (x ∷ []) [] ++ []) ∷ []) (same_name_itself name)
+  alone_among x _ e = ap (λ t. unless_empty (cond (is_abstract t) (x ∷ []) [])) e
+
+  alone_on : (x : merging.FieldSelection) →
+      groups_on schema (x ∷ []) (objects_of schema (x ∷ [])) ≡ cond (option_map_or is_composite (type_definition schema x.parent) false) ((x ∷ []) ∷ []) []
+  alone_on x = alone_among x (type_definition schema x.parent) refl
+
+  alone_in : (fields : List FieldSelection) (x : FieldSelection) (b : Bool) → length fields ≡ 1 → x ≡ get_or fields 0 x →
+      option_map_or is_composite (type_definition schema x.parent_type.now) false ≡ b →
+      groups_on schema (listed fields) (objects_of schema (listed fields)) ≡ cond b (listed fields ∷ []) []
+  alone_in fields x b one is composite =
+      let only = only_field fields x one is in
+      ap (λ l. groups_on schema l (objects_of schema l)) only ∙ alone_on (selection_of x) ∙
+      ap (λ b. cond b ((selection_of x ∷ []) ∷ []) []) composite ∙ ap (λ l. cond b (l ∷ []) []) (sym only)
+
+  pub added_alone : (groups : List (Vec FieldSelection Global)) (group : Vec FieldSelection Global) (x : FieldSelection) →
+      length group.items ≡ 1 → x ≡ get_or group.items 0 x → option_map_or is_composite (type_definition schema x.parent_type.now) false ≡ true →
+      lists_of (groups ++ group ∷ []) ≡ lists_of groups ++ groups_on schema (listed group.items) (objects_of schema (listed group.items))
+  added_alone groups group x one is composite =
+      map-append (λ fields. listed fields.items) groups (group ∷ []) ∙ ap (λ l. lists_of groups ++ l) (sym (alone_in group.items x true one is composite))
+
+  pub left_alone : (groups : List (List merging.FieldSelection)) (fields : List FieldSelection) (x : FieldSelection) →
+      length fields ≡ 1 → x ≡ get_or fields 0 x → option_map_or is_composite (type_definition schema x.parent_type.now) false ≡ false →
+      groups ≡ groups ++ groups_on schema (listed fields) (objects_of schema (listed fields))
+  left_alone groups fields x one is composite =
+      sym (append-nil groups) ∙ ap (λ l. groups ++ l) (sym (alone_in fields x false one is composite))

@@ -6,6 +6,7 @@ pub mod CopyLemmas
 pub mod DisagreementLemmas
 pub mod ExpansionSizeLemmas
 pub mod ExpansionStepLemmas
+pub mod FieldListLemmas
 pub mod FieldSelectionLemmas
 pub mod FirstNamedLemmas
 pub mod GroupLemmas

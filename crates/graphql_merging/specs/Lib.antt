@@ -1,6 +1,7 @@
 pub mod Comparisons
 pub mod Conflicts
 pub mod ExpansionSteps
+pub mod FieldHashes
 pub mod FieldSelections
 pub mod FirstPlaces
 pub mod Groups

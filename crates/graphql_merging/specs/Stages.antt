@@ -1,5 +1,5 @@
 -- Where the code of a pass is.
-use Rattle.std.specs.Prelude.{List}
+use Rattle.std.specs.Prelude.{List, map}
 use Rattle.graphql_diagnostics.specs.Diagnostics.{entries}
 use Rattle.graphql_specification.specs.Merging.{FieldSelection}
 use Rattle.graphql_diagnostics.specs.declared.lists.DiagnosticList.{DiagnosticList}
@@ -11,7 +11,7 @@ use Rattle.graphql_merging.specs.declared.examined.Examined.{Examined}
 
 -- the lists that were examined
 abbrev pub examined_lists : Examined → List (List FieldSelection)
-examined_lists examined = lists_of examined.lists.keys
+examined_lists examined = lists_of (map (λ list. list.fields) examined.lists.keys)
 
 -- what was examined, how deep, and what was reported
 abbrev pub stage_of : Examined → LimitCounter → DiagnosticList → Stage

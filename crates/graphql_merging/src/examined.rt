@@ -1,6 +1,6 @@
 ghost use Rattle.std.specs.Prelude.{◌<◌, ◌^◌};
 
-use super::field_selections::FieldSelection;
+use super::field_lists::FieldList;
 use graphql_nodes::ValidationError;
 use indexmap::IndexSet;
 use std::alloc::Global;
@@ -8,7 +8,7 @@ use std::alloc::Global;
 /// The lists of fields that a pass has examined, and how often it has compared two shapes.
 #[derive(Drop)]
 pub(crate) struct Examined<'doc> {
-    lists: IndexSet<Vec<FieldSelection<'doc>>>,
+    lists: IndexSet<FieldList<'doc>>,
     pub(crate) comparisons: u64,
     ghost small: { comparisons < 2 ^ 64 },
 }
@@ -33,19 +33,19 @@ impl<'doc> Examined<'doc> {
     }
 
     /// Whether the same fields were examined, in the same order.
-    pub(crate) fn knows(&self, fields: &Vec<FieldSelection<'doc>>) -> bool
-        ensures { IsTrue result ↔ Any (SameFields (listed fields.now.items)) (examined_lists self.now) }
+    pub(crate) fn knows(&self, list: &FieldList<'doc>) -> bool
+        ensures { IsTrue result ↔ Any (SameFields (listed list.now.fields.items)) (examined_lists self.now) }
     {
-        self.lists.contains(fields)
+        self.lists.contains(list)
     }
 
     /// Adds a list to those that were examined.
-    pub(crate) fn add(&mut self, fields: Vec<FieldSelection<'doc>>) -> Result<(), ValidationError>
-        requires { IsNew (examined_lists self.old) (listed fields.items) }
-        ensures lists { OnOk result (examined_lists self.new ≡ examined_lists self.old ++ listed fields.entry.items ∷ []) }
+    pub(crate) fn add(&mut self, list: FieldList<'doc>) -> Result<(), ValidationError>
+        requires { IsNew (examined_lists self.old) (listed list.fields.items) }
+        ensures lists { OnOk result (examined_lists self.new ≡ examined_lists self.old ++ listed list.entry.fields.items ∷ []) }
         ensures comparisons { self.new.comparisons ≡ self.old.comparisons }
     {
-        self.lists.insert(fields)?;
+        self.lists.insert(list)?;
         Ok(())
     }
 }

@@ -1,6 +1,8 @@
 //! The groups in which the fields of a list are put together.
 
-ghost use Rattle.std.specs.Prelude.{◌≡◌, ◌++◌, ◌∷◌, [], IfOk, OnOk, flat_map, map};
+ghost use Rattle.std.specs.Prelude.{◌≡◌, ◌++◌, ◌∷◌, [], false, IfOk, OnOk, flat_map, length, map};
+ghost use Rattle.std.specs.Option.{option_map_or};
+ghost use Rattle.graphql_documents.specs.Schemas.{is_composite, type_definition};
 ghost use Rattle.graphql_specification.specs.MergedSets.{is_abstract, with_parents, groups_of, groups_on, objects_of, unless_empty};
 ghost use Rattle.graphql_merging.specs.FieldSelections.{listed, lists_of, selection_of};
 ghost use Rattle.graphql_merging.specs.Groups.{by_keys, by_objects, named_fields, pass_of, with_field, with_owned};
@@ -35,10 +37,33 @@ pub(crate) fn groups_of<'doc>(
 ) -> Result<Vec<Vec<FieldSelection<'doc>>>, ValidationError>
     ensures { IfOk result (λ groups. lists_of groups.items ≡ groups_of schema.now (pass_of pass) (listed fields.now)) }
 {
+    if fields.len() == 1 {
+        return groups_of_one(alloc, schema, pass, fields[0]);
+    }
     let fields_by_key = fields_by_key(alloc, fields)?;
     match pass {
         Pass::Shapes => Ok(fields_by_key.into_values().collect(alloc)?),
-        Pass::NamesAndArguments => groups_by_types(alloc, schema, &fields_by_key),
+        Pass::NamesAndArguments => groups_by_types(alloc, schema, fields_by_key),
+    }
+}
+
+/// The groups of a list of one field: itself, unless types are looked at and it is on none with fields to select.
+fn groups_of_one<'doc>(
+    alloc: Global,
+    schema: &Schema,
+    pass: Pass,
+    field: FieldSelection<'doc>,
+) -> Result<Vec<Vec<FieldSelection<'doc>>>, ValidationError>
+    ensures { IfOk result (λ groups. lists_of groups.items ≡ groups_of schema.now (pass_of pass) (selection_of field.entry ∷ [])) }
+{
+    let group = vec![in alloc; field]?;
+    match pass {
+        Pass::Shapes => Ok(vec![in alloc; group]?),
+        Pass::NamesAndArguments => {
+            let mut groups = Vec::new(alloc);
+            push_alone(&mut groups, schema, group)?;
+            Ok(groups)
+        }
     }
 }
 
@@ -46,13 +71,13 @@ pub(crate) fn groups_of<'doc>(
 fn groups_by_types<'doc>(
     alloc: Global,
     schema: &Schema,
-    fields_by_key: &IndexMap<&'doc Name, Vec<FieldSelection<'doc>>>,
+    fields_by_key: IndexMap<&'doc Name, Vec<FieldSelection<'doc>>>,
 ) -> Result<Vec<Vec<FieldSelection<'doc>>>, ValidationError>
     ensures { IfOk result (λ groups. lists_of groups.items ≡
-        flat_map (λ entry. groups_on schema.now entry.1 (objects_of schema.now entry.1)) (named_fields fields_by_key.now.entries)) }
+        flat_map (λ entry. groups_on schema.now entry.1 (objects_of schema.now entry.1)) (named_fields fields_by_key.entry.entries)) }
 {
     let mut groups = Vec::new(alloc);
-    for fields in fields_by_key.values() {
+    for fields in fields_by_key.into_values() {
         push_groups(&mut groups, alloc, schema, fields)?;
     }
     Ok(groups)
@@ -68,7 +93,7 @@ pub fn fields_by_key<'doc>(
 ) -> Result<IndexMap<&'doc Name, Vec<FieldSelection<'doc>>>, ValidationError>
     ensures { IfOk result (λ found. named_fields found.entries ≡ by_keys (listed fields.now)) }
 {
-    let mut fields_by_key = IndexMap::new(alloc);
+    let mut fields_by_key = IndexMap::with_capacity(alloc, fields.len())?;
     for field in fields {
         push_under(
             &mut fields_by_key,
@@ -90,20 +115,61 @@ fn push_under<'name, 'doc>(
     ensures { OnOk result (named_fields fields_by_name.new.entries ≡
         with_field (named_fields fields_by_name.old.entries) name.now (selection_of field.entry)) }
 {
-    match fields_by_name.get_mut(&name) {
-        Some(fields) => fields.push(field)?,
-        None => {
-            let mut fields = Vec::new(alloc);
-            fields.push(field)?;
-            fields_by_name.insert(name, fields)?;
-        }
-    }
+    fields_by_name
+        .entry(name)?
+        .or_insert(Vec::new(alloc))
+        .push(field)?;
     Ok(())
+}
+
+/// Adds the groups of fields with one response key.
+fn push_groups<'doc>(
+    groups: &mut Vec<Vec<FieldSelection<'doc>>>,
+    alloc: Global,
+    schema: &Schema,
+    fields: Vec<FieldSelection<'doc>>,
+) -> Result<(), ValidationError>
+    ensures { OnOk result (lists_of groups.new.items ≡
+        lists_of groups.old.items ++ groups_on schema.now (listed fields.entry.items) (objects_of schema.now (listed fields.entry.items))) }
+{
+    if fields.len() == 1 {
+        push_alone(groups, schema, fields)
+    } else {
+        push_by_types(groups, alloc, schema, &fields)
+    }
+}
+
+/// Adds a field that no other has the response key of as a group, if it is on an object type, an interface or a
+/// union.
+fn push_alone<'doc>(
+    groups: &mut Vec<Vec<FieldSelection<'doc>>>,
+    schema: &Schema,
+    group: Vec<FieldSelection<'doc>>,
+) -> Result<(), ValidationError>
+    requires { length group.items ≡ 1 }
+    ensures { OnOk result (lists_of groups.new.items ≡
+        lists_of groups.old.items ++ groups_on schema.now (listed group.entry.items) (objects_of schema.now (listed group.entry.items))) }
+{
+    if !is_on_composite(schema, group[0]) {
+        return Ok(());
+    }
+    groups.push(group)?;
+    Ok(())
+}
+
+/// Whether the field is on an object type, an interface or a union.
+fn is_on_composite(schema: &Schema, field: FieldSelection) -> bool
+    ensures { result ≡ option_map_or is_composite (type_definition schema.now field.entry.parent_type.now) false }
+{
+    match schema.types.get(field.parent_type) {
+        Some(definition) => definition.is_composite(),
+        None => false,
+    }
 }
 
 /// Adds the groups of fields with one response key: for each object type the fields on it, and then those
 /// on abstract types; or the latter alone, where none is on an object type.
-fn push_groups<'doc>(
+fn push_by_types<'doc>(
     groups: &mut Vec<Vec<FieldSelection<'doc>>>,
     alloc: Global,
     schema: &Schema,

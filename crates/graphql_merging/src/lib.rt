@@ -9,6 +9,7 @@ mod conflicts;
 mod copies;
 mod examined;
 pub mod expansion;
+mod field_lists;
 pub mod field_selections;
 pub mod groups;
 pub mod laws;

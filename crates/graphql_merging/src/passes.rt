@@ -17,6 +17,7 @@ ghost use Rattle.graphql_merging.specs.declared.work.Interruption.TheVariants.{O
 use super::conflicts::compare_groups;
 use super::examined::Examined;
 use super::expansion::expand_selections;
+use super::field_lists::FieldList;
 use super::field_selections::FieldSelection;
 use super::groups::{Pass, groups_of};
 use super::work::{Interruption, Work};
@@ -55,12 +56,11 @@ impl<'s, 'doc> MergingPass<'s, 'doc> {
         ensures limit { OnOk result (count_limit depth.new ≡ count_limit depth.old) }
         ensures unbounded { IsUnbounded work.old → IsUnbounded work.new × IfErr result (λ e. e ≡ OutOfMemory) }
     {
-        let fields = expand_selections(diagnostics.allocator(), &self.document.fragments, &[set])?;
-        work.count(fields.len())?;
-        if examined.knows(&fields) {
+        let list = self.expand(diagnostics.allocator(), work, &[set])?;
+        if examined.knows(&list) {
             return Ok(());
         }
-        self.examine(diagnostics, examined, depth, work, fields)
+        self.examine(diagnostics, examined, depth, work, list)
     }
 
     /// Examines a list of fields that was not examined before: compares them group by group, and then
@@ -72,20 +72,25 @@ impl<'s, 'doc> MergingPass<'s, 'doc> {
         examined: &mut Examined<'doc>,
         depth: &mut LimitCounter,
         work: &mut Work,
-        fields: Vec<FieldSelection<'doc>>,
+        list: FieldList<'doc>,
     ) -> Result<(), Interruption>
         requires limit { count_limit depth.old ≡ merging_depth_limit }
-        requires is_new { IsNew (examined_lists examined.old) (listed fields.items) }
-        ensures examines { OnOk result (Examines self.now.schema.now (fragments_of self.now.document.now) (pass_of self.now.pass) (listed fields.entry.items)
+        requires is_new { IsNew (examined_lists examined.old) (listed list.fields.items) }
+        ensures examines { OnOk result (Examines self.now.schema.now (fragments_of self.now.document.now) (pass_of self.now.pass) (listed list.entry.fields.items)
             (stage_of examined.old depth.old diagnostics.old) (stage_of examined.new depth.new diagnostics.new)) }
         ensures truth { (operations : List (Node Operation)) →
-            MergedSet self.now.schema.now (fragments_of self.now.document.now) operations (pass_of self.now.pass) (listed fields.entry.items) →
+            MergedSet self.now.schema.now (fragments_of self.now.document.now) operations (pass_of self.now.pass) (listed list.entry.fields.items) →
             KeepsReports (IsConflict self.now.schema.now (fragments_of self.now.document.now) operations (pass_of self.now.pass)) (entries diagnostics.old) (entries diagnostics.new) }
         ensures limit { OnOk result (count_limit depth.new ≡ count_limit depth.old) }
         ensures unbounded { IsUnbounded work.old → IsUnbounded work.new × IfErr result (λ e. e ≡ OutOfMemory) }
     {
-        let groups = groups_of(diagnostics.allocator(), self.schema, self.pass, &fields)?;
-        examined.add(fields)?;
+        let groups = groups_of(
+            diagnostics.allocator(),
+            self.schema,
+            self.pass,
+            list.fields(),
+        )?;
+        examined.add(list)?;
         compare_groups(diagnostics, examined, self.schema, self.pass, &groups)?;
         for group in &groups {
             self.examine_below(diagnostics, examined, depth, work, group)?;
@@ -119,17 +124,32 @@ impl<'s, 'doc> MergingPass<'s, 'doc> {
         if sets.is_empty() {
             return Ok(());
         }
-        let fields = expand_selections(alloc, &self.document.fragments, &sets)?;
-        work.count(fields.len())?;
-        if examined.knows(&fields) {
+        let list = self.expand(alloc, work, &sets)?;
+        if examined.knows(&list) {
             return Ok(());
         }
         if depth.check_and_increment() {
             return Ok(());
         }
-        self.examine(diagnostics, examined, depth, work, fields)?;
+        self.examine(diagnostics, examined, depth, work, list)?;
         depth.decrement();
         Ok(())
+    }
+
+    /// Lists the fields of these sets, and those of the fragments in them, unless they are more than the work
+    /// allows.
+    fn expand(
+        &self,
+        alloc: Global,
+        work: &mut Work,
+        sets: &[&'doc SelectionSet],
+    ) -> Result<FieldList<'doc>, Interruption>
+        ensures fields { IfOk result (λ list. Expansion (fragments_of self.now.document.now) (map (λ set. set.now) sets.now) (listed list.fields.items)) }
+        ensures unbounded { IsUnbounded work.old → IsUnbounded work.new × IfErr result (λ e. e ≡ OutOfMemory) }
+    {
+        let fields = expand_selections(alloc, &self.document.fragments, sets)?;
+        work.count(fields.len())?;
+        Ok(FieldList::new(fields))
     }
 }
 

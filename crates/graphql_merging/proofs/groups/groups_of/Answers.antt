@@ -6,8 +6,8 @@ use Rattle.graphql_merging.specs.Groups.{pass_of}
 use Rattle.graphql_specification.specs.MergedSets.{groups_of}
 use Rattle.graphql_merging.proofs.groups.groups_of.Goals as goal
 
-pub returns-in-Shapes : goal.returns-in-Shapes
-returns-in-Shapes c =
+pub returns-in_ok-collect-in-Shapes : goal.returns-in_ok-collect-in-Shapes
+returns-in_ok-collect-in-Shapes c =
     let found = c.in_ok-fields_by_key.fields_by_key in
     let fields = listed c.args.fields.now in
     let items : c.in_ok-collect-in-Shapes.field-0.items ≡ values found = search rules in

@@ -38,11 +38,11 @@ examine-returns-in_err-examine_below-clause-truth t c operations merged =
     let S = self.schema.now in
     let F = fragments_of self.document.now in
     let pass = pass_of self.pass in
-    let list = listed c.args.fields.items in
-    let are = ap lists_of c.deref-2.ensures.value ∙ c.in_ok-groups.ensures ∙ ap (λ l. groups_of S pass (listed l)) c.deref.ensures.value in
-    let walked = ap lists_of c.deref-group-items.ensures.value ∙ c.in_ok-groups.ensures ∙ ap (λ l. groups_of S pass (listed l)) c.deref.ensures.value in
+    let list = listed c.args.list.fields.items in
+    let are = ap lists_of c.deref.ensures.value ∙ c.in_ok-groups.ensures ∙ ap (λ l. groups_of S pass (listed l)) c.fields.ensures in
+    let walked = ap lists_of c.deref-group-items.ensures.value ∙ c.in_ok-groups.ensures ∙ ap (λ l. groups_of S pass (listed l)) c.fields.ensures in
     let all = each_group S pass list c.deref-group-items.result.now walked in
-    kept_then (conflicts_true S pass list c.deref-2.result.now are F operations merged c.in_ok-compare_groups.ensures.truth)
+    kept_then (conflicts_true S pass list c.deref.result.now are F operations merged c.in_ok-compare_groups.ensures.truth)
     (kept_then (c.loop-group.invariant.truth operations list merged all)
     (c.examine_below.ensures.truth operations list merged
     (subst (λ l. IsGroup S list pass (listed l)) (sym c.deref-in-loop-group.ensures.value)
@@ -80,12 +80,12 @@ examine-returns-clause-examines t c =
     let S = self.schema.now in
     let F = fragments_of self.document.now in
     let pass = pass_of self.pass in
-    let list = listed c.args.fields.items in
+    let list = listed c.args.list.fields.items in
     let old = stage_of c.args.examined.now c.args.depth.now c.args.diagnostics.now in
     let mid = stage_of c.compare_groups.new.examined c.args.depth.now c.compare_groups.new.diagnostics in
     let new = stage_of c.loop-group.examined c.loop-group.depth c.loop-group.diagnostics in
-    let are = ap lists_of c.deref-2.ensures.value ∙ c.in_ok-groups.ensures ∙ ap (λ l. groups_of S pass (listed l)) c.deref.ensures.value in
-    let walked = ap lists_of c.deref-group-items.ensures.value ∙ c.in_ok-groups.ensures ∙ ap (λ l. groups_of S pass (listed l)) c.deref.ensures.value in
+    let are = ap lists_of c.deref.ensures.value ∙ c.in_ok-groups.ensures ∙ ap (λ l. groups_of S pass (listed l)) c.fields.ensures in
+    let walked = ap lists_of c.deref-group-items.ensures.value ∙ c.in_ok-groups.ensures ∙ ap (λ l. groups_of S pass (listed l)) c.fields.ensures in
     list_examined S F pass (λ fields group. groups_listed S fields pass group) list old mid new c.requires.is_new
     (c.in_ok-compare_groups.ensures.lists ∙ c.in_ok-add.ensures.lists)
     (c.in_ok-compare_groups.ensures.comparisons ∙ ap (λ g. counted pass c.add.new.self.comparisons (sum_by (λ group. length group - 1) g)) are ∙
@@ -100,10 +100,10 @@ examine-returns-clause-truth t c operations merged =
     let S = self.schema.now in
     let F = fragments_of self.document.now in
     let pass = pass_of self.pass in
-    let list = listed c.args.fields.items in
-    let are = ap lists_of c.deref-2.ensures.value ∙ c.in_ok-groups.ensures ∙ ap (λ l. groups_of S pass (listed l)) c.deref.ensures.value in
-    let walked = ap lists_of c.deref-group-items.ensures.value ∙ c.in_ok-groups.ensures ∙ ap (λ l. groups_of S pass (listed l)) c.deref.ensures.value in
-    kept_then (conflicts_true S pass list c.deref-2.result.now are F operations merged c.in_ok-compare_groups.ensures.truth)
+    let list = listed c.args.list.fields.items in
+    let are = ap lists_of c.deref.ensures.value ∙ c.in_ok-groups.ensures ∙ ap (λ l. groups_of S pass (listed l)) c.fields.ensures in
+    let walked = ap lists_of c.deref-group-items.ensures.value ∙ c.in_ok-groups.ensures ∙ ap (λ l. groups_of S pass (listed l)) c.fields.ensures in
+    kept_then (conflicts_true S pass list c.deref.result.now are F operations merged c.in_ok-compare_groups.ensures.truth)
     (c.loop-group.invariant.truth operations list merged (each_group S pass list c.deref-group-items.result.now walked))
 
 pub examine_below-returns-then-is_empty-clause-examines :
@@ -123,7 +123,7 @@ examine_below-returns-then-knows-clause-examines t c =
     let stage = stage_of c.args.examined.now c.args.depth.now c.args.diagnostics.now in
     let sets = ap (map (λ set. set.now)) c.deref.ensures.value ∙ c.in_ok-sets.ensures in
     parent_known self.schema.now F (pass_of self.pass) group stage c.args.examined.now.small
-    (expansion_known F stage.lists (nested_sets group) (listed c.in_ok-fields.fields.items) (subst (λ s. Expansion F s (listed c.in_ok-fields.fields.items)) sets c.in_ok-fields.ensures)
+    (expansion_known F stage.lists (nested_sets group) (listed c.in_ok-list.list.fields.items) (subst (λ s. Expansion F s (listed c.in_ok-list.list.fields.items)) sets c.in_ok-list.ensures.fields)
     (c.knows.ensures.0 c.if-knows.true))
 
 pub examine_below-returns-then-check_and_increment-clause-examines : goal.examine_below-returns-then-check_and_increment-clause-examines
@@ -131,14 +131,14 @@ examine_below-returns-then-check_and_increment-clause-examines t c =
     let self = c.args.self.now in
     let F = fragments_of self.document.now in
     let group = listed c.args.group.now in
-    let list = listed c.in_ok-fields.fields.items in
+    let list = listed c.in_ok-list.list.fields.items in
     let old = stage_of c.args.examined.now c.args.depth.now c.args.diagnostics.now in
     let new = stage_of c.args.examined.now c.check_and_increment.new.self c.args.diagnostics.now in
     let at = count_at_limit c.check_and_increment.result old.depth new.depth (count_limit c.args.depth.now) old.highest new.highest
     c.check_and_increment.ensures.count c.check_and_increment.ensures.high c.if-check_and_increment.true in
     let sets = ap (map (λ set. set.now)) c.deref.ensures.value ∙ c.in_ok-sets.ensures in
     below_cut self.schema.now F (pass_of self.pass) group list old new c.args.examined.now.small
-    (subst (λ n. n ≢ []) c.in_ok-sets.ensures (some_items (λ set. set.now) c.in_ok-sets.sets c.is_empty.result c.is_empty.ensures c.if-is_empty.false)) (subst (λ s. Expansion F s list) sets c.in_ok-fields.ensures) (new_unknown old.lists list (λ any. let known = c.knows.ensures.1 any in let no : ⊥ = cc in no))
+    (subst (λ n. n ≢ []) c.in_ok-sets.ensures (some_items (λ set. set.now) c.in_ok-sets.sets c.is_empty.result c.is_empty.ensures c.if-is_empty.false)) (subst (λ s. Expansion F s list) sets c.in_ok-list.ensures.fields) (new_unknown old.lists list (λ any. let known = c.knows.ensures.1 any in let no : ⊥ = cc in no))
     (c.check_and_increment.ensures.reachable.0 c.if-check_and_increment.true ∙ c.requires) refl refl at.0 (at.1 ∙ ap (λ n. n + 1) c.requires) refl
 
 pub examine_below-examine-requires : goal.examine_below-examine-requires
@@ -152,7 +152,7 @@ examine_below-examine-requires t c =
       omega (arith, step, within, c.decreases),
       (
         c.check_and_increment.ensures.limit ∙ c.requires,
-        new_unknown (examined_lists c.args.examined.now) (listed c.in_ok-fields.fields.items)
+        new_unknown (examined_lists c.args.examined.now) (listed c.in_ok-list.list.fields.items)
             (λ any. let known = c.knows.ensures.1 any in let no : ⊥ = cc in no),
       ),
     )
@@ -165,7 +165,7 @@ examine_below-returns-in_err-examine-clause-truth t c operations above merged is
       group = listed c.args.group.now;
       is_group = is_group;
       nested = subst (λ n. n ≢ []) c.in_ok-sets.ensures (some_items (λ set. set.now) c.in_ok-sets.sets c.is_empty.result c.is_empty.ensures c.if-is_empty.false);
-      expansion = subst (λ s. Expansion (fragments_of c.args.self.now.document.now) s (listed c.in_ok-fields.fields.items)) sets c.in_ok-fields.ensures;
+      expansion = subst (λ s. Expansion (fragments_of c.args.self.now.document.now) s (listed c.in_ok-list.list.fields.items)) sets c.in_ok-list.ensures.fields;
     })
 
 pub examine_below-returns-clause-examines : goal.examine_below-returns-clause-examines
@@ -173,7 +173,7 @@ examine_below-returns-clause-examines t c =
     let self = c.args.self.now in
     let F = fragments_of self.document.now in
     let group = listed c.args.group.now in
-    let list = listed c.in_ok-fields.fields.items in
+    let list = listed c.in_ok-list.list.fields.items in
     let old = stage_of c.args.examined.now c.args.depth.now c.args.diagnostics.now in
     let down = stage_of c.args.examined.now c.check_and_increment.new.self c.args.diagnostics.now in
     let up = stage_of c.examine.new.examined c.examine.new.depth c.examine.new.diagnostics in
@@ -183,7 +183,7 @@ examine_below-returns-clause-examines t c =
     c.check_and_increment.ensures.count c.check_and_increment.ensures.high c.if-check_and_increment.false in
     let within = not_reachable c.check_and_increment.result old.depth (count_limit c.args.depth.now) c.check_and_increment.ensures.reachable c.if-check_and_increment.false c.args.depth.now.within c.requires in
     below_examined self.schema.now F (pass_of self.pass) same_fields_itself group list old down up new
-    (subst (λ n. n ≢ []) c.in_ok-sets.ensures (some_items (λ set. set.now) c.in_ok-sets.sets c.is_empty.result c.is_empty.ensures c.if-is_empty.false)) (subst (λ s. Expansion F s list) sets c.in_ok-fields.ensures) within refl refl below.0 below.1 refl c.in_ok-examine.ensures.examines
+    (subst (λ n. n ≢ []) c.in_ok-sets.ensures (some_items (λ set. set.now) c.in_ok-sets.sets c.is_empty.result c.is_empty.ensures c.if-is_empty.false)) (subst (λ s. Expansion F s list) sets c.in_ok-list.ensures.fields) within refl refl below.0 below.1 refl c.in_ok-examine.ensures.examines
     refl refl c.decrement.ensures.count c.decrement.ensures.high refl
 
 pub examine_below-returns-clause-truth : goal.examine_below-returns-clause-truth
@@ -193,5 +193,5 @@ examine_below-returns-clause-truth t c operations above merged is_group =
       group = listed c.args.group.now;
       is_group = is_group;
       nested = subst (λ n. n ≢ []) c.in_ok-sets.ensures (some_items (λ set. set.now) c.in_ok-sets.sets c.is_empty.result c.is_empty.ensures c.if-is_empty.false);
-      expansion = subst (λ s. Expansion (fragments_of c.args.self.now.document.now) s (listed c.in_ok-fields.fields.items)) sets c.in_ok-fields.ensures;
+      expansion = subst (λ s. Expansion (fragments_of c.args.self.now.document.now) s (listed c.in_ok-list.list.fields.items)) sets c.in_ok-list.ensures.fields;
     })

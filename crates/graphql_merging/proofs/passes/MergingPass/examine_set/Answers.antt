@@ -13,9 +13,9 @@ pub returns-then-knows-clause-examines : goal.returns-then-knows-clause-examines
 returns-then-knows-clause-examines c =
     let self = c.args.self.now in
     let stage = stage_of c.args.examined.now c.args.depth.now c.args.diagnostics.now in
-    let fields = listed c.in_ok-fields.fields.items in
+    let fields = listed c.in_ok-list.list.fields.items in
     let known = known_with stage.lists fields (c.knows.ensures.0 c.if-knows.true) in
-    set_known self.schema.now (fragments_of self.document.now) (pass_of self.pass) c.args.set.now fields known.0 stage c.args.examined.now.small c.in_ok-fields.ensures known.1 known.2
+    set_known self.schema.now (fragments_of self.document.now) (pass_of self.pass) c.args.set.now fields known.0 stage c.args.examined.now.small c.in_ok-list.ensures.fields known.1 known.2
 
 pub returns-clause-examines : goal.returns-clause-examines
 returns-clause-examines c =
@@ -25,10 +25,10 @@ returns-clause-examines c =
     let pass = pass_of self.pass in
     let old = stage_of c.args.examined.now c.args.depth.now c.args.diagnostics.now in
     let new = stage_of c.examine.new.examined c.examine.new.depth c.examine.new.diagnostics in
-    let fields = listed c.in_ok-fields.fields.items in
+    let fields = listed c.in_ok-list.list.fields.items in
     on_ok c.examine.result (Examines S F pass fields old new) (ExaminesSet S F pass c.args.set.now old new)
-    (set_examined S F pass same_fields_itself c.args.set.now fields old new c.in_ok-fields.ensures) c.examine.ensures.examines
+    (set_examined S F pass same_fields_itself c.args.set.now fields old new c.in_ok-list.ensures.fields) c.examine.ensures.examines
 
 pub returns-clause-truth : goal.returns-clause-truth
 returns-clause-truth c operations merged =
-    c.examine.ensures.truth operations (merged (listed c.in_ok-fields.fields.items) c.in_ok-fields.ensures)
+    c.examine.ensures.truth operations (merged (listed c.in_ok-list.list.fields.items) c.in_ok-list.ensures.fields)

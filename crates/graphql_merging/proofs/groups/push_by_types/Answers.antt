@@ -2,7 +2,7 @@ use Rattle.std.proofs.Common.{◌++◌, ◌∙◌, ap}
 use Rattle.std.proofs.lemmas.Result.{on_ok_weaker}
 use Rattle.graphql_merging.specs.FieldSelections.{listed, lists_of}
 use Rattle.graphql_merging.proofs.GroupLemmas.{lists_on_objects}
-use Rattle.graphql_merging.proofs.groups.push_groups.Goals as goal
+use Rattle.graphql_merging.proofs.groups.push_by_types.Goals as goal
 
 pub returns-else-is_empty : goal.returns-else-is_empty
 returns-else-is_empty c =
