@@ -1,7 +1,7 @@
 use graphql_documents::documents::Schema;
 use graphql_examples::build::{document_in_file, schema};
-use graphql_nesting::{NestingReport, check_nesting};
-use graphql_nodes::FileId;
+use graphql_nesting::{DocumentLevels, NestingReport, check_nesting};
+use graphql_nodes::{FileId, Name};
 use std::alloc::Global;
 use std::process::Abort;
 
@@ -172,4 +172,34 @@ fn levels_of_a_chain_of_fragments_are_counted(rt: HostRuntime) {
         found.as_str(),
         "0 nests too deep: 12871 levels, at most 500"
     );
+}
+
+/// A fragment on fields of a fragment, one that leads back to itself, and one that leads to it.
+const FRAGMENTS: &str = "{ f } fragment A on Query { q { ...B } } fragment B on Query { q { f } }
+    fragment C on Query { q { ...C } } fragment D on Query { ...C }";
+
+#[test]
+fn levels_are_known_by_the_names_of_fragments(rt: HostRuntime) {
+    let alloc = rt.alloc();
+    let Ok(schema) = schema(alloc, SCHEMA) else {
+        panic!(rt; "no schema")
+    };
+    let Ok(document) = document_in_file(alloc, &schema.0, FRAGMENTS, FileId(1)) else {
+        panic!(rt; "no document")
+    };
+    let unknown = DocumentLevels::unknown(&document);
+    let found = DocumentLevels::find(alloc, &document).expect(&rt, "memory for levels");
+    let expected = [
+        ("A", Some(4)),
+        ("B", Some(2)),
+        ("C", None),
+        ("D", None),
+        ("E", None),
+    ];
+    for (text, levels) in &expected {
+        let text = String::from_str(alloc, text).expect(&rt, "memory for a name");
+        let name = Name::new(text, None).expect(&rt, "a name");
+        assert_eq!(rt; found.levels_of(&name), *levels);
+        assert_eq!(rt; unknown.levels_of(&name), None);
+    }
 }
