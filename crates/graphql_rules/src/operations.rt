@@ -4,6 +4,7 @@ mod fields;
 mod fragments;
 mod operation;
 mod selections;
+mod walk;
 
 pub use fields::validate_leaf_field_selection;
 pub use operation::{validate_operation, validate_operation_definitions};

@@ -1,4 +1,4 @@
-ghost use Rattle.std.specs.Prelude.{◌≡◌, ◌≢◌, Some, None, false, IfOk, IsTrue};
+ghost use Rattle.std.specs.Prelude.{◌≡◌, ◌≢◌, Option, Some, None, false, IfOk, IsTrue};
 ghost use Rattle.std.specs.Option.{option_copied};
 ghost use Rattle.graphql_diagnostics.specs.Diagnostics.{IsDiagnostic, IsLimitEntry, entries};
 ghost use Rattle.graphql_specification.specs.Fragments.{FragmentHasNoCycle, FragmentHolds, InlineFragmentHolds, IsPossibleIn, TargetHolds, FragmentLimit, FragmentFormReport, InlineFragmentConditionReport, SpreadTargetReport, FragmentReport, InlineFragmentReport, SpreadReport};
@@ -153,13 +153,16 @@ fn check_possible<'a>(
 }
 
 /// Validates a fragment, the selections in it apart, and answers whether these are to be validated: not
-/// where its condition is no composite type, nor where it spreads itself or nests too deep.
+/// where its condition is no composite type, nor where it spreads itself or nests too deep. A cycle is searched unless it is
+/// known that there is none.
 pub(super) fn check_fragment(
     diagnostics: &mut DiagnosticList,
     document: &ExecutableDocument,
     fragment: &Node<Fragment>,
+    has_no_cycle: bool,
     context: &OperationValidationContext,
 ) -> Result<bool, ValidationError>
+    requires { IsTrue has_no_cycle → FragmentHasNoCycle (fragments_of document.now) fragment.now }
     ensures checks { ChecksWithin result (FragmentHolds (schema_of context.now) (fragments_of document.now) (variables_of context.now) fragment.now)
         (IsDiagnostic (FragmentReport (schema_of context.now) (fragments_of document.now) (variables_of context.now) fragment.now))
         (λ e. FragmentLimit (fragments_of document.now) fragment.now e.details e.location)
@@ -179,7 +182,7 @@ pub(super) fn check_fragment(
     )?;
     let before = diagnostics.len();
     check_target(diagnostics, context.schema, fragment)?;
-    validate_fragment_cycles(diagnostics, document, fragment)?;
+    check_cycles(diagnostics, document, fragment, has_no_cycle)?;
     Ok(diagnostics.len() == before)
 }
 
@@ -205,4 +208,23 @@ fn check_target(
         condition,
         fragment.location,
     )
+}
+
+/// Reports a fragment that spreads itself, or from which a path goes through too many others, unless it is known that no path
+/// leads back to it.
+fn check_cycles(
+    diagnostics: &mut DiagnosticList,
+    document: &ExecutableDocument,
+    fragment: &Node<Fragment>,
+    has_no_cycle: bool,
+) -> Result<(), ValidationError>
+    requires { IsTrue has_no_cycle → FragmentHasNoCycle (fragments_of document.now) fragment.now }
+    ensures { (schema : Option Schema) → ChecksWithin result (FragmentHasNoCycle (fragments_of document.now) fragment.now)
+        (IsDiagnostic (FragmentFormReport schema (fragments_of document.now) fragment.now))
+        (λ e. FragmentLimit (fragments_of document.now) fragment.now e.details e.location) diagnostics.old diagnostics.new }
+{
+    if has_no_cycle {
+        return Ok(());
+    }
+    validate_fragment_cycles(diagnostics, document, fragment)
 }

@@ -6,9 +6,10 @@ ghost use Rattle.graphql_specification.specs.Operations.{OperationReport, Operat
 ghost use Rattle.graphql_diagnostics.specs.Reports.{ChecksWithin};
 ghost use Rattle.graphql_operations.specs.Contexts.{IsAgainst, visited_fragment_names, parent_of, schema_of, variables_of};
 
-use super::selections::validate_selection_set;
+use super::walk::walk_selection_set;
 use graphql_diagnostics::DiagnosticList;
 use graphql_documents::documents::{ExecutableDocument, Operation, Schema};
+use graphql_nesting::DocumentLevels;
 use graphql_nodes::{DirectiveLocation, NamedType, OperationType, ValidationError};
 use graphql_operations::{OperationValidationContext, operations_of};
 use graphql_values::directive::{check_each_directive, validate_variable_definitions};
@@ -30,12 +31,13 @@ pub fn validate_operation_definitions(
 {
     let alloc = diagnostics.allocator();
     let operations = operations_of(alloc, document)?;
+    let levels = DocumentLevels::find(alloc, document)?;
     let none = VariablesByName::new(alloc, &[])?;
     let mut context = OperationValidationContext::new(alloc, schema, none);
     for operation in &operations {
         let variables = VariablesByName::new(alloc, &operation.value.variables)?;
         context = context.next(alloc, variables);
-        check_operation(diagnostics, document, &operation.value, &mut context)?;
+        check_operation(diagnostics, &levels, &operation.value, &mut context)?;
     }
     Ok(())
 }
@@ -60,21 +62,22 @@ pub fn validate_operation(
     let alloc = diagnostics.allocator();
     let variables = VariablesByName::new(alloc, &operation.variables)?;
     let mut context = OperationValidationContext::new(alloc, schema, variables);
-    check_operation(diagnostics, document, operation, &mut context)
+    let levels = DocumentLevels::unknown(document);
+    check_operation(diagnostics, &levels, operation, &mut context)
 }
 
 /// Validates an operation in a context of its own.
 fn check_operation<'a>(
     diagnostics: &mut DiagnosticList,
-    document: &'a ExecutableDocument,
+    document: &DocumentLevels<'a>,
     operation: &'a Operation,
     context: &mut OperationValidationContext<'a>,
 ) -> Result<(), ValidationError>
     requires variables { variables_of context.old ≡ operation.now.variables.items }
     requires visited_fragments { visited_fragment_names context.old ≡ [] }
-    ensures checks { ChecksWithin result (OperationHolds (schema_of context.old) document.now operation.now)
-        (IsDiagnostic (OperationReport (schema_of context.old) document.now operation.now))
-        (λ e. OperationLimit document.now operation.now e.details e.location)
+    ensures checks { ChecksWithin result (OperationHolds (schema_of context.old) document.now.document.now operation.now)
+        (IsDiagnostic (OperationReport (schema_of context.old) document.now.document.now operation.now))
+        (λ e. OperationLimit document.now.document.now operation.now e.details e.location)
         diagnostics.old diagnostics.new }
     ensures schema { schema_of context.new ≡ schema_of context.old }
 {
@@ -87,8 +90,8 @@ fn check_operation<'a>(
         &context.variables,
     )?;
     validate_variable_definitions(diagnostics, context.schema, &operation.variables)?;
-    validate_unused_variables(diagnostics, document, operation)?;
-    validate_selection_set(
+    validate_unused_variables(diagnostics, document.document, operation)?;
+    walk_selection_set(
         diagnostics,
         document,
         root,

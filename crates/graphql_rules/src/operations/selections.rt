@@ -1,20 +1,21 @@
-//! The walk over selections: each with what is below it, in the order in which they are written.
+//! Selections of a document of whose fragments nothing is known, each with what is below it.
 
-ghost use Rattle.std.specs.Option.{option_copied};
 ghost use Rattle.std.specs.Prelude.{◌≡◌, ◌∷◌, []};
 ghost use Rattle.graphql_diagnostics.specs.Diagnostics.{entries};
-ghost use Rattle.graphql_documents.specs.Selections.{fragments_of, selections_of, type_under};
+ghost use Rattle.graphql_documents.specs.Selections.{fragments_of, selections_of};
 ghost use Rattle.graphql_documents.specs.declared.documents.executables.Selection.TheVariants as kind;
 ghost use Rattle.graphql_operations.specs.Contexts.{IsAgainst, SharesWith, visited_fragment_names, parent_of, schema_of, variables_of};
 ghost use Rattle.graphql_rules.specs.SelectionSteps.{FragmentWalks, Walks};
 
-use super::fields::{SubselectionParent, check_field};
-use super::fragments::{check_fragment, check_inline_fragment, check_spread};
+use super::walk::{
+    walk_field, walk_fragment_definition, walk_fragment_spread, walk_inline_fragment,
+    walk_selection_set,
+};
 use graphql_diagnostics::DiagnosticList;
 use graphql_documents::documents::{
-    ExecutableDocument, Field, Fragment, FragmentSpread, InlineFragment, Schema, Selection,
-    SelectionSet,
+    ExecutableDocument, Field, Fragment, FragmentSpread, InlineFragment, Schema, SelectionSet,
 };
+use graphql_nesting::DocumentLevels;
 use graphql_nodes::{NamedType, Node, ValidationError};
 use graphql_operations::OperationValidationContext;
 
@@ -24,7 +25,6 @@ use graphql_operations::OperationValidationContext;
 /// error is a failed allocation.
 ///
 /// Specification: 5.3 Fields; 5.4 Arguments; 5.5 Fragments; 5.6 Values; 5.7 Directives.
-#[cycle(selection)]
 pub fn validate_selection_set<'a>(
     diagnostics: &mut DiagnosticList,
     document: &'a ExecutableDocument,
@@ -37,36 +37,8 @@ pub fn validate_selection_set<'a>(
         (selections_of selection_set.now) (visited_fragment_names context.old) (visited_fragment_names context.new) (entries diagnostics.old) (entries diagnostics.new) }
     ensures context { SharesWith context.old context.new }
 {
-    for selection in &selection_set.selections {
-        validate_selection(diagnostics, document, against_type, selection, context)?;
-    }
-    Ok(())
-}
-
-#[cycle(selection)]
-fn validate_selection<'a>(
-    diagnostics: &mut DiagnosticList,
-    document: &'a ExecutableDocument,
-    against_type: Option<(&'a Schema, &'a NamedType)>,
-    selection: &'a Selection,
-    context: &mut OperationValidationContext<'a>,
-) -> Result<(), ValidationError>
-    requires { IsAgainst (schema_of context.old) against_type }
-    ensures walks { Walks result (schema_of context.old) (fragments_of document.now) (variables_of context.old) (parent_of against_type.entry)
-        (selection.now ∷ []) (visited_fragment_names context.old) (visited_fragment_names context.new) (entries diagnostics.old) (entries diagnostics.new) }
-    ensures context { SharesWith context.old context.new }
-{
-    match selection {
-        Selection::Field(field) => {
-            validate_field(diagnostics, document, against_type, field, context)
-        }
-        Selection::FragmentSpread(spread) => {
-            validate_fragment_spread(diagnostics, document, against_type, spread, context)
-        }
-        Selection::InlineFragment(inline) => {
-            validate_inline_fragment(diagnostics, document, against_type, inline, context)
-        }
-    }
+    let document = DocumentLevels::unknown(document);
+    walk_selection_set(diagnostics, &document, against_type, selection_set, context)
 }
 
 /// Validates a field, with what is below it.
@@ -77,7 +49,6 @@ fn validate_selection<'a>(
 /// is below it is not looked at. The only error is a failed allocation.
 ///
 /// Specification: 5.3 Fields; 5.4 Arguments; 5.7 Directives.
-#[cycle(selection)]
 pub fn validate_field<'a>(
     diagnostics: &mut DiagnosticList,
     document: &'a ExecutableDocument,
@@ -90,13 +61,8 @@ pub fn validate_field<'a>(
         (kind.Field field.now ∷ []) (visited_fragment_names context.old) (visited_fragment_names context.new) (entries diagnostics.old) (entries diagnostics.new) }
     ensures context { SharesWith context.old context.new }
 {
-    match check_field(diagnostics, against_type, field, context)? {
-        SubselectionParent::Nowhere => Ok(()),
-        SubselectionParent::On(ty) => {
-            let set = &field.value.selection_set;
-            validate_selection_set(diagnostics, document, ty, set, context)
-        }
-    }
+    let document = DocumentLevels::unknown(document);
+    walk_field(diagnostics, &document, against_type, field, context)
 }
 
 /// Validates an inline fragment, with the selections in it.
@@ -106,7 +72,6 @@ pub fn validate_field<'a>(
 /// allocation.
 ///
 /// Specification: 5.5.1.3 Fragments on Composite Types; 5.5.2.3 Fragment Spread Is Possible.
-#[cycle(selection)]
 pub fn validate_inline_fragment<'a>(
     diagnostics: &mut DiagnosticList,
     document: &'a ExecutableDocument,
@@ -119,13 +84,8 @@ pub fn validate_inline_fragment<'a>(
         (kind.InlineFragment inline.now ∷ []) (visited_fragment_names context.old) (visited_fragment_names context.new) (entries diagnostics.old) (entries diagnostics.new) }
     ensures context { SharesWith context.old context.new }
 {
-    if !check_inline_fragment(diagnostics, against_type, inline, context)? {
-        return Ok(());
-    }
-    let condition = inline.value.type_condition.as_ref();
-    let under = type_below(context.schema, against_type, condition);
-    let set = &inline.value.selection_set;
-    validate_selection_set(diagnostics, document, under, set, context)
+    let document = DocumentLevels::unknown(document);
+    walk_inline_fragment(diagnostics, &document, against_type, inline, context)
 }
 
 /// Validates a spread, and its fragment where it was not visited before.
@@ -134,7 +94,6 @@ pub fn validate_inline_fragment<'a>(
 /// cannot be visited on the type around; and then of the fragment. The only error is a failed allocation.
 ///
 /// Specification: 5.5.2 Fragment Spreads.
-#[cycle(selection)]
 pub fn validate_fragment_spread<'a>(
     diagnostics: &mut DiagnosticList,
     document: &'a ExecutableDocument,
@@ -147,14 +106,8 @@ pub fn validate_fragment_spread<'a>(
         (kind.FragmentSpread spread.now ∷ []) (visited_fragment_names context.old) (visited_fragment_names context.new) (entries diagnostics.old) (entries diagnostics.new) }
     ensures context { SharesWith context.old context.new }
 {
-    let Some(fragment) = check_spread(diagnostics, document, against_type, spread, context)? else {
-        return Ok(());
-    };
-    if context.enter(&spread.value.fragment_name)? {
-        validate_fragment_definition(diagnostics, document, fragment, context)
-    } else {
-        Ok(())
-    }
+    let document = DocumentLevels::unknown(document);
+    walk_fragment_spread(diagnostics, &document, against_type, spread, context)
 }
 
 /// Validates a fragment with the variables of an operation that reaches it, and the selections in it.
@@ -164,7 +117,6 @@ pub fn validate_fragment_spread<'a>(
 /// failed allocation.
 ///
 /// Specification: 5.5.1.3 Fragments on Composite Types; 5.5.2.2 Fragment Spreads Must Not Form Cycles.
-#[cycle(selection)]
 pub fn validate_fragment_definition<'a>(
     diagnostics: &mut DiagnosticList,
     document: &'a ExecutableDocument,
@@ -175,26 +127,6 @@ pub fn validate_fragment_definition<'a>(
         fragment.now (visited_fragment_names context.old) (visited_fragment_names context.new) (entries diagnostics.old) (entries diagnostics.new) }
     ensures context { SharesWith context.old context.new }
 {
-    if !check_fragment(diagnostics, document, fragment, context)? {
-        return Ok(());
-    }
-    let set = &fragment.value.selection_set;
-    let under = type_below(context.schema, None, Some(&set.ty));
-    validate_selection_set(diagnostics, document, under, set, context)
-}
-
-/// The type under a condition, or else the type around, where there is a schema.
-fn type_below<'a>(
-    schema: Option<&'a Schema>,
-    around: Option<(&'a Schema, &'a NamedType)>,
-    condition: Option<&'a NamedType>,
-) -> Option<(&'a Schema, &'a NamedType)>
-    requires { IsAgainst (option_copied schema) around }
-    ensures under { parent_of result ≡ type_under (option_copied schema.entry) (parent_of around.entry) (option_copied condition.entry) }
-    ensures against { IsAgainst (option_copied schema.entry) result }
-{
-    match (schema, condition) {
-        (Some(schema), Some(condition)) => Some((schema, condition)),
-        _ => around,
-    }
+    let document = DocumentLevels::unknown(document);
+    walk_fragment_definition(diagnostics, &document, fragment, false, context)
 }

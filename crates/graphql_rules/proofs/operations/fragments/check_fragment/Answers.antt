@@ -35,20 +35,20 @@ returns-in_err-check_target-clause-checks c =
     (kept_then (kept_wider (names_said schema fragments variables d) (kept_by directed))
     (kept_wider (names_broken schema fragments variables d) (c.in_err-check_target.ensures fragments)))
 
-pub returns-in_err-validate_fragment_cycles-clause-checks :
-    goal.returns-in_err-validate_fragment_cycles-clause-checks
-returns-in_err-validate_fragment_cycles-clause-checks c =
+pub returns-in_err-check_cycles-clause-checks :
+    goal.returns-in_err-check_cycles-clause-checks
+returns-in_err-check_cycles-clause-checks c =
     let schema = schema_of c.args.context.now in
     let variables = variables_of c.args.context.now in
     let fragments = fragments_of c.args.document.now in
     let d = c.args.fragment.now in
     let same = c.deref-2.ensures.value ∙ ap (λ (d : Fragment). d.directives.items) c.deref.ensures in
     let directed = directives_reported (FragmentReport schema fragments variables d) (λ r at broken. by_fragment_directives broken) same c.in_ok-check_each_directive.ensures in
-    checks_refused_within IsLimitEntry _ _ _ _ _ c.from_residual-in_err-validate_fragment_cycles.ensures.0
+    checks_refused_within IsLimitEntry _ _ _ _ _ c.from_residual-in_err-check_cycles.ensures.0
     (kept_then
     (kept_then (kept_wider (names_said schema fragments variables d) (kept_by directed))
     (kept_wider (names_broken schema fragments variables d) (kept_by (c.in_ok-check_target.ensures fragments))))
-    (kept_wider (names_cycle schema fragments variables d) (c.in_err-validate_fragment_cycles.ensures schema)))
+    (kept_wider (names_cycle schema fragments variables d) (c.in_err-check_cycles.ensures schema)))
 
 pub returns-clause-checks : goal.returns-clause-checks
 returns-clause-checks c =
@@ -58,7 +58,7 @@ returns-clause-checks c =
     let d = c.args.fragment.now in
     let same = c.deref-2.ensures.value ∙ ap (λ (d : Fragment). d.directives.items) c.deref.ensures in
     let directed = directives_reported (FragmentReport schema fragments variables d) (λ r at broken. by_fragment_directives broken) same c.in_ok-check_each_directive.ensures in
-    fragment_reported schema fragments variables d directed (c.in_ok-check_target.ensures fragments) (c.in_ok-validate_fragment_cycles.ensures schema)
+    fragment_reported schema fragments variables d directed (c.in_ok-check_target.ensures fragments) (c.in_ok-check_cycles.ensures schema)
 
 pub returns-clause-answer : goal.returns-clause-answer
 returns-clause-answer c = λ other same.
@@ -66,11 +66,11 @@ returns-clause-answer c = λ other same.
     let variables = variables_of c.args.context.now in
     let fragments = fragments_of c.args.document.now in
     let d = c.args.fragment.now in
-    let lengths : length (entries c.validate_fragment_cycles.new.diagnostics) ≡ length (entries c.check_each_directive.new.diagnostics) =
+    let lengths : length (entries c.check_cycles.new.diagnostics) ≡ length (entries c.check_each_directive.new.diagnostics) =
     kept_second (kept_by c.in_ok-check_each_directive.ensures)
     (kept_then
     (kept_wider (names_broken schema fragments variables d) (kept_by (c.in_ok-check_target.ensures fragments)))
-    (kept_wider (names_cycle schema fragments variables d) (kept_within IsLimitEntry (c.in_ok-validate_fragment_cycles.ensures schema)))) same in
+    (kept_wider (names_cycle schema fragments variables d) (kept_within IsLimitEntry (c.in_ok-check_cycles.ensures schema)))) same in
     let equal : c.len.result ≡ c.len-before.result = c.len.ensures ∙ lengths ∙ sym c.len-before.ensures in
     grind (arith, nat_tests)
 
@@ -79,16 +79,16 @@ returns-clause-goes_on c = λ yes.
     let schema = schema_of c.args.context.now in
     let fragments = fragments_of c.args.document.now in
     let equal : c.len.result ≡ c.len-before.result = grind (arith, nat_tests) in
-    let same : length (entries c.validate_fragment_cycles.new.diagnostics) ≡ length (entries c.check_each_directive.new.diagnostics) =
+    let same : length (entries c.check_cycles.new.diagnostics) ≡ length (entries c.check_each_directive.new.diagnostics) =
     sym c.len.ensures ∙ equal ∙ c.len-before.ensures in
-    both_hold (c.in_ok-check_target.ensures fragments) (c.in_ok-validate_fragment_cycles.ensures schema) same
+    both_hold (c.in_ok-check_target.ensures fragments) (c.in_ok-check_cycles.ensures schema) same
 
 pub returns-clause-stops : goal.returns-clause-stops
 returns-clause-stops c = λ other target no_cycle kept.
     let schema = schema_of c.args.context.now in
     let fragments = fragments_of c.args.document.now in
-    let lengths : length (entries c.validate_fragment_cycles.new.diagnostics) ≡ length (entries c.check_each_directive.new.diagnostics) =
-    none_added (c.in_ok-check_target.ensures fragments) (c.in_ok-validate_fragment_cycles.ensures schema)
+    let lengths : length (entries c.check_cycles.new.diagnostics) ≡ length (entries c.check_each_directive.new.diagnostics) =
+    none_added (c.in_ok-check_target.ensures fragments) (c.in_ok-check_cycles.ensures schema)
     (kept_by c.in_ok-check_each_directive.ensures) kept target no_cycle in
     let equal : c.len.result ≡ c.len-before.result = c.len.ensures ∙ lengths ∙ sym c.len-before.ensures in
     grind (arith, nat_tests)

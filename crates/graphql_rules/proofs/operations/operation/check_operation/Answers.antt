@@ -14,14 +14,14 @@ use Rattle.graphql_rules.proofs.operations.operation.check_operation.Goals as go
 pub returns-in_err-check_each_directive-clause-checks : goal.returns-in_err-check_each_directive-clause-checks
 returns-in_err-check_each_directive-clause-checks c =
     MatchResult-from_err _ _ _ c.from_residual.ensures.0
-    (λ y. directives_kept (schema_of c.args.context.now) c.args.document.now c.args.operation.now _ _ _ _ _ c.requires.variables c.location_of.ensures c.deref.ensures.value
+    (λ y. directives_kept (schema_of c.args.context.now) c.args.document.now.document.now c.args.operation.now _ _ _ _ _ c.requires.variables c.location_of.ensures c.deref.ensures.value
     c.in_err-check_each_directive.ensures)
 
 pub returns-in_err-validate_variable_definitions-clause-checks : goal.returns-in_err-validate_variable_definitions-clause-checks
 returns-in_err-validate_variable_definitions-clause-checks c =
     let S = schema_of c.args.context.now in
     let o = c.args.operation.now in
-    let D = c.args.document.now in
+    let D = c.args.document.now.document.now in
     MatchResult-from_err _ _ _ c.from_residual-in_err-validate_variable_definitions.ensures.0
     (λ y. kept_then
     (kept_by (directives_checked S D o _ _ _ _ _ c.requires.variables c.location_of.ensures c.deref.ensures.value c.in_ok-check_each_directive.ensures))
@@ -31,7 +31,7 @@ pub returns-in_err-validate_unused_variables-clause-checks : goal.returns-in_err
 returns-in_err-validate_unused_variables-clause-checks c =
     let S = schema_of c.args.context.now in
     let o = c.args.operation.now in
-    let D = c.args.document.now in
+    let D = c.args.document.now.document.now in
     MatchResult-from_err _ _ _ c.from_residual-in_err-validate_unused_variables.ensures.0
     (λ y. kept_then
     (kept_by (both (directives_checked S D o _ _ _ _ _ c.requires.variables c.location_of.ensures c.deref.ensures.value c.in_ok-check_each_directive.ensures)
@@ -42,14 +42,14 @@ pub returns-clause-checks : goal.returns-clause-checks
 returns-clause-checks c =
     let S = schema_of c.args.context.now in
     let o = c.args.operation.now in
-    let D = c.args.document.now in
+    let D = c.args.document.now.document.now in
     let before = both_within IsLimitEntry
     (within IsLimitEntry (both (directives_checked S D o _ _ _ _ _ c.requires.variables c.location_of.ensures c.deref.ensures.value c.in_ok-check_each_directive.ensures)
     (variables_checked S D o _ _ _ c.deref-2.ensures.value c.in_ok-validate_variable_definitions.ensures)))
     (uses_checked S D o _ _ c.in_ok-validate_unused_variables.ensures.exact c.in_ok-validate_unused_variables.ensures.kept) in
-    MatchResult-weaker c.validate_selection_set.result
-    (walks_as S (fragments_of D) o.variables.items (one_fragment_found D) c.validate_selection_set.result (visited_fragment_names c.validate_selection_set.new.context)
-    (entries c.validate_unused_variables.new.diagnostics) (entries c.validate_selection_set.new.diagnostics)
-    refl c.requires.variables c.root_of-root.ensures.root refl c.requires.visited_fragments c.validate_selection_set.ensures.walks)
+    MatchResult-weaker c.walk_selection_set.result
+    (walks_as S (fragments_of D) o.variables.items (one_fragment_found D) c.walk_selection_set.result (visited_fragment_names c.walk_selection_set.new.context)
+    (entries c.validate_unused_variables.new.diagnostics) (entries c.walk_selection_set.new.diagnostics)
+    refl c.requires.variables c.root_of-root.ensures.root refl c.requires.visited_fragments c.walk_selection_set.ensures.walks)
     (λ _ w. in_words_within IsLimitEntry (operation_decides S D o) (both_within IsLimitEntry before (wider_within IsLimitEntry (of_its_selections S D o) w.reports)))
     (λ _ s. kept_then (kept_within IsLimitEntry before) (kept_wider (of_its_selections S D o) s.reports))
