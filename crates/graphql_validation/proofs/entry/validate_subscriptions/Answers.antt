@@ -1,9 +1,8 @@
-use Rattle.std.proofs.Common.{◌≡◌, All, Bor, Contains, List, Some, map, refl, subst, sym}
+use Rattle.std.proofs.Common.{All, Bor, Contains, Some, refl, subst, sym}
 use Rattle.std.proofs.lemmas.Result.{MatchResult-from_err}
 use Rattle.graphql_diagnostics.specs.Diagnostics.{IsLimitEntry, entries}
 use Rattle.graphql_diagnostics.proofs.ReportLemmas.{kept_then, kept_wider}
 use Rattle.graphql_diagnostics.proofs.ReportWithinLemmas.{in_words_within, kept_within, walked_all_within, walked_more_within, walked_none_within, wider_within}
-use Rattle.graphql_documents.specs.Executables.{operations_of}
 use Rattle.graphql_documents.specs.declared.documents.executables.Operation.{Operation}
 use Rattle.graphql_nodes.specs.declared.nodes.Node.{Node}
 use Rattle.graphql_specification.specs.Subscriptions.{OperationSubscriptionHolds}
