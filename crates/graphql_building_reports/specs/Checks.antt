@@ -4,6 +4,7 @@ use Rattle.std.specs.Vec.{vec_allocator}
 use Rattle.std.specs.declared.alloc.Global.{Global}
 use Rattle.graphql_nodes.specs.declared.spans.SourceSpan.{SourceSpan}
 use Rattle.graphql_diagnostics.specs.Reports.{KeepsReports, Reports}
+use Rattle.graphql_hash_seeds.specs.declared.seeds.HashSeed.{HashSeed}
 use Rattle.graphql_building_reports.specs.declared.lists.BuildingReport.{BuildingReport}
 use Rattle.graphql_building_reports.specs.declared.lists.BuildingReportList.{BuildingReportList}
 use Rattle.graphql_building_reports.specs.declared.rules.BuildingRule.{BuildingRule}
@@ -15,6 +16,10 @@ reports_of list = list.reports.items
 -- what a list grows by
 abbrev pub allocator_of : BuildingReportList → Global
 allocator_of list = vec_allocator list.reports
+
+-- the seed by which names are hashed
+abbrev pub hash_seed_of : BuildingReportList → HashSeed
+hash_seed_of list = list.hash_seed
 
 -- a call that checks a rule: where it answers, it reports nothing exactly where the rule holds; in
 -- any case the old reports stay, and each further one is true

@@ -2,9 +2,10 @@
 
 ghost use Rattle.std.specs.Prelude.{◌≡◌, ◌↔◌, IsTrue, [], ◌∷◌, ◌++◌, OnOk, OnErr};
 ghost use Rattle.std.specs.Slice.Iter.{iter_rest};
-ghost use Rattle.graphql_building_reports.specs.Checks.{allocator_of, reports_of};
+ghost use Rattle.graphql_building_reports.specs.Checks.{allocator_of, hash_seed_of, reports_of};
 
 use crate::rules::BuildingRule;
+use graphql_hash_seeds::HashSeed;
 use graphql_nodes::{SourceSpan, ValidationError};
 use std::alloc::Global;
 use std::slice;
@@ -16,20 +17,32 @@ pub struct BuildingReport {
     pub rule: BuildingRule,
 }
 
-/// Reports in the order in which they were pushed.
+/// Reports in the order in which they were pushed, and the seed by which a check that fills the list hashes names.
 #[derive(Debug, Drop)]
 pub struct BuildingReportList {
     reports: Vec<BuildingReport>,
+    hash_seed: HashSeed,
 }
 
 impl BuildingReportList {
-    /// A list without reports, which grows by this allocator.
+    /// A list without reports, which grows by this allocator. Names are hashed by the seed of those that nobody chose to
+    /// collide.
     pub fn new(alloc: Global) -> BuildingReportList
         ensures empty { reports_of result ≡ [] }
         ensures allocator { allocator_of result ≡ alloc }
     {
+        BuildingReportList::with_hash_seed(alloc, HashSeed::default())
+    }
+
+    /// The same, where names are hashed by this seed.
+    pub fn with_hash_seed(alloc: Global, hash_seed: HashSeed) -> BuildingReportList
+        ensures empty { reports_of result ≡ [] }
+        ensures allocator { allocator_of result ≡ alloc }
+        ensures hash_seed { hash_seed_of result ≡ hash_seed }
+    {
         BuildingReportList {
             reports: Vec::new(alloc),
+            hash_seed,
         }
     }
 
@@ -38,6 +51,13 @@ impl BuildingReportList {
         ensures { result ≡ allocator_of self.now }
     {
         *self.reports.allocator()
+    }
+
+    /// The seed by which names are hashed.
+    pub fn hash_seed(&self) -> HashSeed
+        ensures { result ≡ hash_seed_of self.now }
+    {
+        self.hash_seed
     }
 
     /// Adds a report at the end. Where the allocation fails, the list stays as it was, and the report is dropped.

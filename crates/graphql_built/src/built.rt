@@ -14,6 +14,7 @@ ghost use Rattle.graphql_documents.specs.Schemas.{root_operation};
 use graphql_documents::documents::{
     ComponentName, ExecutableDocument, Fragment, Operation, Schema, SchemaDefinition,
 };
+use graphql_hash_seeds::HashSeed;
 use graphql_nodes::{Name, Node, OperationType};
 use indexmap::IndexMap;
 use names::stands_under_own_names;
@@ -61,7 +62,10 @@ fn anonymous_operation_is_built(schema: &Schema, anonymous: &Option<Node<Operati
 }
 
 /// Whether each of these operations is built.
-fn named_operations_are_built(schema: &Schema, named: &IndexMap<Name, Node<Operation>>) -> bool
+fn named_operations_are_built(
+    schema: &Schema,
+    named: &IndexMap<Name, Node<Operation>, HashSeed>,
+) -> bool
     ensures { IsTrue result ↔
         All (λ o. OperationIsBuilt schema.now o.value.value) (values named.now) }
 {
@@ -98,7 +102,10 @@ fn root_operation(
 }
 
 /// Whether each of these fragments is built.
-fn fragments_are_built(schema: &Schema, fragments: &IndexMap<Name, Node<Fragment>>) -> bool
+fn fragments_are_built(
+    schema: &Schema,
+    fragments: &IndexMap<Name, Node<Fragment>, HashSeed>,
+) -> bool
     ensures { IsTrue result ↔
         All (λ entry. FragmentIsBuilt schema.now entry.0 entry.1.value.value) fragments.now.entries }
 {

@@ -1,8 +1,11 @@
-ghost use Rattle.std.specs.Prelude.{◌≡◌, ◌+◌, IsTrue, List, Option, OnOk, Some};
+ghost use Rattle.std.specs.Prelude.{◌≡◌, ◌+◌, IsFalse, IsTrue, List, Option, OnOk, Some};
 ghost use Rattle.graphql_diagnostics.specs.Diagnostics.{IsDiagnostic};
 ghost use Rattle.graphql_specification.specs.Fragments.{FragmentHasNoCycle, HasLongSpreadPath, IsFragmentCycle, FragmentLimit, fragment_depth_limit, FragmentFormReport};
 ghost use Rattle.graphql_diagnostics.specs.Reports.{ChecksWithin};
 ghost use Rattle.graphql_documents.specs.Selections.{Fragments, fragments_of};
+ghost use Rattle.graphql_nesting.specs.Levels.{levels_are_found};
+ghost use Rattle.graphql_nesting.specs.Nesting.{Descends};
+ghost use Rattle.graphql_nodes.specs.Names.{SameName};
 ghost use Rattle.graphql_nodes.specs.Spans.{recompose};
 ghost use Rattle.graphql_documents.specs.declared.documents.executables.FragmentSpread.{FragmentSpread};
 ghost use Rattle.graphql_nodes.specs.declared.nodes.Node.{Node};
@@ -17,6 +20,7 @@ use graphql_documents::documents::{
     ExecutableDocument, Fragment, FragmentSpread, Selection, SelectionSet,
 };
 use graphql_guards::{CycleError, RecursionStack};
+use graphql_hash_seeds::HashSeed;
 use graphql_nesting::DocumentLevels;
 use graphql_nodes::{Name, Node, SourceSpan, ValidationError};
 use indexmap::IndexSet;
@@ -45,7 +49,7 @@ pub fn validate_fragment_cycles(
     let alloc = diagnostics.allocator();
     let root = &fragment.value.name;
     let mut path = RecursionStack::with_root(alloc, root.clone()?)?.with_limit(FRAGMENT_LIMIT);
-    let mut seen = IndexSet::new(alloc);
+    let mut seen = IndexSet::with_hasher(alloc, document.hash_seed());
     let search = FragmentSearch {
         alloc,
         document,
@@ -61,7 +65,8 @@ pub fn validate_fragment_cycles(
 
 /// Whether a fragment that the document has under a name is known by its levels to lead to no cycle, and to no path of spreads
 /// that goes through more than 100 fragments: `validate_fragment_cycles` reports nothing of such a fragment. It is not known
-/// where the levels of the document were not found, where they are 100 or more, and where the fragment has another name itself.
+/// where the levels of the document were not found, where the fragment has another name itself, and where a way down from it goes
+/// through 100 selection sets.
 ///
 /// Specification: 5.5.2.2 Fragment Spreads Must Not Form Cycles.
 pub fn is_known_without_cycle(
@@ -73,6 +78,9 @@ pub fn is_known_without_cycle(
         FragmentHasNoCycle (fragments_of document.now.document.now) fragment.now }
     ensures no_long_path { IsTrue result → fragments_of document.now.document.now name.now ≡ Some fragment.now →
         ¬ HasLongSpreadPath (fragments_of document.now.document.now) fragment.now (fragment_depth_limit + 1) }
+    ensures deep { IsFalse result → SameName name.now fragment.now.value.value.name → IsTrue (levels_are_found document.now) →
+        fragments_of document.now.document.now name.now ≡ Some fragment.now →
+        ∥ Descends (fragments_of document.now.document.now) fragment.now.value.value.selection_set fragment_depth_limit ∥₁ }
 {
     if *name != fragment.value.name {
         return false;
@@ -149,7 +157,7 @@ impl<'doc> FragmentSearch<'doc> {
         &self,
         set: &'doc SelectionSet,
         path: &mut RecursionStack,
-        seen: &mut IndexSet<&'doc Name>,
+        seen: &mut IndexSet<&'doc Name, HashSeed>,
     ) -> Result<(), CycleError<FragmentSpread>>
         requires { BeginsAt self.now path.old seen.old.keys }
         ensures searches { SearchesFor self.now (SpreadIn set.now) path.old seen.old.keys seen.new.keys result }
@@ -168,7 +176,7 @@ impl<'doc> FragmentSearch<'doc> {
         &self,
         selection: &'doc Selection,
         path: &mut RecursionStack,
-        seen: &mut IndexSet<&'doc Name>,
+        seen: &mut IndexSet<&'doc Name, HashSeed>,
     ) -> Result<(), CycleError<FragmentSpread>>
         requires { BeginsAt self.now path.old seen.old.keys }
         ensures searches { SearchesFor self.now (SpreadAt selection.now) path.old seen.old.keys seen.new.keys result }
@@ -190,7 +198,7 @@ impl<'doc> FragmentSearch<'doc> {
         &self,
         spread: &'doc Node<FragmentSpread>,
         path: &mut RecursionStack,
-        seen: &mut IndexSet<&'doc Name>,
+        seen: &mut IndexSet<&'doc Name, HashSeed>,
     ) -> Result<(), CycleError<FragmentSpread>>
         requires { BeginsAt self.now path.old seen.old.keys }
         ensures searches { SearchesFor self.now (λ p. p ≡ spread.now) path.old seen.old.keys seen.new.keys result }

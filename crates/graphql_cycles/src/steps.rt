@@ -5,10 +5,11 @@ ghost use Rattle.graphql_cycles.specs.CycleSearches.{GoesOn, IsMemory};
 use graphql_guards::CycleError;
 use graphql_nodes::{Name, Node};
 use indexmap::IndexSet;
+use std::hash::BuildHasher;
 
 /// Adds a name to those that were seen, and answers whether it is new.
-pub(super) fn mark<'name, T: Drop>(
-    seen: &mut IndexSet<&'name Name>,
+pub(super) fn mark<'name, T: Drop, S: BuildHasher>(
+    seen: &mut IndexSet<&'name Name, S>,
     name: &'name Name,
 ) -> Result<bool, CycleError<T>>
     ensures is_new { IfOk result (λ new. new ≡ not (stands_on (map (λ b. b.now) seen.old.keys) name.now)) }

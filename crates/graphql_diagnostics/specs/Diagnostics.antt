@@ -3,6 +3,7 @@ use Rattle.std.specs.Prelude.{List, Option, ℕ}
 use Rattle.std.specs.Vec.{vec_allocator}
 use Rattle.std.specs.declared.alloc.Global.{Global}
 use Rattle.std.specs.Borrow.{Bor}
+use Rattle.graphql_hash_seeds.specs.declared.seeds.HashSeed.{HashSeed}
 use Rattle.graphql_nodes.specs.Names.{NameText}
 use Rattle.graphql_diagnostics.specs.declared.lists.DiagnosticEntry.{DiagnosticEntry}
 use Rattle.graphql_diagnostics.specs.declared.lists.DiagnosticList.{DiagnosticList}
@@ -20,6 +21,10 @@ entries list = list.entries.items
 -- what a list grows by
 abbrev pub allocator_of : DiagnosticList → Global
 allocator_of list = vec_allocator list.entries
+
+-- the seed by which names are hashed
+abbrev pub hash_seed_of : DiagnosticList → HashSeed
+hash_seed_of list = list.hash_seed
 
 -- what is reported is a broken rule, and this holds of it and its place
 abbrev pub DiagnosticReport : (DiagnosticData → Option SourceSpan → Type 0) → Details → Option SourceSpan → Type 0

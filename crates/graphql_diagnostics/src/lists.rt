@@ -1,4 +1,5 @@
 use super::details::Details;
+use graphql_hash_seeds::HashSeed;
 use graphql_nodes::{SourceSpan, ValidationError};
 use std::alloc::Global;
 use std::slice;
@@ -10,24 +11,36 @@ pub struct DiagnosticEntry {
     pub details: Details,
 }
 
-/// Reports in the order in which they were pushed.
+/// Reports in the order in which they were pushed, and the seed by which a check that fills the list hashes names.
 #[derive(Debug, Drop)]
 pub struct DiagnosticList {
     entries: Vec<DiagnosticEntry>,
+    hash_seed: HashSeed,
 }
 
 impl DiagnosticList {
     ghost use Rattle.std.specs.Prelude.{◌≡◌, ◌↔◌, IsTrue, [], ◌∷◌, ◌++◌, length, OnOk, OnErr};
     ghost use Rattle.std.specs.Slice.Iter.{iter_rest};
-    ghost use Rattle.graphql_diagnostics.specs.Diagnostics.{entries, allocator_of};
+    ghost use Rattle.graphql_diagnostics.specs.Diagnostics.{entries, allocator_of, hash_seed_of};
 
-    /// A list of no reports, which grows by this allocator.
+    /// A list of no reports, which grows by this allocator. Names are hashed by the seed of those that nobody chose to
+    /// collide.
     pub fn new(alloc: Global) -> DiagnosticList
         ensures empty { entries result ≡ [] }
         ensures allocator { allocator_of result ≡ alloc }
     {
+        DiagnosticList::with_hash_seed(alloc, HashSeed::default())
+    }
+
+    /// The same, where names are hashed by this seed.
+    pub fn with_hash_seed(alloc: Global, hash_seed: HashSeed) -> DiagnosticList
+        ensures empty { entries result ≡ [] }
+        ensures allocator { allocator_of result ≡ alloc }
+        ensures hash_seed { hash_seed_of result ≡ hash_seed }
+    {
         DiagnosticList {
             entries: Vec::new(alloc),
+            hash_seed,
         }
     }
 
@@ -38,8 +51,15 @@ impl DiagnosticList {
         *self.entries.allocator()
     }
 
+    /// The seed by which names are hashed.
+    pub fn hash_seed(&self) -> HashSeed
+        ensures { result ≡ hash_seed_of self.now }
+    {
+        self.hash_seed
+    }
+
     /// Adds a diagnostic at the end. Where memory is refused the list stays as it was, and the diagnostic is
-    /// dropped. The list keeps its allocator.
+    /// dropped. The list keeps its allocator and its seed.
     pub fn push(
         &mut self,
         location: Option<SourceSpan>,
@@ -48,6 +68,7 @@ impl DiagnosticList {
         ensures ok { OnOk result (entries self.new ≡ entries self.old ++ record { location = location; details = details } ∷ []) }
         ensures err { OnErr result (entries self.new ≡ entries self.old) }
         ensures allocator { allocator_of self.new ≡ allocator_of self.old }
+        ensures hash_seed { hash_seed_of self.new ≡ hash_seed_of self.old }
     {
         self.entries.push(DiagnosticEntry { location, details })?;
         Ok(())

@@ -14,6 +14,7 @@ ghost use Rattle.graphql_document_building.specs.Trees.{anonymous_operations_in,
 use crate::field_definitions::{FieldDefinitions, unknown_field};
 use crate::selections::{build_selection_set, copy_of_name};
 use graphql_documents::documents::{ExecutableDocument, Fragment, Operation, OperationMap, Schema};
+use graphql_hash_seeds::HashSeed;
 use graphql_leaf_building::{build_directives, build_variables};
 use graphql_nodes::{Name, Node, ValidationError};
 use graphql_trees::{Definition, Document, FragmentDefinition, OperationDefinition};
@@ -21,37 +22,40 @@ use indexmap::IndexMap;
 use std::alloc::Global;
 
 /// The document that the tree says, built against the schema: operations and fragments in the order of the
-/// text, each under its name. Fails only where an allocation fails.
+/// text, each under its name, in maps of this seed. Fails only where an allocation fails.
 ///
 /// Specification: 2.2 Document.
 pub fn build_document(
     alloc: Global,
+    hash_seed: HashSeed,
     schema: &Schema,
     tree: &Document,
 ) -> Result<ExecutableDocument, ValidationError>
     requires { DocumentBuilds (Some schema.now) tree.now }
     ensures { IfOk result (DocumentSays (Some schema.now) tree.now) }
 {
-    build_definitions(alloc, &FieldDefinitions::OfSchema(schema), tree)
+    build_definitions(alloc, hash_seed, &FieldDefinitions::OfSchema(schema), tree)
 }
 
 /// The document that the tree says, built without a schema: each field has the definition `UNKNOWN: UNKNOWN`, and
-/// each operation the root type with the default name of its kind. Fails only where an allocation fails.
+/// each operation the root type with the default name of its kind, in maps of this seed. Fails only where an allocation fails.
 ///
 /// Specification: 2.2 Document; 3.3.1 Root Operation Types.
 pub fn build_standalone_document(
     alloc: Global,
+    hash_seed: HashSeed,
     tree: &Document,
 ) -> Result<ExecutableDocument, ValidationError>
     requires { DocumentBuilds None tree.now }
     ensures { IfOk result (DocumentSays None tree.now) }
 {
     let unknown = unknown_field(alloc)?;
-    build_definitions(alloc, &FieldDefinitions::Unknown(&unknown), tree)
+    build_definitions(alloc, hash_seed, &FieldDefinitions::Unknown(&unknown), tree)
 }
 
 fn build_definitions(
     alloc: Global,
+    hash_seed: HashSeed,
     definitions: &FieldDefinitions<'_>,
     tree: &Document,
 ) -> Result<ExecutableDocument, ValidationError>
@@ -61,8 +65,8 @@ fn build_definitions(
 {
     let trees = tree.definitions.as_slice();
     let anonymous = build_anonymous_operation(alloc, definitions, trees)?;
-    let named = build_named_operations(alloc, definitions, trees)?;
-    let fragments = build_fragments(alloc, definitions, trees)?;
+    let named = build_named_operations(alloc, hash_seed, definitions, trees)?;
+    let fragments = build_fragments(alloc, hash_seed, definitions, trees)?;
     Ok(ExecutableDocument {
         operations: OperationMap { anonymous, named },
         fragments,
@@ -90,15 +94,16 @@ fn build_anonymous_operation(
 
 fn build_named_operations(
     alloc: Global,
+    hash_seed: HashSeed,
     definitions: &FieldDefinitions<'_>,
     trees: &[Definition],
-) -> Result<IndexMap<Name, Node<Operation>>, ValidationError>
+) -> Result<IndexMap<Name, Node<Operation>, HashSeed>, ValidationError>
     requires proper { IsProper definitions.now }
     requires builds { All (DefinitionBuilds (schema_of definitions.now)) trees.now }
     requires distinct { AreDistinct (map (λ p. p.0) (named_operations_in trees.now)) }
     ensures { IfOk result (λ named. AllZip (SaysUnderName (OperationSays (schema_of definitions.now))) (named_operations_in trees.now) named.entries) }
 {
-    let mut operations = IndexMap::new(alloc);
+    let mut operations = IndexMap::with_hasher(alloc, hash_seed);
     for tree in trees {
         let Some((name, operation)) = named_operation(tree) else {
             continue;
@@ -112,15 +117,16 @@ fn build_named_operations(
 
 fn build_fragments(
     alloc: Global,
+    hash_seed: HashSeed,
     definitions: &FieldDefinitions<'_>,
     trees: &[Definition],
-) -> Result<IndexMap<Name, Node<Fragment>>, ValidationError>
+) -> Result<IndexMap<Name, Node<Fragment>, HashSeed>, ValidationError>
     requires proper { IsProper definitions.now }
     requires builds { All (DefinitionBuilds (schema_of definitions.now)) trees.now }
     requires distinct { AreDistinct (map (λ p. p.0) (fragments_in trees.now)) }
     ensures { IfOk result (λ fragments. AllZip (SaysUnderName (FragmentSays (schema_of definitions.now))) (fragments_in trees.now) fragments.entries) }
 {
-    let mut fragments = IndexMap::new(alloc);
+    let mut fragments = IndexMap::with_hasher(alloc, hash_seed);
     for tree in trees {
         let Some(fragment) = fragment_definition(tree) else {
             continue;
@@ -167,7 +173,7 @@ fn fragment_definition(tree: &Definition) -> Option<&FragmentDefinition>
 
 /// Puts a node under a name under which none is, behind the others.
 fn insert_new<T: Drop>(
-    nodes: &mut IndexMap<Name, Node<T>>,
+    nodes: &mut IndexMap<Name, Node<T>, HashSeed>,
     name: Name,
     node: Node<T>,
 ) -> Result<(), ValidationError>

@@ -9,6 +9,7 @@ ghost use Rattle.graphql_frontend.specs.Documents.{AreFurtherMisuses, AreReports
 use crate::reports::DocumentReports;
 use graphql_diagnostics::DiagnosticList;
 use graphql_documents::documents::{ExecutableDocument, Schema};
+use graphql_hash_seeds::HashSeed;
 use graphql_input_rules::check_input_fields;
 use graphql_nodes::{SourceSpan, ValidationError};
 use graphql_usage_rules::{VariableMisuse, check_variable_usages};
@@ -68,7 +69,7 @@ fn rule_reports_against(
 ) -> Result<DiagnosticList, ValidationError>
     ensures { IfOk result (λ rules. AreRuleReports (Some schema.now) document.now (entries rules)) }
 {
-    let mut rules = DiagnosticList::new(alloc);
+    let mut rules = DiagnosticList::with_hash_seed(alloc, document.hash_seed());
     validate_executable_document_within(&mut rules, schema, document, work)?;
     Ok(rules)
 }
@@ -79,7 +80,7 @@ fn standalone_rule_reports(
 ) -> Result<DiagnosticList, ValidationError>
     ensures { IfOk result (λ rules. AreRuleReports None document.now (entries rules)) }
 {
-    let mut rules = DiagnosticList::new(alloc);
+    let mut rules = DiagnosticList::with_hash_seed(alloc, document.hash_seed());
     validate_standalone_executable(&mut rules, document)?;
     Ok(rules)
 }
@@ -123,8 +124,8 @@ fn misuses_beside(
 fn reported_ends(
     alloc: Global,
     rules: &DiagnosticList,
-) -> Result<HashSet<SourceSpan>, ValidationError> {
-    let mut ends = HashSet::new(alloc);
+) -> Result<HashSet<SourceSpan, HashSeed>, ValidationError> {
+    let mut ends = HashSet::with_hasher(alloc, rules.hash_seed());
     for entry in rules.iter() {
         if let Some(place) = entry.location {
             ends.insert(end_of(place))?;
@@ -134,13 +135,13 @@ fn reported_ends(
 }
 
 /// Leaves the misuses whose places do not end at one of these.
-fn keep_ending_elsewhere(usages: &mut Vec<VariableMisuse>, ends: &HashSet<SourceSpan>)
+fn keep_ending_elsewhere(usages: &mut Vec<VariableMisuse>, ends: &HashSet<SourceSpan, HashSeed>)
     ensures { All (Contains usages.old.items) usages.new.items }
 {
     usages.retain(|usage| !ends_at_one(usage, ends));
 }
 
-fn ends_at_one(usage: &VariableMisuse, ends: &HashSet<SourceSpan>) -> bool {
+fn ends_at_one(usage: &VariableMisuse, ends: &HashSet<SourceSpan, HashSeed>) -> bool {
     match usage.location {
         Some(place) => ends.contains(&end_of(place)),
         None => false,

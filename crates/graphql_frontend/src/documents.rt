@@ -19,12 +19,14 @@ use graphql_building_reports::BuildingReportList;
 use graphql_document_building::{build_document, build_standalone_document};
 use graphql_document_checking::{check_document, check_standalone_document};
 use graphql_documents::documents::{ExecutableDocument, Schema};
+use graphql_hash_seeds::HashSeed;
 use graphql_nesting::check_nesting;
 use graphql_nodes::{FileId, SourceSpan, ValidationError};
 use graphql_parser::{Bounds, SyntaxError, parse_document};
 use graphql_trees::Document;
 use sqlite_items::Items;
 use std::alloc::Global;
+use std::hash::{DefaultHasher, Hasher};
 
 /// The place of a document of several texts, which no report names.
 const NOWHERE: SourceSpan = SourceSpan {
@@ -52,8 +54,9 @@ pub fn validate_document(
 {
     match parse_document(alloc, source.file_id, source.text, bounds) {
         Ok(tree) => {
+            let hash_seed = HashSeed::of_text(source.text);
             let work = merging_work(source.text.len());
-            validate_tree(alloc, schema, &tree, bounds, work)
+            validate_tree(alloc, hash_seed, schema, &tree, bounds, work)
         }
         Err(error) => report_syntax(alloc, source.file_id, error),
     }
@@ -71,7 +74,10 @@ pub fn validate_standalone_document(
     ensures { IfOk result (ValidatesDocument bounds None source.entry) }
 {
     match parse_document(alloc, source.file_id, source.text, bounds) {
-        Ok(tree) => validate_standalone_tree(alloc, &tree, bounds),
+        Ok(tree) => {
+            let hash_seed = HashSeed::of_text(source.text);
+            validate_standalone_tree(alloc, hash_seed, &tree, bounds)
+        }
         Err(error) => report_syntax(alloc, source.file_id, error),
     }
 }
@@ -112,7 +118,14 @@ pub fn validate_documents(
     if errors.is_empty() {
         let document = joined(alloc, documents)?;
         let work = merging_work(length_of(sources));
-        validate_tree(alloc, schema, &document, bounds, work)
+        validate_tree(
+            alloc,
+            hash_seed_of(sources),
+            schema,
+            &document,
+            bounds,
+            work,
+        )
     } else {
         Ok(Some(Reports::Syntax(errors)))
     }
@@ -125,6 +138,15 @@ fn length_of(sources: &[SourceText<'_>]) -> usize {
         length = length.saturating_add(source.text.len());
     }
     length
+}
+
+/// The seed that is drawn from the texts, one behind another.
+fn hash_seed_of(sources: &[SourceText<'_>]) -> HashSeed {
+    let mut digest = DefaultHasher::new();
+    for source in sources {
+        digest.write(source.text.as_bytes());
+    }
+    HashSeed::new(digest.finish())
 }
 
 /// The document that has the definitions of these, in their order.
@@ -141,9 +163,10 @@ fn joined(alloc: Global, documents: Vec<Document>) -> Result<Document, Validatio
     })
 }
 
-/// Validates the document of a tree.
+/// Validates the document of a tree, its names hashed by this seed.
 fn validate_tree(
     alloc: Global,
+    hash_seed: HashSeed,
     schema: &Schema,
     tree: &Document,
     bounds: Bounds,
@@ -152,28 +175,29 @@ fn validate_tree(
     requires { IsUsable schema.now }
     ensures { IfOk result (JudgesTree bounds (Some schema.now) tree.now) }
 {
-    let mut reports = BuildingReportList::new(alloc);
+    let mut reports = BuildingReportList::with_hash_seed(alloc, hash_seed);
     check_document(&mut reports, schema, tree)?;
     if reports.is_empty() {
-        let document = build_document(alloc, schema, tree)?;
+        let document = build_document(alloc, hash_seed, schema, tree)?;
         validate_built(alloc, Some(schema), &document, bounds.depth, work)
     } else {
         Ok(Some(Reports::Building(reports)))
     }
 }
 
-/// Validates the document of a tree without a schema.
+/// Validates the document of a tree without a schema, its names hashed by this seed.
 fn validate_standalone_tree(
     alloc: Global,
+    hash_seed: HashSeed,
     tree: &Document,
     bounds: Bounds,
 ) -> Result<Option<Reports>, ValidationError>
     ensures { IfOk result (JudgesTree bounds None tree.now) }
 {
-    let mut reports = BuildingReportList::new(alloc);
+    let mut reports = BuildingReportList::with_hash_seed(alloc, hash_seed);
     check_standalone_document(&mut reports, tree)?;
     if reports.is_empty() {
-        let document = build_standalone_document(alloc, tree)?;
+        let document = build_standalone_document(alloc, hash_seed, tree)?;
         validate_built(alloc, None, &document, bounds.depth, 0)
     } else {
         Ok(Some(Reports::Building(reports)))

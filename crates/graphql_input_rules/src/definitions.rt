@@ -9,18 +9,20 @@ use crate::values::{check_arguments, check_default_value, check_directives};
 use graphql_documents::documents::{
     Component, Directive, EnumValueDefinition, FieldDefinition, InputValueDefinition,
 };
+use graphql_hash_seeds::HashSeed;
 use graphql_nodes::{Name, Node, ValidationError};
 use indexmap::IndexMap;
 
 /// Reports the input fields that object values repeat in the arguments of directives, of a definition or of its extensions.
 pub(crate) fn check_applied_directives(
     reports: &mut Vec<InputFieldRepetition>,
+    hash_seed: HashSeed,
     directives: &[Component<Directive>],
 ) -> Result<(), ValidationError>
     ensures { Checks result (FieldsAreUnique (InAppliedDirectives directives.now)) (FieldReport (InAppliedDirectives directives.now)) reports.old reports.new }
 {
     for directive in directives {
-        check_arguments(reports, &directive.node.value.arguments)?;
+        check_arguments(reports, hash_seed, &directive.node.value.arguments)?;
     }
     Ok(())
 }
@@ -28,12 +30,13 @@ pub(crate) fn check_applied_directives(
 /// The same in the arguments of a field or of a directive definition.
 pub(crate) fn check_argument_definitions(
     reports: &mut Vec<InputFieldRepetition>,
+    hash_seed: HashSeed,
     arguments: &[Node<InputValueDefinition>],
 ) -> Result<(), ValidationError>
     ensures { Checks result (FieldsAreUnique (ArgumentsWrite arguments.now)) (FieldReport (ArgumentsWrite arguments.now)) reports.old reports.new }
 {
     for argument in arguments {
-        check_input_value(reports, &argument.value)?;
+        check_input_value(reports, hash_seed, &argument.value)?;
     }
     Ok(())
 }
@@ -41,58 +44,63 @@ pub(crate) fn check_argument_definitions(
 /// The same in the input fields of an input object.
 pub(crate) fn check_input_field_definitions(
     reports: &mut Vec<InputFieldRepetition>,
+    hash_seed: HashSeed,
     fields: &IndexMap<Name, Component<InputValueDefinition>>,
 ) -> Result<(), ValidationError>
     ensures { Checks result (FieldsAreUnique (InputFieldsWrite (values fields.now))) (FieldReport (InputFieldsWrite (values fields.now))) reports.old reports.new }
 {
     for field in fields.values() {
-        check_input_value(reports, &field.node.value)?;
+        check_input_value(reports, hash_seed, &field.node.value)?;
     }
     Ok(())
 }
 
 fn check_input_value(
     reports: &mut Vec<InputFieldRepetition>,
+    hash_seed: HashSeed,
     definition: &InputValueDefinition,
 ) -> Result<(), ValidationError>
     ensures { Checks result (FieldsAreUnique (InputValueWrites definition.now)) (FieldReport (InputValueWrites definition.now)) reports.old reports.new }
 {
-    check_directives(reports, &definition.directives)?;
-    check_default_value(reports, &definition.default_value)
+    check_directives(reports, hash_seed, &definition.directives)?;
+    check_default_value(reports, hash_seed, &definition.default_value)
 }
 
 /// The same in the fields of an object or interface.
 pub(crate) fn check_field_definitions(
     reports: &mut Vec<InputFieldRepetition>,
+    hash_seed: HashSeed,
     fields: &IndexMap<Name, Component<FieldDefinition>>,
 ) -> Result<(), ValidationError>
     ensures { Checks result (FieldsAreUnique (FieldsWrite (values fields.now))) (FieldReport (FieldsWrite (values fields.now))) reports.old reports.new }
 {
     for field in fields.values() {
-        check_field_definition(reports, &field.node.value)?;
+        check_field_definition(reports, hash_seed, &field.node.value)?;
     }
     Ok(())
 }
 
 fn check_field_definition(
     reports: &mut Vec<InputFieldRepetition>,
+    hash_seed: HashSeed,
     field: &FieldDefinition,
 ) -> Result<(), ValidationError>
     ensures { Checks result (FieldsAreUnique (FieldDefinitionWrites field.now)) (FieldReport (FieldDefinitionWrites field.now)) reports.old reports.new }
 {
-    check_directives(reports, &field.directives)?;
-    check_argument_definitions(reports, &field.arguments)
+    check_directives(reports, hash_seed, &field.directives)?;
+    check_argument_definitions(reports, hash_seed, &field.arguments)
 }
 
 /// The same in the values of an enum.
 pub(crate) fn check_enum_values(
     reports: &mut Vec<InputFieldRepetition>,
+    hash_seed: HashSeed,
     enum_values: &IndexMap<Name, Component<EnumValueDefinition>>,
 ) -> Result<(), ValidationError>
     ensures { Checks result (FieldsAreUnique (EnumValuesWrite (values enum_values.now))) (FieldReport (EnumValuesWrite (values enum_values.now))) reports.old reports.new }
 {
     for enum_value in enum_values.values() {
-        check_directives(reports, &enum_value.node.value.directives)?;
+        check_directives(reports, hash_seed, &enum_value.node.value.directives)?;
     }
     Ok(())
 }

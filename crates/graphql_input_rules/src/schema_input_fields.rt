@@ -14,6 +14,7 @@ use graphql_documents::documents::{
     Component, Directive, DirectiveDefinition, EnumType, ExtendedType, FieldDefinition,
     InputObjectType, Schema,
 };
+use graphql_hash_seeds::HashSeed;
 use graphql_nodes::{Name, Node, ValidationError};
 use indexmap::IndexMap;
 
@@ -32,57 +33,79 @@ pub fn check_schema_input_fields(
 ) -> Result<(), ValidationError>
     ensures { Checks result (SchemaInputFieldsAreUnique schema.now) (SchemaInputFieldReport schema.now) reports.old reports.new }
 {
-    check_applied_directives(reports, &schema.schema_definition.value.directives)?;
-    check_directive_definitions(reports, &schema.directive_definitions)?;
-    check_types(reports, &schema.types)
+    let hash_seed = HashSeed::default();
+    check_applied_directives(
+        reports,
+        hash_seed,
+        &schema.schema_definition.value.directives,
+    )?;
+    check_directive_definitions(reports, hash_seed, &schema.directive_definitions)?;
+    check_types(reports, hash_seed, &schema.types)
 }
 
 fn check_directive_definitions(
     reports: &mut Vec<InputFieldRepetition>,
+    hash_seed: HashSeed,
     definitions: &IndexMap<Name, Node<DirectiveDefinition>>,
 ) -> Result<(), ValidationError>
     ensures { Checks result (FieldsAreUnique (DirectiveDefinitionsWrite (values definitions.now))) (FieldReport (DirectiveDefinitionsWrite (values definitions.now))) reports.old reports.new }
 {
     for definition in definitions.values() {
-        check_argument_definitions(reports, &definition.value.arguments)?;
+        check_argument_definitions(reports, hash_seed, &definition.value.arguments)?;
     }
     Ok(())
 }
 
 fn check_types(
     reports: &mut Vec<InputFieldRepetition>,
+    hash_seed: HashSeed,
     types: &IndexMap<Name, ExtendedType>,
 ) -> Result<(), ValidationError>
     ensures { Checks result (FieldsAreUnique (TypesWrite (values types.now))) (FieldReport (TypesWrite (values types.now))) reports.old reports.new }
 {
     for definition in types.values() {
-        check_type(reports, definition)?;
+        check_type(reports, hash_seed, definition)?;
     }
     Ok(())
 }
 
 fn check_type(
     reports: &mut Vec<InputFieldRepetition>,
+    hash_seed: HashSeed,
     definition: &ExtendedType,
 ) -> Result<(), ValidationError>
     ensures { Checks result (FieldsAreUnique (TypeWrites definition.now)) (FieldReport (TypeWrites definition.now)) reports.old reports.new }
 {
     match definition {
-        ExtendedType::Scalar(scalar) => check_applied_directives(reports, &scalar.value.directives),
+        ExtendedType::Scalar(scalar) => check_applied_directives(
+            reports,
+            hash_seed,
+            &scalar.value.directives,
+        ),
         ExtendedType::Object(object) => {
-            check_type_with_fields(reports, &object.value.directives, &object.value.fields)
+            check_type_with_fields(
+                reports,
+                hash_seed,
+                &object.value.directives,
+                &object.value.fields,
+            )
         }
         ExtendedType::Interface(interface) => {
             check_type_with_fields(
                 reports,
+                hash_seed,
                 &interface.value.directives,
                 &interface.value.fields,
             )
         }
-        ExtendedType::Union(union) => check_applied_directives(reports, &union.value.directives),
-        ExtendedType::Enum(enum_type) => check_enum(reports, &enum_type.value),
+        ExtendedType::Union(union) => check_applied_directives(
+            reports,
+            hash_seed,
+            &union.value.directives,
+        ),
+        ExtendedType::Enum(enum_type) => check_enum(reports, hash_seed, &enum_type.value),
         ExtendedType::InputObject(input_object) => {
-            check_input_object(reports, &input_object.value)
+            check_input_object(reports, hash_seed, &input_object.value)
         }
     }
 }
@@ -90,31 +113,34 @@ fn check_type(
 /// The same in an object or interface.
 fn check_type_with_fields(
     reports: &mut Vec<InputFieldRepetition>,
+    hash_seed: HashSeed,
     directives: &[Component<Directive>],
     fields: &IndexMap<Name, Component<FieldDefinition>>,
 ) -> Result<(), ValidationError>
     ensures { Checks result (FieldsAreUnique (λ v. InAppliedDirectives directives.now v ⊎ FieldsWrite (values fields.now) v)) (FieldReport (λ v. InAppliedDirectives directives.now v ⊎ FieldsWrite (values fields.now) v)) reports.old reports.new }
 {
-    check_applied_directives(reports, directives)?;
-    check_field_definitions(reports, fields)
+    check_applied_directives(reports, hash_seed, directives)?;
+    check_field_definitions(reports, hash_seed, fields)
 }
 
 fn check_enum(
     reports: &mut Vec<InputFieldRepetition>,
+    hash_seed: HashSeed,
     definition: &EnumType,
 ) -> Result<(), ValidationError>
     ensures { Checks result (FieldsAreUnique (λ v. InAppliedDirectives definition.now.directives.items v ⊎ EnumValuesWrite (values definition.now.values) v)) (FieldReport (λ v. InAppliedDirectives definition.now.directives.items v ⊎ EnumValuesWrite (values definition.now.values) v)) reports.old reports.new }
 {
-    check_applied_directives(reports, &definition.directives)?;
-    check_enum_values(reports, &definition.values)
+    check_applied_directives(reports, hash_seed, &definition.directives)?;
+    check_enum_values(reports, hash_seed, &definition.values)
 }
 
 fn check_input_object(
     reports: &mut Vec<InputFieldRepetition>,
+    hash_seed: HashSeed,
     definition: &InputObjectType,
 ) -> Result<(), ValidationError>
     ensures { Checks result (FieldsAreUnique (λ v. InAppliedDirectives definition.now.directives.items v ⊎ InputFieldsWrite (values definition.now.fields) v)) (FieldReport (λ v. InAppliedDirectives definition.now.directives.items v ⊎ InputFieldsWrite (values definition.now.fields) v)) reports.old reports.new }
 {
-    check_applied_directives(reports, &definition.directives)?;
-    check_input_field_definitions(reports, &definition.fields)
+    check_applied_directives(reports, hash_seed, &definition.directives)?;
+    check_input_field_definitions(reports, hash_seed, &definition.fields)
 }

@@ -9,23 +9,24 @@ ghost use Rattle.graphql_input_rules.specs.ValuesWritten.{DefaultWrites, InArgum
 
 use crate::reports::InputFieldRepetition;
 use graphql_documents::documents::{Argument, Directive, Value};
+use graphql_hash_seeds::HashSeed;
 use graphql_nodes::{Name, Node, SourceSpan, ValidationError};
-use graphql_variables::first_places::first_place;
-use std::collections::HashMap;
+use graphql_variables::first_places::{FirstPlaces, first_place};
 
 /// Reports the input fields that the object values in a value repeat.
 #[cycle(value)]
 fn check_value(
     reports: &mut Vec<InputFieldRepetition>,
+    hash_seed: HashSeed,
     value: &Value,
 ) -> Result<(), ValidationError>
     ensures { Checks result (FieldsAreUnique (ValueWritten value.now)) (FieldReport (ValueWritten value.now)) reports.old reports.new }
 {
     match value {
-        Value::List(items) => check_items(reports, items),
+        Value::List(items) => check_items(reports, hash_seed, items),
         Value::Object(entries) => {
-            check_names(reports, entries)?;
-            check_entries(reports, entries)
+            check_names(reports, hash_seed, entries)?;
+            check_entries(reports, hash_seed, entries)
         }
         _ => Ok(()),
     }
@@ -34,12 +35,13 @@ fn check_value(
 #[cycle(value)]
 fn check_items(
     reports: &mut Vec<InputFieldRepetition>,
+    hash_seed: HashSeed,
     items: &[Node<Value>],
 ) -> Result<(), ValidationError>
     ensures { Checks result (FieldsAreUnique (λ v. Any (λ i. ValueWritten i.value.value v) items.now)) (FieldReport (λ v. Any (λ i. ValueWritten i.value.value v) items.now)) reports.old reports.new }
 {
     for item in items {
-        check_value(reports, &item.value)?;
+        check_value(reports, hash_seed, &item.value)?;
     }
     Ok(())
 }
@@ -47,12 +49,13 @@ fn check_items(
 #[cycle(value)]
 fn check_entries(
     reports: &mut Vec<InputFieldRepetition>,
+    hash_seed: HashSeed,
     entries: &[(Name, Node<Value>)],
 ) -> Result<(), ValidationError>
     ensures { Checks result (FieldsAreUnique (λ v. Any (λ e. ValueWritten e.1.value.value v) entries.now)) (FieldReport (λ v. Any (λ e. ValueWritten e.1.value.value v) entries.now)) reports.old reports.new }
 {
     for (_, entry) in entries {
-        check_value(reports, &entry.value)?;
+        check_value(reports, hash_seed, &entry.value)?;
     }
     Ok(())
 }
@@ -60,11 +63,12 @@ fn check_entries(
 /// Reports each name that repeats an earlier one, with the place of the first of that name.
 fn check_names(
     reports: &mut Vec<InputFieldRepetition>,
+    hash_seed: HashSeed,
     entries: &[(Name, Node<Value>)],
 ) -> Result<(), ValidationError>
     ensures { Checks result (AreDistinct (entry_names entries.now)) (RepetitionReport (entry_names entries.now)) reports.old reports.new }
 {
-    let mut seen: HashMap<&Name, Option<SourceSpan>> = HashMap::new(*reports.allocator());
+    let mut seen = FirstPlaces::with_hasher(*reports.allocator(), hash_seed);
     for (name, _) in entries {
         check_name(reports, &mut seen, name)?;
     }
@@ -74,7 +78,7 @@ fn check_names(
 /// Reports a name that repeats one of those before it.
 fn check_name<'a>(
     reports: &mut Vec<InputFieldRepetition>,
-    seen: &mut HashMap<&'a Name, Option<SourceSpan>>,
+    seen: &mut FirstPlaces<'a>,
     name: &'a Name,
 ) -> Result<(), ValidationError>
     ensures checks { (all before : List NameText) → IsNext all before name.now → Remembers seen.old (map met_name before) →
@@ -110,12 +114,13 @@ fn report_repetition(
 /// The same in the values of arguments.
 pub(crate) fn check_arguments(
     reports: &mut Vec<InputFieldRepetition>,
+    hash_seed: HashSeed,
     arguments: &[Node<Argument>],
 ) -> Result<(), ValidationError>
     ensures { Checks result (FieldsAreUnique (InArguments arguments.now)) (FieldReport (InArguments arguments.now)) reports.old reports.new }
 {
     for argument in arguments {
-        check_value(reports, &argument.value.value.value)?;
+        check_value(reports, hash_seed, &argument.value.value.value)?;
     }
     Ok(())
 }
@@ -123,12 +128,13 @@ pub(crate) fn check_arguments(
 /// The same in the arguments of directives.
 pub(crate) fn check_directives(
     reports: &mut Vec<InputFieldRepetition>,
+    hash_seed: HashSeed,
     directives: &[Node<Directive>],
 ) -> Result<(), ValidationError>
     ensures { Checks result (FieldsAreUnique (InDirectives directives.now)) (FieldReport (InDirectives directives.now)) reports.old reports.new }
 {
     for directive in directives {
-        check_arguments(reports, &directive.value.arguments)?;
+        check_arguments(reports, hash_seed, &directive.value.arguments)?;
     }
     Ok(())
 }
@@ -136,12 +142,13 @@ pub(crate) fn check_directives(
 /// The same in a default value, where there is one.
 pub(crate) fn check_default_value(
     reports: &mut Vec<InputFieldRepetition>,
+    hash_seed: HashSeed,
     default_value: &Option<Node<Value>>,
 ) -> Result<(), ValidationError>
     ensures { Checks result (FieldsAreUnique (DefaultWrites default_value.now)) (FieldReport (DefaultWrites default_value.now)) reports.old reports.new }
 {
     match default_value {
-        Some(value) => check_value(reports, &value.value),
+        Some(value) => check_value(reports, hash_seed, &value.value),
         None => Ok(()),
     }
 }

@@ -34,7 +34,7 @@ pub document_merging_by_lists : (schema : Schema) (document : ExecutableDocument
 document_merging_by_lists schema document operations = merging_by_lists schema (fragments_of document) (one_fragment_found document) operations (has_expansion document)
 
 -- a value that is found is in an entry
-entry_found : {X : Type 0} (test : NameText → Bool) (entries : List (NameText × X)) (x : X) → lookup test entries ≡ Some x →
+pub entry_found : {X : Type 0} (test : NameText → Bool) (entries : List (NameText × X)) (x : X) → lookup test entries ≡ Some x →
     (e : NameText × X) × Contains entries e × (e.1 ≡ x)
 entry_found test [] x found = absurd (let no : ⊥ = cc in no)
 entry_found {X} test (e ∷ es) x found = decided (test e.0) refl (λ later. entry_found test es x later) where
@@ -44,23 +44,23 @@ entry_found {X} test (e ∷ es) x found = decided (test e.0) refl (λ later. ent
   decided false is more = let m = more (rw is at found) in (m.0, stands_behind e es m.0 m.1, m.2)
 
 module _ (schema : Schema) (document : ExecutableDocument) (built : IsBuilt schema document) where
-  built_fragment : (name : NameText) (d : Node Fragment) → fragments_of document name ≡ Some d → SetsAreBuilt schema d.value.value.selection_set
+  pub built_fragment : (name : NameText) (d : Node Fragment) → fragments_of document name ≡ Some d → SetsAreBuilt schema d.value.value.selection_set
   built_fragment name d found =
       let e = entry_found (same_name name) document.fragments.entries d found in
       let all = All-contains (λ entry. SameName entry.0 entry.1.value.value.name × SetsAreBuilt schema entry.1.value.value.selection_set) document.fragments.entries e.0 built.fragments e.1 in
       subst (λ (f : Node Fragment). SetsAreBuilt schema f.value.value.selection_set) e.2 all.1
 
-  built_inside : {set inner : SelectionSet} → Includes (fragments_of document) set inner → SetsAreBuilt schema set → SetsAreBuilt schema inner
+  pub built_inside : {set inner : SelectionSet} → Includes (fragments_of document) set inner → SetsAreBuilt schema set → SetsAreBuilt schema inner
   built_inside includes_itself sets = sets
   built_inside (includes_inline_fragment stands more) sets = built_inside more (λ s written. sets s (set_in_inline_fragment stands written))
   built_inside (includes_spread {p = p} {d = d} stands found more) sets = built_inside more (built_fragment p.value.value.fragment_name d found)
 
   -- the field is of an output type, and its set is built
-  record BuiltField (x : FieldSelection) : Type 0 where
-    output : NamesKind schema is_output_type (inner_named_type (type_of x))
-    sets : SetsAreBuilt schema (set_of x)
+  pub record BuiltField (x : FieldSelection) : Type 0 where
+    pub output : NamesKind schema is_output_type (inner_named_type (type_of x))
+    pub sets : SetsAreBuilt schema (set_of x)
 
-  built_field : (set : SelectionSet) (x : FieldSelection) → SetsAreBuilt schema set → FieldInExpandedSet (fragments_of document) set x → BuiltField x
+  pub built_field : (set : SelectionSet) (x : FieldSelection) → SetsAreBuilt schema set → FieldInExpandedSet (fragments_of document) set x → BuiltField x
   built_field set x sets here =
       let inner = built_inside here.included sets in
       record {

@@ -7,6 +7,7 @@ ghost use Rattle.graphql_specification.specs.MergedSets.{key_of};
 ghost use Rattle.graphql_merging.specs.FieldSelections.{listed, selection_of};
 ghost use Rattle.graphql_lone_fields.specs.LoneFields.{HaveOtherKeys};
 
+use graphql_hash_seeds::HashSeed;
 use graphql_merging::field_selections::FieldSelection;
 use graphql_nodes::{Name, ValidationError};
 use indexmap::IndexSet;
@@ -18,6 +19,7 @@ const FEW: usize = 16;
 /// Whether no two of the fields have the same response key. The only error is a failed allocation.
 pub(crate) fn have_different_keys(
     alloc: Global,
+    hash_seed: HashSeed,
     fields: &[FieldSelection<'_>],
 ) -> Result<bool, ValidationError>
     ensures { IfOk result (λ different. IsTrue different → AllPairs HaveOtherKeys (listed fields.now)) }
@@ -25,7 +27,7 @@ pub(crate) fn have_different_keys(
     if fields.len() <= FEW {
         Ok(few_have_different_keys(fields))
     } else {
-        many_have_different_keys(alloc, fields)
+        many_have_different_keys(alloc, hash_seed, fields)
     }
 }
 
@@ -57,11 +59,12 @@ fn has_key(field: &FieldSelection<'_>, key: &Name) -> bool
 /// The same, by a set of the keys.
 fn many_have_different_keys(
     alloc: Global,
+    hash_seed: HashSeed,
     fields: &[FieldSelection<'_>],
 ) -> Result<bool, ValidationError>
     ensures { IfOk result (λ different. IsTrue different → AllPairs HaveOtherKeys (listed fields.now)) }
 {
-    let mut keys = IndexSet::with_capacity(alloc, fields.len())?;
+    let mut keys = IndexSet::with_capacity_and_hasher(alloc, fields.len(), hash_seed)?;
     for field in fields {
         if !add_key(&mut keys, field.field.value.response_key())? {
             return Ok(false);
@@ -71,7 +74,10 @@ fn many_have_different_keys(
 }
 
 /// Adds a key to those that were met, and answers whether it is new.
-fn add_key<'doc>(keys: &mut IndexSet<&'doc Name>, key: &'doc Name) -> Result<bool, ValidationError>
+fn add_key<'doc>(
+    keys: &mut IndexSet<&'doc Name, HashSeed>,
+    key: &'doc Name,
+) -> Result<bool, ValidationError>
     ensures is_new { IfOk result (λ new. new ≡ not (stands_on (map (λ b. b.now) keys.old.keys) key.now)) }
     ensures keys { OnOk result (map (λ b. b.now) keys.new.keys ≡ with_name (map (λ b. b.now) keys.old.keys) key.now) }
 {

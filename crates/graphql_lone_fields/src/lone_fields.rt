@@ -71,7 +71,7 @@ impl<'doc> LoneFieldSearch<'doc> {
         if !self.may_list(fields.len()) {
             return Ok(false);
         }
-        if !have_different_keys(self.alloc, &fields)? {
+        if !have_different_keys(self.alloc, self.document.hash_seed(), &fields)? {
             return Ok(false);
         }
         self.have_lone_fields_below(&fields, levels - 1)

@@ -83,6 +83,7 @@ fn compare<'doc>(
         }
         Pass::NamesAndArguments => match find_field_conflict(
             diagnostics.allocator(),
+            examined.hash_seed(),
             first,
             field,
         )? {

@@ -10,6 +10,7 @@ ghost use Rattle.graphql_merging.specs.FieldSelections.{listed};
 
 use super::field_selections::FieldSelection;
 use graphql_documents::documents::{Fragment, FragmentSpread, Selection, SelectionSet};
+use graphql_hash_seeds::HashSeed;
 use graphql_nodes::{Name, NamedType, Node, ValidationError};
 use indexmap::{IndexMap, IndexSet};
 use std::alloc::Global;
@@ -23,7 +24,7 @@ use std::collections::VecDeque;
 /// Specification: 5.3.2 Field Selection Merging, "including visiting fragments and inline fragments".
 pub fn expand_selections<'doc>(
     alloc: Global,
-    fragments: &'doc IndexMap<Name, Node<Fragment>>,
+    fragments: &'doc IndexMap<Name, Node<Fragment>, HashSeed>,
     sets: &[&'doc SelectionSet],
 ) -> Result<Vec<FieldSelection<'doc>>, ValidationError>
     ensures { IfOk result (λ fields. Expansion (fragments_in fragments.now) (map (λ set. set.now) sets.now) (listed fields.items)) }
@@ -32,7 +33,7 @@ pub fn expand_selections<'doc>(
     let mut expansion = FieldExpansion {
         fragments,
         fields: Vec::new(alloc),
-        visited: IndexSet::new(alloc),
+        visited: IndexSet::with_hasher(alloc, *fragments.hasher()),
         queue: VecDeque::from(sets),
     };
     while let Some(set) = expansion.queue.pop_front() {
@@ -45,9 +46,9 @@ pub fn expand_selections<'doc>(
 /// are still to be listed.
 #[derive(Drop)]
 struct FieldExpansion<'doc> {
-    fragments: &'doc IndexMap<Name, Node<Fragment>>,
+    fragments: &'doc IndexMap<Name, Node<Fragment>, HashSeed>,
     fields: Vec<FieldSelection<'doc>>,
-    visited: IndexSet<&'doc Name>,
+    visited: IndexSet<&'doc Name, HashSeed>,
     queue: VecDeque<&'doc SelectionSet>,
 }
 

@@ -9,9 +9,11 @@ ghost use Rattle.graphql_merging.specs.Groups.{by_keys, by_objects, named_fields
 
 use crate::field_selections::FieldSelection;
 use graphql_documents::documents::{ExtendedType, Schema};
+use graphql_hash_seeds::HashSeed;
 use graphql_nodes::{Name, ValidationError};
 use indexmap::IndexMap;
 use std::alloc::Global;
+use std::hash::BuildHasher;
 
 /// Which fields of a list are put together, and what must hold of them.
 ///
@@ -31,6 +33,7 @@ pub enum Pass {
 /// Specification: 5.3.2 Field Selection Merging.
 pub(crate) fn groups_of<'doc>(
     alloc: Global,
+    hash_seed: HashSeed,
     schema: &Schema,
     pass: Pass,
     fields: &[FieldSelection<'doc>],
@@ -40,7 +43,7 @@ pub(crate) fn groups_of<'doc>(
     if fields.len() == 1 {
         return groups_of_one(alloc, schema, pass, fields[0]);
     }
-    let fields_by_key = fields_by_key(alloc, fields)?;
+    let fields_by_key = fields_by_key(alloc, hash_seed, fields)?;
     match pass {
         Pass::Shapes => Ok(fields_by_key.into_values().collect(alloc)?),
         Pass::NamesAndArguments => groups_by_types(alloc, schema, fields_by_key),
@@ -71,7 +74,7 @@ fn groups_of_one<'doc>(
 fn groups_by_types<'doc>(
     alloc: Global,
     schema: &Schema,
-    fields_by_key: IndexMap<&'doc Name, Vec<FieldSelection<'doc>>>,
+    fields_by_key: IndexMap<&'doc Name, Vec<FieldSelection<'doc>>, HashSeed>,
 ) -> Result<Vec<Vec<FieldSelection<'doc>>>, ValidationError>
     ensures { IfOk result (λ groups. lists_of groups.items ≡
         flat_map (λ entry. groups_on schema.now entry.1 (objects_of schema.now entry.1)) (named_fields fields_by_key.entry.entries)) }
@@ -83,17 +86,18 @@ fn groups_by_types<'doc>(
     Ok(groups)
 }
 
-/// The fields of a list by their response keys, these in order of first field. The only error is a failed
-/// allocation.
+/// The fields of a list by their response keys, these in order of first field, in a map of this seed. The only error
+/// is a failed allocation.
 ///
 /// Specification: 5.3.2 Field Selection Merging; 6.3.2 Field Collection.
 pub fn fields_by_key<'doc>(
     alloc: Global,
+    hash_seed: HashSeed,
     fields: &[FieldSelection<'doc>],
-) -> Result<IndexMap<&'doc Name, Vec<FieldSelection<'doc>>>, ValidationError>
+) -> Result<IndexMap<&'doc Name, Vec<FieldSelection<'doc>>, HashSeed>, ValidationError>
     ensures { IfOk result (λ found. named_fields found.entries ≡ by_keys (listed fields.now)) }
 {
-    let mut fields_by_key = IndexMap::with_capacity(alloc, fields.len())?;
+    let mut fields_by_key = IndexMap::with_capacity_and_hasher(alloc, fields.len(), hash_seed)?;
     for field in fields {
         push_under(
             &mut fields_by_key,
@@ -106,8 +110,8 @@ pub fn fields_by_key<'doc>(
 }
 
 /// Puts the field behind those under the name.
-fn push_under<'name, 'doc>(
-    fields_by_name: &mut IndexMap<&'name Name, Vec<FieldSelection<'doc>>>,
+fn push_under<'name, 'doc, S: BuildHasher>(
+    fields_by_name: &mut IndexMap<&'name Name, Vec<FieldSelection<'doc>>, S>,
     alloc: Global,
     name: &'name Name,
     field: FieldSelection<'doc>,

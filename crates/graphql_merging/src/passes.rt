@@ -7,6 +7,7 @@ ghost use Rattle.graphql_documents.specs.Selections.{fragments_of};
 ghost use Rattle.graphql_documents.specs.declared.documents.executables.Operation.{Operation};
 ghost use Rattle.graphql_nodes.specs.declared.nodes.Node.{Node};
 ghost use Rattle.graphql_guards.specs.Guards.{count_limit, count_of};
+ghost use Rattle.graphql_merging.specs.FieldHashes.{IsHashedBy};
 ghost use Rattle.graphql_merging.specs.FieldSelections.{listed};
 ghost use Rattle.graphql_merging.specs.Groups.{pass_of};
 ghost use Rattle.graphql_merging.specs.Passes.{Examines, ExaminesSet, GoesBelow, IsConflict, IsNew};
@@ -56,7 +57,7 @@ impl<'s, 'doc> MergingPass<'s, 'doc> {
         ensures limit { OnOk result (count_limit depth.new ≡ count_limit depth.old) }
         ensures unbounded { IsUnbounded work.old → IsUnbounded work.new × IfErr result (λ e. e ≡ OutOfMemory) }
     {
-        let list = self.expand(diagnostics.allocator(), work, &[set])?;
+        let list = self.expand(diagnostics.allocator(), examined, work, &[set])?;
         if examined.knows(&list) {
             return Ok(());
         }
@@ -75,6 +76,7 @@ impl<'s, 'doc> MergingPass<'s, 'doc> {
         list: FieldList<'doc>,
     ) -> Result<(), Interruption>
         requires limit { count_limit depth.old ≡ merging_depth_limit }
+        requires hashed { IsHashedBy examined.old.hash_seed list }
         requires is_new { IsNew (examined_lists examined.old) (listed list.fields.items) }
         ensures examines { OnOk result (Examines self.now.schema.now (fragments_of self.now.document.now) (pass_of self.now.pass) (listed list.entry.fields.items)
             (stage_of examined.old depth.old diagnostics.old) (stage_of examined.new depth.new diagnostics.new)) }
@@ -86,6 +88,7 @@ impl<'s, 'doc> MergingPass<'s, 'doc> {
     {
         let groups = groups_of(
             diagnostics.allocator(),
+            self.document.hash_seed(),
             self.schema,
             self.pass,
             list.fields(),
@@ -124,7 +127,7 @@ impl<'s, 'doc> MergingPass<'s, 'doc> {
         if sets.is_empty() {
             return Ok(());
         }
-        let list = self.expand(alloc, work, &sets)?;
+        let list = self.expand(alloc, examined, work, &sets)?;
         if examined.knows(&list) {
             return Ok(());
         }
@@ -141,15 +144,17 @@ impl<'s, 'doc> MergingPass<'s, 'doc> {
     fn expand(
         &self,
         alloc: Global,
+        examined: &Examined<'doc>,
         work: &mut Work,
         sets: &[&'doc SelectionSet],
     ) -> Result<FieldList<'doc>, Interruption>
+        ensures hashed { IfOk result (IsHashedBy examined.now.hash_seed) }
         ensures fields { IfOk result (λ list. Expansion (fragments_of self.now.document.now) (map (λ set. set.now) sets.now) (listed list.fields.items)) }
         ensures unbounded { IsUnbounded work.old → IsUnbounded work.new × IfErr result (λ e. e ≡ OutOfMemory) }
     {
         let fields = expand_selections(alloc, &self.document.fragments, sets)?;
         work.count(fields.len())?;
-        Ok(FieldList::new(fields))
+        Ok(examined.list(fields))
     }
 }
 

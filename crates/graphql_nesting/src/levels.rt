@@ -1,10 +1,10 @@
 //! A document together with the levels of its fragments, for walks that ask for these.
 
-ghost use Rattle.std.specs.Prelude.{◌≡◌, IfOk, IfSome, Some};
+ghost use Rattle.std.specs.Prelude.{◌≡◌, IfOk, IfSome, IsFalse, IsNone, IsTrue, Some};
 ghost use Rattle.graphql_nodes.specs.declared.nodes.Node.{Node};
 ghost use Rattle.graphql_documents.specs.Selections.{fragments_of};
 ghost use Rattle.graphql_documents.specs.declared.documents.executables.Fragment.{Fragment};
-ghost use Rattle.graphql_nesting.specs.Nesting.{HasLevels};
+ghost use Rattle.graphql_nesting.specs.Nesting.{HasLevels, IsEndless};
 ghost use Rattle.graphql_nesting.specs.Search.{AreSettled};
 
 use crate::fragments::{FragmentNestings, find_fragment_levels};
@@ -21,9 +21,12 @@ pub struct DocumentLevels<'doc> {
 }
 
 impl<'doc> DocumentLevels<'doc> {
+    ghost use Rattle.graphql_nesting.specs.Levels.{levels_are_found};
+
     /// A document of whose fragments no levels are known. This takes no memory.
     pub fn unknown(document: &'doc ExecutableDocument) -> DocumentLevels<'doc>
-        ensures { result.document.now ≡ document.now }
+        ensures document { result.document.now ≡ document.now }
+        ensures found { IsFalse (levels_are_found result) }
     {
         DocumentLevels {
             document,
@@ -39,7 +42,8 @@ impl<'doc> DocumentLevels<'doc> {
         alloc: Global,
         document: &'doc ExecutableDocument,
     ) -> Result<DocumentLevels<'doc>, ValidationError>
-        ensures { IfOk result (λ levels. levels.document.now ≡ document.now) }
+        ensures document { IfOk result (λ levels. levels.document.now ≡ document.now) }
+        ensures found { IfOk result (λ levels. IsTrue (levels_are_found levels)) }
     {
         let found = Some(find_fragment_levels(alloc, document)?);
         Ok(DocumentLevels { document, found })
@@ -51,8 +55,11 @@ impl<'doc> DocumentLevels<'doc> {
     ///
     /// Specification: 2.8 Fragments; 5.5.2.2 Fragment spreads must not form cycles.
     pub fn levels_of(&self, name: &Name) -> Option<usize>
-        ensures { IfSome result (λ levels. (d : Node Fragment) → fragments_of self.now.document.now name.now ≡ Some d →
+        ensures levels { IfSome result (λ levels. (d : Node Fragment) → fragments_of self.now.document.now name.now ≡ Some d →
             ∥ HasLevels (fragments_of self.now.document.now) d.value.value.selection_set levels ∥₁) }
+        ensures endless { IsNone result → IsTrue (levels_are_found self.now) → (d : Node Fragment) →
+            fragments_of self.now.document.now name.now ≡ Some d →
+            ∥ IsEndless (fragments_of self.now.document.now) d.value.value.selection_set ∥₁ }
     {
         let found = self.found.as_ref()?;
         let number = self.document.fragments.get_index_of(name)?;

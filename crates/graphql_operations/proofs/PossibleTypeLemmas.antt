@@ -26,6 +26,7 @@ use Rattle.graphql_nodes.specs.declared.nodes.Node.{Node}
 use Rattle.graphql_documents.proofs.ImplementerLemmas.{found_as_names, stands_folded, stands_same}
 use Rattle.graphql_documents.proofs.ListLemmas.{kept_by_filter, made_of, stands_behind, stands_first, stands_flat, stands_mapped}
 use Rattle.graphql_nodes.proofs.NameLemmas.{same_name_back, same_name_itself, same_text}
+use Rattle.graphql_laws.proofs.BuiltDocumentLaws.{entry_found}
 use Rattle.graphql_variables.proofs.UseLemmas.{any_has, has_any}
 
 -- what is among names is the same as one of them
@@ -193,14 +194,11 @@ module _ (schema : Schema) (key : NameText) (d : Node ObjectType) (stands : Cont
       (own, own, same_name_itself own, listed, same_name_itself own)
 
 -- what a name finds is in an entry
-pub entry_found : (test : NameText → Bool) (entries : List (NameText × ExtendedType)) (d : ExtendedType) → lookup test entries ≡ Some d →
+pub type_entry : (test : NameText → Bool) (entries : List (NameText × ExtendedType)) (d : ExtendedType) → lookup test entries ≡ Some d →
     (key : NameText) × Contains entries (key, d)
-entry_found test [] d found = absurd (let no : ⊥ = cc in no)
-entry_found test (e ∷ es) d found = by (test e.0) (λ later. entry_found test es d later) found where
-  by : (b : Bool) → (lookup test es ≡ Some d → (key : NameText) × Contains es (key, d)) → cond b (Some e.1) (lookup test es) ≡ Some d →
-      (key : NameText) × Contains (e ∷ es) (key, d)
-  by true more is = (e.0, subst (λ (t : ExtendedType). Contains (e ∷ es) (e.0, t)) (same_Some e.1 d is) (stands_first e es))
-  by false more is = let m = more is in (m.0, stands_behind e es (m.0, d) m.1)
+type_entry test entries d found =
+    let e = entry_found test entries d found in
+    (e.0.0, subst (λ (t : ExtendedType). Contains entries (e.0.0, t)) e.2 e.1)
 
 -- what is selected on a condition can be visited on a type, or not
 module _ (schema : Schema) (condition parent : NameText) where

@@ -6,6 +6,7 @@ ghost use Rattle.graphql_documents.specs.contracts.documents.schemas.Schema as s
 
 use super::possible_types::PossibleTypes;
 use graphql_documents::documents::{ExtendedType, Schema};
+use graphql_hash_seeds::HashSeed;
 use graphql_nodes::{Name, ValidationError};
 use graphql_variables::VariablesByName;
 use indexmap::IndexSet;
@@ -18,7 +19,7 @@ use std::alloc::Global;
 pub struct OperationValidationContext<'a> {
     pub schema: Option<&'a Schema>,
     pub variables: VariablesByName<'a>,
-    pub visited_fragments: IndexSet<&'a Name>,
+    pub visited_fragments: IndexSet<&'a Name, HashSeed>,
     possible_types: Option<PossibleTypes<'a>>,
     ghost possible: { IfSome possible_types (λ possible. option_copied schema ≡ Some possible.schema.now) } by { Prim.hlevel (props, Coded-set, codes, schema_type.the_row.coded) },
 }
@@ -31,9 +32,10 @@ impl<'a> OperationValidationContext<'a> {
     ghost use Rattle.graphql_operations.specs.Contexts.{SharesWith, visited_fragment_names, schema_of, variables_of};
 
     /// The context of an operation with these variables, which has visited no fragment. It takes no
-    /// memory; what it holds later grows by this allocator.
+    /// memory; what it holds later grows by this allocator, and is hashed by this seed.
     pub fn new(
         alloc: Global,
+        hash_seed: HashSeed,
         schema: Option<&'a Schema>,
         variables: VariablesByName<'a>,
     ) -> OperationValidationContext<'a>
@@ -44,7 +46,7 @@ impl<'a> OperationValidationContext<'a> {
         OperationValidationContext {
             schema,
             variables,
-            visited_fragments: IndexSet::new(alloc),
+            visited_fragments: IndexSet::with_hasher(alloc, hash_seed),
             possible_types: None,
         }
     }
@@ -60,7 +62,7 @@ impl<'a> OperationValidationContext<'a> {
         ensures variables { variables_of result ≡ variables.entry }
         ensures visited_fragments { visited_fragment_names result ≡ [] }
     {
-        let visited_fragments = IndexSet::new(alloc);
+        let visited_fragments = IndexSet::with_hasher(alloc, *self.visited_fragments.hasher());
         OperationValidationContext {
             schema: self.schema,
             variables,

@@ -9,6 +9,7 @@ ghost use Rattle.graphql_variables.specs.Uses.{HasUsed, NamesAlso};
 
 use graphql_diagnostics::{Details, DiagnosticData, DiagnosticList};
 use graphql_documents::documents::{ExecutableDocument, Fragment, Operation, Selection};
+use graphql_hash_seeds::HashSeed;
 use graphql_nodes::{Name, Node, RecursionLimitError, ValidationError};
 use graphql_variables::walk_selections_with_deduped_fragments;
 use indexmap::IndexSet;
@@ -59,12 +60,12 @@ fn spread_names<'doc>(
     alloc: Global,
     document: &'doc ExecutableDocument,
     operations: &[&'doc Node<Operation>],
-) -> Result<Option<IndexSet<&'doc Name>>, ValidationError>
+) -> Result<Option<IndexSet<&'doc Name, HashSeed>>, ValidationError>
     ensures { IfOk result (λ found. MatchOption found
         (AnyPasses document.now (map (λ o. o.now) operations.now))
         (λ used. HasUsed (IsSpreadByAny document.now (map (λ o. o.now) operations.now)) used)) }
 {
-    let mut names = IndexSet::new(alloc);
+    let mut names = IndexSet::with_hasher(alloc, document.hash_seed());
     for operation in operations {
         if !add_reachable_spreads(alloc, document, operation, &mut names)? {
             return Ok(None);
@@ -78,7 +79,7 @@ fn add_reachable_spreads<'doc>(
     alloc: Global,
     document: &'doc ExecutableDocument,
     operation: &'doc Node<Operation>,
-    names: &mut IndexSet<&'doc Name>,
+    names: &mut IndexSet<&'doc Name, HashSeed>,
 ) -> Result<bool, ValidationError>
     ensures { IfOk result (λ complete. AddsSpreads document.now operation.now names.old.keys names.new.keys complete) }
 {
@@ -91,7 +92,7 @@ fn add_reachable_spreads<'doc>(
 /// Adds the names that spreads among these selections have.
 fn add_spreads<'doc>(
     selections: &[&'doc Selection],
-    names: &mut IndexSet<&'doc Name>,
+    names: &mut IndexSet<&'doc Name, HashSeed>,
 ) -> Result<(), ValidationError>
     ensures { OnOk result (NamesAlso (IsSpreadAmong (map (λ s. s.now) selections.now)) names.old.keys names.new.keys) }
 {
@@ -107,7 +108,7 @@ fn add_spreads<'doc>(
 fn report_unused(
     diagnostics: &mut DiagnosticList,
     document: &ExecutableDocument,
-    used: &IndexSet<&Name>,
+    used: &IndexSet<&Name, HashSeed>,
 ) -> Result<(), ValidationError>
     ensures { HasUsed (IsSpreadByAny document.now (operations_of document.now)) used.now →
         MatchResult result
@@ -124,7 +125,7 @@ fn report_unused(
 fn check_use(
     diagnostics: &mut DiagnosticList,
     fragment: &Node<Fragment>,
-    used: &IndexSet<&Name>,
+    used: &IndexSet<&Name, HashSeed>,
 ) -> Result<(), ValidationError>
     ensures { (document : ExecutableDocument) → HasUsed (IsSpreadByAny document (operations_of document)) used.now →
         MatchResult result

@@ -12,6 +12,7 @@ ghost use Rattle.graphql_pair_merging.specs.Disagreements.{Disagrees};
 
 use graphql_diagnostics::DiagnosticList;
 use graphql_documents::documents::{ExtendedType, Schema};
+use graphql_hash_seeds::HashSeed;
 use graphql_merging::comparisons::{FieldConflict, find_field_conflict, same_output_type_shape};
 use graphql_merging::conflict_reports::{report_conflict, report_types};
 use graphql_merging::field_selections::FieldSelection;
@@ -55,6 +56,7 @@ impl<'doc> Conflict<'doc> {
 /// What two fields do not agree on in this pass, if they do not. The only error is a failed allocation.
 pub(crate) fn disagreement_of<'doc>(
     alloc: Global,
+    hash_seed: HashSeed,
     schema: &Schema,
     pass: Pass,
     first: FieldSelection<'doc>,
@@ -67,7 +69,7 @@ pub(crate) fn disagreement_of<'doc>(
     match pass {
         Pass::Shapes if same_output_type_shape(schema, first, second) => Ok(None),
         Pass::Shapes => Ok(Some(Disagreement::Shapes)),
-        Pass::NamesAndArguments => match find_field_conflict(alloc, first, second)? {
+        Pass::NamesAndArguments => match find_field_conflict(alloc, hash_seed, first, second)? {
             None => Ok(None),
             Some(conflict) => Ok(Some(Disagreement::NamesOrArguments(conflict))),
         },

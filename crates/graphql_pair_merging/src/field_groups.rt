@@ -5,23 +5,25 @@ ghost use Rattle.graphql_nodes.specs.Names.{NameText, same_name};
 ghost use Rattle.graphql_pair_merging.specs.FieldGroups.{AreGrouped, IsGrouped, group_under, groups_at};
 
 use super::numbered_sets::{NumberedField, NumberedSet};
+use graphql_hash_seeds::HashSeed;
 use graphql_nodes::{Name, ValidationError};
 use indexmap::IndexMap;
 use std::alloc::Global;
 
 /// Fields by their response keys.
-pub(crate) type FieldsByKey<'doc> = IndexMap<&'doc Name, Vec<NumberedField<'doc>>>;
+pub(crate) type FieldsByKey<'doc> = IndexMap<&'doc Name, Vec<NumberedField<'doc>>, HashSeed>;
 
 /// The fields of each set by their response keys. The only error is a failed allocation.
 pub(crate) fn group_sets<'doc>(
     alloc: Global,
+    hash_seed: HashSeed,
     sets: &[NumberedSet<'doc>],
 ) -> Result<Vec<FieldsByKey<'doc>>, ValidationError>
     ensures { IfOk result (λ groups. AreGrouped sets.now (groups_at groups.items)) }
 {
     let mut groups = Vec::new(alloc);
     for set in sets {
-        let fields_by_key = group_fields(alloc, &set.fields)?;
+        let fields_by_key = group_fields(alloc, hash_seed, &set.fields)?;
         groups.push(fields_by_key)?;
     }
     Ok(groups)
@@ -30,11 +32,12 @@ pub(crate) fn group_sets<'doc>(
 /// These fields by their response keys. The only error is a failed allocation.
 fn group_fields<'doc>(
     alloc: Global,
+    hash_seed: HashSeed,
     fields: &[NumberedField<'doc>],
 ) -> Result<FieldsByKey<'doc>, ValidationError>
     ensures { IfOk result (λ groups. IsGrouped fields.now groups.entries) }
 {
-    let mut groups = IndexMap::new(alloc);
+    let mut groups = IndexMap::with_hasher(alloc, hash_seed);
     for field in fields {
         let key = field.field.field.value.response_key();
         push_under(&mut groups, alloc, key, *field)?;

@@ -17,6 +17,7 @@ use super::numbered_sets::number_sets;
 use super::pairs::PairPass;
 use graphql_diagnostics::DiagnosticList;
 use graphql_documents::documents::{ExecutableDocument, Fragment, Operation, Schema};
+use graphql_hash_seeds::HashSeed;
 use graphql_merging::groups::Pass;
 use graphql_nodes::{Name, Node, ValidationError};
 use indexmap::IndexMap;
@@ -55,22 +56,23 @@ pub fn merge_by_pairs(
 fn find_conflict<'doc>(
     alloc: Global,
     schema: &Schema,
-    fragments: &'doc IndexMap<Name, Node<Fragment>>,
+    fragments: &'doc IndexMap<Name, Node<Fragment>, HashSeed>,
     operations: &[&'doc Node<Operation>],
 ) -> Result<Option<Conflict<'doc>>, ValidationError>
     ensures { IfOk result (λ found. MatchOption found
         (All (MeetingFieldsAgree schema.now (fragments_in fragments.now)) (operation_sets operations.now))
         (IsMetConflict schema.now (fragments_in fragments.now) (operation_sets operations.now))) }
 {
+    let hash_seed = *fragments.hasher();
     let numbered = number_sets(alloc, fragments, operations)?;
-    let groups = group_sets(alloc, &numbered.sets)?;
+    let groups = group_sets(alloc, hash_seed, &numbered.sets)?;
     let shapes = PairPass {
         schema,
         sets: &numbered.sets,
         groups: &groups,
         pass: Pass::Shapes,
     };
-    if let Some(conflict) = shapes.find_conflict(alloc, &numbered.starts)? {
+    if let Some(conflict) = shapes.find_conflict(alloc, hash_seed, &numbered.starts)? {
         return Ok(Some(conflict));
     }
     let fields = PairPass {
@@ -79,5 +81,5 @@ fn find_conflict<'doc>(
         groups: &groups,
         pass: Pass::NamesAndArguments,
     };
-    fields.find_conflict(alloc, &numbered.starts)
+    fields.find_conflict(alloc, hash_seed, &numbered.starts)
 }

@@ -7,6 +7,7 @@ ghost use Rattle.graphql_merging.specs.ExpansionSteps.{fragments_in};
 ghost use Rattle.graphql_pair_merging.specs.NumberedSets.{AreNumbered, Begins, Describes, operation_sets, sets_among, sets_at, written_set};
 
 use graphql_documents::documents::{Fragment, Operation, Selection, SelectionSet};
+use graphql_hash_seeds::HashSeed;
 use graphql_merging::field_selections::FieldSelection;
 use graphql_nodes::{Name, Node, ValidationError};
 use indexmap::IndexMap;
@@ -51,7 +52,7 @@ pub(crate) struct NumberedDocument<'doc> {
 /// that are written in them. The only error is a failed allocation.
 pub(crate) fn number_sets<'doc>(
     alloc: Global,
-    fragments: &'doc IndexMap<Name, Node<Fragment>>,
+    fragments: &'doc IndexMap<Name, Node<Fragment>, HashSeed>,
     operations: &[&'doc Node<Operation>],
 ) -> Result<NumberedDocument<'doc>, ValidationError>
     ensures { IfOk result (λ numbered. AreNumbered (fragments_in fragments.now) numbered.starts.items (operation_sets operations.now) numbered.sets.items) }
@@ -73,7 +74,7 @@ pub(crate) fn number_sets<'doc>(
 /// The sets that have numbers: each is at its own.
 #[derive(Drop)]
 struct Numbering<'doc> {
-    fragments: &'doc IndexMap<Name, Node<Fragment>>,
+    fragments: &'doc IndexMap<Name, Node<Fragment>, HashSeed>,
     sets: Vec<&'doc SelectionSet>,
 }
 
@@ -81,7 +82,7 @@ impl<'doc> Numbering<'doc> {
     /// Numbers the sets of the fragments.
     fn begin(
         alloc: Global,
-        fragments: &'doc IndexMap<Name, Node<Fragment>>,
+        fragments: &'doc IndexMap<Name, Node<Fragment>, HashSeed>,
     ) -> Result<Numbering<'doc>, ValidationError>
         ensures fragments { IfOk result (λ numbering. numbering.fragments.now ≡ fragments.now) }
         ensures sets { IfOk result (λ numbering. sets_at numbering.sets.items ≡ sets_among fragments.now) }

@@ -11,6 +11,7 @@ use super::disagreements::{Conflict, are_put_together, disagreement_of};
 use super::field_groups::FieldsByKey;
 use super::numbered_sets::{NumberedField, NumberedSet};
 use graphql_documents::documents::Schema;
+use graphql_hash_seeds::HashSeed;
 use graphql_merging::groups::Pass;
 use graphql_nodes::ValidationError;
 use indexmap::IndexSet;
@@ -22,6 +23,9 @@ struct SetPair {
     first: usize,
     second: usize,
 }
+
+/// Pairs of sets, in the order in which they were found.
+type SetPairs = IndexSet<SetPair, HashSeed>;
 
 /// What a pass over pairs of sets reads.
 #[derive(Clone, Copy)]
@@ -38,6 +42,7 @@ impl<'s, 'doc> PairPass<'s, 'doc> {
     pub(crate) fn find_conflict(
         &self,
         alloc: Global,
+        hash_seed: HashSeed,
         starts: &[usize],
     ) -> Result<Option<Conflict<'doc>>, ValidationError>
         requires linked { AreLinked self.now.sets.now }
@@ -47,7 +52,7 @@ impl<'s, 'doc> PairPass<'s, 'doc> {
             (HasLooked self.now.schema.now (pass_of self.now.pass) self.now.sets.now starts.now)
             (FindsBelow self.now.schema.now (pass_of self.now.pass) self.now.sets.now starts.now)) }
     {
-        let mut pairs = IndexSet::new(alloc);
+        let mut pairs = IndexSet::with_hasher(alloc, hash_seed);
         add_starts(&mut pairs, starts)?;
         let mut next = 0;
         while next < pairs.len() {
@@ -63,7 +68,7 @@ impl<'s, 'doc> PairPass<'s, 'doc> {
     /// Looks at a pair of sets: adds the pairs of each with the fragments in the other, and compares their fields.
     fn look_at(
         &self,
-        pairs: &mut IndexSet<SetPair>,
+        pairs: &mut SetPairs,
         pair: SetPair,
     ) -> Result<Option<Conflict<'doc>>, ValidationError>
         requires grouped { AreGrouped self.now.sets.now (groups_at self.now.groups.now) }
@@ -85,7 +90,7 @@ impl<'s, 'doc> PairPass<'s, 'doc> {
     /// Compares each of some fields with those of some others that have its response key.
     fn compare_all(
         &self,
-        pairs: &mut IndexSet<SetPair>,
+        pairs: &mut SetPairs,
         fields: &[NumberedField<'doc>],
         groups: &FieldsByKey<'doc>,
     ) -> Result<Option<Conflict<'doc>>, ValidationError>
@@ -104,7 +109,7 @@ impl<'s, 'doc> PairPass<'s, 'doc> {
     /// The same of one field.
     fn compare_under_key(
         &self,
-        pairs: &mut IndexSet<SetPair>,
+        pairs: &mut SetPairs,
         field: NumberedField<'doc>,
         groups: &FieldsByKey<'doc>,
     ) -> Result<Option<Conflict<'doc>>, ValidationError>
@@ -121,7 +126,7 @@ impl<'s, 'doc> PairPass<'s, 'doc> {
     /// Compares a field with each of some others.
     fn compare_with_each(
         &self,
-        pairs: &mut IndexSet<SetPair>,
+        pairs: &mut SetPairs,
         field: NumberedField<'doc>,
         others: &[NumberedField<'doc>],
     ) -> Result<Option<Conflict<'doc>>, ValidationError>
@@ -140,7 +145,7 @@ impl<'s, 'doc> PairPass<'s, 'doc> {
     /// Compares two fields, if they are put together, and adds the pair of their sets where they agree.
     fn compare(
         &self,
-        pairs: &mut IndexSet<SetPair>,
+        pairs: &mut SetPairs,
         first: NumberedField<'doc>,
         second: NumberedField<'doc>,
     ) -> Result<Option<Conflict<'doc>>, ValidationError>
@@ -153,6 +158,7 @@ impl<'s, 'doc> PairPass<'s, 'doc> {
         }
         if let Some(disagreement) = disagreement_of(
             *pairs.allocator(),
+            *pairs.hasher(),
             self.schema,
             self.pass,
             first.field,
@@ -172,7 +178,7 @@ impl<'s, 'doc> PairPass<'s, 'doc> {
 }
 
 /// Adds the pair of each of some sets with itself.
-fn add_starts(pairs: &mut IndexSet<SetPair>, starts: &[usize]) -> Result<(), ValidationError>
+fn add_starts(pairs: &mut SetPairs, starts: &[usize]) -> Result<(), ValidationError>
     ensures { OnOk result (Adds (IsStart starts.now) pairs.old.keys pairs.new.keys) }
 {
     for start in starts {
@@ -183,7 +189,7 @@ fn add_starts(pairs: &mut IndexSet<SetPair>, starts: &[usize]) -> Result<(), Val
 
 /// Adds the pair of each of some sets with another.
 fn add_into_first(
-    pairs: &mut IndexSet<SetPair>,
+    pairs: &mut SetPairs,
     fragments: &[usize],
     second: usize,
 ) -> Result<(), ValidationError>
@@ -197,7 +203,7 @@ fn add_into_first(
 
 /// Adds the pair of a set with each of some others.
 fn add_into_second(
-    pairs: &mut IndexSet<SetPair>,
+    pairs: &mut SetPairs,
     first: usize,
     fragments: &[usize],
 ) -> Result<(), ValidationError>
@@ -210,7 +216,7 @@ fn add_into_second(
 }
 
 /// Adds the pair of two sets, if it is not there.
-fn add(pairs: &mut IndexSet<SetPair>, first: usize, second: usize) -> Result<(), ValidationError>
+fn add(pairs: &mut SetPairs, first: usize, second: usize) -> Result<(), ValidationError>
     ensures { OnOk result (Adds (λ p. p ≡ pair_of first second) pairs.old.keys pairs.new.keys) }
 {
     pairs.insert(SetPair { first, second })?;

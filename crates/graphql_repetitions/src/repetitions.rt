@@ -9,8 +9,7 @@ ghost use Rattle.graphql_repetitions.specs.Repetitions.{RepetitionReport, met_na
 
 use graphql_building_reports::{BuildingReportList, BuildingRule, TypeKind};
 use graphql_nodes::{Name, SourceSpan, ValidationError};
-use graphql_variables::first_places::first_place;
-use std::collections::HashMap;
+use graphql_variables::first_places::{FirstPlaces, first_place};
 
 /// What has names of which each may be there once; parts of a type with its kind and name.
 ///
@@ -72,7 +71,7 @@ pub fn check_repetitions(
 ) -> Result<(), ValidationError>
     ensures { Checks result (AreDistinct (nows names.now)) (RepetitionReport (nows names.now) (repetition_rule what.entry)) reports.old reports.new }
 {
-    let mut seen: HashMap<&Name, Option<SourceSpan>> = HashMap::new(reports.allocator());
+    let mut seen = FirstPlaces::with_hasher(reports.allocator(), reports.hash_seed());
     for name in names {
         check_name(reports, &mut seen, *name, what)?;
     }
@@ -82,7 +81,7 @@ pub fn check_repetitions(
 /// Reports a name that repeats one of those before it.
 fn check_name<'a>(
     reports: &mut BuildingReportList,
-    seen: &mut HashMap<&'a Name, Option<SourceSpan>>,
+    seen: &mut FirstPlaces<'a>,
     name: &'a Name,
     what: Repeated<'_>,
 ) -> Result<(), ValidationError>

@@ -10,9 +10,8 @@ ghost use Rattle.graphql_variables.specs.FirstPlaces.{Remembers};
 
 use graphql_diagnostics::{Details, DiagnosticData, DiagnosticList};
 use graphql_documents::documents::InputValueDefinition;
-use graphql_nodes::{Name, Node, SourceSpan, ValidationError};
-use graphql_variables::first_places::first_place;
-use std::collections::HashMap;
+use graphql_nodes::{Node, SourceSpan, ValidationError};
+use graphql_variables::first_places::{FirstPlaces, first_place};
 
 /// Validates that the names of arguments are distinct. For each that has the name of an earlier one, the
 /// first of the name is reported.
@@ -25,7 +24,7 @@ pub(crate) fn validate_distinct_arguments(
     ensures { Checks result (AreDistinct (map (λ d. d.value.value.name) (map (λ d. d.now) arguments.now)))
         (IsDiagnostic (RepetitionsReport (map (λ d. d.now) arguments.now))) diagnostics.old diagnostics.new }
 {
-    let mut seen: HashMap<&Name, Option<SourceSpan>> = HashMap::new(diagnostics.allocator());
+    let mut seen = FirstPlaces::with_hasher(diagnostics.allocator(), diagnostics.hash_seed());
     for argument in arguments {
         check_next_argument(diagnostics, argument, &mut seen)?;
     }
@@ -36,7 +35,7 @@ pub(crate) fn validate_distinct_arguments(
 fn check_next_argument<'a>(
     diagnostics: &mut DiagnosticList,
     argument: &'a Node<InputValueDefinition>,
-    seen: &mut HashMap<&'a Name, Option<SourceSpan>>,
+    seen: &mut FirstPlaces<'a>,
 ) -> Result<(), ValidationError>
     ensures checks { (before : List (Node InputValueDefinition)) → Remembers seen.old (map visited_argument before) →
         ChecksNextArgument result (IsNewArgument before argument.now) before argument.now diagnostics.old diagnostics.new }

@@ -24,7 +24,7 @@ pub fn validate_definition_directives(
     ensures { Checks result (DirectivesHoldAt schema.now location directives.now)
         (IsDiagnostic (DirectivesReport (Some schema.now) [] location directives.now)) diagnostics.old diagnostics.new }
 {
-    let variables = VariablesByName::new(diagnostics.allocator(), &[])?;
+    let variables = VariablesByName::new(diagnostics.allocator(), diagnostics.hash_seed(), &[])?;
     check_each_directive(diagnostics, Some(schema), directives, location, &variables)
 }
 

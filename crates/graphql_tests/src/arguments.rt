@@ -27,7 +27,10 @@ fn check(
     compared: &GivenArguments<'_>,
     found: &mut DiagnosticList,
 ) {
-    let none = VariablesByName::new(found.allocator(), &[]).expect(rt, "no variables");
+    let none = VariablesByName::new(found.allocator(), found.hash_seed(), &[]).expect(
+        rt,
+        "no variables",
+    );
     validate_arguments(found, compared.given).expect(rt, "memory");
     validate_given_arguments(found, schema, compared, &none).expect(rt, "memory");
     validate_required_arguments(found, compared).expect(rt, "memory");

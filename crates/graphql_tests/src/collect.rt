@@ -2,6 +2,7 @@ use super::fixtures::{is_text, name, schema_of};
 use graphql_diagnostics::DiagnosticList;
 use graphql_documents::documents::{ExecutableDocument, Schema, Selection, SelectionSet};
 use graphql_examples::build::document;
+use graphql_hash_seeds::HashSeed;
 use graphql_merging::expansion::expand_selections;
 use graphql_merging::field_selections::FieldSelection;
 use graphql_merging::groups::fields_by_key;
@@ -95,7 +96,7 @@ fn set_of<'a>(rt: &impl Abort, document: &'a ExecutableDocument, from: From) -> 
 fn shown(
     rt: &impl Abort,
     alloc: Global,
-    collected: &IndexMap<&graphql_nodes::Name, Vec<FieldSelection<'_>>>,
+    collected: &IndexMap<&graphql_nodes::Name, Vec<FieldSelection<'_>>, HashSeed>,
 ) -> String {
     let mut text = String::new(alloc);
     for (key, fields) in collected {
@@ -156,7 +157,7 @@ fn expanded(rt: &impl Abort, alloc: Global, document: &ExecutableDocument) -> St
     let sets = [set_of(rt, document, From::Operation)];
     let fields = expand_selections(alloc, &document.fragments, &sets);
     let fields = fields.expect(rt, "memory for fields");
-    let by_key = fields_by_key(alloc, &fields).expect(rt, "memory for keys");
+    let by_key = fields_by_key(alloc, document.hash_seed(), &fields).expect(rt, "memory for keys");
     shown(rt, alloc, &by_key)
 }
 

@@ -1,4 +1,5 @@
-//! Tests of the libraries over the bench: what no contract says, and that each call can succeed.
+//! Tests of the calls on documents, over the bench, and of its examples: what no contract says, and that each call can
+//! succeed.
 #![tactic(auto)]
 
 #[cfg(test)]
@@ -7,14 +8,6 @@ mod arguments;
 mod collect;
 #[cfg(test)]
 mod defer;
-#[cfg(test)]
-mod definitions;
-#[cfg(test)]
-mod diagnostics;
-#[cfg(test)]
-mod directives;
-#[cfg(test)]
-mod documents;
 #[cfg(test)]
 mod examples;
 #[cfg(test)]
@@ -26,29 +19,13 @@ mod fixtures;
 #[cfg(test)]
 mod fragment_cycles;
 #[cfg(test)]
-mod guards;
-#[cfg(test)]
 mod many_faults;
 #[cfg(test)]
 mod merging;
 #[cfg(test)]
-mod messages;
-#[cfg(test)]
-mod notation;
-#[cfg(test)]
-mod numbers;
-#[cfg(test)]
 mod operations;
 #[cfg(test)]
-mod schema_rules;
-#[cfg(test)]
-mod schemas;
-#[cfg(test)]
-mod spans;
-#[cfg(test)]
 mod subscriptions;
-#[cfg(test)]
-mod type_maps;
 #[cfg(test)]
 mod usages;
 #[cfg(test)]

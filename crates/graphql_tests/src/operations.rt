@@ -5,6 +5,7 @@ use graphql_documents::documents::{
     ExecutableDocument, Fragment, Operation, Schema, Selection, SelectionSet,
 };
 use graphql_examples::build::document;
+use graphql_hash_seeds::HashSeed;
 use graphql_nodes::{NamedType, Node, ValidationError};
 use graphql_operations::{
     FragmentUse, OperationValidationContext, validate_fragment_spread_type,
@@ -76,8 +77,13 @@ fn validate_selection<'a>(
     schema: &'a Schema,
     selection: &'a Selection,
 ) -> Result<(), ValidationError> {
-    let variables = VariablesByName::new(found.allocator(), &[])?;
-    let mut context = OperationValidationContext::new(found.allocator(), Some(schema), variables);
+    let variables = VariablesByName::new(found.allocator(), found.hash_seed(), &[])?;
+    let mut context = OperationValidationContext::new(
+        found.allocator(),
+        found.hash_seed(),
+        Some(schema),
+        variables,
+    );
     match selection {
         Selection::Field(field) => validate_field(found, document, None, field, &mut context),
         Selection::InlineFragment(inline) => {
@@ -96,8 +102,13 @@ fn validate_set<'a>(
     schema: &'a Schema,
     set: &'a SelectionSet,
 ) -> Result<(), ValidationError> {
-    let variables = VariablesByName::new(found.allocator(), &[])?;
-    let mut context = OperationValidationContext::new(found.allocator(), Some(schema), variables);
+    let variables = VariablesByName::new(found.allocator(), found.hash_seed(), &[])?;
+    let mut context = OperationValidationContext::new(
+        found.allocator(),
+        found.hash_seed(),
+        Some(schema),
+        variables,
+    );
     validate_selection_set(found, document, None, set, &mut context)
 }
 
@@ -108,8 +119,13 @@ fn validate_fragment<'a>(
     schema: &'a Schema,
     fragment: &'a Node<Fragment>,
 ) -> Result<(), ValidationError> {
-    let variables = VariablesByName::new(found.allocator(), &[])?;
-    let mut context = OperationValidationContext::new(found.allocator(), Some(schema), variables);
+    let variables = VariablesByName::new(found.allocator(), found.hash_seed(), &[])?;
+    let mut context = OperationValidationContext::new(
+        found.allocator(),
+        found.hash_seed(),
+        Some(schema),
+        variables,
+    );
     validate_fragment_definition(found, document, fragment, &mut context)
 }
 
@@ -236,8 +252,13 @@ fn validate_use(
     condition: &NamedType,
     fragment: FragmentUse<'_>,
 ) -> Result<(), ValidationError> {
-    let variables = VariablesByName::new(found.allocator(), &[])?;
-    let mut context = OperationValidationContext::new(found.allocator(), Some(schema), variables);
+    let variables = VariablesByName::new(found.allocator(), found.hash_seed(), &[])?;
+    let mut context = OperationValidationContext::new(
+        found.allocator(),
+        found.hash_seed(),
+        Some(schema),
+        variables,
+    );
     validate_fragment_spread_type(found, schema, around, condition, fragment, &mut context)
 }
 
@@ -267,11 +288,17 @@ fn fragments_are_possible_where_they_stand(rt: HostRuntime) {
 fn each_operation_goes_into_a_fragment_once(rt: HostRuntime) {
     let alloc = rt.alloc();
     let fragment = name(&rt, alloc, "F");
-    let variables = VariablesByName::new(alloc, &[]).expect(&rt, "memory for no variables");
-    let mut context = OperationValidationContext::new(alloc, None, variables);
+    let variables = VariablesByName::new(alloc, HashSeed::default(), &[]).expect(
+        &rt,
+        "memory for no variables",
+    );
+    let mut context = OperationValidationContext::new(alloc, HashSeed::default(), None, variables);
     assert!(rt; context.enter(&fragment).expect(&rt, "memory for a name"));
     assert!(rt; !context.enter(&fragment).expect(&rt, "memory for a name"));
-    let variables = VariablesByName::new(alloc, &[]).expect(&rt, "memory for no variables");
+    let variables = VariablesByName::new(alloc, HashSeed::default(), &[]).expect(
+        &rt,
+        "memory for no variables",
+    );
     let mut next = context.next(alloc, variables);
     assert!(rt; next.enter(&fragment).expect(&rt, "memory for a name"));
 }

@@ -2,6 +2,7 @@ use super::fixtures::{argument_definition, reports, schema_of};
 use graphql_diagnostics::DiagnosticList;
 use graphql_documents::documents::{Argument, Schema, Type, VariableDefinition};
 use graphql_examples::build::{arguments, variables};
+use graphql_hash_seeds::HashSeed;
 use graphql_nodes::Node;
 use graphql_values::value::{check_value_of_type, validate_values};
 use graphql_variables::{
@@ -105,7 +106,7 @@ fn usages_and_values_find_variables_by_name(rt: HostRuntime) {
     let alloc = rt.alloc();
     let schema = schema_of(&rt, alloc, "");
     let built = defined(&rt, alloc, "($v: Int)");
-    let variables = VariablesByName::new(alloc, &built).expect(&rt, "memory");
+    let variables = VariablesByName::new(alloc, HashSeed::default(), &built).expect(&rt, "memory");
     let place = argument_definition(&rt, alloc, "(n: Int!)");
     let mut found = DiagnosticList::new(alloc);
     let usage = given(&rt, alloc, "(n: $v)");

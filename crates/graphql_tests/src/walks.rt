@@ -1,12 +1,12 @@
 use super::fixtures::{is_text, name, query_of_itself};
 use graphql_documents::documents::{ExecutableDocument, Selection, SelectionSet};
 use graphql_examples::build::document;
-use graphql_variables::first_places::first_place;
+use graphql_hash_seeds::HashSeed;
+use graphql_variables::first_places::{FirstPlaces, first_place};
 use graphql_variables::{
     Walked, walk_open_selections, walk_selections, walk_selections_with_deduped_fragments,
 };
 use std::alloc::Global;
-use std::collections::HashMap;
 use std::fmt::Write;
 use std::process::Abort;
 
@@ -109,7 +109,7 @@ fn a_walk_passes_over_what_a_condition_may_leave_out(rt: HostRuntime) {
 fn the_first_place_of_a_name_is_kept(rt: HostRuntime) {
     let alloc = rt.alloc();
     let visited = name(&rt, alloc, "a");
-    let mut seen = HashMap::new(alloc);
+    let mut seen = FirstPlaces::with_hasher(alloc, HashSeed::default());
     let first = first_place(&mut seen, &visited, None).expect(&rt, "memory for a name");
     let second = first_place(&mut seen, &visited, None).expect(&rt, "memory for a name");
     assert!(rt; first == None && second == Some(None));

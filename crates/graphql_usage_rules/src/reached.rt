@@ -6,6 +6,7 @@ ghost use Rattle.graphql_usage_rules.specs.Parts.{SelectionHas, SetHas};
 ghost use Rattle.graphql_usage_rules.specs.Reached.{AddsSpreads, ReachesNames, SpreadsInFragment, SpreadsName, names_at};
 
 use graphql_documents::documents::{ExecutableDocument, Selection, SelectionSet};
+use graphql_hash_seeds::HashSeed;
 use graphql_nodes::{Name, ValidationError};
 use indexmap::IndexSet;
 use std::alloc::Global;
@@ -16,11 +17,11 @@ pub(crate) fn reached_fragments<'doc>(
     alloc: Global,
     document: &'doc ExecutableDocument,
     set: &'doc SelectionSet,
-) -> Result<IndexSet<&'doc Name>, ValidationError>
+) -> Result<IndexSet<&'doc Name, HashSeed>, ValidationError>
     ensures { IfOk result (λ names. ReachesNames (fragments_of document.now) set.now (names_at names.keys)) }
 {
     let mut reached = Reached {
-        names: IndexSet::new(alloc),
+        names: IndexSet::with_hasher(alloc, document.hash_seed()),
         pending: Vec::new(alloc),
     };
     reached.add_in_set(document, set)?;
@@ -33,7 +34,7 @@ pub(crate) fn reached_fragments<'doc>(
 /// The names of the fragments that were reached, and those of them whose own spreads were not followed yet.
 #[derive(Drop)]
 struct Reached<'doc> {
-    names: IndexSet<&'doc Name>,
+    names: IndexSet<&'doc Name, HashSeed>,
     pending: Vec<&'doc Name>,
 }
 

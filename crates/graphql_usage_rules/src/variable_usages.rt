@@ -12,6 +12,7 @@ use crate::reports::VariableMisuse;
 use crate::selections::{check_fragment, check_selection_set};
 use crate::values::check_directives;
 use graphql_documents::documents::{ExecutableDocument, Operation, Schema};
+use graphql_hash_seeds::HashSeed;
 use graphql_nodes::{Name, ValidationError};
 use graphql_variables::VariablesByName;
 use indexmap::IndexSet;
@@ -79,7 +80,7 @@ fn check_operation(
     ensures { Checks result (OperationUsagesAreAllowed schema.now document.now operation.now) (OperationMisuseReport schema.now document.now operation.now) reports.old reports.new }
 {
     let alloc = *reports.allocator();
-    let variables = VariablesByName::new(alloc, &operation.variables)?;
+    let variables = VariablesByName::new(alloc, document.hash_seed(), &operation.variables)?;
     let reached = reached_fragments(alloc, document, &operation.selection_set)?;
     check_scope(reports, schema, &variables, document, operation, &reached)
 }
@@ -91,7 +92,7 @@ fn check_scope(
     variables: &VariablesByName,
     document: &ExecutableDocument,
     operation: &Operation,
-    reached: &IndexSet<&Name>,
+    reached: &IndexSet<&Name, HashSeed>,
 ) -> Result<(), ValidationError>
     ensures { ChecksUsages result variables.now (UsedInParts schema.now (fragments_of document.now) operation.now (names_at reached.now.keys)) reports.old reports.new }
 {
@@ -106,7 +107,7 @@ fn check_fragments(
     schema: &Schema,
     variables: &VariablesByName,
     document: &ExecutableDocument,
-    names: &IndexSet<&Name>,
+    names: &IndexSet<&Name, HashSeed>,
 ) -> Result<(), ValidationError>
     ensures { ChecksUsages result variables.now (UsedInFragments schema.now (fragments_of document.now) (names_at names.now.keys)) reports.old reports.new }
 {

@@ -13,6 +13,7 @@ ghost use Rattle.graphql_validation.specs.CollectionSteps.{CollectsMore, WalksAm
 use graphql_documents::documents::{
     ExecutableDocument, ExtendedType, FragmentSpread, Schema, Selection, SelectionSet,
 };
+use graphql_hash_seeds::HashSeed;
 use graphql_merging::field_selections::FieldSelection;
 use graphql_merging::groups::fields_by_key;
 use graphql_nodes::{Name, NamedType, Node, ValidationError};
@@ -34,7 +35,7 @@ pub fn collect_fields<'doc>(
     document: &'doc ExecutableDocument,
     object_type: &NamedType,
     sets: &[&'doc SelectionSet],
-) -> Result<IndexMap<&'doc Name, Vec<FieldSelection<'doc>>>, ValidationError>
+) -> Result<IndexMap<&'doc Name, Vec<FieldSelection<'doc>>, HashSeed>, ValidationError>
     ensures { IfOk result (λ found. (fields : List merging.FieldSelection) ×
         CollectsFrom schema.now (fragments_of document.now) object_type.now [] (map (λ set. set.now) sets.now) fields ×
         (named_fields found.entries ≡ by_keys fields)) }
@@ -46,12 +47,12 @@ pub fn collect_fields<'doc>(
     };
     let mut found = CollectedFields {
         fields: Vec::new(alloc),
-        visited: IndexSet::new(alloc),
+        visited: IndexSet::with_hasher(alloc, document.hash_seed()),
     };
     for set in sets {
         collection.collect_set(set, &mut found)?;
     }
-    fields_by_key(alloc, &found.fields)
+    fields_by_key(alloc, document.hash_seed(), &found.fields)
 }
 
 /// What fields are collected from, and for objects of which type.
@@ -66,7 +67,7 @@ struct FieldCollection<'a, 'doc> {
 #[derive(Drop)]
 struct CollectedFields<'doc> {
     fields: Vec<FieldSelection<'doc>>,
-    visited: IndexSet<&'doc Name>,
+    visited: IndexSet<&'doc Name, HashSeed>,
 }
 
 impl<'doc> CollectedFields<'doc> {

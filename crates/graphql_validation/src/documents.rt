@@ -1,4 +1,5 @@
-//! Schemas, executable documents and field sets, as plain data, with the names, locations and numbers they are made of.
+//! Schemas, executable documents and field sets, as plain data, with the names, locations and numbers they are made of, and
+//! the seed by which the maps of a document hash its names.
 
 pub use graphql_documents::documents::{
     Argument, Component, ComponentName, ComponentOrigin, Directive, DirectiveDefinition, EnumType,
@@ -9,6 +10,7 @@ pub use graphql_documents::documents::{
     Type, UnionType, Valid, Value, VariableDefinition, argument_named, definition_named,
     variable_named,
 };
+pub use graphql_hash_seeds::HashSeed;
 pub use graphql_nodes::{
     DirectiveLocation, FileId, Name, NamedType, Node, OperationType, SourceSpan,
 };

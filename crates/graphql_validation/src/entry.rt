@@ -21,6 +21,7 @@ use graphql_diagnostics::DiagnosticList;
 use graphql_documents::documents::{
     ExecutableDocument, FieldSet, Operation, OperationMap, Schema, Valid,
 };
+use graphql_hash_seeds::HashSeed;
 use graphql_lone_fields::lone_fields::have_lone_fields;
 use graphql_merging::bounded::BoundedMerging;
 use graphql_nodes::{Node, ValidationError};
@@ -287,9 +288,10 @@ pub fn validate_field_set(
     ensures limits { KeepsReports (λ e. ¬ IsLimitEntry e) (entries diagnostics.old) (entries diagnostics.new) }
 {
     let alloc = diagnostics.allocator();
-    let document = empty_document(alloc);
-    let variables = VariablesByName::new(alloc, &[])?;
-    let mut context = OperationValidationContext::new(alloc, Some(&schema.0), variables);
+    let hash_seed = diagnostics.hash_seed();
+    let document = empty_document(alloc, hash_seed);
+    let variables = VariablesByName::new(alloc, hash_seed, &[])?;
+    let mut context = OperationValidationContext::new(alloc, hash_seed, Some(&schema.0), variables);
     let set = &field_set.selection_set;
     validate_selection_set(
         diagnostics,
@@ -301,14 +303,14 @@ pub fn validate_field_set(
 }
 
 /// A document without operations and fragments.
-fn empty_document(alloc: Global) -> ExecutableDocument
+fn empty_document(alloc: Global, hash_seed: HashSeed) -> ExecutableDocument
     ensures { result.fragments.entries ≡ [] }
 {
     ExecutableDocument {
         operations: OperationMap {
             anonymous: None,
-            named: IndexMap::new(alloc),
+            named: IndexMap::with_hasher(alloc, hash_seed),
         },
-        fragments: IndexMap::new(alloc),
+        fragments: IndexMap::with_hasher(alloc, hash_seed),
     }
 }

@@ -15,11 +15,10 @@ ghost use Rattle.graphql_values.specs.Repetitions.{argument_place_in};
 pub use given::validate_given_arguments;
 use graphql_diagnostics::{Details, DiagnosticData, DiagnosticList};
 use graphql_documents::documents::Argument;
-use graphql_nodes::{Name, Node, SourceSpan, ValidationError};
-use graphql_variables::first_places::first_place;
+use graphql_nodes::{Node, SourceSpan, ValidationError};
+use graphql_variables::first_places::{FirstPlaces, first_place};
 pub use owners::{ArgumentOwner, GivenArguments};
 pub use required::validate_required_arguments;
-use std::collections::HashMap;
 
 /// Reports each argument that repeats the name of an earlier one, in order, at the repetition and with the
 /// place of the first of its name. The only error is a failed allocation.
@@ -32,7 +31,7 @@ pub fn validate_arguments(
     ensures exact { OnOk result (Appends (AreRepetitionReports arguments.now) (entries diagnostics.old) (entries diagnostics.new)) }
     ensures checks { Checks result (HasDistinctNames arguments.now) (IsDiagnostic (RepetitionReport arguments.now)) diagnostics.old diagnostics.new }
 {
-    let mut seen: HashMap<&Name, Option<SourceSpan>> = HashMap::new(diagnostics.allocator());
+    let mut seen = FirstPlaces::with_hasher(diagnostics.allocator(), diagnostics.hash_seed());
     for argument in arguments {
         let first = first_place(&mut seen, &argument.value.name, argument.location)?;
         check_repetition(diagnostics, argument, first)?;

@@ -18,11 +18,10 @@ use crate::argument::validate_arguments;
 use applications::{check_repetition, validate_application};
 use graphql_diagnostics::DiagnosticList;
 use graphql_documents::documents::{Directive, Schema, VariableDefinition};
-use graphql_nodes::{DirectiveLocation, Name, Node, SourceSpan, ValidationError};
+use graphql_nodes::{DirectiveLocation, Node, SourceSpan, ValidationError};
 use graphql_variables::VariablesByName;
-use graphql_variables::first_places::first_place;
+use graphql_variables::first_places::{FirstPlaces, first_place};
 use std::alloc::Global;
-use std::collections::HashMap;
 pub use variable_definitions::validate_variable_definitions;
 
 /// Validates the directives applied at one place. Without a schema each is reported as undefined.
@@ -45,7 +44,11 @@ pub fn validate_directives(
         (IsDiagnostic (DirectivesReport (option_copied schema.entry) variables.now location (map (λ d. d.now) directives.now)))
         diagnostics.old diagnostics.new }
 {
-    let variables = VariablesByName::new(diagnostics.allocator(), variables)?;
+    let variables = VariablesByName::new(
+        diagnostics.allocator(),
+        diagnostics.hash_seed(),
+        variables,
+    )?;
     check_directives(diagnostics, schema, directives, location, &variables)
 }
 
@@ -64,7 +67,7 @@ pub fn check_directives(
         (IsDiagnostic (DirectivesReport (option_copied schema.entry) variables.now location (map (λ d. d.now) directives.now)))
         diagnostics.old diagnostics.new }
 {
-    let mut seen: HashMap<&Name, Option<SourceSpan>> = HashMap::new(diagnostics.allocator());
+    let mut seen = FirstPlaces::with_hasher(diagnostics.allocator(), diagnostics.hash_seed());
     for directive in directives {
         validate_directive(
             diagnostics,
@@ -115,7 +118,7 @@ fn validate_directive<'a>(
     diagnostics: &mut DiagnosticList,
     schema: Option<&Schema>,
     directive: &'a Node<Directive>,
-    seen: &mut HashMap<&'a Name, Option<SourceSpan>>,
+    seen: &mut FirstPlaces<'a>,
     location: DirectiveLocation,
     variables: &VariablesByName,
 ) -> Result<(), ValidationError>

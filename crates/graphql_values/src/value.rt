@@ -65,7 +65,11 @@ pub fn value_of_correct_type(
         (IsDiagnostic (ValueReport schema.now variables.now (reference_of ty.now) value.now))
         diagnostics.old diagnostics.new }
 {
-    let variables = VariablesByName::new(diagnostics.allocator(), variables)?;
+    let variables = VariablesByName::new(
+        diagnostics.allocator(),
+        diagnostics.hash_seed(),
+        variables,
+    )?;
     check_value_of_type(diagnostics, schema, ty, value, &variables)
 }
 

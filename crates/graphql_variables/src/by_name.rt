@@ -6,6 +6,7 @@ ghost use Rattle.graphql_nodes.specs.declared.nodes.Node.{Node};
 ghost use Rattle.graphql_variables.specs.VariablesByName.{FindsFirst};
 
 use graphql_documents::documents::VariableDefinition;
+use graphql_hash_seeds::HashSeed;
 use graphql_nodes::{Name, Node, ValidationError};
 use std::alloc::Global;
 use std::collections::HashMap;
@@ -18,7 +19,7 @@ use std::marker::Model;
 #[derive(Drop)]
 pub struct VariablesByName<'a> {
     definitions: &'a [Node<VariableDefinition>],
-    first: HashMap<&'a Name, &'a Node<VariableDefinition>>,
+    first: HashMap<&'a Name, &'a Node<VariableDefinition>, HashSeed>,
 }
 
 impl<'a> Model for VariablesByName<'a> {
@@ -40,14 +41,15 @@ impl<'a> Model for VariablesByName<'a> {
 }
 
 impl<'a> VariablesByName<'a> {
-    /// The variables with these definitions. The only error is a failed allocation.
+    /// The variables with these definitions, in a map of this seed. The only error is a failed allocation.
     pub fn new(
         alloc: Global,
+        hash_seed: HashSeed,
         definitions: &'a [Node<VariableDefinition>],
     ) -> Result<VariablesByName<'a>, ValidationError>
         ensures { IfOk result (λ variables. variables ≡ definitions.now) }
     {
-        let first = first_of_each_name(alloc, definitions)?;
+        let first = first_of_each_name(alloc, hash_seed, definitions)?;
         Ok(VariablesByName { definitions, first })
     }
 
@@ -65,11 +67,12 @@ impl<'a> VariablesByName<'a> {
 /// The first variable of each name.
 fn first_of_each_name<'a>(
     alloc: Global,
+    hash_seed: HashSeed,
     definitions: &'a [Node<VariableDefinition>],
-) -> Result<HashMap<&'a Name, &'a Node<VariableDefinition>>, ValidationError>
+) -> Result<HashMap<&'a Name, &'a Node<VariableDefinition>, HashSeed>, ValidationError>
     ensures { IfOk result (λ first. FindsFirst first definitions.now) }
 {
-    let mut first: HashMap<&Name, &Node<VariableDefinition>> = HashMap::new(alloc);
+    let mut first = HashMap::with_hasher(alloc, hash_seed);
     for definition in definitions {
         add_if_new(&mut first, definition)?;
     }
@@ -78,7 +81,7 @@ fn first_of_each_name<'a>(
 
 /// Adds a variable, unless one of its name is there.
 fn add_if_new<'a>(
-    first: &mut HashMap<&'a Name, &'a Node<VariableDefinition>>,
+    first: &mut HashMap<&'a Name, &'a Node<VariableDefinition>, HashSeed>,
     definition: &'a Node<VariableDefinition>,
 ) -> Result<(), ValidationError>
     ensures { OnOk result ((before : List (Node VariableDefinition)) → FindsFirst first.old before →

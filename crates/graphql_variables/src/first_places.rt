@@ -5,13 +5,17 @@ ghost use Rattle.graphql_nodes.specs.Names.{NameText};
 ghost use Rattle.graphql_nodes.specs.declared.spans.SourceSpan.{SourceSpan};
 ghost use Rattle.graphql_variables.specs.FirstPlaces.{Remembers, place_in};
 
+use graphql_hash_seeds::HashSeed;
 use graphql_nodes::{Name, SourceSpan, ValidationError};
 use std::collections::HashMap;
+
+/// The location of the first of each name.
+pub type FirstPlaces<'a> = HashMap<&'a Name, Option<SourceSpan>, HashSeed>;
 
 /// Answers the location of the first of this name among those that were visited. Where the name is new, there
 /// is none, and this location stands for it from then on. The only error is a failed allocation.
 pub fn first_place<'a>(
-    seen: &mut HashMap<&'a Name, Option<SourceSpan>>,
+    seen: &mut FirstPlaces<'a>,
     name: &'a Name,
     location: Option<SourceSpan>,
 ) -> Result<Option<Option<SourceSpan>>, ValidationError>

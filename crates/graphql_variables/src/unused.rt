@@ -13,6 +13,7 @@ use super::uses::{add_in_arguments, add_in_directives};
 use super::walks::walk_selections_with_deduped_fragments;
 use graphql_diagnostics::{Details, DiagnosticData, DiagnosticList};
 use graphql_documents::documents::{ExecutableDocument, Operation, Selection, VariableDefinition};
+use graphql_hash_seeds::HashSeed;
 use graphql_nodes::{Name, Node, SourceSpan, ValidationError};
 use indexmap::{IndexMap, IndexSet};
 use std::alloc::Global;
@@ -40,7 +41,7 @@ pub fn validate_unused_variables(
         return diagnostics.push(None, Details::Diagnostic(DiagnosticData::RecursionError));
     }
     let used = used_variables(alloc, document, operation, &walked.selections)?;
-    let last = last_definitions(alloc, &operation.variables)?;
+    let last = last_definitions(alloc, document.hash_seed(), &operation.variables)?;
     report_unused(diagnostics, &last, &used)
 }
 
@@ -50,7 +51,7 @@ fn used_variables<'doc>(
     document: &'doc ExecutableDocument,
     operation: &'doc Operation,
     selections: &[&'doc Selection],
-) -> Result<IndexSet<&'doc Name>, ValidationError>
+) -> Result<IndexSet<&'doc Name, HashSeed>, ValidationError>
     ensures { ((s : Selection) → Contains (map (λ s. s.now) selections.now) s ↔ Reachable (fragments_of document.now) operation.now.selection_set s) →
         IfOk result (HasUsed (UsesVariable (fragments_of document.now) operation.now)) }
 {
@@ -59,7 +60,7 @@ fn used_variables<'doc>(
     for selection in selections {
         add_in_selection(&mut names, document, selection)?;
     }
-    set_of(alloc, &names)
+    set_of(alloc, document.hash_seed(), &names)
 }
 
 /// Adds the variables that a selection uses, below it apart.
@@ -89,11 +90,12 @@ fn add_in_selection<'doc>(
 /// The set of these names.
 fn set_of<'doc>(
     alloc: Global,
+    hash_seed: HashSeed,
     names: &[&'doc Name],
-) -> Result<IndexSet<&'doc Name>, ValidationError>
+) -> Result<IndexSet<&'doc Name, HashSeed>, ValidationError>
     ensures { IfOk result (HasUsed (IsNamedIn (names_of names.now))) }
 {
-    let mut set = IndexSet::new(alloc);
+    let mut set = IndexSet::with_hasher(alloc, hash_seed);
     for name in names {
         set.insert(*name)?;
     }
@@ -103,8 +105,8 @@ fn set_of<'doc>(
 /// Reports each of these variables that is not used.
 fn report_unused(
     diagnostics: &mut DiagnosticList,
-    variables: &IndexMap<&Name, &Node<VariableDefinition>>,
-    used: &IndexSet<&Name>,
+    variables: &IndexMap<&Name, &Node<VariableDefinition>, HashSeed>,
+    used: &IndexSet<&Name, HashSeed>,
 ) -> Result<(), ValidationError>
     ensures { (fragments : Fragments) (o : Operation) → HasUsed (UsesVariable fragments o) used.now →
         All (λ e. IsLastDefinition o.variables.items e.0.now e.1.now) variables.now.entries →
@@ -121,12 +123,13 @@ fn report_unused(
 /// The last definition of each name, in order of the first.
 fn last_definitions<'doc>(
     alloc: Global,
+    hash_seed: HashSeed,
     variables: &'doc [Node<VariableDefinition>],
-) -> Result<IndexMap<&'doc Name, &'doc Node<VariableDefinition>>, ValidationError>
+) -> Result<IndexMap<&'doc Name, &'doc Node<VariableDefinition>, HashSeed>, ValidationError>
     ensures names { IfOk result (λ last. map (λ e. e.0.now) last.entries ≡ different_names (map (λ v. v.value.value.name) variables.now)) }
     ensures definitions { IfOk result (λ last. All (λ e. IsLastDefinition variables.now e.0.now e.1.now) last.entries) }
 {
-    let mut last = IndexMap::new(alloc);
+    let mut last = IndexMap::with_hasher(alloc, hash_seed);
     for variable in variables {
         last.insert(&variable.value.name, variable)?;
     }
@@ -137,7 +140,7 @@ fn last_definitions<'doc>(
 fn check_use(
     diagnostics: &mut DiagnosticList,
     variable: &Node<VariableDefinition>,
-    used: &IndexSet<&Name>,
+    used: &IndexSet<&Name, HashSeed>,
 ) -> Result<(), ValidationError>
     ensures { (fragments : Fragments) (o : Operation) (name : NameText) → HasUsed (UsesVariable fragments o) used.now →
         IsLastDefinition o.variables.items name variable.now →

@@ -28,7 +28,11 @@ pub fn validate_variable_usage(
         (UsageHolds variables.now definition.now.value.value argument.now.value.value.value.value.value)
         (IsDiagnostic (UsageReport variables.now definition.now argument.now)) diagnostics.old diagnostics.new }
 {
-    let variables = VariablesByName::new(diagnostics.allocator(), variables)?;
+    let variables = VariablesByName::new(
+        diagnostics.allocator(),
+        diagnostics.hash_seed(),
+        variables,
+    )?;
     check_variable_usage(diagnostics, definition, &variables, argument)
 }
 

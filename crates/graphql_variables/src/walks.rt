@@ -14,6 +14,7 @@ ghost use Rattle.graphql_variables.specs.declared.walks.Extent.TheVariants as ex
 use crate::conditions::can_be_excluded;
 use graphql_documents::documents::{ExecutableDocument, FragmentSpread, Selection, SelectionSet};
 use graphql_guards::DepthCounter;
+use graphql_hash_seeds::HashSeed;
 use graphql_nodes::{Name, Node, ValidationError};
 use indexmap::IndexSet;
 use std::alloc::Global;
@@ -136,7 +137,7 @@ struct SelectionWalk<'doc> {
 /// What a walk has visited: the names of the fragments that it has visited, and the selections.
 #[derive(Drop)]
 struct Visited<'doc> {
-    visited_fragments: IndexSet<&'doc Name>,
+    visited_fragments: IndexSet<&'doc Name, HashSeed>,
     selections: Vec<&'doc Selection>,
 }
 
@@ -162,7 +163,7 @@ impl<'doc> SelectionWalk<'doc> {
             (fields_among (map (λ s. s.now) walked.selections.items)) visited) }
     {
         let mut visited = Visited {
-            visited_fragments: IndexSet::new(alloc),
+            visited_fragments: IndexSet::with_hasher(alloc, self.document.hash_seed()),
             selections: Vec::new(alloc),
         };
         let mut depth = DepthCounter::new().with_limit(WALK_LIMIT);

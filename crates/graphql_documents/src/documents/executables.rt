@@ -1,5 +1,6 @@
 use super::definitions::{FieldDefinition, VariableDefinition};
 use super::directives::{Argument, Directive};
+use graphql_hash_seeds::HashSeed;
 use graphql_nodes::{Name, NamedType, Node, OperationType};
 use indexmap::IndexMap;
 
@@ -106,16 +107,29 @@ pub struct Operation {
 #[derive(Debug, Drop, PartialEq, Eq)]
 pub struct OperationMap {
     pub anonymous: Option<Node<Operation>>,
-    pub named: IndexMap<Name, Node<Operation>>,
+    pub named: IndexMap<Name, Node<Operation>, HashSeed>,
 }
 
-/// Operations and fragments, built against a schema or standing alone.
+/// Operations and fragments, built against a schema or standing alone. Their names come from whoever sends the document, so
+/// its maps have a seed.
 ///
 /// Specification: 2.2 Document.
 #[derive(Debug, Drop, PartialEq, Eq)]
 pub struct ExecutableDocument {
     pub operations: OperationMap,
-    pub fragments: IndexMap<Name, Node<Fragment>>,
+    pub fragments: IndexMap<Name, Node<Fragment>, HashSeed>,
+}
+
+impl ExecutableDocument {
+    ghost use Rattle.std.specs.Prelude.{◌≡◌};
+    ghost use Rattle.indexmap.specs.IndexMap.{hasher_of};
+
+    /// The seed of the map of fragments, by which maps of other names of the document are to hash too.
+    pub fn hash_seed(&self) -> HashSeed
+        ensures { result ≡ hasher_of self.now.fragments }
+    {
+        *self.fragments.hasher()
+    }
 }
 
 /// A selection set on a named type, without an operation, as `@key(fields:)` holds it.

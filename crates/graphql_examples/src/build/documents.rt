@@ -7,6 +7,7 @@ use crate::errors::ExampleError;
 use graphql_documents::documents::{
     ExecutableDocument, Fragment, Operation, OperationMap, Schema, SchemaDefinition,
 };
+use graphql_hash_seeds::HashSeed;
 use graphql_nodes::{FileId, Name, Node, OperationType};
 use indexmap::IndexMap;
 use std::alloc::Global;
@@ -33,12 +34,13 @@ pub fn document_in_file(
 
 fn read_document(reader: Reader<'_>, schema: &Schema) -> Result<ExecutableDocument, ExampleError> {
     let mut reader = reader;
+    let hash_seed = HashSeed::default();
     let mut document = ExecutableDocument {
         operations: OperationMap {
             anonymous: None,
-            named: IndexMap::new(reader.alloc),
+            named: IndexMap::with_hasher(reader.alloc, hash_seed),
         },
-        fragments: IndexMap::new(reader.alloc),
+        fragments: IndexMap::with_hasher(reader.alloc, hash_seed),
     };
     add_definitions(&mut reader, schema, &mut document).and(Ok(document))
 }
@@ -72,7 +74,7 @@ fn add_definition(
 fn add_fragment(
     reader: &mut Reader<'_>,
     schema: &Schema,
-    fragments: &mut IndexMap<Name, Node<Fragment>>,
+    fragments: &mut IndexMap<Name, Node<Fragment>, HashSeed>,
 ) -> Result<(), ExampleError> {
     let key = reader.key();
     let start = reader.start();

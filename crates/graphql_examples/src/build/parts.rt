@@ -5,6 +5,7 @@ use crate::errors::ExampleError;
 use graphql_documents::documents::{Component, ComponentOrigin};
 use graphql_nodes::{Name, Node};
 use indexmap::IndexMap;
+use std::hash::BuildHasher;
 
 /// What is read where a reader is.
 pub(super) trait Part: Drop {
@@ -80,8 +81,8 @@ fn add_member<T: Member>(
 }
 
 /// Adds a definition, under whose name nothing may be.
-pub(super) fn add_new<T: Drop>(
-    definitions: &mut IndexMap<Name, T>,
+pub(super) fn add_new<T: Drop, S: BuildHasher>(
+    definitions: &mut IndexMap<Name, T, S>,
     name: Name,
     definition: T,
 ) -> Result<(), ExampleError> {
@@ -93,8 +94,8 @@ pub(super) fn add_new<T: Drop>(
 
 /// Adds a definition under its key, in place of what is there, or under its own name, where nothing may be.
 /// Both names are still to be read.
-pub(super) fn add_named<T: Drop>(
-    definitions: &mut IndexMap<Name, T>,
+pub(super) fn add_named<T: Drop, S: BuildHasher>(
+    definitions: &mut IndexMap<Name, T, S>,
     key: Option<Reader<'_>>,
     own: Reader<'_>,
     definition: T,

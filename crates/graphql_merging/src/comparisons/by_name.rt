@@ -5,11 +5,11 @@ ghost use Rattle.std.specs.Prelude.{◌≡◌, ◌↔◌, ◌++◌, ◌∷◌, [
 ghost use Rattle.graphql_nodes.specs.Names.{NameText, same_name};
 ghost use Rattle.graphql_merging.specs.FirstPlaces.{HasPlaces};
 
-use super::first_places::{FEW, add_if_new, place_of};
+use super::first_places::{FEW, Places, add_if_new, place_of};
 use graphql_documents::documents::{Argument, Value};
+use graphql_hash_seeds::HashSeed;
 use graphql_nodes::{Name, Node};
 use std::alloc::{AllocError, Global};
-use std::collections::HashMap;
 use std::marker::Model;
 
 /// What is found by its name.
@@ -43,7 +43,7 @@ impl Named for (Name, Node<Value>) {
 pub(super) struct ByName<'a, T: Named> {
     elements: &'a [T],
     // none only while each name first comes among the first few
-    places: Option<HashMap<&'a Name, usize>>,
+    places: Option<Places<'a>>,
 }
 
 impl<'a, T: Named> Model for ByName<'a, T> {
@@ -59,8 +59,13 @@ impl<'a, T: Named> Model for ByName<'a, T> {
 }
 
 impl<'a, T: Named> ByName<'a, T> {
-    /// These elements. The only error is a failed allocation; few elements take no memory.
-    pub(super) fn new(alloc: Global, elements: &'a [T]) -> Result<ByName<'a, T>, AllocError>
+    /// These elements, their names hashed by this seed. The only error is a failed allocation; few elements take no
+    /// memory.
+    pub(super) fn new(
+        alloc: Global,
+        hash_seed: HashSeed,
+        elements: &'a [T],
+    ) -> Result<ByName<'a, T>, AllocError>
         ensures { IfOk result (λ named. named ≡ elements.now) }
     {
         if elements.len() <= FEW {
@@ -69,7 +74,7 @@ impl<'a, T: Named> ByName<'a, T> {
                 places: None,
             });
         }
-        let places = first_places(alloc, elements)?;
+        let places = first_places(alloc, hash_seed, elements)?;
         Ok(ByName {
             elements,
             places: Some(places),
@@ -94,6 +99,7 @@ impl<'a, T: Named> ByName<'a, T> {
     pub(super) fn grow(
         &mut self,
         alloc: Global,
+        hash_seed: HashSeed,
         elements: &'a [T],
         last: &'a T,
     ) -> Result<bool, AllocError>
@@ -113,7 +119,7 @@ impl<'a, T: Named> ByName<'a, T> {
                 Some(places)
             }
             None if place < FEW => None,
-            None => Some(first_places(alloc, elements)?),
+            None => Some(first_places(alloc, hash_seed, elements)?),
         };
         self.elements = elements;
         self.places = places;
@@ -131,11 +137,12 @@ fn first_named<'a, T: Named>(elements: &'a [T], name: &Name) -> Option<&'a T>
 /// The place of the first element of each name.
 fn first_places<'a, T: Named>(
     alloc: Global,
+    hash_seed: HashSeed,
     elements: &'a [T],
-) -> Result<HashMap<&'a Name, usize>, AllocError>
+) -> Result<Places<'a>, AllocError>
     ensures { IfOk result (λ places. HasPlaces T.name_of places elements.now) }
 {
-    let mut places: HashMap<&Name, usize> = HashMap::new(alloc);
+    let mut places = Places::with_hasher(alloc, hash_seed);
     for (place, element) in elements.iter().enumerate() {
         add_if_new(&mut places, element.name(), place)?;
     }

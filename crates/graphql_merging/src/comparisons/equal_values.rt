@@ -9,35 +9,46 @@ ghost use Rattle.graphql_merging.specs.Comparisons.{HasEntry, HasKeysOf, SameEnt
 use super::by_name::ByName;
 use super::values::same_value;
 use graphql_documents::documents::Value;
+use graphql_hash_seeds::HashSeed;
 use graphql_nodes::{Name, Node};
 use std::alloc::{AllocError, Global};
 
 /// Whether two values are the same, as `same_value` says. The entries of large objects are found by tables, so
 /// the time is about linear in the size of the second value and in what the first has as far as the two agree;
-/// objects of few entries take no memory. The only error is a failed allocation.
+/// objects of few entries take no memory. The tables have this seed. The only error is a failed allocation.
 ///
 /// Specification: 5.3.2 Field Selection Merging.
 #[cycle(equal)]
-pub fn is_same_value(alloc: Global, a: &Value, b: &Value) -> Result<bool, AllocError>
+pub fn is_same_value(
+    alloc: Global,
+    hash_seed: HashSeed,
+    a: &Value,
+    b: &Value,
+) -> Result<bool, AllocError>
     ensures { IfOk result (λ same. IsTrue same ↔ SameValue a.now b.now) }
 {
     match (a, b) {
-        (Value::List(a), Value::List(b)) => have_same_items(alloc, a, b),
-        (Value::Object(a), Value::Object(b)) => have_same_entries(alloc, a, b),
+        (Value::List(a), Value::List(b)) => have_same_items(alloc, hash_seed, a, b),
+        (Value::Object(a), Value::Object(b)) => have_same_entries(alloc, hash_seed, a, b),
         _ => Ok(same_value(a, b)),
     }
 }
 
 /// Whether two lists are as long, and the same item by item.
 #[cycle(equal)]
-fn have_same_items(alloc: Global, a: &[Node<Value>], b: &[Node<Value>]) -> Result<bool, AllocError>
+fn have_same_items(
+    alloc: Global,
+    hash_seed: HashSeed,
+    a: &[Node<Value>],
+    b: &[Node<Value>],
+) -> Result<bool, AllocError>
     ensures { IfOk result (λ same. IsTrue same ↔ SameItems a.now b.now) }
 {
     if a.len() != b.len() {
         return Ok(false);
     }
     for (x, y) in a.iter().zip(b) {
-        if !is_same_value(alloc, &x.value, &y.value)? {
+        if !is_same_value(alloc, hash_seed, &x.value, &y.value)? {
             return Ok(false);
         }
     }
@@ -48,16 +59,19 @@ fn have_same_items(alloc: Global, a: &[Node<Value>], b: &[Node<Value>]) -> Resul
 #[cycle(equal)]
 fn have_same_entries(
     alloc: Global,
+    hash_seed: HashSeed,
     a: &[(Name, Node<Value>)],
     b: &[(Name, Node<Value>)],
 ) -> Result<bool, AllocError>
     ensures { IfOk result (λ same. IsTrue same ↔ SameEntries a.now b.now) }
 {
-    let others = ByName::new(alloc, b)?;
+    let others = ByName::new(alloc, hash_seed, b)?;
     // grows up to the first entry on which the two differ
-    let mut seen = ByName::new(alloc, &a[..0])?;
+    let mut seen = ByName::new(alloc, hash_seed, &a[..0])?;
     for (i, entry) in a.iter().enumerate() {
-        if seen.grow(alloc, &a[..i + 1], entry)? && !stands_in(alloc, entry, &others)? {
+        if seen.grow(alloc, hash_seed, &a[..i + 1], entry)?
+            && !stands_in(alloc, hash_seed, entry, &others)?
+        {
             return Ok(false);
         }
     }
@@ -68,13 +82,14 @@ fn have_same_entries(
 #[cycle(equal)]
 fn stands_in(
     alloc: Global,
+    hash_seed: HashSeed,
     entry: &(Name, Node<Value>),
     entries: &ByName<(Name, Node<Value>)>,
 ) -> Result<bool, AllocError>
     ensures { IfOk result (λ stands. IsTrue stands ↔ HasEntry entries.now entry.now.0 entry.now.1) }
 {
     match value_of(entries, &entry.0) {
-        Some(other) => is_same_value(alloc, &entry.1.value, &other.value),
+        Some(other) => is_same_value(alloc, hash_seed, &entry.1.value, &other.value),
         None => Ok(false),
     }
 }

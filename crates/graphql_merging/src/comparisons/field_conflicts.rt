@@ -12,6 +12,7 @@ use super::by_name::ByName;
 use super::equal_values::is_same_value;
 use crate::field_selections::FieldSelection;
 use graphql_documents::documents::Argument;
+use graphql_hash_seeds::HashSeed;
 use graphql_nodes::Node;
 use std::alloc::{AllocError, Global};
 
@@ -24,6 +25,7 @@ use std::alloc::{AllocError, Global};
 /// Specification: 5.3.2 Field Selection Merging, FieldsInSetCanMerge.
 pub fn find_field_conflict<'a>(
     alloc: Global,
+    hash_seed: HashSeed,
     a: FieldSelection<'a>,
     b: FieldSelection<'a>,
 ) -> Result<Option<FieldConflict<'a>>, AllocError>
@@ -36,9 +38,9 @@ pub fn find_field_conflict<'a>(
     if first.name != second.name {
         return Ok(Some(FieldConflict::Names));
     }
-    let others = ByName::new(alloc, &second.arguments)?;
-    let mut seen = ByName::new(alloc, &first.arguments[..0])?;
-    match conflict_of_arguments(alloc, &first.arguments, &mut seen, &others)? {
+    let others = ByName::new(alloc, hash_seed, &second.arguments)?;
+    let mut seen = ByName::new(alloc, hash_seed, &first.arguments[..0])?;
+    match conflict_of_arguments(alloc, hash_seed, &first.arguments, &mut seen, &others)? {
         Some(conflict) => Ok(Some(conflict)),
         None => match missing_argument(&second.arguments, &seen) {
             Some(argument) => Ok(Some(FieldConflict::SecondAlone(argument))),
@@ -51,6 +53,7 @@ pub fn find_field_conflict<'a>(
 /// is all of them if there is none.
 fn conflict_of_arguments<'a>(
     alloc: Global,
+    hash_seed: HashSeed,
     arguments: &'a [Node<Argument>],
     seen: &mut ByName<'a, Node<Argument>>,
     others: &ByName<'a, Node<Argument>>,
@@ -61,8 +64,8 @@ fn conflict_of_arguments<'a>(
         (ArgumentsConflict arguments.now others.now)) }
 {
     for (i, argument) in arguments.iter().enumerate() {
-        if seen.grow(alloc, &arguments[..i + 1], argument)?
-            && let Some(conflict) = conflict_of_argument(alloc, argument, others)?
+        if seen.grow(alloc, hash_seed, &arguments[..i + 1], argument)?
+            && let Some(conflict) = conflict_of_argument(alloc, hash_seed, argument, others)?
         {
             return Ok(Some(conflict));
         }
@@ -73,6 +76,7 @@ fn conflict_of_arguments<'a>(
 /// Whether the others lack this argument, or give it another value.
 fn conflict_of_argument<'a>(
     alloc: Global,
+    hash_seed: HashSeed,
     argument: &'a Node<Argument>,
     others: &ByName<'a, Node<Argument>>,
 ) -> Result<Option<FieldConflict<'a>>, AllocError>
@@ -83,7 +87,8 @@ fn conflict_of_argument<'a>(
     let Some(other) = others.find(&argument.value.name) else {
         return Ok(Some(FieldConflict::FirstAlone(argument)));
     };
-    if is_same_value(alloc, &argument.value.value.value, &other.value.value.value)? {
+    let value = &argument.value.value.value;
+    if is_same_value(alloc, hash_seed, value, &other.value.value.value)? {
         return Ok(None);
     }
     Ok(Some(FieldConflict::Both(argument, other)))

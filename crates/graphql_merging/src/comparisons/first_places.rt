@@ -3,15 +3,19 @@
 ghost use Rattle.std.specs.Prelude.{◌≡◌, OnOk};
 ghost use Rattle.graphql_merging.specs.FirstPlaces.{AddsPlace, place_under};
 
+use graphql_hash_seeds::HashSeed;
 use graphql_nodes::Name;
 use std::alloc::AllocError;
 use std::collections::HashMap;
+
+/// The place of the first element of each name.
+pub(super) type Places<'a> = HashMap<&'a Name, usize, HashSeed>;
 
 /// Up to so many elements are looked through for each name: that takes no memory, and for so few no more time.
 pub(super) const FEW: usize = 8;
 
 /// The place of the first element of this name.
-pub(super) fn place_of(places: &HashMap<&Name, usize>, name: &Name) -> Option<usize>
+pub(super) fn place_of(places: &Places<'_>, name: &Name) -> Option<usize>
     ensures { result ≡ place_under places.now name.now }
 {
     places.get(&name).copied()
@@ -19,7 +23,7 @@ pub(super) fn place_of(places: &HashMap<&Name, usize>, name: &Name) -> Option<us
 
 /// Adds the place of an element, unless there is one of its name. The only error is a failed allocation.
 pub(super) fn add_if_new<'a>(
-    places: &mut HashMap<&'a Name, usize>,
+    places: &mut Places<'a>,
     name: &'a Name,
     place: usize,
 ) -> Result<(), AllocError>

@@ -14,13 +14,14 @@ use super::written::written_defers;
 use crate::fragments_used::operations_of;
 use graphql_diagnostics::{BuildError, Details, DiagnosticData, DiagnosticList};
 use graphql_documents::documents::{Directive, ExecutableDocument, SelectionSet, Value};
+use graphql_hash_seeds::HashSeed;
 use graphql_nodes::{Node, SourceSpan, ValidationError};
 use graphql_variables::conditions::argument_value;
 use indexmap::IndexMap;
 use std::alloc::Global;
 
 /// The place of the first label of each text that was visited.
-type Labels<'doc> = IndexMap<&'doc str, Option<SourceSpan>>;
+type Labels<'doc> = IndexMap<&'doc str, Option<SourceSpan>, HashSeed>;
 
 /// Reports the labels of `@defer` that are variables, and those that repeat the text of an earlier one,
 /// each at its value. They come in order: those written in the set of each operation, the one without
@@ -39,7 +40,7 @@ pub(super) fn validate_labels(
 {
     let alloc = diagnostics.allocator();
     let sets = sets_of(alloc, document)?;
-    let mut labels = IndexMap::new(alloc);
+    let mut labels = IndexMap::with_hasher(alloc, document.hash_seed());
     for set in &sets {
         check_set(set, &mut labels, diagnostics)?;
     }

@@ -32,10 +32,11 @@ pub fn validate_operation_definitions(
     let alloc = diagnostics.allocator();
     let operations = operations_of(alloc, document)?;
     let levels = DocumentLevels::find(alloc, document)?;
-    let none = VariablesByName::new(alloc, &[])?;
-    let mut context = OperationValidationContext::new(alloc, schema, none);
+    let hash_seed = document.hash_seed();
+    let none = VariablesByName::new(alloc, hash_seed, &[])?;
+    let mut context = OperationValidationContext::new(alloc, hash_seed, schema, none);
     for operation in &operations {
-        let variables = VariablesByName::new(alloc, &operation.value.variables)?;
+        let variables = VariablesByName::new(alloc, hash_seed, &operation.value.variables)?;
         context = context.next(alloc, variables);
         check_operation(diagnostics, &levels, &operation.value, &mut context)?;
     }
@@ -60,8 +61,9 @@ pub fn validate_operation(
         diagnostics.old diagnostics.new }
 {
     let alloc = diagnostics.allocator();
-    let variables = VariablesByName::new(alloc, &operation.variables)?;
-    let mut context = OperationValidationContext::new(alloc, schema, variables);
+    let hash_seed = document.hash_seed();
+    let variables = VariablesByName::new(alloc, hash_seed, &operation.variables)?;
+    let mut context = OperationValidationContext::new(alloc, hash_seed, schema, variables);
     let levels = DocumentLevels::unknown(document);
     check_operation(diagnostics, &levels, operation, &mut context)
 }

@@ -18,10 +18,9 @@ use super::check_each_directive;
 use crate::value::value_of_correct_type;
 use graphql_diagnostics::{Details, DiagnosticData, DiagnosticList};
 use graphql_documents::documents::{ExtendedType, Schema, VariableDefinition};
-use graphql_nodes::{DirectiveLocation, Name, Node, SourceSpan, ValidationError};
+use graphql_nodes::{DirectiveLocation, Node, SourceSpan, ValidationError};
 use graphql_variables::VariablesByName;
-use graphql_variables::first_places::first_place;
-use std::collections::HashMap;
+use graphql_variables::first_places::{FirstPlaces, first_place};
 
 /// Validates the definitions of the variables of an operation: their directives, their types and
 /// defaults where there is a schema, and that their names are distinct.
@@ -40,7 +39,7 @@ pub fn validate_variable_definitions(
     ensures { Checks result (VariableDefinitionsHold (option_copied schema.entry) variables.now)
         (IsDiagnostic (VariablesReport (option_copied schema.entry) variables.now)) diagnostics.old diagnostics.new }
 {
-    let mut seen: HashMap<&Name, Option<SourceSpan>> = HashMap::new(diagnostics.allocator());
+    let mut seen = FirstPlaces::with_hasher(diagnostics.allocator(), diagnostics.hash_seed());
     for variable in variables {
         validate_variable_definition(diagnostics, schema, variable, &mut seen)?;
     }
@@ -52,7 +51,7 @@ fn validate_variable_definition<'a>(
     diagnostics: &mut DiagnosticList,
     schema: Option<&Schema>,
     variable: &'a Node<VariableDefinition>,
-    seen: &mut HashMap<&'a Name, Option<SourceSpan>>,
+    seen: &mut FirstPlaces<'a>,
 ) -> Result<(), ValidationError>
     ensures checks { (before : List (Node VariableDefinition)) → Remembers seen.old (map visited_variable before) →
         ChecksNext result (FollowsWell (option_copied schema.entry) before variable.now)
@@ -76,7 +75,7 @@ fn validate_variable_directives(
         (ApplicationsHold (option_copied schema.entry) [] at.VariableDefinition variable.now.value.value.directives.items)
         (option_copied schema.entry) variable.now diagnostics.old diagnostics.new }
 {
-    let variables = VariablesByName::new(diagnostics.allocator(), &[])?;
+    let variables = VariablesByName::new(diagnostics.allocator(), diagnostics.hash_seed(), &[])?;
     check_each_directive(
         diagnostics,
         schema,

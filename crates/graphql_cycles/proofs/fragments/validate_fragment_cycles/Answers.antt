@@ -21,12 +21,12 @@ pub returns-in-Ok : goal.returns-in-Ok
 returns-in-Ok c = λ schema.
     let document = c.args.document.now in
     let d = c.args.fragment.now in
-    let old = c.new-seen.result.keys in
+    let old = c.with_hasher-seen.result.keys in
     let new = c.search_set.new.seen.keys in
     let closes : ClosesOver document d.value.value.name (SpreadsBy d) old new =
     subst (λ (f : Fragment). ClosesOver document f.name (SpreadsBy d) old new) c.deref.ensures
     (subst (λ (f : Fragment). ClosesOver document c.deref.result.now.name (SpreadIn f.selection_set) old new) c.deref-2.ensures c.in-Ok.ensures.searches) in
-    within IsLimitEntry (holds _ _ _ (closed_no_way_back {IsBack = SpreadsBack} d (nothing_seen old c.new-seen.ensures.empty) closes))
+    within IsLimitEntry (holds _ _ _ (closed_no_way_back {IsBack = SpreadsBack} d (nothing_seen old c.with_hasher-seen.ensures.empty) closes))
 
 pub returns-in-Err-Recursed : goal.returns-in-Err-Recursed
 returns-in-Err-Recursed c = λ schema.

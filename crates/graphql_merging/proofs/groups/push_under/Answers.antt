@@ -5,7 +5,7 @@ use Rattle.graphql_merging.proofs.GroupLemmas.{put_as_fields}
 use Rattle.graphql_merging.proofs.groups.push_under.Goals as goal
 
 pub returns : goal.returns
-returns c =
+returns g c =
     let inserted = c.in_ok-fields_by_name.ensures.update.1 c.push.new.self in
     ap named_fields (search (rules, inserted)) ∙
     put_as_fields c.args.fields_by_name.now.entries c.args.name c.args.field c.new.result c.or_insert.result.now c.push.new.self

@@ -9,7 +9,7 @@ use Rattle.graphql_pair_merging.proofs.GroupLemmas.{grouped_next}
 use Rattle.graphql_pair_merging.proofs.field_groups.group_fields.Goals as goal
 
 pub loop-field-init : goal.loop-field-init
-loop-field-init c name = ap (λ l. group_under l name) c.new-groups.ensures.empty
+loop-field-init c name = ap (λ l. group_under l name) c.with_hasher-groups.ensures.empty
 
 pub loop-field-preserved : goal.loop-field-preserved
 loop-field-preserved c =

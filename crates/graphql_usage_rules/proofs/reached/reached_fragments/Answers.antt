@@ -12,8 +12,8 @@ text reference = reference.now
 
 pub loop-name-init : goal.loop-name-init
 loop-name-init c =
-    let empty : Reached = record { names = c.new.result; pending = c.new-2.result } in
-    searches_begin c.args.document.now c.args.set.now empty c.add_in_set.new.self (ap (map text) c.new.ensures.empty) (ap (map text) c.new-2.ensures.items)
+    let empty : Reached = record { names = c.with_hasher.result; pending = c.new.result } in
+    searches_begin c.args.document.now c.args.set.now empty c.add_in_set.new.self (ap (map text) c.with_hasher.ensures.empty) (ap (map text) c.new.ensures.items)
     c.in_ok-add_in_set.ensures
 
 pub loop-name-smaller : goal.loop-name-smaller

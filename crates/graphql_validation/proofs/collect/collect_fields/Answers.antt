@@ -13,7 +13,7 @@ use Rattle.graphql_validation.proofs.collect.collect_fields.Goals as goal
 pub loop-set-init : goal.loop-set-init
 loop-set-init c = record {
   fields = [];
-  walks = subst (λ keys. WalksOver (record { schema = c.args.schema; document = c.args.document; object_type = c.args.object_type }) [] [] [] (map (λ b. b.now) keys)) (sym c.new-2.ensures.empty) walks_none;
+  walks = subst (λ keys. WalksOver (record { schema = c.args.schema; document = c.args.document; object_type = c.args.object_type }) [] [] [] (map (λ b. b.now) keys)) (sym c.with_hasher.ensures.empty) walks_none;
   appended = ap listed c.new.ensures.items;
 }
 

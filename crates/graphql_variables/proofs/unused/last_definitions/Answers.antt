@@ -9,11 +9,11 @@ use Rattle.graphql_variables.proofs.unused.last_definitions.Goals as goal
 
 pub loop-variable-init : goal.loop-variable-init
 loop-variable-init c =
-    let none : c.new-last.result.entries ≡ [] = c.new-last.ensures.empty in
+    let none : c.with_hasher-last.result.entries ≡ [] = c.with_hasher-last.ensures.empty in
     record {
       names = ap entry_names none;
       definitions = subst (All (IsLast [])) (sym none) (All-nil (IsLast []));
-      distinct = c.new-last.ensures.unique;
+      distinct = c.with_hasher-last.ensures.unique;
     }
 
 pub loop-variable-preserved : goal.loop-variable-preserved

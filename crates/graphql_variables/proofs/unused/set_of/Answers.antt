@@ -7,7 +7,7 @@ use Rattle.graphql_variables.proofs.unused.set_of.Goals as goal
 
 pub loop-name-init : goal.loop-name-init
 loop-name-init c = λ n.
-    let none : c.new-set.result.keys ≡ [] = c.new-set.ensures.empty in
+    let none : c.with_hasher-set.result.keys ≡ [] = c.with_hasher-set.ensures.empty in
     subst (λ keys. IsNamedIn (names_of keys) n ↔ IsNamedIn [] n) (sym none) (λ h. h, λ h. h)
 
 pub loop-name-preserved : goal.loop-name-preserved

@@ -152,8 +152,11 @@ examine_below-examine-requires t c =
       omega (arith, step, within, c.decreases),
       (
         c.check_and_increment.ensures.limit ∙ c.requires,
-        new_unknown (examined_lists c.args.examined.now) (listed c.in_ok-list.list.fields.items)
-            (λ any. let known = c.knows.ensures.1 any in let no : ⊥ = cc in no),
+        (
+          c.in_ok-list.ensures.hashed,
+          new_unknown (examined_lists c.args.examined.now) (listed c.in_ok-list.list.fields.items)
+              (λ any. let known = c.knows.ensures.1 any in let no : ⊥ = cc in no),
+        ),
       ),
     )
 

@@ -7,4 +7,4 @@ use Rattle.graphql_merging.proofs.passes.MergingPass.expand.Goals as goal
 pub returns-clause-fields : goal.returns-clause-fields
 returns-clause-fields c =
     subst (λ fields. Expansion (fragments_of c.args.self.now.document.now) (map (λ set. set.now) c.args.sets.now) (listed fields.items))
-    (sym c.new.ensures) c.in_ok-fields.ensures
+    (sym c.list.ensures.fields) c.in_ok-fields.ensures

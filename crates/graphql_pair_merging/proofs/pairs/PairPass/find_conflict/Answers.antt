@@ -8,8 +8,8 @@ use Rattle.graphql_pair_merging.proofs.pairs.PairPass.find_conflict.Goals as goa
 
 pub loop-next-init : goal.loop-next-init
 loop-next-init c =
-    walks_begin c.args.self.now.schema.now (pass_of c.args.self.now.pass) c.args.self.now.sets.now c.args.starts.now c.new-pairs.result.keys c.add_starts.new.pairs.keys
-    c.new-pairs.ensures.empty c.in_ok-add_starts.ensures
+    walks_begin c.args.self.now.schema.now (pass_of c.args.self.now.pass) c.args.self.now.sets.now c.args.starts.now c.with_hasher-pairs.result.keys c.add_starts.new.pairs.keys
+    c.with_hasher-pairs.ensures.empty c.in_ok-add_starts.ensures
 
 pub look_at-requires-clause-first : goal.look_at-requires-clause-first
 look_at-requires-clause-first c =

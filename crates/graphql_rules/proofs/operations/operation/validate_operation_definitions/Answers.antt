@@ -34,7 +34,7 @@ returns-in_err-check_operation c =
     MatchResult-from_err _ _ _ c.from_residual-in_err-check_operation.ensures.0
     (λ y. kept_then (kept_within IsLimitEntry c.loop-operation.invariant.checked)
     (operation_kept D x.now among _ S _ _ _ (c.next-context.ensures.schema ∙ c.loop-operation.invariant.schema) c.deref-in-loop-operation-2.ensures
-    (rw (sym c.in_ok-levels.ensures) c.in_err-check_operation.ensures.checks)))
+    (rw (sym c.in_ok-levels.ensures.document) c.in_err-check_operation.ensures.checks)))
 
 pub loop-operation-preserved : goal.loop-operation-preserved
 loop-operation-preserved c =
@@ -50,7 +50,7 @@ loop-operation-preserved c =
     record {
       checked = walked_more_within IsLimitEntry (λ (o : Bor (Node Operation)). OperationHolds S D o.now.value.value) (OperationsEntryReport S D) xs i x _ _ _
           c.loop-operation-test.true c.operation-item.is c.loop-operation.invariant.checked
-          (operation_checked D x.now among _ S _ _ _ schema c.deref-in-loop-operation-2.ensures (rw (sym c.in_ok-levels.ensures) c.in_ok-check_operation.ensures.checks));
+          (operation_checked D x.now among _ S _ _ _ schema c.deref-in-loop-operation-2.ensures (rw (sym c.in_ok-levels.ensures.document) c.in_ok-check_operation.ensures.checks));
       schema = c.in_ok-check_operation.ensures.schema ∙ schema;
     }
 

@@ -2,6 +2,7 @@ use super::fixtures::{query_of_itself, reports};
 use graphql_diagnostics::DiagnosticList;
 use graphql_documents::documents::Schema;
 use graphql_examples::build::directives;
+use graphql_hash_seeds::HashSeed;
 use graphql_nodes::DirectiveLocation;
 use graphql_values::directive::{check_directives, check_each_directive, validate_directives};
 use graphql_variables::VariablesByName;
@@ -69,7 +70,7 @@ fn directives_are_checked_where_the_variables_are_by_name(rt: HostRuntime) {
     let mut given = Vec::new(alloc);
     let only = built.first().expect(&rt, "a directive");
     given.push(only).expect(&rt, "memory for a reference");
-    let none = VariablesByName::new(alloc, &[]).expect(&rt, "no variables");
+    let none = VariablesByName::new(alloc, HashSeed::default(), &[]).expect(&rt, "no variables");
     let place = DirectiveLocation::Field;
     let mut found = DiagnosticList::new(alloc);
     check_directives(&mut found, None, &given, place, &none).expect(&rt, "memory");
