@@ -11,7 +11,7 @@ returns c =
     let schema = Some c.args.schema.now in
     let document = c.args.document.now in
     let validated = c.in_ok-validate_executable_document_within.ensures in
-    let empty = c.new-rules.ensures.empty in
+    let empty = c.with_hash_seed-rules.ensures.empty in
     record {
       each =
           both_of_each (λ e. ¬ IsLimitEntry e → DocumentReport schema document e.details e.location)

@@ -10,7 +10,7 @@ pub returns : goal.returns
 returns c =
     let document = c.args.document.now in
     let validated = c.in_ok-validate_standalone_executable.ensures in
-    let empty = c.new-rules.ensures.empty in
+    let empty = c.with_hash_seed-rules.ensures.empty in
     record {
       each = All-weaker _ (IsDocumentEntry None document)
           (λ e either. record { report = report_unless_limit None document e either; limit = limit_if_one None document e either }) _

@@ -7,19 +7,19 @@ use Rattle.graphql_frontend.proofs.documents.validate_standalone_tree.Goals as g
 pub build_standalone_document-requires : goal.build_standalone_document-requires
 build_standalone_document-requires c =
     let none : reports_of c.check_standalone_document.new.reports ≡ [] = search rules in
-    silent _ _ _ _ c.in_ok-check_standalone_document.ensures c.new-reports.ensures.empty none
+    silent _ _ _ _ c.in_ok-check_standalone_document.ensures c.with_hash_seed-reports.ensures.empty none
 
 pub returns-in_ok-document : goal.returns-in_ok-document
 returns-in_ok-document c =
     let none : reports_of c.check_standalone_document.new.reports ≡ [] = search rules in
     let document = c.in_ok-document.document in
     if_ok (JudgesDocument c.args.bounds.depth None document) (JudgesTree c.args.bounds None c.args.tree.now)
-    (λ reports judged. is_built document (silent _ _ _ _ c.in_ok-check_standalone_document.ensures c.new-reports.ensures.empty none)
+    (λ reports judged. is_built document (silent _ _ _ _ c.in_ok-check_standalone_document.ensures c.with_hash_seed-reports.ensures.empty none)
     c.in_ok-document.ensures tt judged)
     c.validate_built.result c.validate_built.ensures
 
 pub returns-else-is_empty : goal.returns-else-is_empty
 returns-else-is_empty c =
     let some : reports_of c.check_standalone_document.new.reports ≢ [] = search rules in
-    does_not_build (broken _ _ _ _ c.in_ok-check_standalone_document.ensures c.new-reports.ensures.empty some) some
-    (each_true _ _ _ _ c.in_ok-check_standalone_document.ensures c.new-reports.ensures.empty)
+    does_not_build (broken _ _ _ _ c.in_ok-check_standalone_document.ensures c.with_hash_seed-reports.ensures.empty some) some
+    (each_true _ _ _ _ c.in_ok-check_standalone_document.ensures c.with_hash_seed-reports.ensures.empty)

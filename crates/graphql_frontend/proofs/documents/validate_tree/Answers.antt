@@ -8,7 +8,7 @@ use Rattle.graphql_frontend.proofs.documents.validate_tree.Goals as goal
 pub build_document-requires : goal.build_document-requires
 build_document-requires c =
     let none : reports_of c.check_document.new.reports ≡ [] = search rules in
-    silent _ _ _ _ c.in_ok-check_document.ensures c.new-reports.ensures.empty none
+    silent _ _ _ _ c.in_ok-check_document.ensures c.with_hash_seed-reports.ensures.empty none
 
 pub returns-in_ok-document : goal.returns-in_ok-document
 returns-in_ok-document c =
@@ -16,12 +16,12 @@ returns-in_ok-document c =
     let document = c.in_ok-document.document in
     let says = c.in_ok-document.ensures in
     if_ok (JudgesDocument c.args.bounds.depth (Some c.args.schema.now) document) (JudgesTree c.args.bounds (Some c.args.schema.now) c.args.tree.now)
-    (λ reports judged. is_built document (silent _ _ _ _ c.in_ok-check_document.ensures c.new-reports.ensures.empty none) says
+    (λ reports judged. is_built document (silent _ _ _ _ c.in_ok-check_document.ensures c.with_hash_seed-reports.ensures.empty none) says
     (document_is_built c.args.schema.now c.args.tree.now document says c.requires.names c.requires.output_fields) judged)
     c.validate_built.result c.validate_built.ensures
 
 pub returns-else-is_empty : goal.returns-else-is_empty
 returns-else-is_empty c =
     let some : reports_of c.check_document.new.reports ≢ [] = search rules in
-    does_not_build (broken _ _ _ _ c.in_ok-check_document.ensures c.new-reports.ensures.empty some) some
-    (each_true _ _ _ _ c.in_ok-check_document.ensures c.new-reports.ensures.empty)
+    does_not_build (broken _ _ _ _ c.in_ok-check_document.ensures c.with_hash_seed-reports.ensures.empty some) some
+    (each_true _ _ _ _ c.in_ok-check_document.ensures c.with_hash_seed-reports.ensures.empty)
