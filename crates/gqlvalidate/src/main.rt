@@ -1,24 +1,7 @@
 //! Validates GraphQL schemas and documents from files, and prints what is wrong with them.
 #![tactic(auto)]
 
-mod accounts;
-mod check;
-pub mod command;
-mod excerpts;
-mod faults;
-mod github_format;
-mod one_document;
-mod presentations;
-mod questions;
-mod schema_files;
-mod schemas;
-mod serve;
-mod sources;
-pub mod statuses;
-mod syntax;
-mod text_format;
-
-use command::run;
+use gqlvalidate_commands::command::run;
 use std::env::VarError;
 use std::io::IsTerminal;
 use std::process::ExitCode;

@@ -1,3 +1,6 @@
+ghost use Rattle.std.specs.Prelude.{◌≡◌};
+ghost use Rattle.gqlvalidate_commands.specs.Statuses.{number_of};
+
 /// How a run ended.
 #[derive(Clone, Copy, Debug, PartialEq, Eq)]
 pub enum Status {
@@ -14,12 +17,14 @@ pub enum Status {
 
 impl Status {
     /// The status that the process ends with.
-    pub fn number(self) -> u8 {
+    pub fn number(self) -> u8
+        ensures { result ≡ number_of self }
+    {
         self as u8
     }
 
     /// The status of two files together: the graver one of what was found in them.
-    pub fn with(self, other: Status) -> Status {
+    pub(crate) fn with(self, other: Status) -> Status {
         if self.number() < other.number() {
             other
         } else {

@@ -1,5 +1,5 @@
 use Rattle.std.proofs.Common.{arith}
-use Rattle.gqlvalidate.proofs.syntax.report_syntax.Goals as goal
+use Rattle.gqlvalidate_commands.proofs.syntax.report_syntax.Goals as goal
 
 pub returns-in_ok-print_error-in-Err-clause-refused : goal.returns-in_ok-print_error-in-Err-clause-refused
 returns-in_ok-print_error-in-Err-clause-refused g c = λ e tree is.

@@ -1,7 +1,7 @@
 use Rattle.std.proofs.Common.{Some, subst}
 use Rattle.graphql_frontend.specs.Documents.{ValidatesDocument}
 use Rattle.graphql_parser.specs.declared.bounds.TheConstants as bounds
-use Rattle.gqlvalidate.proofs.check.check_text.Goals as goal
+use Rattle.gqlvalidate_commands.proofs.check.check_text.Goals as goal
 
 pub returns-in_ok-report_document-in-Some-clause-reported :
     goal.returns-in_ok-report_document-in-Some-clause-reported

@@ -100,6 +100,3 @@ fn refuse<O: Write, F: Write>(
         }
     }
 }
-
-#[cfg(test)]
-mod tests;

@@ -1,4 +1,4 @@
-use super::*;
+use gqlvalidate_commands::command::run;
 use std::alloc::Global;
 use std::io::ErrorKind;
 use std::process::Abort;

@@ -1,0 +1,19 @@
+//! What the program `gqlvalidate` does: its commands over files, standard input and output, and its exit statuses.
+#![tactic(auto)]
+
+mod accounts;
+mod check;
+pub mod command;
+mod excerpts;
+mod faults;
+mod github_format;
+mod one_document;
+mod presentations;
+mod questions;
+mod schema_files;
+mod schemas;
+mod serve;
+mod sources;
+pub mod statuses;
+mod syntax;
+mod text_format;
