@@ -1,4 +1,4 @@
--- Executable documents that are the same but for places in memory. Specification: 2.2 Document to 2.8 Fragments.
+-- Executable documents that are the same but for places in memory and the seeds of their maps. Specification: 2.2 Document to 2.8 Fragments.
 use Rattle.std.specs.Prelude.{◌≡◌, List, [], ◌∷◌, Option, None, Some, option_to_list}
 use Rattle.std.specs.List.{AllZip}
 use Rattle.graphql_nodes.specs.Names.{NameText}

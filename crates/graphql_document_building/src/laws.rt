@@ -21,7 +21,7 @@ pub fn said_document_is_built()
 {}
 
 /// A tree says one document at most, against a schema or without one: two that it says are the same, part by part, but for
-/// places in memory.
+/// places in memory and the seeds of their maps.
 ///
 /// Specification: 2.2 Document.
 pub fn said_documents_are_the_same()

@@ -20,8 +20,8 @@ const LEVELS: usize = 100;
 /// operation's set, and of the set of each field on the way down, is that of one field alone. Then all fields can merge
 /// (`lone_fields_can_merge`), and nothing has to be put together or compared.
 ///
-/// At most `most` fields are listed, and at most 100 sets below one another are gone into; where that does not do, the answer is
-/// no. The only error is a failed allocation.
+/// At most `most` fields are listed, and at most 100 sets below one another are gone into. Where an operation has more of either,
+/// the answer is no. The only error is a failed allocation.
 ///
 /// Specification: 5.3.2 Field Selection Merging.
 pub fn have_lone_fields(

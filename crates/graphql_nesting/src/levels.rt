@@ -1,6 +1,6 @@
 //! A document together with the levels of its fragments, for walks that ask for these.
 
-ghost use Rattle.std.specs.Prelude.{◌≡◌, IfOk, IfSome, IsFalse, IsNone, IsTrue, Some};
+ghost use Rattle.std.specs.Prelude.{◌≡◌, IfOk, IfSome, IsFalse, IsNone, IsSome, IsTrue, Some};
 ghost use Rattle.graphql_nodes.specs.declared.nodes.Node.{Node};
 ghost use Rattle.graphql_documents.specs.Selections.{fragments_of};
 ghost use Rattle.graphql_documents.specs.declared.documents.executables.Fragment.{Fragment};
@@ -60,6 +60,7 @@ impl<'doc> DocumentLevels<'doc> {
         ensures endless { IsNone result → IsTrue (levels_are_found self.now) → (d : Node Fragment) →
             fragments_of self.now.document.now name.now ≡ Some d →
             ∥ IsEndless (fragments_of self.now.document.now) d.value.value.selection_set ∥₁ }
+        ensures known { IsSome result → IsTrue (levels_are_found self.now) × IsSome (fragments_of self.now.document.now name.now) }
     {
         let found = self.found.as_ref()?;
         let number = self.document.fragments.get_index_of(name)?;
