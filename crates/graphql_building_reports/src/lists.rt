@@ -3,6 +3,7 @@
 ghost use Rattle.std.specs.Prelude.{◌≡◌, ◌↔◌, IsTrue, [], ◌∷◌, ◌++◌, OnOk, OnErr};
 ghost use Rattle.std.specs.Slice.Iter.{iter_rest};
 ghost use Rattle.graphql_building_reports.specs.Checks.{allocator_of, hash_seed_of, reports_of};
+ghost use Rattle.graphql_hash_seeds.specs.Seeds.{seed_of};
 
 use crate::rules::BuildingRule;
 use graphql_hash_seeds::HashSeed;
@@ -25,11 +26,11 @@ pub struct BuildingReportList {
 }
 
 impl BuildingReportList {
-    /// A list without reports, which grows by this allocator. Names are hashed by the seed of those that nobody chose to
-    /// collide.
+    /// A list without reports, which grows by this allocator. Names are hashed by the default seed.
     pub fn new(alloc: Global) -> BuildingReportList
         ensures empty { reports_of result ≡ [] }
         ensures allocator { allocator_of result ≡ alloc }
+        ensures hash_seed { hash_seed_of result ≡ seed_of 0 }
     {
         BuildingReportList::with_hash_seed(alloc, HashSeed::default())
     }
@@ -60,7 +61,8 @@ impl BuildingReportList {
         self.hash_seed
     }
 
-    /// Adds a report at the end. Where the allocation fails, the list stays as it was, and the report is dropped.
+    /// Adds a report at the end. Where the allocation fails, the list stays as it was, and the report is dropped. The list
+    /// keeps its allocator and its seed.
     pub fn push(
         &mut self,
         location: Option<SourceSpan>,
@@ -68,6 +70,8 @@ impl BuildingReportList {
     ) -> Result<(), ValidationError>
         ensures ok { OnOk result (reports_of self.new ≡ reports_of self.old ++ record { location = location; rule = rule } ∷ []) }
         ensures err { OnErr result (reports_of self.new ≡ reports_of self.old) }
+        ensures allocator { allocator_of self.new ≡ allocator_of self.old }
+        ensures hash_seed { hash_seed_of self.new ≡ hash_seed_of self.old }
     {
         self.reports.push(BuildingReport { location, rule })?;
         Ok(())

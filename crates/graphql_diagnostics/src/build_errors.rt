@@ -4,7 +4,7 @@ ghost use Rattle.graphql_diagnostics.specs.Messages.{build_error_name};
 use graphql_coordinates::{FieldArgumentCoordinate, TypeAttributeCoordinate};
 use graphql_documents::documents::type_references::Type;
 use graphql_documents::documents::values::Value;
-use graphql_nodes::{Name, OperationType, SourceSpan};
+use graphql_nodes::{Name, Node, OperationType, SourceSpan};
 use std::fmt;
 
 /// A broken rule of subscriptions, of `@defer` or of merging fields.
@@ -76,11 +76,11 @@ pub enum BuildError {
         original_location: Option<SourceSpan>,
         original_coordinate: FieldArgumentCoordinate,
         /// None where the field lacks the argument.
-        original_value: Option<Value>,
+        original_value: Option<Node<Value>>,
         conflicting_location: Option<SourceSpan>,
         conflicting_coordinate: FieldArgumentCoordinate,
         /// None where the field lacks the argument.
-        conflicting_value: Option<Value>,
+        conflicting_value: Option<Node<Value>>,
     },
     /// Two fields with one response key have types of different shapes. Reported at the later field.
     ///

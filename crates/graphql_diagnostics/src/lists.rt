@@ -22,12 +22,13 @@ impl DiagnosticList {
     ghost use Rattle.std.specs.Prelude.{◌≡◌, ◌↔◌, IsTrue, [], ◌∷◌, ◌++◌, length, OnOk, OnErr};
     ghost use Rattle.std.specs.Slice.Iter.{iter_rest};
     ghost use Rattle.graphql_diagnostics.specs.Diagnostics.{entries, allocator_of, hash_seed_of};
+    ghost use Rattle.graphql_hash_seeds.specs.Seeds.{seed_of};
 
-    /// A list of no reports, which grows by this allocator. Names are hashed by the seed of those that nobody chose to
-    /// collide.
+    /// A list of no reports, which grows by this allocator. Names are hashed by the default seed.
     pub fn new(alloc: Global) -> DiagnosticList
         ensures empty { entries result ≡ [] }
         ensures allocator { allocator_of result ≡ alloc }
+        ensures hash_seed { hash_seed_of result ≡ seed_of 0 }
     {
         DiagnosticList::with_hash_seed(alloc, HashSeed::default())
     }

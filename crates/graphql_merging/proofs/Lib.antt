@@ -2,7 +2,6 @@ pub mod ArgumentComparisonLemmas
 pub mod ByNameLemmas
 pub mod ConflictLemmas
 pub mod ConflictReportLemmas
-pub mod CopyLemmas
 pub mod DisagreementLemmas
 pub mod ExpansionSizeLemmas
 pub mod ExpansionStepLemmas

@@ -10,12 +10,11 @@ ghost use Rattle.graphql_merging.specs.Conflicts.{ConflictEntryReport};
 ghost use Rattle.graphql_merging.specs.FieldSelections.{selection_of};
 
 use super::comparisons::FieldConflict;
-use super::copies::copy_of_argument;
 use super::field_selections::FieldSelection;
 use graphql_coordinates::{FieldArgumentCoordinate, TypeAttributeCoordinate};
 use graphql_diagnostics::{BuildError, Details, DiagnosticList};
-use graphql_documents::documents::{Type, Value};
-use graphql_nodes::{Name, ValidationError};
+use graphql_documents::documents::{Field, Type, Value, argument_named};
+use graphql_nodes::{Name, Node, ValidationError};
 use std::alloc::Global;
 
 /// Reports that the types of two fields have different shapes. The only error is a failed allocation; the list is
@@ -148,11 +147,11 @@ fn given_argument(
     alloc: Global,
     field: FieldSelection,
     argument: &Name,
-) -> Result<(FieldArgumentCoordinate, Option<Value>), ValidationError>
+) -> Result<(FieldArgumentCoordinate, Option<Node<Value>>), ValidationError>
     ensures coordinate { IfOk result (λ given. given.0 ≡ record { ty = field.entry.parent_type.now; field = field.entry.field.now.value.value.name; argument = argument.now }) }
     ensures value { IfOk result (λ given. IsArgumentValue argument.now field.entry.field.now.value.value given.1) }
 {
-    let value = copy_of_argument(alloc, &field.field.value, argument)?;
+    let value = value_of_argument(&field.field.value, argument)?;
     let coordinate = FieldArgumentCoordinate::new(
         alloc,
         field.parent_type,
@@ -160,4 +159,14 @@ fn given_argument(
         argument,
     )?;
     Ok((coordinate, value))
+}
+
+/// The value of the first argument with this name, shared with the field, if the field has one.
+fn value_of_argument(field: &Field, name: &Name) -> Result<Option<Node<Value>>, ValidationError>
+    ensures { IfOk result (λ value. IsArgumentValue name.now field.now value) }
+{
+    match argument_named(&field.arguments, name) {
+        Some(argument) => Ok(Some(argument.value.value.clone()?)),
+        None => Ok(None),
+    }
 }

@@ -6,7 +6,6 @@ pub mod bounded;
 pub mod comparisons;
 pub mod conflict_reports;
 mod conflicts;
-mod copies;
 mod examined;
 pub mod expansion;
 mod field_lists;

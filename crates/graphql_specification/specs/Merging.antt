@@ -2,9 +2,10 @@
 use Rattle.std.specs.Prelude.{◌≡◌, Contains, List, [], ◌∷◌, IsTrue, Some, is_some, ◌++◌, Option, IsSomeAnd, IsNone, None, All}
 use Rattle.std.specs.List.{AllZip}
 use Rattle.graphql_nodes.specs.Names.{NameText, SameName, DifferentNames}
+use Rattle.graphql_nodes.specs.Nodes.{SameNode}
 use Rattle.graphql_documents.specs.Selections.{Fragments, Includes, selections_of, response_key}
 use Rattle.graphql_documents.specs.Schemas.{is_composite, type_definition}
-use Rattle.graphql_documents.specs.Values.{SameValue, IsCopy}
+use Rattle.graphql_documents.specs.Values.{SameValue}
 use Rattle.graphql_documents.specs.Directives.{argument_named}
 use Rattle.graphql_documents.specs.Contents.{SameField}
 use Rattle.graphql_documents.specs.TypeReferences.{IsTypeCopy}
@@ -145,9 +146,9 @@ pub record HaveDifferentFields (x y : FieldSelection) (alias : NameText) (origin
   pub conflicting_is : conflicting ≡ coordinate_of y
   pub at_is : at ≡ y.field.location
 
--- the value of the first argument with this name, as a diagnostic has it: none where it is not given
-abbrev pub IsArgumentValue : NameText → Field → Option Value → Type 0
-IsArgumentValue name f (Some copy) = IsSomeAnd (argument_named name f.arguments.items) (λ a. IsCopy a.value.value.value.value.value copy)
+-- the value of the first argument with this name, as a diagnostic shares it: none where it is not given
+abbrev pub IsArgumentValue : NameText → Field → Option (Node Value) → Type 0
+IsArgumentValue name f (Some value) = IsSomeAnd (argument_named name f.arguments.items) (λ a. SameNode a.value.value.value value)
 IsArgumentValue name f None = IsNone (argument_named name f.arguments.items)
 
 -- the two fields have the same value for an argument, or neither has one
@@ -170,7 +171,7 @@ pub record DisagreeFirstOn (argument : NameText) (a b : Field) : Type 0 where
 
 -- two fields of one name and key have different arguments: reported at the second, with the values of the first
 -- such argument
-pub record HaveDifferentArguments (x y : FieldSelection) (alias : NameText) (original_location : Option SourceSpan) (original : FieldArgumentCoordinate) (original_value : Option Value) (conflicting_location : Option SourceSpan) (conflicting : FieldArgumentCoordinate) (conflicting_value : Option Value) (at : Option SourceSpan) : Type 0 where
+pub record HaveDifferentArguments (x y : FieldSelection) (alias : NameText) (original_location : Option SourceSpan) (original : FieldArgumentCoordinate) (original_value : Option (Node Value)) (conflicting_location : Option SourceSpan) (conflicting : FieldArgumentCoordinate) (conflicting_value : Option (Node Value)) (at : Option SourceSpan) : Type 0 where
   pub argument : NameText
   pub same_field : SameName x.field.value.value.name y.field.value.value.name
   pub differ : DisagreeFirstOn argument x.field.value.value y.field.value.value
