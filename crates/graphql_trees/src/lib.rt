@@ -17,7 +17,7 @@ pub use executable::{
     SelectionSet, VariableDefinition,
 };
 pub use type_system::{
-    DirectiveDefinition, EnumTypeDefinition, EnumValueDefinition, FieldDefinition,
+    Description, DirectiveDefinition, EnumTypeDefinition, EnumValueDefinition, FieldDefinition,
     InputObjectTypeDefinition, InputValueDefinition, InterfaceTypeDefinition, ObjectTypeDefinition,
     PlacedDirectiveLocation, RootOperationTypeDefinition, ScalarTypeDefinition, SchemaDefinition,
     TypeDefinition, UnionTypeDefinition,

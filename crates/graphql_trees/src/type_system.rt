@@ -2,16 +2,25 @@
 
 use crate::directives::Directive;
 use crate::types::TypeReference;
-use crate::values::{StringLiteral, Value};
+use crate::values::Value;
 use graphql_nodes::{DirectiveLocation, Name, OperationType, SourceSpan};
 use sqlite_items::{Boxed, Items};
+
+/// The description of a definition: where its string is in the text, quotes included. Whoever wants the
+/// value asks for the `string_value` of that part of the text.
+///
+/// Specification: 3.2 Type System Descriptions.
+#[derive(Clone, Copy, Debug, PartialEq, Eq)]
+pub struct Description {
+    pub span: SourceSpan,
+}
 
 /// The definition of a schema, or an extension of it.
 ///
 /// Specification: 3.3 Schema.
 #[derive(Drop)]
 pub struct SchemaDefinition {
-    pub description: Option<Boxed<StringLiteral>>,
+    pub description: Option<Description>,
     pub directives: Items<Directive>,
     pub root_operations: Items<RootOperationTypeDefinition>,
     pub span: SourceSpan,
@@ -43,7 +52,7 @@ pub enum TypeDefinition {
 /// Specification: 3.5 Scalars.
 #[derive(Drop)]
 pub struct ScalarTypeDefinition {
-    pub description: Option<Boxed<StringLiteral>>,
+    pub description: Option<Description>,
     pub name: Name,
     pub directives: Items<Directive>,
     pub span: SourceSpan,
@@ -52,7 +61,7 @@ pub struct ScalarTypeDefinition {
 /// Specification: 3.6 Objects.
 #[derive(Drop)]
 pub struct ObjectTypeDefinition {
-    pub description: Option<Boxed<StringLiteral>>,
+    pub description: Option<Description>,
     pub name: Name,
     pub interfaces: Items<Name>,
     pub directives: Items<Directive>,
@@ -63,7 +72,7 @@ pub struct ObjectTypeDefinition {
 /// Specification: 3.7 Interfaces.
 #[derive(Drop)]
 pub struct InterfaceTypeDefinition {
-    pub description: Option<Boxed<StringLiteral>>,
+    pub description: Option<Description>,
     pub name: Name,
     pub interfaces: Items<Name>,
     pub directives: Items<Directive>,
@@ -74,7 +83,7 @@ pub struct InterfaceTypeDefinition {
 /// Specification: 3.8 Unions.
 #[derive(Drop)]
 pub struct UnionTypeDefinition {
-    pub description: Option<Boxed<StringLiteral>>,
+    pub description: Option<Description>,
     pub name: Name,
     pub directives: Items<Directive>,
     pub members: Items<Name>,
@@ -84,7 +93,7 @@ pub struct UnionTypeDefinition {
 /// Specification: 3.9 Enums.
 #[derive(Drop)]
 pub struct EnumTypeDefinition {
-    pub description: Option<Boxed<StringLiteral>>,
+    pub description: Option<Description>,
     pub name: Name,
     pub directives: Items<Directive>,
     pub values: Items<EnumValueDefinition>,
@@ -94,7 +103,7 @@ pub struct EnumTypeDefinition {
 /// Specification: 3.10 Input Objects.
 #[derive(Drop)]
 pub struct InputObjectTypeDefinition {
-    pub description: Option<Boxed<StringLiteral>>,
+    pub description: Option<Description>,
     pub name: Name,
     pub directives: Items<Directive>,
     pub fields: Items<InputValueDefinition>,
@@ -106,7 +115,7 @@ pub struct InputObjectTypeDefinition {
 /// Specification: 3.6 Objects.
 #[derive(Drop)]
 pub struct FieldDefinition {
-    pub description: Option<Boxed<StringLiteral>>,
+    pub description: Option<Description>,
     pub name: Name,
     pub arguments: Items<InputValueDefinition>,
     pub type_reference: TypeReference,
@@ -119,7 +128,7 @@ pub struct FieldDefinition {
 /// Specification: 3.6.1 Field Arguments, 3.10 Input Objects.
 #[derive(Drop)]
 pub struct InputValueDefinition {
-    pub description: Option<Boxed<StringLiteral>>,
+    pub description: Option<Description>,
     pub name: Name,
     pub type_reference: TypeReference,
     pub default_value: Option<Boxed<Value>>,
@@ -130,7 +139,7 @@ pub struct InputValueDefinition {
 /// Specification: 3.9 Enums.
 #[derive(Drop)]
 pub struct EnumValueDefinition {
-    pub description: Option<Boxed<StringLiteral>>,
+    pub description: Option<Description>,
     pub name: Name,
     pub directives: Items<Directive>,
     pub span: SourceSpan,
@@ -141,7 +150,7 @@ pub struct EnumValueDefinition {
 /// Specification: 3.13 Directives.
 #[derive(Drop)]
 pub struct DirectiveDefinition {
-    pub description: Option<Boxed<StringLiteral>>,
+    pub description: Option<Description>,
     pub name: Name,
     pub arguments: Items<InputValueDefinition>,
     pub repeatable: bool,

@@ -1,7 +1,7 @@
 -- A reader of the type system that may go deeper answers the same, but where the other went too deep.
 use Rattle.std.proofs.Common.{ℕ, zero, suc, true, Option, None}
 use Rattle.graphql_tokens.specs.declared.token.TokenKind.TheVariants.{LeftBrace}
-use Rattle.graphql_trees.specs.declared.values.StringLiteral.{StringLiteral}
+use Rattle.graphql_trees.specs.declared.type_system.Description.{Description}
 use Rattle.graphql_syntax.specs.Reading.{Reader}
 use Rattle.graphql_syntax.proofs.Deepening.{Grows, grows_itself, grows_sequence, grows_choose, grows_starting, grows_some, grows_from_nothing, type_grows, directives_grow, default_value_grows}
 use Rattle.graphql_type_system_syntax.specs.BodyReaders.{in_braces_with, in_braces_at, perhaps_in_braces_at}
@@ -58,7 +58,7 @@ unfolding root_operation_at
 root_operation_grows depth = grows_itself _
 
 -- schemas
-schema_grows : (depth start : ℕ) (description : Option StringLiteral) → Grows (schema_behind depth start description) (schema_behind (suc depth) start description)
+schema_grows : (depth start : ℕ) (description : Option Description) → Grows (schema_behind depth start description) (schema_behind (suc depth) start description)
 unfolding schema_behind
 schema_grows depth start description =
     grows_sequence _ _ _ _ (grows_itself _) (λ word. grows_sequence _ _ _ _ (directives_grow true depth) (λ directives.
@@ -71,47 +71,47 @@ schema_added_grows depth start =
     grows_sequence _ _ _ _ (perhaps_braces_grow root_operation_at root_operation_grows depth) (λ root_operations. grows_itself _)))
 
 -- types
-scalar_grows : (depth start : ℕ) (description : Option StringLiteral) → Grows (scalar_behind depth start description) (scalar_behind (suc depth) start description)
+scalar_grows : (depth start : ℕ) (description : Option Description) → Grows (scalar_behind depth start description) (scalar_behind (suc depth) start description)
 unfolding scalar_behind
 scalar_grows depth start description =
     grows_sequence _ _ _ _ (grows_itself _) (λ word. grows_sequence _ _ _ _ (grows_itself _) (λ name.
     grows_sequence _ _ _ _ (directives_grow true depth) (λ directives. grows_itself _)))
 
-object_grows : (depth start : ℕ) (description : Option StringLiteral) → Grows (object_behind depth start description) (object_behind (suc depth) start description)
+object_grows : (depth start : ℕ) (description : Option Description) → Grows (object_behind depth start description) (object_behind (suc depth) start description)
 unfolding object_behind
 object_grows depth start description =
     grows_sequence _ _ _ _ (grows_itself _) (λ word. grows_sequence _ _ _ _ (grows_itself _) (λ name. grows_sequence _ _ _ _ (grows_itself _) (λ interfaces.
     grows_sequence _ _ _ _ (directives_grow true depth) (λ directives.
     grows_sequence _ _ _ _ (perhaps_braces_grow field_definition_at field_grows depth) (λ fields. grows_itself _)))))
 
-interface_grows : (depth start : ℕ) (description : Option StringLiteral) → Grows (interface_behind depth start description) (interface_behind (suc depth) start description)
+interface_grows : (depth start : ℕ) (description : Option Description) → Grows (interface_behind depth start description) (interface_behind (suc depth) start description)
 unfolding interface_behind
 interface_grows depth start description =
     grows_sequence _ _ _ _ (grows_itself _) (λ word. grows_sequence _ _ _ _ (grows_itself _) (λ name. grows_sequence _ _ _ _ (grows_itself _) (λ interfaces.
     grows_sequence _ _ _ _ (directives_grow true depth) (λ directives.
     grows_sequence _ _ _ _ (perhaps_braces_grow field_definition_at field_grows depth) (λ fields. grows_itself _)))))
 
-union_grows : (depth start : ℕ) (description : Option StringLiteral) → Grows (union_behind depth start description) (union_behind (suc depth) start description)
+union_grows : (depth start : ℕ) (description : Option Description) → Grows (union_behind depth start description) (union_behind (suc depth) start description)
 unfolding union_behind
 union_grows depth start description =
     grows_sequence _ _ _ _ (grows_itself _) (λ word. grows_sequence _ _ _ _ (grows_itself _) (λ name.
     grows_sequence _ _ _ _ (directives_grow true depth) (λ directives. grows_itself _)))
 
-enum_grows : (depth start : ℕ) (description : Option StringLiteral) → Grows (enum_behind depth start description) (enum_behind (suc depth) start description)
+enum_grows : (depth start : ℕ) (description : Option Description) → Grows (enum_behind depth start description) (enum_behind (suc depth) start description)
 unfolding enum_behind
 enum_grows depth start description =
     grows_sequence _ _ _ _ (grows_itself _) (λ word. grows_sequence _ _ _ _ (grows_itself _) (λ name.
     grows_sequence _ _ _ _ (directives_grow true depth) (λ directives.
     grows_sequence _ _ _ _ (perhaps_braces_grow enum_value_definition_at enum_value_grows depth) (λ values. grows_itself _))))
 
-input_object_grows : (depth start : ℕ) (description : Option StringLiteral) → Grows (input_object_behind depth start description) (input_object_behind (suc depth) start description)
+input_object_grows : (depth start : ℕ) (description : Option Description) → Grows (input_object_behind depth start description) (input_object_behind (suc depth) start description)
 unfolding input_object_behind
 input_object_grows depth start description =
     grows_sequence _ _ _ _ (grows_itself _) (λ word. grows_sequence _ _ _ _ (grows_itself _) (λ name.
     grows_sequence _ _ _ _ (directives_grow true depth) (λ directives.
     grows_sequence _ _ _ _ (perhaps_braces_grow input_value_definition_at input_value_grows depth) (λ fields. grows_itself _))))
 
-type_definition_grows : (depth start : ℕ) (description : Option StringLiteral) → Grows (type_definition_behind depth start description) (type_definition_behind (suc depth) start description)
+type_definition_grows : (depth start : ℕ) (description : Option Description) → Grows (type_definition_behind depth start description) (type_definition_behind (suc depth) start description)
 unfolding type_definition_behind
 type_definition_grows depth start description =
     grows_choose _ _ _ _ _ (grows_sequence _ _ _ _ (scalar_grows depth start description) (λ x. grows_itself _))
@@ -132,7 +132,7 @@ type_extension_grows depth start =
     (grows_choose _ _ _ _ _ (grows_sequence _ _ _ _ (grows_sequence _ _ _ _ (input_object_grows depth start None) (λ x. grows_itself _)) (λ x. grows_itself _)) (grows_itself _))))))
 
 -- definitions
-directive_definition_grows : (depth start : ℕ) (description : Option StringLiteral) → Grows (directive_behind depth start description) (directive_behind (suc depth) start description)
+directive_definition_grows : (depth start : ℕ) (description : Option Description) → Grows (directive_behind depth start description) (directive_behind (suc depth) start description)
 unfolding directive_behind
 directive_definition_grows depth start description =
     grows_sequence _ _ _ _ (grows_itself _) (λ word. grows_sequence _ _ _ _ (grows_itself _) (λ at. grows_sequence _ _ _ _ (grows_itself _) (λ name.

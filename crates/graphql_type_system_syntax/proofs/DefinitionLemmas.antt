@@ -1,7 +1,7 @@
 -- Definitions and extensions of the type system are read by the grammar, both ways, and locally.
 use Rattle.std.proofs.Common.{◌≡◌, ℕ, ◌<◌, true, inl, inr, length, Ok, Option, refl, subst, ◌∙◌}
 use Rattle.graphql_trees.specs.declared.documents.Definition.{Definition}
-use Rattle.graphql_trees.specs.declared.values.StringLiteral.{StringLiteral}
+use Rattle.graphql_trees.specs.declared.type_system.Description.{Description}
 use Rattle.graphql_syntax.specs.declared.keywords.Keyword.TheVariants as keyword
 use Rattle.graphql_syntax.specs.Inputs.{Input, next_passes, sees_keyword}
 use Rattle.graphql_syntax.specs.Many.{Perhaps}
@@ -72,7 +72,7 @@ definition_moves depth _ _ _ (IsTypeSystemDefinition.directive i j x is) = direc
 definition_moves depth _ _ _ (IsTypeSystemDefinition.type_definition i j x is) = (type_read depth i x j is).moves
 
 -- a string begins it, or what is behind the description
-described_or : (i : Input) (x : Option StringLiteral) (m : Input) → Perhaps IsDescription i x m → next_passes begins_type_system_definition m ≡ true →
+described_or : (i : Input) (x : Option Description) (m : Input) → Perhaps IsDescription i x m → next_passes begins_type_system_definition m ≡ true →
     next_passes begins_type_system_definition i ≡ true
 described_or _ _ _ (Perhaps.absent i) e = e
 described_or _ _ _ (Perhaps.present i m x is) e = string_begins i is.takes.comes

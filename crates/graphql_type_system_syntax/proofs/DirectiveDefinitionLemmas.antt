@@ -9,7 +9,7 @@ use Rattle.graphql_trees.specs.declared.type_system.DirectiveDefinition.{Directi
 use Rattle.graphql_nodes.specs.declared.directive_locations.DirectiveLocation.{DirectiveLocation}
 use Rattle.graphql_nodes.specs.declared.directive_locations.DirectiveLocation.TheVariants as location
 use Rattle.graphql_trees.specs.declared.type_system.PlacedDirectiveLocation.{PlacedDirectiveLocation}
-use Rattle.graphql_trees.specs.declared.values.StringLiteral.{StringLiteral}
+use Rattle.graphql_trees.specs.declared.type_system.Description.{Description}
 use Rattle.graphql_syntax.specs.declared.keywords.Keyword.TheVariants as keyword
 use Rattle.graphql_syntax.specs.declared.refusals.Refusal.{Refusal}
 use Rattle.graphql_syntax.specs.Inputs.{same_kind, Input, next_text, start_of, sees, sees_keyword}
@@ -127,7 +127,7 @@ repeatable_local depth =
     local_choose depth _ _ _ (local_sequence depth _ _ (local_take_one depth _ _ (keyword_is_plain keyword.Repeatable)) (λ word. local_answer depth _)) (local_answer depth _)
 
 -- the definition of a directive, behind its description
-pub directive_sound : (depth : ℕ) (i m : Input) (description : Option StringLiteral) (r : DirectiveDefinition × Input) → Perhaps IsDescription i description m →
+pub directive_sound : (depth : ℕ) (i m : Input) (description : Option Description) (r : DirectiveDefinition × Input) → Perhaps IsDescription i description m →
     directive_behind depth (start_of i) description m ≡ Ok r → IsDirectiveDefinition depth i r.0 r.1
 unfolding directive_behind
 directive_sound depth i m description r described e =
@@ -208,7 +208,7 @@ directive_moves depth i x j is =
       separated_moves VerticalBar IsDirectiveLocation _ location_plain _ _ _ is.locations,
     )
 
-pub directive_local : (depth start : ℕ) (description : Option StringLiteral) → Local depth (directive_behind depth start description)
+pub directive_local : (depth start : ℕ) (description : Option Description) → Local depth (directive_behind depth start description)
 unfolding directive_behind
 directive_local depth start description =
     local_sequence depth _ _ (local_take_one depth _ _ (keyword_is_plain keyword.Directive)) (λ word.

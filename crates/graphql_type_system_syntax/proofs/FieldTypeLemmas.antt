@@ -5,7 +5,7 @@ use Rattle.graphql_tokens.specs.declared.token.TokenKind.TheVariants.{Ampersand}
 use Rattle.graphql_trees.specs.declared.type_system.InterfaceTypeDefinition.{InterfaceTypeDefinition}
 use Rattle.graphql_trees.specs.declared.type_system.ObjectTypeDefinition.{ObjectTypeDefinition}
 use Rattle.graphql_trees.specs.declared.type_system.ScalarTypeDefinition.{ScalarTypeDefinition}
-use Rattle.graphql_trees.specs.declared.values.StringLiteral.{StringLiteral}
+use Rattle.graphql_trees.specs.declared.type_system.Description.{Description}
 use Rattle.graphql_syntax.specs.declared.keywords.Keyword.TheVariants as keyword
 use Rattle.graphql_syntax.specs.declared.refusals.Refusal.{Refusal}
 use Rattle.graphql_syntax.specs.Directives.{AreDirectives}
@@ -26,7 +26,7 @@ use Rattle.graphql_type_system_syntax.proofs.FieldLemmas.{field_sound, field_mov
 use Rattle.graphql_type_system_syntax.proofs.MemberLemmas.{DefinitionEnds}
 
 -- scalars
-pub record ScalarBehind (depth start : ℕ) (description : Option StringLiteral) (m : Input) (x : ScalarTypeDefinition) (j : Input) : Type 0 where
+pub record ScalarBehind (depth start : ℕ) (description : Option Description) (m : Input) (x : ScalarTypeDefinition) (j : Input) : Type 0 where
   pub behind_word : Input
   pub behind_name : Input
   pub word : TakesKeyword keyword.Scalar m behind_word
@@ -35,7 +35,7 @@ pub record ScalarBehind (depth start : ℕ) (description : Option StringLiteral)
   pub same_description : x.description ≡ description
   pub span : x.span ≡ span_from start j
 
-pub scalar_behind_sound : (depth start : ℕ) (description : Option StringLiteral) (m : Input) (r : ScalarTypeDefinition × Input) → scalar_behind depth start description m ≡ Ok r →
+pub scalar_behind_sound : (depth start : ℕ) (description : Option Description) (m : Input) (r : ScalarTypeDefinition × Input) → scalar_behind depth start description m ≡ Ok r →
     ScalarBehind depth start description m r.0 r.1
 unfolding scalar_behind
 scalar_behind_sound depth start description m r e =
@@ -54,7 +54,7 @@ scalar_behind_sound depth start description m r e =
       span = refl;
     })
 
-pub scalar_behind_read : (depth start : ℕ) (description : Option StringLiteral) (m : Input) (x : ScalarTypeDefinition) (j : Input) → ScalarBehind depth start description m x j → DefinitionEnds j →
+pub scalar_behind_read : (depth start : ℕ) (description : Option Description) (m : Input) (x : ScalarTypeDefinition) (j : Input) → ScalarBehind depth start description m x j → DefinitionEnds j →
     scalar_behind depth start description m ≡ Ok (x, j)
 unfolding scalar_behind same_kind
 scalar_behind_read depth start description m x j is free =
@@ -62,18 +62,18 @@ scalar_behind_read depth start description m x j is free =
     (sequence_read _ _ is.behind_word x.name is.behind_name _ (name_read _ _ _ is.name)
     (sequence_read _ _ is.behind_name x.directives j _ (directives_read true depth _ _ _ is.directives (not_parenthesis j free.ends) (not_at j free.ends))
     (placed_read start (make description) j ∙ ap (λ d. ok (make d (span_from start j))) (sym is.same_description) ∙ ap (λ s. ok (make x.description s)) (sym is.span)))) where
-      make : Option StringLiteral → SourceSpan → ScalarTypeDefinition
+      make : Option Description → SourceSpan → ScalarTypeDefinition
       make description span = record { description = description; name = x.name; directives = x.directives; span = span }
 
       ok : ScalarTypeDefinition → Result (ScalarTypeDefinition × Input) Refusal
       ok y = Ok (y, j)
 
-pub scalar_behind_moves : (depth start : ℕ) (description : Option StringLiteral) (m : Input) (x : ScalarTypeDefinition) (j : Input) → ScalarBehind depth start description m x j →
+pub scalar_behind_moves : (depth start : ℕ) (description : Option Description) (m : Input) (x : ScalarTypeDefinition) (j : Input) → ScalarBehind depth start description m x j →
     length j.tokens < length m.tokens
 scalar_behind_moves depth start description m x j is =
     omega (arith, takes_less _ _ _ is.word, takes_less _ _ _ is.name.takes, directives_less true depth _ _ _ is.directives)
 
-pub scalar_behind_local : (depth start : ℕ) (description : Option StringLiteral) → Local depth (scalar_behind depth start description)
+pub scalar_behind_local : (depth start : ℕ) (description : Option Description) → Local depth (scalar_behind depth start description)
 unfolding scalar_behind
 scalar_behind_local depth start description =
     local_sequence depth _ _ (local_take_one depth _ _ (keyword_is_plain keyword.Scalar)) (λ word.
@@ -81,7 +81,7 @@ scalar_behind_local depth start description =
     local_sequence depth _ _ (directives_local true depth) (λ directives.
     local_sequence depth _ _ (local_place depth start) (λ span. local_answer depth _))))
 
-pub scalar_defined : (depth : ℕ) (i m : Input) (description : Option StringLiteral) (x : ScalarTypeDefinition) (j : Input) → Perhaps IsDescription i description m →
+pub scalar_defined : (depth : ℕ) (i m : Input) (description : Option Description) (x : ScalarTypeDefinition) (j : Input) → Perhaps IsDescription i description m →
     ScalarBehind depth (start_of i) description m x j → IsScalarTypeDefinition depth i x j
 scalar_defined depth i m description x j described is =
     record {
@@ -108,7 +108,7 @@ scalar_of depth i x j is =
     }
 
 -- objects
-pub record ObjectBehind (depth start : ℕ) (description : Option StringLiteral) (m : Input) (x : ObjectTypeDefinition) (j : Input) : Type 0 where
+pub record ObjectBehind (depth start : ℕ) (description : Option Description) (m : Input) (x : ObjectTypeDefinition) (j : Input) : Type 0 where
   pub behind_word : Input
   pub behind_name : Input
   pub behind_interfaces : Input
@@ -121,7 +121,7 @@ pub record ObjectBehind (depth start : ℕ) (description : Option StringLiteral)
   pub same_description : x.description ≡ description
   pub span : x.span ≡ span_from start j
 
-pub object_behind_sound : (depth start : ℕ) (description : Option StringLiteral) (m : Input) (r : ObjectTypeDefinition × Input) → object_behind depth start description m ≡ Ok r →
+pub object_behind_sound : (depth start : ℕ) (description : Option Description) (m : Input) (r : ObjectTypeDefinition × Input) → object_behind depth start description m ≡ Ok r →
     ObjectBehind depth start description m r.0 r.1
 unfolding object_behind
 object_behind_sound depth start description m r e =
@@ -146,7 +146,7 @@ object_behind_sound depth start description m r e =
       span = refl;
     })
 
-pub object_behind_read : (depth start : ℕ) (description : Option StringLiteral) (m : Input) (x : ObjectTypeDefinition) (j : Input) → ObjectBehind depth start description m x j → DefinitionEnds j →
+pub object_behind_read : (depth start : ℕ) (description : Option Description) (m : Input) (x : ObjectTypeDefinition) (j : Input) → ObjectBehind depth start description m x j → DefinitionEnds j →
     object_behind depth start description m ≡ Ok (x, j)
 unfolding object_behind same_kind
 object_behind_read depth start description m x j is free =
@@ -160,18 +160,18 @@ object_behind_read depth start description m x j is free =
     (sequence_read _ _ is.behind_interfaces x.directives is.behind_directives _ (directives_read true depth _ _ _ is.directives (not_parenthesis _ before) (not_at _ before))
     (sequence_read _ _ is.behind_directives x.fields j _ (perhaps_read IsFieldDefinition _ field_item depth _ _ _ is.fields)
     (placed_read start (make description) j ∙ ap (λ d. ok (make d (span_from start j))) (sym is.same_description) ∙ ap (λ s. ok (make x.description s)) (sym is.span)))))) where
-      make : Option StringLiteral → SourceSpan → ObjectTypeDefinition
+      make : Option Description → SourceSpan → ObjectTypeDefinition
       make description span = record { description = description; name = x.name; interfaces = x.interfaces; directives = x.directives; fields = x.fields; span = span }
 
       ok : ObjectTypeDefinition → Result (ObjectTypeDefinition × Input) Refusal
       ok y = Ok (y, j)
 
-pub object_behind_moves : (depth start : ℕ) (description : Option StringLiteral) (m : Input) (x : ObjectTypeDefinition) (j : Input) → ObjectBehind depth start description m x j →
+pub object_behind_moves : (depth start : ℕ) (description : Option Description) (m : Input) (x : ObjectTypeDefinition) (j : Input) → ObjectBehind depth start description m x j →
     length j.tokens < length m.tokens
 object_behind_moves depth start description m x j is =
     omega (arith, takes_less _ _ _ is.word, takes_less _ _ _ is.name.takes, interfaces_less _ _ _ is.interfaces, directives_less true depth _ _ _ is.directives, perhaps_less IsFieldDefinition field_moves depth _ _ _ is.fields)
 
-pub object_behind_local : (depth start : ℕ) (description : Option StringLiteral) → Local depth (object_behind depth start description)
+pub object_behind_local : (depth start : ℕ) (description : Option Description) → Local depth (object_behind depth start description)
 unfolding object_behind
 object_behind_local depth start description =
     local_sequence depth _ _ (local_take_one depth _ _ (keyword_is_plain keyword.«Type»)) (λ word.
@@ -181,7 +181,7 @@ object_behind_local depth start description =
     local_sequence depth _ _ (perhaps_local _ field_local field_reader_moves depth) (λ fields.
     local_sequence depth _ _ (local_place depth start) (λ span. local_answer depth _))))))
 
-pub object_defined : (depth : ℕ) (i m : Input) (description : Option StringLiteral) (x : ObjectTypeDefinition) (j : Input) → Perhaps IsDescription i description m →
+pub object_defined : (depth : ℕ) (i m : Input) (description : Option Description) (x : ObjectTypeDefinition) (j : Input) → Perhaps IsDescription i description m →
     ObjectBehind depth (start_of i) description m x j → IsObjectTypeDefinition depth i x j
 object_defined depth i m description x j described is =
     record {
@@ -216,7 +216,7 @@ object_of depth i x j is =
     }
 
 -- interfaces
-pub record InterfaceBehind (depth start : ℕ) (description : Option StringLiteral) (m : Input) (x : InterfaceTypeDefinition) (j : Input) : Type 0 where
+pub record InterfaceBehind (depth start : ℕ) (description : Option Description) (m : Input) (x : InterfaceTypeDefinition) (j : Input) : Type 0 where
   pub behind_word : Input
   pub behind_name : Input
   pub behind_interfaces : Input
@@ -229,7 +229,7 @@ pub record InterfaceBehind (depth start : ℕ) (description : Option StringLiter
   pub same_description : x.description ≡ description
   pub span : x.span ≡ span_from start j
 
-pub interface_behind_sound : (depth start : ℕ) (description : Option StringLiteral) (m : Input) (r : InterfaceTypeDefinition × Input) → interface_behind depth start description m ≡ Ok r →
+pub interface_behind_sound : (depth start : ℕ) (description : Option Description) (m : Input) (r : InterfaceTypeDefinition × Input) → interface_behind depth start description m ≡ Ok r →
     InterfaceBehind depth start description m r.0 r.1
 unfolding interface_behind
 interface_behind_sound depth start description m r e =
@@ -254,7 +254,7 @@ interface_behind_sound depth start description m r e =
       span = refl;
     })
 
-pub interface_behind_read : (depth start : ℕ) (description : Option StringLiteral) (m : Input) (x : InterfaceTypeDefinition) (j : Input) → InterfaceBehind depth start description m x j → DefinitionEnds j →
+pub interface_behind_read : (depth start : ℕ) (description : Option Description) (m : Input) (x : InterfaceTypeDefinition) (j : Input) → InterfaceBehind depth start description m x j → DefinitionEnds j →
     interface_behind depth start description m ≡ Ok (x, j)
 unfolding interface_behind same_kind
 interface_behind_read depth start description m x j is free =
@@ -268,18 +268,18 @@ interface_behind_read depth start description m x j is free =
     (sequence_read _ _ is.behind_interfaces x.directives is.behind_directives _ (directives_read true depth _ _ _ is.directives (not_parenthesis _ before) (not_at _ before))
     (sequence_read _ _ is.behind_directives x.fields j _ (perhaps_read IsFieldDefinition _ field_item depth _ _ _ is.fields)
     (placed_read start (make description) j ∙ ap (λ d. ok (make d (span_from start j))) (sym is.same_description) ∙ ap (λ s. ok (make x.description s)) (sym is.span)))))) where
-      make : Option StringLiteral → SourceSpan → InterfaceTypeDefinition
+      make : Option Description → SourceSpan → InterfaceTypeDefinition
       make description span = record { description = description; name = x.name; interfaces = x.interfaces; directives = x.directives; fields = x.fields; span = span }
 
       ok : InterfaceTypeDefinition → Result (InterfaceTypeDefinition × Input) Refusal
       ok y = Ok (y, j)
 
-pub interface_behind_moves : (depth start : ℕ) (description : Option StringLiteral) (m : Input) (x : InterfaceTypeDefinition) (j : Input) → InterfaceBehind depth start description m x j →
+pub interface_behind_moves : (depth start : ℕ) (description : Option Description) (m : Input) (x : InterfaceTypeDefinition) (j : Input) → InterfaceBehind depth start description m x j →
     length j.tokens < length m.tokens
 interface_behind_moves depth start description m x j is =
     omega (arith, takes_less _ _ _ is.word, takes_less _ _ _ is.name.takes, interfaces_less _ _ _ is.interfaces, directives_less true depth _ _ _ is.directives, perhaps_less IsFieldDefinition field_moves depth _ _ _ is.fields)
 
-pub interface_behind_local : (depth start : ℕ) (description : Option StringLiteral) → Local depth (interface_behind depth start description)
+pub interface_behind_local : (depth start : ℕ) (description : Option Description) → Local depth (interface_behind depth start description)
 unfolding interface_behind
 interface_behind_local depth start description =
     local_sequence depth _ _ (local_take_one depth _ _ (keyword_is_plain keyword.Interface)) (λ word.
@@ -289,7 +289,7 @@ interface_behind_local depth start description =
     local_sequence depth _ _ (perhaps_local _ field_local field_reader_moves depth) (λ fields.
     local_sequence depth _ _ (local_place depth start) (λ span. local_answer depth _))))))
 
-pub interface_defined : (depth : ℕ) (i m : Input) (description : Option StringLiteral) (x : InterfaceTypeDefinition) (j : Input) → Perhaps IsDescription i description m →
+pub interface_defined : (depth : ℕ) (i m : Input) (description : Option Description) (x : InterfaceTypeDefinition) (j : Input) → Perhaps IsDescription i description m →
     InterfaceBehind depth (start_of i) description m x j → IsInterfaceTypeDefinition depth i x j
 interface_defined depth i m description x j described is =
     record {

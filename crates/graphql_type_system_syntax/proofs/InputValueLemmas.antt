@@ -1,61 +1,72 @@
 -- Descriptions and definitions of input values are read by the grammar, both ways, and locally.
-use Rattle.std.proofs.Common.{◌≡◌, ℕ, ◌<◌, ◌≤◌, Bool, true, false, not, ◌||◌, inl, inr, List, length, Result, Ok, Option, refl, sym, subst, ◌∙◌, ap, arith}
+use Rattle.std.proofs.Common.{◌≡◌, ℕ, ◌<◌, ◌≤◌, Bool, true, false, not, ◌||◌, inl, inr, List, length, Result, Ok, Option, Some, refl, sym, subst, ◌∙◌, ap, arith}
 use Rattle.graphql_tokens.specs.declared.token.TokenKind.{TokenKind}
 use Rattle.graphql_tokens.specs.declared.token.TokenKind.TheVariants.{Name, Colon, Equals, ExclamationMark, LeftParenthesis, RightParenthesis}
 use Rattle.graphql_trees.specs.declared.type_system.InputValueDefinition.{InputValueDefinition}
-use Rattle.graphql_trees.specs.declared.values.StringLiteral.{StringLiteral}
+use Rattle.graphql_trees.specs.declared.type_system.Description.{Description}
 use Rattle.graphql_nodes.specs.declared.spans.SourceSpan.{SourceSpan}
 use Rattle.graphql_syntax.specs.declared.keywords.Keyword.{Keyword}
 use Rattle.graphql_syntax.specs.declared.production.More.TheVariants.{Until}
 use Rattle.graphql_syntax.specs.declared.refusals.Refusal.{Refusal}
-use Rattle.graphql_syntax.specs.Inputs.{same_kind, Input, is_string, next_passes, sees, TakesKeyword}
+use Rattle.graphql_syntax.specs.Inputs.{same_kind, Input, is_string, next_passes, sees, between, TakesKeyword}
 use Rattle.graphql_syntax.specs.Many.{Perhaps, PerhapsList}
 use Rattle.graphql_syntax.specs.Reading.{Reader, more_test}
 use Rattle.graphql_syntax.proofs.DirectiveLemmas.{directives_sound, directives_read, directives_less, directives_local, directives_apart}
-use Rattle.graphql_syntax.proofs.Locality.{Local, Moves, takes_less, local_sequence, local_choose, local_answer, local_place, local_starting, kind_is_plain}
+use Rattle.graphql_syntax.proofs.Locality.{Local, Moves, takes_less, local_sequence, local_choose, local_answer, local_place, local_starting, kind_is_plain, string_is_plain}
 use Rattle.graphql_syntax.proofs.TokenLocality.{local_take_one, local_name}
 use Rattle.graphql_syntax.proofs.NextLemmas.{by_kind, all_kinds, passes_so, passes_not, keyword_is_name, is_string_kind, goes_on, Ends, not_mark, not_parenthesis, not_at, not_equals, name_no_string, closing_parenthesis_ends, closing_stops}
 use Rattle.graphql_syntax.proofs.ReaderLemmas.{sequence_ok, sequence_read, choose_ok, choose_first, choose_second, starting_ok, starting_read, placed_is, placed_read, answer_is, answer_read, take_one_ok, take_one_read, name_ok, name_read}
 use Rattle.graphql_syntax.proofs.RepetitionLemmas.{Item, some_sound, some_read, some_moves, local_some}
 use Rattle.graphql_syntax.proofs.TypeLemmas.{type_sound, type_read, type_moves, type_local}
-use Rattle.graphql_syntax.proofs.ValueLemmas.{string_literal_sound, string_literal_read, string_literal_local}
 use Rattle.graphql_syntax.proofs.DefaultValueLemmas.{default_value_sound, default_value_read, default_value_less, default_value_apart, default_value_local}
 use Rattle.graphql_type_system_syntax.specs.InputValues.{IsDescription, IsInputValueDefinition, AreArgumentDefinitions}
-use Rattle.graphql_type_system_syntax.specs.InputValueReaders.{description_at, input_value_definition_at, argument_definitions_in, argument_definitions_at}
+use Rattle.graphql_type_system_syntax.specs.InputValueReaders.{described_at, description_at, input_value_definition_at, argument_definitions_in, argument_definitions_at}
 
 -- a keyword is no string
 pub keyword_no_string : (keyword : Keyword) (i j : Input) → TakesKeyword keyword i j → next_passes is_string i ≡ false
 keyword_no_string keyword i j is = name_no_string i (keyword_is_name keyword i is.comes)
 
 -- descriptions
-pub description_sound : (i : Input) (r : Option StringLiteral × Input) → description_at i ≡ Ok r → Perhaps IsDescription i r.0 r.1
-unfolding description_at
+abbrev described : SourceSpan → Option Description
+described span = Some (record { span = span })
+
+pub description_sound : (i : Input) (r : Option Description × Input) → description_at i ≡ Ok r → Perhaps IsDescription i r.0 r.1
+unfolding description_at described_at
 description_sound i r e = elim (choose_ok _ _ _ _ _ e) [
   | inl h ↦
-      let (x, ex, e1) = sequence_ok _ _ _ _ h.1 in
-      subst (λ (q : Option StringLiteral × Input). Perhaps IsDescription i q.0 q.1) (answer_is _ _ _ e1) (Perhaps.present i x.1 x.0 (string_literal_sound i x ex))
-  | inr h ↦ subst (λ (q : Option StringLiteral × Input). Perhaps IsDescription i q.0 q.1) (answer_is _ _ _ h.1) (Perhaps.absent i)
+      let (string, es, e1) = sequence_ok _ _ _ _ (starting_ok _ _ _ h.1) in
+      subst (λ (q : Option Description × Input). Perhaps IsDescription i q.0 q.1) (placed_is _ described _ _ e1)
+      (Perhaps.present i string.1 (record { span = between i string.1 }) (record { takes = take_one_ok _ _ _ _ es; span = refl }))
+  | inr h ↦ subst (λ (q : Option Description × Input). Perhaps IsDescription i q.0 q.1) (answer_is _ _ _ h.1) (Perhaps.absent i)
 ]
 
-pub description_read : (i : Input) (x : Option StringLiteral) (j : Input) → Perhaps IsDescription i x j → next_passes is_string j ≡ false → description_at i ≡ Ok (x, j)
-unfolding description_at
+pub description_read : (i : Input) (x : Option Description) (j : Input) → Perhaps IsDescription i x j → next_passes is_string j ≡ false → description_at i ≡ Ok (x, j)
+unfolding description_at described_at
 description_read _ _ _ (Perhaps.absent i) apart = choose_second _ _ _ i apart ∙ answer_read _ i
 description_read _ _ _ (Perhaps.present i j x is) apart =
-    choose_first _ _ _ i is.takes.comes ∙ sequence_read _ _ i x j _ (string_literal_read i x j is) (answer_read _ j)
+    choose_first _ _ _ i is.takes.comes ∙
+    starting_read _ i _ (sequence_read _ _ i tt j _ (take_one_read _ _ _ _ is.takes)
+    (placed_read _ described j ∙ ap (λ s. ok (described s)) (sym is.span))) where
+      ok : Option Description → Result (Option Description × Input) Refusal
+      ok y = Ok (y, j)
 
-pub description_less : (i : Input) (x : Option StringLiteral) (j : Input) → Perhaps IsDescription i x j → length j.tokens ≤ length i.tokens
+pub description_less : (i : Input) (x : Option Description) (j : Input) → Perhaps IsDescription i x j → length j.tokens ≤ length i.tokens
 description_less _ _ _ (Perhaps.absent i) = omega arith
 description_less _ _ _ (Perhaps.present i j x is) = omega (arith, takes_less _ _ _ is.takes)
 
 pub description_local : (depth : ℕ) → Local depth description_at
-unfolding description_at
-description_local depth = local_choose depth _ _ _ (local_sequence depth _ _ (string_literal_local depth) (λ x. local_answer depth _)) (local_answer depth _)
+unfolding description_at described_at
+description_local depth =
+    local_choose depth _ _ _
+    (local_starting depth _ (λ start. local_sequence depth _ _ (local_take_one depth _ _ string_is_plain) (λ string.
+    local_sequence depth _ _ (local_place depth start) (λ span. local_answer depth _))))
+    (local_answer depth _)
 
 -- a string, or a name: with such a token begins what may have a description
 abbrev pub begins_described : TokenKind → Bool
 begins_described k = same_kind k Name || is_string_kind k
 
-pub described_begins : (i : Input) (x : Option StringLiteral) (j : Input) → Perhaps IsDescription i x j → sees Name j ≡ true → next_passes (by_kind begins_described) i ≡ true
+pub described_begins : (i : Input) (x : Option Description) (j : Input) → Perhaps IsDescription i x j → sees Name j ≡ true → next_passes (by_kind begins_described) i ≡ true
 unfolding same_kind
 described_begins _ _ _ (Perhaps.absent i) e = passes_so (λ k. same_kind k Name) begins_described refl i e
 described_begins _ _ _ (Perhaps.present i j x is) e = passes_so is_string_kind begins_described refl i is.takes.comes

@@ -4,7 +4,7 @@ use Rattle.graphql_nodes.specs.declared.spans.SourceSpan.{SourceSpan}
 use Rattle.graphql_trees.specs.declared.type_system.EnumTypeDefinition.{EnumTypeDefinition}
 use Rattle.graphql_trees.specs.declared.type_system.InputObjectTypeDefinition.{InputObjectTypeDefinition}
 use Rattle.graphql_trees.specs.declared.type_system.UnionTypeDefinition.{UnionTypeDefinition}
-use Rattle.graphql_trees.specs.declared.values.StringLiteral.{StringLiteral}
+use Rattle.graphql_trees.specs.declared.type_system.Description.{Description}
 use Rattle.graphql_syntax.specs.declared.keywords.Keyword.TheVariants as keyword
 use Rattle.graphql_syntax.specs.declared.refusals.Refusal.{Refusal}
 use Rattle.graphql_syntax.specs.Directives.{AreDirectives}
@@ -24,7 +24,7 @@ use Rattle.graphql_type_system_syntax.proofs.InputValueLemmas.{input_value_sound
 use Rattle.graphql_type_system_syntax.proofs.MemberLemmas.{DefinitionEnds, enum_value_item, enum_value_local, enum_value_moves, enum_value_reader_moves, enum_value_sound, input_value_in_braces, members_free, members_less, members_local, members_read, members_sound}
 
 -- unions
-pub record UnionBehind (depth start : ℕ) (description : Option StringLiteral) (m : Input) (x : UnionTypeDefinition) (j : Input) : Type 0 where
+pub record UnionBehind (depth start : ℕ) (description : Option Description) (m : Input) (x : UnionTypeDefinition) (j : Input) : Type 0 where
   pub behind_word : Input
   pub behind_name : Input
   pub behind_directives : Input
@@ -35,7 +35,7 @@ pub record UnionBehind (depth start : ℕ) (description : Option StringLiteral) 
   pub same_description : x.description ≡ description
   pub span : x.span ≡ span_from start j
 
-pub union_behind_sound : (depth start : ℕ) (description : Option StringLiteral) (m : Input) (r : UnionTypeDefinition × Input) → union_behind depth start description m ≡ Ok r →
+pub union_behind_sound : (depth start : ℕ) (description : Option Description) (m : Input) (r : UnionTypeDefinition × Input) → union_behind depth start description m ≡ Ok r →
     UnionBehind depth start description m r.0 r.1
 unfolding union_behind
 union_behind_sound depth start description m r e =
@@ -57,7 +57,7 @@ union_behind_sound depth start description m r e =
       span = refl;
     })
 
-pub union_behind_read : (depth start : ℕ) (description : Option StringLiteral) (m : Input) (x : UnionTypeDefinition) (j : Input) → UnionBehind depth start description m x j → DefinitionEnds j →
+pub union_behind_read : (depth start : ℕ) (description : Option Description) (m : Input) (x : UnionTypeDefinition) (j : Input) → UnionBehind depth start description m x j → DefinitionEnds j →
     union_behind depth start description m ≡ Ok (x, j)
 unfolding union_behind same_kind
 union_behind_read depth start description m x j is free =
@@ -67,18 +67,18 @@ union_behind_read depth start description m x j is free =
     (sequence_read _ _ is.behind_name x.directives is.behind_directives _ (directives_read true depth _ _ _ is.directives before.0 before.1)
     (sequence_read _ _ is.behind_directives x.members j _ (members_read _ _ _ is.members (not_equals j free.ends) (not_bar j free.ends))
     (placed_read start (make description) j ∙ ap (λ d. ok (make d (span_from start j))) (sym is.same_description) ∙ ap (λ s. ok (make x.description s)) (sym is.span))))) where
-      make : Option StringLiteral → SourceSpan → UnionTypeDefinition
+      make : Option Description → SourceSpan → UnionTypeDefinition
       make description span = record { description = description; name = x.name; directives = x.directives; members = x.members; span = span }
 
       ok : UnionTypeDefinition → Result (UnionTypeDefinition × Input) Refusal
       ok y = Ok (y, j)
 
-pub union_behind_moves : (depth start : ℕ) (description : Option StringLiteral) (m : Input) (x : UnionTypeDefinition) (j : Input) → UnionBehind depth start description m x j →
+pub union_behind_moves : (depth start : ℕ) (description : Option Description) (m : Input) (x : UnionTypeDefinition) (j : Input) → UnionBehind depth start description m x j →
     length j.tokens < length m.tokens
 union_behind_moves depth start description m x j is =
     omega (arith, takes_less _ _ _ is.word, takes_less _ _ _ is.name.takes, directives_less true depth _ _ _ is.directives, members_less _ _ _ is.members)
 
-pub union_behind_local : (depth start : ℕ) (description : Option StringLiteral) → Local depth (union_behind depth start description)
+pub union_behind_local : (depth start : ℕ) (description : Option Description) → Local depth (union_behind depth start description)
 unfolding union_behind
 union_behind_local depth start description =
     local_sequence depth _ _ (local_take_one depth _ _ (keyword_is_plain keyword.Union)) (λ word.
@@ -87,7 +87,7 @@ union_behind_local depth start description =
     local_sequence depth _ _ (members_local depth) (λ members.
     local_sequence depth _ _ (local_place depth start) (λ span. local_answer depth _)))))
 
-pub union_defined : (depth : ℕ) (i m : Input) (description : Option StringLiteral) (x : UnionTypeDefinition) (j : Input) → Perhaps IsDescription i description m →
+pub union_defined : (depth : ℕ) (i m : Input) (description : Option Description) (x : UnionTypeDefinition) (j : Input) → Perhaps IsDescription i description m →
     UnionBehind depth (start_of i) description m x j → IsUnionTypeDefinition depth i x j
 union_defined depth i m description x j described is =
     record {
@@ -118,7 +118,7 @@ union_of depth i x j is =
     }
 
 -- enums
-pub record EnumBehind (depth start : ℕ) (description : Option StringLiteral) (m : Input) (x : EnumTypeDefinition) (j : Input) : Type 0 where
+pub record EnumBehind (depth start : ℕ) (description : Option Description) (m : Input) (x : EnumTypeDefinition) (j : Input) : Type 0 where
   pub behind_word : Input
   pub behind_name : Input
   pub behind_directives : Input
@@ -129,7 +129,7 @@ pub record EnumBehind (depth start : ℕ) (description : Option StringLiteral) (
   pub same_description : x.description ≡ description
   pub span : x.span ≡ span_from start j
 
-pub enum_behind_sound : (depth start : ℕ) (description : Option StringLiteral) (m : Input) (r : EnumTypeDefinition × Input) → enum_behind depth start description m ≡ Ok r →
+pub enum_behind_sound : (depth start : ℕ) (description : Option Description) (m : Input) (r : EnumTypeDefinition × Input) → enum_behind depth start description m ≡ Ok r →
     EnumBehind depth start description m r.0 r.1
 unfolding enum_behind
 enum_behind_sound depth start description m r e =
@@ -151,7 +151,7 @@ enum_behind_sound depth start description m r e =
       span = refl;
     })
 
-pub enum_behind_read : (depth start : ℕ) (description : Option StringLiteral) (m : Input) (x : EnumTypeDefinition) (j : Input) → EnumBehind depth start description m x j → DefinitionEnds j →
+pub enum_behind_read : (depth start : ℕ) (description : Option Description) (m : Input) (x : EnumTypeDefinition) (j : Input) → EnumBehind depth start description m x j → DefinitionEnds j →
     enum_behind depth start description m ≡ Ok (x, j)
 unfolding enum_behind same_kind
 enum_behind_read depth start description m x j is free =
@@ -161,18 +161,18 @@ enum_behind_read depth start description m x j is free =
     (sequence_read _ _ is.behind_name x.directives is.behind_directives _ (directives_read true depth _ _ _ is.directives (not_parenthesis _ before) (not_at _ before))
     (sequence_read _ _ is.behind_directives x.values j _ (perhaps_read IsEnumValueDefinition _ enum_value_item depth _ _ _ is.values)
     (placed_read start (make description) j ∙ ap (λ d. ok (make d (span_from start j))) (sym is.same_description) ∙ ap (λ s. ok (make x.description s)) (sym is.span))))) where
-      make : Option StringLiteral → SourceSpan → EnumTypeDefinition
+      make : Option Description → SourceSpan → EnumTypeDefinition
       make description span = record { description = description; name = x.name; directives = x.directives; values = x.values; span = span }
 
       ok : EnumTypeDefinition → Result (EnumTypeDefinition × Input) Refusal
       ok y = Ok (y, j)
 
-pub enum_behind_moves : (depth start : ℕ) (description : Option StringLiteral) (m : Input) (x : EnumTypeDefinition) (j : Input) → EnumBehind depth start description m x j →
+pub enum_behind_moves : (depth start : ℕ) (description : Option Description) (m : Input) (x : EnumTypeDefinition) (j : Input) → EnumBehind depth start description m x j →
     length j.tokens < length m.tokens
 enum_behind_moves depth start description m x j is =
     omega (arith, takes_less _ _ _ is.word, takes_less _ _ _ is.name.takes, directives_less true depth _ _ _ is.directives, perhaps_less IsEnumValueDefinition enum_value_moves depth _ _ _ is.values)
 
-pub enum_behind_local : (depth start : ℕ) (description : Option StringLiteral) → Local depth (enum_behind depth start description)
+pub enum_behind_local : (depth start : ℕ) (description : Option Description) → Local depth (enum_behind depth start description)
 unfolding enum_behind
 enum_behind_local depth start description =
     local_sequence depth _ _ (local_take_one depth _ _ (keyword_is_plain keyword.Enum)) (λ word.
@@ -181,7 +181,7 @@ enum_behind_local depth start description =
     local_sequence depth _ _ (perhaps_local _ enum_value_local enum_value_reader_moves depth) (λ values.
     local_sequence depth _ _ (local_place depth start) (λ span. local_answer depth _)))))
 
-pub enum_defined : (depth : ℕ) (i m : Input) (description : Option StringLiteral) (x : EnumTypeDefinition) (j : Input) → Perhaps IsDescription i description m →
+pub enum_defined : (depth : ℕ) (i m : Input) (description : Option Description) (x : EnumTypeDefinition) (j : Input) → Perhaps IsDescription i description m →
     EnumBehind depth (start_of i) description m x j → IsEnumTypeDefinition depth i x j
 enum_defined depth i m description x j described is =
     record {
@@ -212,7 +212,7 @@ enum_of depth i x j is =
     }
 
 -- input objects
-pub record InputObjectBehind (depth start : ℕ) (description : Option StringLiteral) (m : Input) (x : InputObjectTypeDefinition) (j : Input) : Type 0 where
+pub record InputObjectBehind (depth start : ℕ) (description : Option Description) (m : Input) (x : InputObjectTypeDefinition) (j : Input) : Type 0 where
   pub behind_word : Input
   pub behind_name : Input
   pub behind_directives : Input
@@ -223,7 +223,7 @@ pub record InputObjectBehind (depth start : ℕ) (description : Option StringLit
   pub same_description : x.description ≡ description
   pub span : x.span ≡ span_from start j
 
-pub input_object_behind_sound : (depth start : ℕ) (description : Option StringLiteral) (m : Input) (r : InputObjectTypeDefinition × Input) → input_object_behind depth start description m ≡ Ok r →
+pub input_object_behind_sound : (depth start : ℕ) (description : Option Description) (m : Input) (r : InputObjectTypeDefinition × Input) → input_object_behind depth start description m ≡ Ok r →
     InputObjectBehind depth start description m r.0 r.1
 unfolding input_object_behind
 input_object_behind_sound depth start description m r e =
@@ -245,7 +245,7 @@ input_object_behind_sound depth start description m r e =
       span = refl;
     })
 
-pub input_object_behind_read : (depth start : ℕ) (description : Option StringLiteral) (m : Input) (x : InputObjectTypeDefinition) (j : Input) → InputObjectBehind depth start description m x j → DefinitionEnds j →
+pub input_object_behind_read : (depth start : ℕ) (description : Option Description) (m : Input) (x : InputObjectTypeDefinition) (j : Input) → InputObjectBehind depth start description m x j → DefinitionEnds j →
     input_object_behind depth start description m ≡ Ok (x, j)
 unfolding input_object_behind same_kind
 input_object_behind_read depth start description m x j is free =
@@ -255,18 +255,18 @@ input_object_behind_read depth start description m x j is free =
     (sequence_read _ _ is.behind_name x.directives is.behind_directives _ (directives_read true depth _ _ _ is.directives (not_parenthesis _ before) (not_at _ before))
     (sequence_read _ _ is.behind_directives x.fields j _ (perhaps_read IsInputValueDefinition _ input_value_in_braces depth _ _ _ is.fields)
     (placed_read start (make description) j ∙ ap (λ d. ok (make d (span_from start j))) (sym is.same_description) ∙ ap (λ s. ok (make x.description s)) (sym is.span))))) where
-      make : Option StringLiteral → SourceSpan → InputObjectTypeDefinition
+      make : Option Description → SourceSpan → InputObjectTypeDefinition
       make description span = record { description = description; name = x.name; directives = x.directives; fields = x.fields; span = span }
 
       ok : InputObjectTypeDefinition → Result (InputObjectTypeDefinition × Input) Refusal
       ok y = Ok (y, j)
 
-pub input_object_behind_moves : (depth start : ℕ) (description : Option StringLiteral) (m : Input) (x : InputObjectTypeDefinition) (j : Input) → InputObjectBehind depth start description m x j →
+pub input_object_behind_moves : (depth start : ℕ) (description : Option Description) (m : Input) (x : InputObjectTypeDefinition) (j : Input) → InputObjectBehind depth start description m x j →
     length j.tokens < length m.tokens
 input_object_behind_moves depth start description m x j is =
     omega (arith, takes_less _ _ _ is.word, takes_less _ _ _ is.name.takes, directives_less true depth _ _ _ is.directives, perhaps_less IsInputValueDefinition input_value_moves depth _ _ _ is.fields)
 
-pub input_object_behind_local : (depth start : ℕ) (description : Option StringLiteral) → Local depth (input_object_behind depth start description)
+pub input_object_behind_local : (depth start : ℕ) (description : Option Description) → Local depth (input_object_behind depth start description)
 unfolding input_object_behind
 input_object_behind_local depth start description =
     local_sequence depth _ _ (local_take_one depth _ _ (keyword_is_plain keyword.Input)) (λ word.
@@ -275,7 +275,7 @@ input_object_behind_local depth start description =
     local_sequence depth _ _ (perhaps_local _ input_value_local input_value_reader_moves depth) (λ fields.
     local_sequence depth _ _ (local_place depth start) (λ span. local_answer depth _)))))
 
-pub input_object_defined : (depth : ℕ) (i m : Input) (description : Option StringLiteral) (x : InputObjectTypeDefinition) (j : Input) → Perhaps IsDescription i description m →
+pub input_object_defined : (depth : ℕ) (i m : Input) (description : Option Description) (x : InputObjectTypeDefinition) (j : Input) → Perhaps IsDescription i description m →
     InputObjectBehind depth (start_of i) description m x j → IsInputObjectTypeDefinition depth i x j
 input_object_defined depth i m description x j described is =
     record {

@@ -4,7 +4,7 @@ use Rattle.graphql_nodes.specs.declared.spans.SourceSpan.{SourceSpan}
 use Rattle.graphql_tokens.specs.declared.token.TokenKind.TheVariants.{Name, Colon, LeftBrace, RightBrace, At, LeftParenthesis}
 use Rattle.graphql_trees.specs.declared.type_system.RootOperationTypeDefinition.{RootOperationTypeDefinition}
 use Rattle.graphql_trees.specs.declared.type_system.SchemaDefinition.{SchemaDefinition}
-use Rattle.graphql_trees.specs.declared.values.StringLiteral.{StringLiteral}
+use Rattle.graphql_trees.specs.declared.type_system.Description.{Description}
 use Rattle.graphql_syntax.specs.declared.keywords.Keyword.TheVariants as keyword
 use Rattle.graphql_syntax.specs.declared.production.More.TheVariants.{Until}
 use Rattle.graphql_syntax.specs.declared.refusals.Refusal.{Refusal}
@@ -81,7 +81,7 @@ unfolding same_kind
 root_item depth = described_item (IsRootOperation depth) _ RightBrace refl (root_read depth) (root_begins depth) (root_moves depth)
 
 -- the definition of a schema, behind its description
-pub schema_sound : (depth : ℕ) (i m : Input) (description : Option StringLiteral) (r : SchemaDefinition × Input) → Perhaps IsDescription i description m →
+pub schema_sound : (depth : ℕ) (i m : Input) (description : Option Description) (r : SchemaDefinition × Input) → Perhaps IsDescription i description m →
     schema_behind depth (start_of i) description m ≡ Ok r → IsSchemaDefinition depth i r.0 r.1
 unfolding schema_behind
 schema_sound depth i m description r described e =
@@ -135,7 +135,7 @@ schema_moves depth i x j is =
       in_braces_moves IsRootOperation root_moves depth _ _ _ is.root_operations,
     )
 
-pub schema_local : (depth start : ℕ) (description : Option StringLiteral) → Local depth (schema_behind depth start description)
+pub schema_local : (depth start : ℕ) (description : Option Description) → Local depth (schema_behind depth start description)
 unfolding schema_behind
 schema_local depth start description =
     local_sequence depth _ _ (local_take_one depth _ _ (keyword_is_plain keyword.Schema)) (λ word.
@@ -188,7 +188,7 @@ schema_added_read depth i x j is ends =
     (sequence_read _ _ parts.behind_directives x.root_operations j _ (perhaps_read IsRootOperation _ root_item depth _ _ _ parts.body)
     (sequence_read _ _ j (span_from (start_of i) j) j _ (place_read _ j)
     (with_part_read _ _ j parts.filled ∙ ap (λ d. ok (make d (span_from (start_of i) j))) (sym is.description) ∙ ap (λ s. ok (make x.description s)) (sym is.span))))) where
-      make : Option StringLiteral → SourceSpan → SchemaDefinition
+      make : Option Description → SourceSpan → SchemaDefinition
       make description span = record { description = description; directives = x.directives; root_operations = x.root_operations; span = span }
 
       ok : SchemaDefinition → Result (SchemaDefinition × Input) Refusal

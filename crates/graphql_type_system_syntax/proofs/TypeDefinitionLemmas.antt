@@ -1,7 +1,7 @@
 -- Definitions of types are read by the grammar, both ways, and locally. What is behind a description or `extend` is read first.
 use Rattle.std.proofs.Common.{◌≡◌, ℕ, ◌<◌, true, false, inl, inr, length, Ok, Option, refl, subst, ◌∙◌, arith}
 use Rattle.graphql_trees.specs.declared.type_system.TypeDefinition.{TypeDefinition}
-use Rattle.graphql_trees.specs.declared.values.StringLiteral.{StringLiteral}
+use Rattle.graphql_trees.specs.declared.type_system.Description.{Description}
 use Rattle.graphql_syntax.specs.declared.keywords.Keyword.{Keyword}
 use Rattle.graphql_syntax.specs.declared.keywords.Keyword.TheVariants as keyword
 use Rattle.graphql_syntax.specs.Inputs.{Input, next_passes, start_of, sees_keyword}
@@ -21,7 +21,7 @@ use Rattle.graphql_type_system_syntax.proofs.FieldTypeLemmas.{interface_behind_l
 use Rattle.graphql_type_system_syntax.proofs.MemberTypeLemmas.{enum_behind_local, enum_behind_moves, enum_behind_read, enum_behind_sound, enum_defined, enum_of, input_object_behind_local, input_object_behind_moves, input_object_behind_read, input_object_behind_sound, input_object_defined, input_object_of, union_behind_local, union_behind_moves, union_behind_read, union_behind_sound, union_defined, union_of}
 
 -- a definition of a type, by its keyword
-pub type_sound : (depth : ℕ) (i m : Input) (description : Option StringLiteral) (r : TypeDefinition × Input) → Perhaps IsDescription i description m →
+pub type_sound : (depth : ℕ) (i m : Input) (description : Option Description) (r : TypeDefinition × Input) → Perhaps IsDescription i description m →
     type_definition_behind depth (start_of i) description m ≡ Ok r → IsTypeDefinition depth i r.0 r.1
 unfolding type_definition_behind
 type_sound depth i m description r described e = elim (choose_ok _ _ _ _ _ e) [
@@ -64,7 +64,7 @@ type_sound depth i m description r described e = elim (choose_ok _ _ _ _ _ e) [
 
 -- how a definition of a type is read behind its description
 pub record TypeRead (depth : ℕ) (i : Input) (x : TypeDefinition) (j : Input) : Type 0 where
-  pub description : Option StringLiteral
+  pub description : Option Description
   pub behind_description : Input
   pub kind : Keyword
   pub described : Perhaps IsDescription i description behind_description
@@ -183,7 +183,7 @@ type_read depth _ _ _ (grammar.input_object i j x is) =
       begins = input_object_begins is.behind_description is.word.comes;
     }
 
-pub type_behind_local : (depth start : ℕ) (description : Option StringLiteral) → Local depth (type_definition_behind depth start description)
+pub type_behind_local : (depth start : ℕ) (description : Option Description) → Local depth (type_definition_behind depth start description)
 unfolding type_definition_behind
 type_behind_local depth start description =
     local_choose depth _ _ _ (local_sequence depth _ _ (scalar_behind_local depth start description) (λ x. local_answer depth _))

@@ -2,7 +2,7 @@
 use Rattle.std.specs.Prelude.{ℕ, ◌||◌, Option}
 use Rattle.graphql_trees.specs.declared.documents.Definition.{Definition}
 use Rattle.graphql_trees.specs.declared.documents.Definition.TheVariants as tree
-use Rattle.graphql_trees.specs.declared.values.StringLiteral.{StringLiteral}
+use Rattle.graphql_trees.specs.declared.type_system.Description.{Description}
 use Rattle.graphql_syntax.specs.declared.keywords.Keyword.TheVariants as keyword
 use Rattle.graphql_syntax.specs.Inputs.{TokenTest, is_keyword, is_string}
 use Rattle.graphql_syntax.specs.Reading.{Reader, ◌>>=◌, answer, choose, starting, expect_keyword}
@@ -25,7 +25,7 @@ begins_type_system_definition source t =
     || ((is_keyword keyword.Schema source t || is_keyword keyword.Directive source t) || begins_type_definition source t)
 
 -- behind the description, by the keyword
-unfoldable pub definition_behind : ℕ → ℕ → Option StringLiteral → Reader Definition
+unfoldable pub definition_behind : ℕ → ℕ → Option Description → Reader Definition
 definition_behind depth start description =
     choose (is_keyword keyword.Schema) (schema_behind depth start description >>= λ x. answer (tree.Schema x))
     (choose (is_keyword keyword.Directive) (directive_behind depth start description >>= λ x. answer (tree.Directive x))

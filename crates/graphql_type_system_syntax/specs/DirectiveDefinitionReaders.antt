@@ -5,7 +5,7 @@ use Rattle.graphql_tokens.specs.declared.token.TokenKind.TheVariants.{Name, At, 
 use Rattle.graphql_trees.specs.declared.type_system.DirectiveDefinition.{DirectiveDefinition}
 use Rattle.graphql_nodes.specs.declared.directive_locations.DirectiveLocation.{DirectiveLocation}
 use Rattle.graphql_trees.specs.declared.type_system.PlacedDirectiveLocation.{PlacedDirectiveLocation}
-use Rattle.graphql_trees.specs.declared.values.StringLiteral.{StringLiteral}
+use Rattle.graphql_trees.specs.declared.type_system.Description.{Description}
 use Rattle.graphql_syntax.specs.declared.keywords.Keyword.TheVariants as keyword
 use Rattle.graphql_syntax.specs.declared.refusals.Expected.TheVariants as expected
 use Rattle.graphql_syntax.specs.Inputs.{is_kind, is_keyword}
@@ -31,7 +31,7 @@ directive_location_at = starting (λ start. do
 unfoldable pub repeatable_at : Reader Bool
 repeatable_at = choose (is_keyword keyword.Repeatable) (expect_keyword keyword.Repeatable >>= λ word. answer true) (answer false)
 
-unfoldable pub directive_behind : ℕ → ℕ → Option StringLiteral → Reader DirectiveDefinition
+unfoldable pub directive_behind : ℕ → ℕ → Option Description → Reader DirectiveDefinition
 directive_behind depth start description = do
   word ← expect_keyword keyword.Directive
   at ← expect At

@@ -1,20 +1,27 @@
 -- Readers of descriptions, and of definitions of arguments and of fields of input objects. That they answer by the
 -- grammar is proved.
 use Rattle.std.specs.Prelude.{ℕ, true, List, [], Option, None, Some}
-use Rattle.graphql_tokens.specs.declared.token.TokenKind.TheVariants.{Colon, LeftParenthesis, RightParenthesis}
+use Rattle.graphql_tokens.specs.declared.token.TokenKind.TheVariants.{Colon, LeftParenthesis, RightParenthesis, StringValue}
 use Rattle.graphql_trees.specs.declared.type_system.InputValueDefinition.{InputValueDefinition}
-use Rattle.graphql_trees.specs.declared.values.StringLiteral.{StringLiteral}
+use Rattle.graphql_trees.specs.declared.type_system.Description.{Description}
 use Rattle.graphql_syntax.specs.declared.production.More.TheVariants.{Until}
+use Rattle.graphql_syntax.specs.declared.refusals.Expected.TheVariants as expected
 use Rattle.graphql_syntax.specs.DefaultValueReaders.{default_value_at}
 use Rattle.graphql_syntax.specs.DirectiveReaders.{directives_at}
 use Rattle.graphql_syntax.specs.Inputs.{is_kind, is_string}
-use Rattle.graphql_syntax.specs.Reading.{Reader, ◌>>=◌, answer, choose, starting, place, expect, name_at, more_test, some_of}
+use Rattle.graphql_syntax.specs.Reading.{Reader, ◌>>=◌, answer, choose, starting, place, take_one, expect, name_at, more_test, some_of}
 use Rattle.graphql_syntax.specs.TypeReaders.{type_at}
-use Rattle.graphql_syntax.specs.ValueReaders.{string_literal_at}
+
+-- the place of a string
+unfoldable pub described_at : Reader (Option Description)
+described_at = starting (λ start. do
+  string ← take_one is_string (expected.Token StringValue)
+  span ← place start
+  answer (Some (record { span = span })))
 
 -- none where no string comes
-unfoldable pub description_at : Reader (Option StringLiteral)
-description_at = choose is_string (string_literal_at >>= λ x. answer (Some x)) (answer None)
+unfoldable pub description_at : Reader (Option Description)
+description_at = choose is_string described_at (answer None)
 
 unfoldable pub input_value_definition_at : ℕ → Reader InputValueDefinition
 input_value_definition_at depth = starting (λ start. do

@@ -3,17 +3,17 @@
 use Rattle.std.specs.Prelude.{◌≡◌, ℕ, true, List}
 use Rattle.graphql_tokens.specs.declared.token.TokenKind.TheVariants.{Colon, LeftParenthesis, RightParenthesis}
 use Rattle.graphql_trees.specs.declared.type_system.InputValueDefinition.{InputValueDefinition}
-use Rattle.graphql_trees.specs.declared.values.StringLiteral.{StringLiteral}
+use Rattle.graphql_trees.specs.declared.type_system.Description.{Description}
 use Rattle.graphql_syntax.specs.DefaultValues.{IsDefaultValue}
 use Rattle.graphql_syntax.specs.Directives.{AreDirectives}
-use Rattle.graphql_syntax.specs.Inputs.{Input, Takes, IsName, between}
+use Rattle.graphql_syntax.specs.Inputs.{Input, is_string, Takes, TakesOne, IsName, between}
 use Rattle.graphql_syntax.specs.Many.{Some1, Perhaps}
 use Rattle.graphql_syntax.specs.Types.{IsType}
-use Rattle.graphql_syntax.specs.Values.{IsStringLiteral}
 
--- Description : StringValue
-abbrev pub IsDescription : Input → StringLiteral → Input → Type 0
-IsDescription i x j = IsStringLiteral i x j
+-- Description : StringValue. Specification: 3.2 Type System Descriptions
+pub record IsDescription (i : Input) (x : Description) (j : Input) : Type 0 where
+  pub takes : TakesOne is_string i j
+  pub span : x.span ≡ between i j
 
 -- InputValueDefinition : Description? Name : Type DefaultValue? Directives[Const]?
 pub record IsInputValueDefinition (depth : ℕ) (i : Input) (x : InputValueDefinition) (j : Input) : Type 0 where

@@ -3,7 +3,7 @@ use Rattle.std.specs.Prelude.{ℕ, true, ◌||◌, Option, None}
 use Rattle.graphql_tokens.specs.declared.token.TokenKind.TheVariants.{Colon}
 use Rattle.graphql_trees.specs.declared.type_system.RootOperationTypeDefinition.{RootOperationTypeDefinition}
 use Rattle.graphql_trees.specs.declared.type_system.SchemaDefinition.{SchemaDefinition}
-use Rattle.graphql_trees.specs.declared.values.StringLiteral.{StringLiteral}
+use Rattle.graphql_trees.specs.declared.type_system.Description.{Description}
 use Rattle.graphql_syntax.specs.declared.keywords.Keyword.TheVariants as keyword
 use Rattle.graphql_syntax.specs.DirectiveReaders.{directives_at}
 use Rattle.graphql_syntax.specs.OperationTypeReaders.{operation_type_at}
@@ -19,7 +19,7 @@ root_operation_at depth = starting (λ start. do
   answer (record { operation_type = operation_type; name = name; span = span }))
 
 -- behind the description
-unfoldable pub schema_behind : ℕ → ℕ → Option StringLiteral → Reader SchemaDefinition
+unfoldable pub schema_behind : ℕ → ℕ → Option Description → Reader SchemaDefinition
 schema_behind depth start description = do
   word ← expect_keyword keyword.Schema
   directives ← directives_at true depth

@@ -11,7 +11,7 @@ use Rattle.graphql_trees.specs.declared.type_system.ScalarTypeDefinition.{Scalar
 use Rattle.graphql_trees.specs.declared.type_system.TypeDefinition.{TypeDefinition}
 use Rattle.graphql_trees.specs.declared.type_system.TypeDefinition.TheVariants as tree
 use Rattle.graphql_trees.specs.declared.type_system.UnionTypeDefinition.{UnionTypeDefinition}
-use Rattle.graphql_trees.specs.declared.values.StringLiteral.{StringLiteral}
+use Rattle.graphql_trees.specs.declared.type_system.Description.{Description}
 use Rattle.graphql_syntax.specs.declared.keywords.Keyword.TheVariants as keyword
 use Rattle.graphql_syntax.specs.declared.refusals.Expected.TheVariants as expected
 use Rattle.graphql_syntax.specs.DirectiveReaders.{directives_at}
@@ -45,7 +45,7 @@ enum_value_definition_at depth = starting (λ start. do
   span ← place start
   answer (record { description = description; name = name; directives = directives; span = span }))
 
-unfoldable pub scalar_behind : ℕ → ℕ → Option StringLiteral → Reader ScalarTypeDefinition
+unfoldable pub scalar_behind : ℕ → ℕ → Option Description → Reader ScalarTypeDefinition
 scalar_behind depth start description = do
   word ← expect_keyword keyword.Scalar
   name ← name_at
@@ -53,7 +53,7 @@ scalar_behind depth start description = do
   span ← place start
   answer (record { description = description; name = name; directives = directives; span = span })
 
-unfoldable pub object_behind : ℕ → ℕ → Option StringLiteral → Reader ObjectTypeDefinition
+unfoldable pub object_behind : ℕ → ℕ → Option Description → Reader ObjectTypeDefinition
 object_behind depth start description = do
   word ← expect_keyword keyword.«Type»
   name ← name_at
@@ -70,7 +70,7 @@ object_behind depth start description = do
     span = span;
   })
 
-unfoldable pub interface_behind : ℕ → ℕ → Option StringLiteral → Reader InterfaceTypeDefinition
+unfoldable pub interface_behind : ℕ → ℕ → Option Description → Reader InterfaceTypeDefinition
 interface_behind depth start description = do
   word ← expect_keyword keyword.Interface
   name ← name_at
@@ -87,7 +87,7 @@ interface_behind depth start description = do
     span = span;
   })
 
-unfoldable pub union_behind : ℕ → ℕ → Option StringLiteral → Reader UnionTypeDefinition
+unfoldable pub union_behind : ℕ → ℕ → Option Description → Reader UnionTypeDefinition
 union_behind depth start description = do
   word ← expect_keyword keyword.Union
   name ← name_at
@@ -96,7 +96,7 @@ union_behind depth start description = do
   span ← place start
   answer (record { description = description; name = name; directives = directives; members = members; span = span })
 
-unfoldable pub enum_behind : ℕ → ℕ → Option StringLiteral → Reader EnumTypeDefinition
+unfoldable pub enum_behind : ℕ → ℕ → Option Description → Reader EnumTypeDefinition
 enum_behind depth start description = do
   word ← expect_keyword keyword.Enum
   name ← name_at
@@ -105,7 +105,7 @@ enum_behind depth start description = do
   span ← place start
   answer (record { description = description; name = name; directives = directives; values = values; span = span })
 
-unfoldable pub input_object_behind : ℕ → ℕ → Option StringLiteral → Reader InputObjectTypeDefinition
+unfoldable pub input_object_behind : ℕ → ℕ → Option Description → Reader InputObjectTypeDefinition
 input_object_behind depth start description = do
   word ← expect_keyword keyword.Input
   name ← name_at
@@ -115,7 +115,7 @@ input_object_behind depth start description = do
   answer (record { description = description; name = name; directives = directives; fields = fields; span = span })
 
 -- by its keyword
-unfoldable pub type_definition_behind : ℕ → ℕ → Option StringLiteral → Reader TypeDefinition
+unfoldable pub type_definition_behind : ℕ → ℕ → Option Description → Reader TypeDefinition
 type_definition_behind depth start description =
     choose (is_keyword keyword.Scalar) (scalar_behind depth start description >>= λ x. answer (tree.Scalar x))
     (choose (is_keyword keyword.«Type») (object_behind depth start description >>= λ x. answer (tree.Object x))

@@ -11,8 +11,7 @@ use crate::schemas::{schema, schema_extension};
 use crate::type_definitions::type_definition;
 use crate::type_extensions::type_extension;
 use graphql_syntax::{Cursor, Keyword, Refusal};
-use graphql_trees::{Definition, StringLiteral};
-use sqlite_items::Boxed;
+use graphql_trees::{Definition, Description};
 use std::alloc::Global;
 
 /// Whether a definition of a type can begin here, behind its description.
@@ -46,7 +45,7 @@ fn definition_behind<'a>(
     alloc: Global,
     cursor: Cursor<'a>,
     start: u32,
-    description: Option<Boxed<StringLiteral>>,
+    description: Option<Description>,
     depth: usize,
 ) -> Result<(Definition, Cursor<'a>), Refusal>
     ensures { Reads (λ found. (found.0, input found.1)) result (definition_behind depth start description (input cursor.entry)) }
@@ -75,7 +74,7 @@ pub fn type_system_definition<'a>(
 ) -> Result<(Definition, Cursor<'a>), Refusal>
     ensures { Reads (λ found. (found.0, input found.1)) result (type_system_definition_at depth (input cursor.entry)) }
 {
-    let (description, behind) = description(alloc, cursor)?;
+    let (description, behind) = description(cursor);
     definition_behind(alloc, behind, cursor.start(), description, depth)
 }
 

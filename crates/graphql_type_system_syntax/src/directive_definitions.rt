@@ -10,8 +10,7 @@ use crate::locations::location_named;
 use crate::parts::Part;
 use graphql_syntax::{Cursor, Expected, Keyword, Refusal};
 use graphql_tokens::TokenKind;
-use graphql_trees::{DirectiveDefinition, PlacedDirectiveLocation, StringLiteral};
-use sqlite_items::Boxed;
+use graphql_trees::{Description, DirectiveDefinition, PlacedDirectiveLocation};
 use std::alloc::Global;
 
 impl Part for PlacedDirectiveLocation {
@@ -57,7 +56,7 @@ pub fn directive<'a>(
     alloc: Global,
     cursor: Cursor<'a>,
     start: u32,
-    description: Option<Boxed<StringLiteral>>,
+    description: Option<Description>,
     depth: usize,
 ) -> Result<(DirectiveDefinition, Cursor<'a>), Refusal>
     ensures { Reads (λ found. (found.0, input found.1)) result (directive_behind depth start description (input cursor.entry)) }

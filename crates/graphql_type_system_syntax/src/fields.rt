@@ -25,7 +25,7 @@ impl Part for FieldDefinition {
         cursor: Cursor<'a>,
         depth: usize,
     ) -> Result<(FieldDefinition, Cursor<'a>), Refusal> {
-        let (description, behind) = description(alloc, cursor)?;
+        let (description, behind) = description(cursor);
         let (name, behind) = behind.name(alloc)?;
         let (arguments, behind) = argument_definitions(alloc, behind, depth)?;
         let behind = behind.expect(TokenKind::Colon)?;

@@ -8,28 +8,25 @@ use crate::parts::{Part, parts_until};
 use graphql_syntax::default_values::default_value;
 use graphql_syntax::directives::directives;
 use graphql_syntax::types::type_reference;
-use graphql_syntax::values::string_literal;
 use graphql_syntax::{Cursor, Refusal};
 use graphql_tokens::TokenKind;
-use graphql_trees::{InputValueDefinition, StringLiteral};
-use sqlite_items::{Boxed, Items};
+use graphql_trees::{Description, InputValueDefinition};
+use sqlite_items::Items;
 use std::alloc::Global;
 
 /// The description of what comes behind it; none where no string comes.
 ///
 /// Specification: 3.2 Type System Descriptions.
-#[tactic(auto, unfolding(crate::specs::InputValueReaders::description_at, graphql_syntax::specs::Reading::choose, graphql_syntax::specs::Reading::sequence, graphql_syntax::specs::Reading::answer))]
-pub fn description<'a>(
-    alloc: Global,
-    cursor: Cursor<'a>,
-) -> Result<(Option<Boxed<StringLiteral>>, Cursor<'a>), Refusal>
-    ensures { Reads (λ found. (found.0, input found.1)) result (description_at (input cursor.entry)) }
+#[tactic(auto, unfolding(crate::specs::InputValueReaders::description_at, crate::specs::InputValueReaders::described_at, graphql_syntax::specs::Reading::choose, graphql_syntax::specs::Reading::starting, graphql_syntax::specs::Reading::sequence, graphql_syntax::specs::Reading::take_one, graphql_syntax::specs::Reading::place, graphql_syntax::specs::Reading::answer))]
+pub fn description(cursor: Cursor) -> (Option<Description>, Cursor)
+    ensures { description_at (input cursor.entry) ≡ Ok (result.0, input result.1) }
 {
     if !cursor.sees_string() {
-        return Ok((None, cursor));
+        return (None, cursor);
     }
-    let (literal, behind) = string_literal(alloc, cursor)?;
-    Ok((Some(Boxed::new(alloc, literal)?), behind))
+    let behind = cursor.behind();
+    let span = behind.span_from(cursor.start());
+    (Some(Description { span }), behind)
 }
 
 impl Part for InputValueDefinition {
@@ -41,7 +38,7 @@ impl Part for InputValueDefinition {
         cursor: Cursor<'a>,
         depth: usize,
     ) -> Result<(InputValueDefinition, Cursor<'a>), Refusal> {
-        let (description, behind) = description(alloc, cursor)?;
+        let (description, behind) = description(cursor);
         let (name, behind) = behind.name(alloc)?;
         let behind = behind.expect(TokenKind::Colon)?;
         let (type_reference, behind) = type_reference(alloc, behind, depth)?;

@@ -10,8 +10,7 @@ use graphql_syntax::directives::directives;
 use graphql_syntax::operation_types::operation_type;
 use graphql_syntax::{Cursor, Keyword, Refusal};
 use graphql_tokens::TokenKind;
-use graphql_trees::{RootOperationTypeDefinition, SchemaDefinition, StringLiteral};
-use sqlite_items::Boxed;
+use graphql_trees::{Description, RootOperationTypeDefinition, SchemaDefinition};
 use std::alloc::Global;
 
 impl Part for RootOperationTypeDefinition {
@@ -46,7 +45,7 @@ pub fn schema<'a>(
     alloc: Global,
     cursor: Cursor<'a>,
     start: u32,
-    description: Option<Boxed<StringLiteral>>,
+    description: Option<Description>,
     depth: usize,
 ) -> Result<(SchemaDefinition, Cursor<'a>), Refusal>
     ensures { Reads (λ found. (found.0, input found.1)) result (schema_behind depth start description (input cursor.entry)) }

@@ -13,11 +13,11 @@ use graphql_syntax::directives::directives;
 use graphql_syntax::{Cursor, Expected, Keyword, Refusal};
 use graphql_tokens::TokenKind;
 use graphql_trees::{
-    EnumTypeDefinition, EnumValueDefinition, FieldDefinition, InputObjectTypeDefinition,
-    InputValueDefinition, InterfaceTypeDefinition, ObjectTypeDefinition, ScalarTypeDefinition,
-    StringLiteral, TypeDefinition, UnionTypeDefinition,
+    Description, EnumTypeDefinition, EnumValueDefinition, FieldDefinition,
+    InputObjectTypeDefinition, InputValueDefinition, InterfaceTypeDefinition, ObjectTypeDefinition,
+    ScalarTypeDefinition, TypeDefinition, UnionTypeDefinition,
 };
-use sqlite_items::{Boxed, Items};
+use sqlite_items::Items;
 use std::alloc::Global;
 
 /// The definition of a type, by its keyword.
@@ -28,7 +28,7 @@ pub fn type_definition<'a>(
     alloc: Global,
     cursor: Cursor<'a>,
     start: u32,
-    description: Option<Boxed<StringLiteral>>,
+    description: Option<Description>,
     depth: usize,
 ) -> Result<(TypeDefinition, Cursor<'a>), Refusal>
     ensures { Reads (λ found. (found.0, input found.1)) result (type_definition_behind depth start description (input cursor.entry)) }
@@ -68,7 +68,7 @@ pub fn scalar_type<'a>(
     alloc: Global,
     cursor: Cursor<'a>,
     start: u32,
-    description: Option<Boxed<StringLiteral>>,
+    description: Option<Description>,
     depth: usize,
 ) -> Result<(ScalarTypeDefinition, Cursor<'a>), Refusal>
     ensures { Reads (λ found. (found.0, input found.1)) result (scalar_behind depth start description (input cursor.entry)) }
@@ -96,7 +96,7 @@ pub fn object_type<'a>(
     alloc: Global,
     cursor: Cursor<'a>,
     start: u32,
-    description: Option<Boxed<StringLiteral>>,
+    description: Option<Description>,
     depth: usize,
 ) -> Result<(ObjectTypeDefinition, Cursor<'a>), Refusal>
     ensures { Reads (λ found. (found.0, input found.1)) result (object_behind depth start description (input cursor.entry)) }
@@ -128,7 +128,7 @@ pub fn interface_type<'a>(
     alloc: Global,
     cursor: Cursor<'a>,
     start: u32,
-    description: Option<Boxed<StringLiteral>>,
+    description: Option<Description>,
     depth: usize,
 ) -> Result<(InterfaceTypeDefinition, Cursor<'a>), Refusal>
     ensures { Reads (λ found. (found.0, input found.1)) result (interface_behind depth start description (input cursor.entry)) }
@@ -160,7 +160,7 @@ pub fn union_type<'a>(
     alloc: Global,
     cursor: Cursor<'a>,
     start: u32,
-    description: Option<Boxed<StringLiteral>>,
+    description: Option<Description>,
     depth: usize,
 ) -> Result<(UnionTypeDefinition, Cursor<'a>), Refusal>
     ensures { Reads (λ found. (found.0, input found.1)) result (union_behind depth start description (input cursor.entry)) }
@@ -190,7 +190,7 @@ pub fn enum_type<'a>(
     alloc: Global,
     cursor: Cursor<'a>,
     start: u32,
-    description: Option<Boxed<StringLiteral>>,
+    description: Option<Description>,
     depth: usize,
 ) -> Result<(EnumTypeDefinition, Cursor<'a>), Refusal>
     ensures { Reads (λ found. (found.0, input found.1)) result (enum_behind depth start description (input cursor.entry)) }
@@ -220,7 +220,7 @@ pub fn input_object_type<'a>(
     alloc: Global,
     cursor: Cursor<'a>,
     start: u32,
-    description: Option<Boxed<StringLiteral>>,
+    description: Option<Description>,
     depth: usize,
 ) -> Result<(InputObjectTypeDefinition, Cursor<'a>), Refusal>
     ensures { Reads (λ found. (found.0, input found.1)) result (input_object_behind depth start description (input cursor.entry)) }
@@ -285,7 +285,7 @@ impl Part for EnumValueDefinition {
         cursor: Cursor<'a>,
         depth: usize,
     ) -> Result<(EnumValueDefinition, Cursor<'a>), Refusal> {
-        let (description, behind) = description(alloc, cursor)?;
+        let (description, behind) = description(cursor);
         let (name, behind) = enum_value_name(alloc, behind)?;
         let (directives, end) = directives(alloc, behind, true, depth)?;
         let span = end.span_from(cursor.start());
