@@ -1,4 +1,5 @@
 pub mod ScanLemmas
+pub mod LoadLemmas
 pub mod NumberScans
 pub mod StringScans
 pub mod QuotedScans

@@ -1,7 +1,9 @@
 -- What the scanners answer: the rest of the text behind what they look for, if it is there. That they
 -- answer by the grammar is proved.
-use Rattle.std.specs.Prelude.{◌≡◌, ℕ, zero, suc, ◌+◌, ◌*◌, Bool, ◌||◌, ◌==◌, nat_lt, List, [], ◌∷◌, length, Option, Some, None, if◌then◌else◌, option_and_then}
+use Rattle.std.specs.Prelude.{◌≡◌, ℕ, zero, suc, ◌+◌, ◌*◌, Bool, ◌||◌, ◌==◌, nat_lt, List, [], ◌∷◌, length, take, Option, Some, None, if◌then◌else◌, option_and_then}
 use Rattle.std.specs.Char.{is_ascii_digit}
+use Rattle.std.specs.Int.{w64, trailing_zeros}
+use Rattle.std.specs.List.{prefix_len}
 use Rattle.graphql_nodes.specs.Names.{starts_name, continues_name}
 use Rattle.graphql_numbers.specs.Numbers.{begins_exponent}
 use Rattle.graphql_tokens.specs.Characters.{is_source_byte, begins_with}
@@ -46,6 +48,14 @@ belongs Digit c = is_ascii_digit c
 belongs NamePart c = continues_name c
 belongs StringText c = is_string_byte c
 belongs BlockText c = is_plain_byte c
+
+-- how many of the first sixteen bytes are of the class, from the first on
+abbrev pub run_in_load : Class → List ℕ → ℕ
+run_in_load class text = prefix_len (belongs class) (take 16 text)
+
+-- the place of the lowest bit of the mask that is set, or sixteen
+abbrev pub first_set : ℕ → ℕ
+first_set mask = if mask == 0 then 16 else trailing_zeros w64 mask
 
 -- the rest, where a scan leads from rest to rest no further, in so many turns
 abbrev pub after_turns : (List ℕ → Option (List ℕ)) → ℕ → List ℕ → List ℕ

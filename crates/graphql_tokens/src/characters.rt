@@ -8,6 +8,8 @@ ghost use Rattle.graphql_tokens.specs.Lexical.{goes_on_number};
 ghost use Rattle.graphql_tokens.specs.Scans.{after_run, belongs, is_blank, strip, Gives};
 ghost use Rattle.graphql_tokens.specs.Strings.{is_string_byte, is_plain_byte};
 
+use crate::loads::LANES;
+
 /// What a run of bytes is made of.
 #[derive(Clone, Copy)]
 pub enum Class {
@@ -115,9 +117,26 @@ pub fn strip(text: &[u8], byte: u8) -> Option<&[u8]>
     }
 }
 
-/// The text behind the bytes of the class at its start.
+/// The text behind the bytes of the class at its start: as many as a load has are tested at a time.
 #[inline(always)]
 pub(crate) fn after_run(text: &[u8], class: Class) -> &[u8]
+    ensures { result.now ≡ after_run (belongs class) text.now }
+{
+    let mut rest = text;
+    while LANES <= rest.len() {
+        let run = class.run_in_load(rest);
+        let (_, behind) = rest.split_at(run);
+        if run < LANES {
+            return behind;
+        }
+        rest = behind;
+    }
+    after_short_run(rest, class)
+}
+
+/// The same, byte by byte.
+#[inline(always)]
+pub(crate) fn after_short_run(text: &[u8], class: Class) -> &[u8]
     ensures { result.now ≡ after_run (belongs class) text.now }
 {
     let mut rest = text;

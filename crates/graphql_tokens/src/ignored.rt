@@ -8,6 +8,7 @@ use crate::characters::{Class, after_run, is_blank, strip};
 /// The text behind the ignored token that it begins with, if it begins with one.
 ///
 /// Specification: 2.1.7 Ignored Tokens.
+#[inline(always)]
 #[tactic(auto, unfolding(crate::specs::Scans::ignored_at))]
 fn ignored(text: &[u8]) -> Option<&[u8]>
     ensures { Gives (λ rest. rest.now) result (ignored_at text.now) }
@@ -29,6 +30,7 @@ fn ignored(text: &[u8]) -> Option<&[u8]>
 }
 
 /// The text behind all that is ignored at its start.
+#[inline(always)]
 pub(crate) fn after_ignored(text: &[u8]) -> &[u8]
     ensures { result.now ≡ after_all ignored_at text.now }
 {

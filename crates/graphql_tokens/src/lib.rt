@@ -7,6 +7,7 @@ pub mod characters;
 mod ignored;
 pub mod laws;
 pub mod lexer;
+mod loads;
 mod numbers;
 pub mod quoted;
 mod scanner;

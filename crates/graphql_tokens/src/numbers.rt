@@ -9,6 +9,7 @@ use crate::token::TokenKind;
 /// The number that the text begins with.
 ///
 /// Specification: 2.9.1 Int Value, 2.9.2 Float Value.
+#[inline(never)]
 #[tactic(auto, unfolding(crate::specs::Scans::number_at))]
 pub(crate) fn number(text: &[u8]) -> Option<(TokenKind, &[u8])>
     ensures { Gives (λ found. (found.0, found.1.now)) result (number_at text.now) }

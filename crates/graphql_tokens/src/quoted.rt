@@ -10,6 +10,7 @@ use crate::token::TokenKind;
 /// The string that the text begins with, its text without the first quote.
 ///
 /// Specification: 2.9.4 String Value.
+#[inline(never)]
 #[tactic(auto, unfolding(crate::specs::Scans::quoted_at))]
 pub(crate) fn quoted(text: &[u8]) -> Option<(TokenKind, &[u8])>
     ensures { Gives (λ found. (found.0, found.1.now)) result (quoted_at text.now) }

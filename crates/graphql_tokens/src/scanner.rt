@@ -12,6 +12,7 @@ use crate::token::TokenKind;
 /// The kind of the token that the text begins with, and the text behind it.
 ///
 /// Specification: 2.1.6 Lexical Tokens.
+#[inline(always)]
 #[tactic(auto, unfolding(crate::specs::Scans::token_at))]
 pub(crate) fn token(text: &[u8]) -> Option<(TokenKind, &[u8])>
     ensures { Gives (λ found. (found.0, found.1.now)) result (token_at text.now) }
@@ -33,6 +34,7 @@ pub(crate) fn token(text: &[u8]) -> Option<(TokenKind, &[u8])>
     }
 }
 
+#[inline(always)]
 #[tactic(auto, unfolding(crate::specs::Scans::sign_at))]
 fn sign(first: u8, rest: &[u8]) -> Option<(TokenKind, &[u8])>
     ensures { Gives (λ found. (found.0, found.1.now)) result (sign_at first rest.now) }
@@ -41,6 +43,7 @@ fn sign(first: u8, rest: &[u8]) -> Option<(TokenKind, &[u8])>
     Some((kind, rest))
 }
 
+#[inline(always)]
 fn punctuator(c: u8) -> Option<TokenKind>
     ensures { result ≡ punctuator c }
 {
