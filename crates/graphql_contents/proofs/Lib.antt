@@ -1,0 +1,2 @@
+pub mod SelectionPartLemmas
+pub mod TableLemmas
