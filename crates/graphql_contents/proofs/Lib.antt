@@ -1,2 +1,3 @@
+pub mod FragmentLemmas
 pub mod SelectionPartLemmas
 pub mod TableLemmas

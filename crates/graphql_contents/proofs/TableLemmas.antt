@@ -274,7 +274,7 @@ number_inserted contents new c k n table is inserted at same =
     numbered_at new c.selection.now n k at ((contents_compared new t c.selection.now k.selection.now c k still (own_content new t n k at)).0 same)
 
 -- at most one proof says that selections have these numbers
-numbers_prop : (contents : List Content) (xs : List Selection) (ns : List ℕ) → IsProp (AreNumbered contents xs ns)
+pub numbers_prop : (contents : List Content) (xs : List Selection) (ns : List ℕ) → IsProp (AreNumbered contents xs ns)
 numbers_prop contents [] [] = Unit-prop
 numbers_prop contents [] (n ∷ ns) = λ a b. absurd a
 numbers_prop contents (x ∷ xs) [] = λ a b. absurd a

@@ -22,7 +22,7 @@ struct Content<'doc> {
 
 /// The contents of selections. Equal ones have one number, and different ones different numbers.
 #[derive(Drop)]
-pub struct Contents<'doc> {
+pub(crate) struct Contents<'doc> {
     contents: IndexSet<Content<'doc>, HashSeed>,
     ghost table: { ∥ IsTable contents.keys ∥₁ },
 }
@@ -35,7 +35,7 @@ impl<'doc> Contents<'doc> {
     ghost use Rattle.graphql_contents.specs.Tables.{contents_of};
 
     /// No contents are known yet. They are hashed by this seed. It takes no memory.
-    pub fn new(alloc: Global, hash_seed: HashSeed) -> Contents<'doc>
+    pub(crate) fn new(alloc: Global, hash_seed: HashSeed) -> Contents<'doc>
         ensures { contents_of result ≡ [] }
     {
         Contents {
@@ -45,7 +45,7 @@ impl<'doc> Contents<'doc> {
 
     /// The numbers of the contents of the selections of a set, in order. The only error is a failed allocation.
     #[cycle(numbering)]
-    pub fn number_set(
+    pub(crate) fn number_set(
         &mut self,
         alloc: Global,
         set: &'doc SelectionSet,
@@ -62,7 +62,7 @@ impl<'doc> Contents<'doc> {
     }
 
     /// The numbers of the contents of the selections in the set of a selection with this number; none, if no contents have it.
-    pub fn nested(&self, number: usize) -> &[usize]
+    pub(crate) fn nested(&self, number: usize) -> &[usize]
         ensures { (s : Selection) → HasNumber (contents_of self.now) s number → AreNumbered (contents_of self.now) (nested_selections s) result.now }
     {
         match self.contents.get_index(number) {

@@ -1,9 +1,9 @@
 //! Documents whose selections have the numbers of their contents.
 
-ghost use Rattle.std.specs.Prelude.{◌≡◌, length};
-ghost use Rattle.graphql_contents.specs.Fragments.{AreSetsNumbered};
+ghost use Rattle.std.specs.Prelude.{◌≡◌, IfOk, length};
+ghost use Rattle.graphql_contents.specs.Contents.{Grows};
+ghost use Rattle.graphql_contents.specs.Fragments.{AreSetsNumbered, sets_among};
 ghost use Rattle.graphql_contents.specs.Tables.{contents_of};
-ghost use Rattle.graphql_contents.specs.FragmentSets.{sets_among};
 
 use super::contents::Contents;
 use graphql_documents::documents::{ExecutableDocument, SelectionSet};
@@ -29,11 +29,11 @@ pub struct NumberedDocument<'doc> {
 }
 
 impl<'doc> NumberedDocument<'doc> {
-    ghost use Rattle.std.specs.Prelude.{[], IfOk, IfSome, OnOk};
+    ghost use Rattle.std.specs.Prelude.{[], IfSome, OnOk};
     ghost use Rattle.std.specs.Option.{option_map};
     ghost use Rattle.graphql_documents.specs.Selections.{fragments_of, selections_of};
     ghost use Rattle.graphql_documents.specs.declared.documents.executables.Selection.{Selection};
-    ghost use Rattle.graphql_contents.specs.Contents.{AreNumbered, Grows, HasNumber, nested_selections};
+    ghost use Rattle.graphql_contents.specs.Contents.{AreNumbered, HasNumber, nested_selections};
     ghost use Rattle.graphql_contents.specs.Documents.{HasFragments, IsNumberedSet, contents_in, document_in};
 
     /// Nothing of the document is numbered yet. It takes no memory.
@@ -105,6 +105,8 @@ fn number_fragments<'doc>(
     document: &'doc ExecutableDocument,
     contents: &mut Contents<'doc>,
 ) -> Result<Vec<Vec<usize>>, ValidationError>
+    ensures grows { Grows (contents_of contents.old) (contents_of contents.new) }
+    ensures numbers { IfOk result (λ fragments. AreSetsNumbered (contents_of contents.new) (sets_among document.now.fragments) fragments.items) }
 {
     let mut fragments = Vec::new(alloc);
     for fragment in document.fragments.values() {

@@ -3,6 +3,7 @@
 #![tactic(auto)]
 
 mod contents;
+mod documents;
 mod written;
 
-pub use contents::Contents;
+pub use documents::{NumberedDocument, NumberedSet};
