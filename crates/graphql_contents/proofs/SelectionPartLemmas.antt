@@ -1,5 +1,5 @@
 -- Two selections have the same contents exactly where the same is written in both and the selections in their sets have.
-use Rattle.std.proofs.Common.{◌≡◌, Bool, true, false, List, [], Option, ◌↔◌, refl, sym, ◌∙◌, subst}
+use Rattle.std.proofs.Common.{◌≡◌, Bool, true, false, List, [], ◌↔◌, refl, sym, ap, ◌∙◌, subst}
 use Rattle.std.specs.Prelude.{IsTrue, Vec}
 use Rattle.std.specs.Borrow.{Bor}
 use Rattle.std.specs.Cmp.{IsEquivalence}
@@ -9,7 +9,7 @@ use denote.Enum.Compared.{Each, by}
 use denote.Hole.Carrier.{Values}
 use denote.Hole.Compared.{compared_is}
 use lib.Pointwise.{pointwise}
-use Rattle.graphql_nodes.specs.Names.{NameText, SameName, same_name}
+use Rattle.graphql_nodes.specs.Names.{same_name}
 use Rattle.graphql_nodes.specs.declared.nodes.Node.{Node}
 use Rattle.graphql_documents.specs.Selections.{selections_of}
 use Rattle.graphql_documents.specs.contracts.documents.definitions.FieldDefinitionPartialEq.TheImpl as definition_impl
@@ -29,6 +29,7 @@ use Rattle.graphql_documents.specs.declared.documents.executables.InlineFragment
 use Rattle.graphql_documents.specs.declared.documents.executables.Selection.{Selection, out-Selection}
 use Rattle.graphql_documents.specs.declared.documents.executables.Selection.TheBlock as block
 use Rattle.graphql_documents.specs.declared.documents.executables.Selection.TheOpen as Open
+use Rattle.graphql_documents.specs.declared.documents.executables.Selection.TheVariants as kind
 use Rattle.graphql_documents.specs.declared.documents.executables.SelectionSet.{SelectionSet}
 use Rattle.graphql_documents.proofs.ValueContentLemmas.{and, both}
 use Rattle.graphql_contents.specs.Contents.{nested_selections, same_contents}
@@ -245,3 +246,17 @@ same_back s t h = is_equivalence.symm t s ∙ h
 
 pub same_then : (s t u : Selection) → IsTrue (same_contents s t) → IsTrue (same_contents t u) → IsTrue (same_contents s u)
 same_then s t u st tu = is_equivalence.congr s t u st ∙ tu
+
+-- two selections that are fields
+pub same_fields_are : (a b : Node Field) → IsTrue (same_contents (kind.Field a) (kind.Field b)) ↔ IsTrue (field_impl.ghosts.eq a.value.value b.value.value)
+same_fields_are a b =
+    let opened : equal_opened (out-Selection (kind.Field a)) (out-Selection (kind.Field b)) ≡ equal_opened (Open.Field a) (Open.Field b) =
+    λ i. equal_opened (kind.outs-Field a i) (kind.outs-Field b i) in
+    (λ h. subst IsTrue opened (by_parts block.member-Selection (kind.Field a) (kind.Field b) h), λ h. from_parts block.member-Selection (kind.Field a) (kind.Field b) (subst IsTrue (sym opened) h))
+
+-- the selections in the sets of fields and of inline fragments
+pub nested_in_field : (f : Node Field) → nested_selections (kind.Field f) ≡ selections_of f.value.value.selection_set
+nested_in_field f = ap nested_in (kind.outs-Field f)
+
+pub nested_in_inline : (i : Node InlineFragment) → nested_selections (kind.InlineFragment i) ≡ selections_of i.value.value.selection_set
+nested_in_inline i = ap nested_in (kind.outs-InlineFragment i)

@@ -1,8 +1,8 @@
 -- Numbers of contents: equal ones for the same contents, and for no others; and a table of contents to which one more is added.
-use Rattle.std.proofs.Common.{◌≡◌, ℕ, zero, suc, ◌+◌, Bool, true, false, ◌&&◌, ◌||◌, List, [], ◌∷◌, ◌++◌, Option, Some, None, Ok, Err, ◌⊎◌, inl, inr, All, length, nat_eq, refl, sym, ap, ◌∙◌, subst}
+use Rattle.std.proofs.Common.{◌≡◌, ℕ, zero, suc, Bool, true, false, ◌||◌, List, [], ◌∷◌, ◌++◌, Option, Some, None, Ok, Err, ◌⊎◌, inl, inr, All, length, nat_eq, refl, sym, ap, ◌∙◌, subst}
 use Rattle.std.specs.Prelude.{IsTrue, IfOk, OnErr, Result, slice_get, ◌↔◌}
 use Rattle.std.specs.Option.{option_map_or}
-use Rattle.std.specs.List.{AllZip, list_any}
+use Rattle.std.specs.List.{list_any}
 use Rattle.std.proofs.Math.Logic.{∥∥₁_elim, ∥∥₁_map}
 use Rattle.std.proofs.Props.{props}
 use Rattle.std.specs.Coded.{×_prop, Unit-prop}

@@ -7,6 +7,7 @@ ghost use Rattle.graphql_contents.specs.Tables.{contents_of};
 
 use super::contents::Contents;
 use graphql_documents::documents::{ExecutableDocument, SelectionSet};
+use graphql_hash_seeds::HashSeed;
 use graphql_nodes::{Name, ValidationError};
 use std::alloc::Global;
 
@@ -46,6 +47,11 @@ impl<'doc> NumberedDocument<'doc> {
             contents: Contents::new(alloc, document.hash_seed()),
             fragments: Vec::new(alloc),
         }
+    }
+
+    /// The seed by which the names of the document are hashed.
+    pub fn hash_seed(&self) -> HashSeed {
+        self.document.hash_seed()
     }
 
     /// Numbers what is in the set of an operation, and in the fragments, if they have no numbers. The only error is a failed

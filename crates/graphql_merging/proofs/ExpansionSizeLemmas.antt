@@ -14,8 +14,7 @@ use Rattle.graphql_nodes.specs.declared.nodes.Node.{Node}
 use Rattle.graphql_nodes.proofs.NameLemmas.{same_name_back}
 use Rattle.graphql_laws.proofs.VisitedNameLemmas.{Entries, visited_alike}
 use Rattle.graphql_laws.proofs.SizeLemmas.{size_of, size_of_inline, size_of_set, size_of_set_is}
-use Rattle.graphql_merging.specs.ExpansionSteps.{Expands, fragments_in, visited_names, queued}
-use Rattle.graphql_merging.specs.declared.expansion.FieldExpansion.{FieldExpansion}
+use Rattle.graphql_merging.specs.ExpansionSteps.{Expanding, Expands, fragments_in}
 
 -- nothing, where it holds
 abbrev unless : Bool → ℕ → ℕ
@@ -28,8 +27,8 @@ room visited [] = 0
 room visited (e ∷ es) = unless (list_any (same_name e.0) visited) (size_of_set e.1.value.value.selection_set) + room visited es
 
 -- the same, and what is in the sets of the queue
-abbrev pub left : FieldExpansion → ℕ
-left expansion = sum_by size_of_set (queued expansion) + room (visited_names expansion) expansion.fragments.now.entries
+abbrev pub left : Expanding → ℕ
+left expansion = sum_by size_of_set expansion.queue + room expansion.visited expansion.fragments.entries
 
 no_more_left : (a b : Bool) (n : ℕ) → unless (a || b) n ≤ unless b n
 no_more_left true true n = omega arith
@@ -76,17 +75,17 @@ module _ (fragments : Fragments) (entries : Entries) (looks_up : (name : NameTex
         rw is (omega (arith, behind, falls, sum_by-cons size_of (kind.FragmentSpread p) rest, sum_by-cons size_of_set d.value.value.selection_set sets))
 
 -- once the first set of a queue was listed there is less left
-pub less_left : (set : SelectionSet) (a b : FieldExpansion) → Expands a b set.ty (selections_of set) →
-    left b < sum_by size_of_set (set ∷ queued a) + room (visited_names a) a.fragments.now.entries
+pub less_left : (set : SelectionSet) (a b : Expanding) → Expands a b set.ty (selections_of set) →
+    left b < sum_by size_of_set (set ∷ a.queue) + room a.visited a.fragments.entries
 less_left set a b e =
-    let same : left b ≡ sum_by size_of_set (queued a ++ e.sets) + room (visited_names b) a.fragments.now.entries =
-    ap (λ q. sum_by size_of_set q + room (visited_names b) b.fragments.now.entries) e.queue ∙
-    ap (λ (m : _). sum_by size_of_set (queued a ++ e.sets) + room (visited_names b) m.entries) e.fragments in
+    let same : left b ≡ sum_by size_of_set (a.queue ++ e.sets) + room b.visited a.fragments.entries =
+    ap (λ q. sum_by size_of_set q + room b.visited b.fragments.entries) e.queue ∙
+    ap (λ (m : _). sum_by size_of_set (a.queue ++ e.sets) + room b.visited m.entries) e.fragments in
     omega (
       arith,
       same,
-      gathered (fragments_in a.fragments.now) a.fragments.now.entries (λ name. refl) e.found,
-      sum_by-append size_of_set (queued a) e.sets,
-      sum_by-cons size_of_set set (queued a),
+      gathered (fragments_in a.fragments) a.fragments.entries (λ name. refl) e.found,
+      sum_by-append size_of_set a.queue e.sets,
+      sum_by-cons size_of_set set a.queue,
       size_of_set_is set,
     )

@@ -4,6 +4,7 @@ use Rattle.std.proofs.Common.{Option, ◌≡◌, Bool, true, false, not, List, [
 use Rattle.std.specs.Prelude.{reverse, filter_map}
 use Rattle.std.specs.Borrow.{Bor}
 use Rattle.std.specs.List.{cons_option, list_any}
+use Rattle.std.specs.Option.{option_map}
 use Rattle.std.proofs.lemmas.List.{append-nil, map-append, reverse-append}
 use Rattle.std.proofs.lemmas.List.Elements.{filter_map-append}
 use Rattle.std.proofs.lemmas.List.Sorted.{IsPermutation-reverse, list_any-IsPermutation}
@@ -23,9 +24,7 @@ use Rattle.graphql_documents.specs.declared.documents.executables.SelectionSet.{
 use Rattle.graphql_nodes.specs.declared.nodes.Node.{Node}
 use Rattle.graphql_variables.proofs.NameSetLemmas.{same_key}
 use Rattle.graphql_variables.proofs.SelectionWalkLemmas.{refs_any}
-use Rattle.graphql_merging.specs.ExpansionSteps.{Expands, fragments_in, visited_names, queued}
-use Rattle.graphql_merging.specs.FieldSelections.{listed}
-use Rattle.graphql_merging.specs.declared.expansion.FieldExpansion.{FieldExpansion}
+use Rattle.graphql_merging.specs.ExpansionSteps.{Expanding, Expands, fragments_in, newest}
 
 -- a selection as it opens, as a field of a set of this type
 abbrev opened_field : NameText → Open.Selection-F Selection Field InlineFragment SelectionSet → Option merging.FieldSelection
@@ -44,10 +43,6 @@ no_inline_field parent i = ap (λ o. cons_option (opened_field parent o) []) (ki
 
 no_spread_field : (parent : NameText) (p : Node FragmentSpread) → filter_map (as_field parent) (kind.FragmentSpread p ∷ []) ≡ []
 no_spread_field parent p = ap (λ o. cons_option (opened_field parent o) []) (kind.outs-FragmentSpread p)
-
--- the names of some keys, the newest first
-abbrev pub newest : List (Bor NameText) → List NameText
-newest keys = reverse (map (λ key. key.now) keys)
 
 among_newest : (keys : List (Bor NameText)) (k : Bor NameText) → list_any (same_key k) keys ≡ list_any (same_name k.now) (newest keys)
 among_newest keys k =
@@ -82,59 +77,68 @@ new_name keys added k new is_new is fresh =
     )
 
 -- a field is listed
-pub field_expands : {old new : FieldExpansion} {s : Selection} (parent : NameText) (f : Node Field) → s ≡ kind.Field f →
-    new.fragments.now ≡ old.fragments.now → listed new.fields.items ≡ listed old.fields.items ++ record { parent = parent; field = f } ∷ [] →
-    visited_names new ≡ visited_names old → queued new ≡ queued old → Expands old new parent (s ∷ [])
+pub field_expands : {old new : Expanding} {s : Selection} (parent : NameText) (f : Node Field) → s ≡ kind.Field f →
+    new.fragments ≡ old.fragments → new.fields ≡ old.fields ++ record { parent = parent; field = f } ∷ [] →
+    new.visited ≡ old.visited → new.queue ≡ old.queue → Expands old new parent (s ∷ [])
 field_expands {old = old} {new = new} parent f is fragments fields visited queue =
     subst (λ t. Expands old new parent (t ∷ [])) (sym is) (record {
       fragments = fragments;
-      fields = fields ∙ ap (λ l. listed old.fields.items ++ l) (sym (one_field parent f));
+      fields = fields ∙ ap (λ l. old.fields ++ l) (sym (one_field parent f));
       sets = [];
-      found = past_field f [] (subst (FragmentSets (fragments_in old.fragments.now) (visited_names old) [] []) (sym visited) no_more);
-      queue = queue ∙ sym (append-nil (queued old));
+      found = past_field f [] (subst (FragmentSets (fragments_in old.fragments) old.visited [] []) (sym visited) no_more);
+      queue = queue ∙ sym (append-nil old.queue);
     })
 
 -- the set of an inline fragment goes into the queue
-pub inline_expands : {old new : FieldExpansion} {s : Selection} (parent : NameText) (i : Node InlineFragment) → s ≡ kind.InlineFragment i →
-    new.fragments.now ≡ old.fragments.now → listed new.fields.items ≡ listed old.fields.items →
-    visited_names new ≡ visited_names old → queued new ≡ queued old ++ i.value.value.selection_set ∷ [] → Expands old new parent (s ∷ [])
+pub inline_expands : {old new : Expanding} {s : Selection} (parent : NameText) (i : Node InlineFragment) → s ≡ kind.InlineFragment i →
+    new.fragments ≡ old.fragments → new.fields ≡ old.fields →
+    new.visited ≡ old.visited → new.queue ≡ old.queue ++ i.value.value.selection_set ∷ [] → Expands old new parent (s ∷ [])
 inline_expands {old = old} {new = new} parent i is fragments fields visited queue =
     subst (λ t. Expands old new parent (t ∷ [])) (sym is) (record {
       fragments = fragments;
-      fields = fields ∙ sym (append-nil (listed old.fields.items)) ∙ ap (λ l. listed old.fields.items ++ l) (sym (no_inline_field parent i));
+      fields = fields ∙ sym (append-nil old.fields) ∙ ap (λ l. old.fields ++ l) (sym (no_inline_field parent i));
       sets = i.value.value.selection_set ∷ [];
-      found = into_inline_fragment i [] (subst (FragmentSets (fragments_in old.fragments.now) (visited_names old) [] []) (sym visited) no_more);
+      found = into_inline_fragment i [] (subst (FragmentSets (fragments_in old.fragments) old.visited [] []) (sym visited) no_more);
       queue = queue;
     })
 
 -- a spread whose name was visited
-pub known_expands : {old new : FieldExpansion} (parent : NameText) (p : Node FragmentSpread) →
-    new.fragments.now ≡ old.fragments.now → listed new.fields.items ≡ listed old.fields.items →
-    IsTrue (list_any (same_name p.value.value.fragment_name) (visited_names old)) → visited_names new ≡ visited_names old →
-    queued new ≡ queued old → Expands old new parent (kind.FragmentSpread p ∷ [])
+pub known_expands : {old new : Expanding} (parent : NameText) (p : Node FragmentSpread) →
+    new.fragments ≡ old.fragments → new.fields ≡ old.fields →
+    IsTrue (list_any (same_name p.value.value.fragment_name) old.visited) → new.visited ≡ old.visited →
+    new.queue ≡ old.queue → Expands old new parent (kind.FragmentSpread p ∷ [])
 known_expands {old = old} {new = new} parent p fragments fields known visited queue =
     record {
       fragments = fragments;
-      fields = fields ∙ sym (append-nil (listed old.fields.items)) ∙ ap (λ l. listed old.fields.items ++ l) (sym (no_spread_field parent p));
+      fields = fields ∙ sym (append-nil old.fields) ∙ ap (λ l. old.fields ++ l) (sym (no_spread_field parent p));
       sets = [];
-      found = past_spread p [] known (subst (FragmentSets (fragments_in old.fragments.now) (visited_names old) [] []) (sym visited) no_more);
-      queue = queue ∙ sym (append-nil (queued old));
+      found = past_spread p [] known (subst (FragmentSets (fragments_in old.fragments) old.visited [] []) (sym visited) no_more);
+      queue = queue ∙ sym (append-nil old.queue);
     }
 
 -- a spread of another name: the set of its fragment, if that is there, goes into the queue
-pub spread_expands : {old new : FieldExpansion} (parent : NameText) (p : Node FragmentSpread) →
-    new.fragments.now ≡ old.fragments.now → listed new.fields.items ≡ listed old.fields.items →
-    IsFalse (list_any (same_name p.value.value.fragment_name) (visited_names old)) → visited_names new ≡ p.value.value.fragment_name ∷ visited_names old →
-    queued new ≡ queued old ++ followed_by (fragments_in old.fragments.now p.value.value.fragment_name) [] →
+pub spread_expands : {old new : Expanding} (parent : NameText) (p : Node FragmentSpread) →
+    new.fragments ≡ old.fragments → new.fields ≡ old.fields →
+    IsFalse (list_any (same_name p.value.value.fragment_name) old.visited) → new.visited ≡ p.value.value.fragment_name ∷ old.visited →
+    new.queue ≡ old.queue ++ followed_by (fragments_in old.fragments p.value.value.fragment_name) [] →
     Expands old new parent (kind.FragmentSpread p ∷ [])
 spread_expands {old = old} {new = new} parent p fragments fields fresh visited queue =
     record {
       fragments = fragments;
-      fields = fields ∙ sym (append-nil (listed old.fields.items)) ∙ ap (λ l. listed old.fields.items ++ l) (sym (no_spread_field parent p));
-      sets = followed_by (fragments_in old.fragments.now p.value.value.fragment_name) [];
-      found = into_spread p [] fresh (subst (FragmentSets (fragments_in old.fragments.now) (p.value.value.fragment_name ∷ visited_names old) [] []) (sym visited) no_more);
+      fields = fields ∙ sym (append-nil old.fields) ∙ ap (λ l. old.fields ++ l) (sym (no_spread_field parent p));
+      sets = followed_by (fragments_in old.fragments p.value.value.fragment_name) [];
+      found = into_spread p [] fresh (subst (FragmentSets (fragments_in old.fragments) (p.value.value.fragment_name ∷ old.visited) [] []) (sym visited) no_more);
       queue = queue;
     }
+
+-- the set of a fragment that was found, and of none
+pub followed_found : (o : Option (Node Fragment)) (set : SelectionSet) → Some set ≡ option_map (λ d. d.value.value.selection_set) o → followed_by o [] ≡ set ∷ []
+followed_found None set is = absurd (let no : ⊥ = cc in no)
+followed_found (Some d) set is = let own : set ≡ d.value.value.selection_set = cc in ap (λ s. s ∷ []) (sym own)
+
+pub followed_by_none : (o : Option (Node Fragment)) → None ≡ option_map (λ d. d.value.value.selection_set) o → followed_by o [] ≡ []
+followed_by_none None is = refl
+followed_by_none (Some d) is = absurd (let no : ⊥ = cc in no)
 
 -- the sets among some selections, and among others behind them
 followed_then : (fragments : Fragments) (name : NameText) (sets more : List SelectionSet) →
@@ -156,35 +160,35 @@ sets_then {fragments = fragments} {seen = seen} (into_spread {sets = sets} p res
     (into_spread p (rest ++ ys) fresh (sets_then found after))
 
 -- one step after another
-pub expands_then : {a b c : FieldExpansion} {parent : NameText} {xs ys : List Selection} → Expands a b parent xs → Expands b c parent ys → Expands a c parent (xs ++ ys)
+pub expands_then : {a b c : Expanding} {parent : NameText} {xs ys : List Selection} → Expands a b parent xs → Expands b c parent ys → Expands a c parent (xs ++ ys)
 expands_then {a = a} {b = b} {c = c} {parent = parent} {xs = xs} {ys = ys} first second =
     record {
       fragments = second.fragments ∙ first.fragments;
       fields = second.fields ∙ ap (λ l. l ++ filter_map (as_field parent) ys) first.fields
-          ∙ append_assoc (listed a.fields.items) (filter_map (as_field parent) xs) (filter_map (as_field parent) ys)
-          ∙ ap (λ l. listed a.fields.items ++ l) (sym (filter_map-append (as_field parent) xs ys));
+          ∙ append_assoc a.fields (filter_map (as_field parent) xs) (filter_map (as_field parent) ys)
+          ∙ ap (λ l. a.fields ++ l) (sym (filter_map-append (as_field parent) xs ys));
       sets = first.sets ++ second.sets;
-      found = sets_then first.found (subst (λ m. FragmentSets (fragments_in m) (visited_names b) ys second.sets (visited_names c)) first.fragments second.found);
-      queue = second.queue ∙ ap (λ l. l ++ second.sets) first.queue ∙ append_assoc (queued a) first.sets second.sets;
+      found = sets_then first.found (subst (λ m. FragmentSets (fragments_in m) b.visited ys second.sets c.visited) first.fragments second.found);
+      queue = second.queue ∙ ap (λ l. l ++ second.sets) first.queue ∙ append_assoc a.queue first.sets second.sets;
     }
 
 -- nothing is done for no selections
-pub expands_none : (a : FieldExpansion) (parent : NameText) → Expands a a parent []
+pub expands_none : (a : Expanding) (parent : NameText) → Expands a a parent []
 expands_none a parent = record {
   fragments = refl;
-  fields = sym (append-nil (listed a.fields.items));
+  fields = sym (append-nil a.fields);
   sets = [];
   found = no_more;
-  queue = sym (append-nil (queued a));
+  queue = sym (append-nil a.queue);
 }
 
 -- once the first set of a queue was listed, what is left gives the rest of the same expansion
-pub still_expands : (set : SelectionSet) (a b : FieldExpansion) (sets : List SelectionSet) → Expands a b set.ty (selections_of set) →
-    ((more : List merging.FieldSelection) → ExpandsFrom (fragments_in a.fragments.now) (visited_names a) (set ∷ queued a) more →
-    Expansion (fragments_in a.fragments.now) sets (listed a.fields.items ++ more)) →
-    (more : List merging.FieldSelection) → ExpandsFrom (fragments_in a.fragments.now) (visited_names b) (queued b) more →
-    Expansion (fragments_in a.fragments.now) sets (listed b.fields.items ++ more)
+pub still_expands : (set : SelectionSet) (a b : Expanding) (sets : List SelectionSet) → Expands a b set.ty (selections_of set) →
+    ((more : List merging.FieldSelection) → ExpandsFrom (fragments_in a.fragments) a.visited (set ∷ a.queue) more →
+    Expansion (fragments_in a.fragments) sets (a.fields ++ more)) →
+    (more : List merging.FieldSelection) → ExpandsFrom (fragments_in a.fragments) b.visited b.queue more →
+    Expansion (fragments_in a.fragments) sets (b.fields ++ more)
 still_expands set a b sets e before more rest =
-    subst (Expansion (fragments_in a.fragments.now) sets)
-    (sym (ap (λ l. l ++ more) e.fields ∙ append_assoc (listed a.fields.items) (fields_standing set) more))
-    (before (fields_standing set ++ more) (expand_next e.found (subst (λ q. ExpandsFrom (fragments_in a.fragments.now) (visited_names b) q more) e.queue rest)))
+    subst (Expansion (fragments_in a.fragments) sets)
+    (sym (ap (λ l. l ++ more) e.fields ∙ append_assoc a.fields (fields_standing set) more))
+    (before (fields_standing set ++ more) (expand_next e.found (subst (λ q. ExpandsFrom (fragments_in a.fragments) b.visited q more) e.queue rest)))

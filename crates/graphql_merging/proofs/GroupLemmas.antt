@@ -21,9 +21,10 @@ use Rattle.graphql_documents.specs.declared.documents.schemas.ExtendedType.{Exte
 use Rattle.graphql_documents.specs.declared.documents.schemas.Schema.{Schema}
 use Rattle.graphql_nodes.proofs.NameLemmas.{same_name_itself}
 use Rattle.graphql_documents.proofs.ImplementerLemmas.{Apart, apart_folded, inserted, neither, same_swapped, stands_folded}
-use Rattle.graphql_merging.specs.FieldSelections.{listed, lists_of, selection_of}
-use Rattle.graphql_merging.specs.Groups.{NamedFields, by_keys, by_objects, named_fields, with_field, with_field_if, with_keyed, with_owned}
-use Rattle.graphql_merging.specs.declared.field_selections.FieldSelection.{FieldSelection}
+use Rattle.graphql_merging.specs.NumberedFields.{listed, lists_of, selection_of}
+use Rattle.graphql_merging.specs.Groups.{NamedFields, by_keys, by_objects, with_field, with_field_if, with_keyed, with_owned}
+use Rattle.graphql_merging.specs.NumberedGroups.{named_fields}
+use Rattle.graphql_merging.specs.declared.numbered_fields.NumberedField.{NumberedField}
 
 -- names, each with the fields that pass a test for it
 module _ (passes : NameText → merging.FieldSelection → Bool) where
@@ -126,49 +127,53 @@ module _ (schema : Schema) where
   pub owned : (fields : List merging.FieldSelection) → fold (with_owned schema) [] fields ≡ by_objects schema fields
   owned fields = stepwise (with_owned schema) (by_objects schema) (λ seen x. owned_more_as seen x (own x) refl) [] fields
 
--- a map of lists of fields, as names with fields
-abbrev Entries : Type 0
-Entries = List (Bor NameText × Vec FieldSelection Global)
+-- maps of lists of whatever has a field, as names with fields
+module _ {X : Type 0} (field_in : X → merging.FieldSelection) where
+  abbrev viewed : List (Bor NameText × Vec X Global) → NamedFields
+  viewed entries = map (λ entry. (entry.0.now, map field_in entry.1.items)) entries
 
-found_as_fields : (entries : Entries) (n : NameText) →
-    lookup (same_name n) (named_fields entries) ≡ option_map (λ fields. listed fields.items) (lookup (λ b. same_name n b.now) entries)
-found_as_fields [] n = refl
-found_as_fields (e ∷ es) n = by (same_name n e.0.now) (found_as_fields es n) where
-  by : (b : Bool) → lookup (same_name n) (named_fields es) ≡ option_map (λ fields. listed fields.items) (lookup (λ b. same_name n b.now) es) →
-      cond b (Some (listed e.1.items)) (lookup (same_name n) (named_fields es)) ≡
-      option_map (λ (fields : Vec FieldSelection Global). listed fields.items) (cond b (Some e.1) (lookup (λ b. same_name n b.now) es))
-  by true behind = refl
-  by false behind = behind
+  found_as_fields : (entries : List (Bor NameText × Vec X Global)) (n : NameText) →
+      lookup (same_name n) (viewed entries) ≡ option_map (λ fields. map field_in fields.items) (lookup (λ b. same_name n b.now) entries)
+  found_as_fields [] n = refl
+  found_as_fields (e ∷ es) n = by (same_name n e.0.now) (found_as_fields es n) where
+    by : (b : Bool) → lookup (same_name n) (viewed es) ≡ option_map (λ fields. map field_in fields.items) (lookup (λ b. same_name n b.now) es) →
+        cond b (Some (map field_in e.1.items)) (lookup (same_name n) (viewed es)) ≡
+        option_map (λ (fields : Vec X Global). map field_in fields.items) (cond b (Some e.1) (lookup (λ b. same_name n b.now) es))
+    by true behind = refl
+    by false behind = behind
 
-module _ (new : Vec FieldSelection Global) where
-  entry_viewed : (entries : Entries) (k : Bor NameText) →
-      named_fields (insert_entry (λ a b. same_name a.now b.now) entries k new) ≡ insert_entry same_name (named_fields entries) k.now (listed new.items)
-  entry_viewed [] k = refl
-  entry_viewed (entry ∷ es) k = by (same_name k.now entry.0.now) refl (entry_viewed es k) where
+  entry_viewed : (new : Vec X Global) (entries : List (Bor NameText × Vec X Global)) (k : Bor NameText) →
+      viewed (insert_entry (λ a b. same_name a.now b.now) entries k new) ≡ insert_entry same_name (viewed entries) k.now (map field_in new.items)
+  entry_viewed new [] k = refl
+  entry_viewed new (entry ∷ es) k = by (same_name k.now entry.0.now) refl (entry_viewed new es k) where
     by : (b : Bool) → same_name k.now entry.0.now ≡ b →
-        named_fields (insert_entry (λ a b. same_name a.now b.now) es k new) ≡ insert_entry same_name (named_fields es) k.now (listed new.items) →
-        named_fields (insert_entry (λ a b. same_name a.now b.now) (entry ∷ es) k new) ≡ insert_entry same_name (named_fields (entry ∷ es)) k.now (listed new.items)
+        viewed (insert_entry (λ a b. same_name a.now b.now) es k new) ≡ insert_entry same_name (viewed es) k.now (map field_in new.items) →
+        viewed (insert_entry (λ a b. same_name a.now b.now) (entry ∷ es) k new) ≡ insert_entry same_name (viewed (entry ∷ es)) k.now (map field_in new.items)
     by true same behind = rw same refl
-    by false other behind = rw other (ap (λ l. (entry.0.now, listed entry.1.items) ∷ l) behind)
+    by false other behind = rw other (ap (λ l. (entry.0.now, map field_in entry.1.items) ∷ l) behind)
 
--- what was under a name, or nothing
-known_under : (o : Option (Vec FieldSelection Global)) (none : Vec FieldSelection Global) → none.items ≡ [] →
-    listed (unwrap_or o none).items ≡ unwrap_or (option_map (λ (fields : Vec FieldSelection Global). listed fields.items) o) []
-known_under None none empty = ap listed empty
-known_under (Some fields) none empty = refl
+  -- what was under a name, or nothing
+  known_under : (o : Option (Vec X Global)) (none : Vec X Global) → none.items ≡ [] →
+      map field_in (unwrap_or o none).items ≡ unwrap_or (option_map (λ (fields : Vec X Global). map field_in fields.items) o) []
+  known_under None none empty = ap (map field_in) empty
+  known_under (Some fields) none empty = refl
 
--- a field that is put behind those under a name, if there are some
-pub put_as_fields : (entries : Entries) (k : Bor NameText) (x : FieldSelection) (none known new : Vec FieldSelection Global) → none.items ≡ [] →
-    known ≡ unwrap_or (lookup (λ b. same_name k.now b.now) entries) none → new.items ≡ known.items ++ x ∷ [] →
-    named_fields (insert_entry (λ a b. same_name a.now b.now) entries k new) ≡ with_field (named_fields entries) k.now (selection_of x)
-put_as_fields entries k x none known new empty found is =
-    entry_viewed new entries k ∙
-    ap (insert_entry same_name (named_fields entries) k.now)
-    (ap listed is ∙ map-append selection_of known.items (x ∷ []) ∙
-    ap (λ l. l ++ selection_of x ∷ [])
-    (ap (λ (fields : Vec FieldSelection Global). listed fields.items) found ∙
-    known_under (lookup (λ b. same_name k.now b.now) entries) none empty ∙
-    ap (λ o. unwrap_or o []) (sym (found_as_fields entries k.now))))
+  -- a field that is put behind those under a name, if there are some
+  pub put_as_fields : (entries : List (Bor NameText × Vec X Global)) (k : Bor NameText) (x : X) (none known new : Vec X Global) → none.items ≡ [] →
+      known ≡ unwrap_or (lookup (λ b. same_name k.now b.now) entries) none → new.items ≡ known.items ++ x ∷ [] →
+      viewed (insert_entry (λ a b. same_name a.now b.now) entries k new) ≡ with_field (viewed entries) k.now (field_in x)
+  put_as_fields entries k x none known new empty found is =
+      entry_viewed new entries k ∙
+      ap (insert_entry same_name (viewed entries) k.now)
+      (ap (map field_in) is ∙ map-append field_in known.items (x ∷ []) ∙
+      ap (λ l. l ++ field_in x ∷ [])
+      (ap (λ (fields : Vec X Global). map field_in fields.items) found ∙
+      known_under (lookup (λ b. same_name k.now b.now) entries) none empty ∙
+      ap (λ o. unwrap_or o []) (sym (found_as_fields entries k.now))))
+
+-- a map of lists of fields with the numbers of their contents
+abbrev Entries : Type 0
+Entries = List (Bor NameText × Vec NumberedField Global)
 
 -- the lists of a map, as those under its names
 pub lists_viewed : (entries : Entries) → lists_of (map (λ e. e.1) entries) ≡ map (λ entry. entry.1) (named_fields entries)
@@ -203,7 +208,7 @@ lists_on_objects schema fields entries rest found on_abstract some =
     (λ none. some (sym (length-map entries (λ entry. (entry.0.now, listed entry.1.items))) ∙ ap length (found ∙ ap (map (λ name. (name, on_named name))) none)))
 
 -- the list of the only field
-only_field : (fields : List FieldSelection) (x : FieldSelection) → length fields ≡ 1 → x ≡ get_or fields 0 x → listed fields ≡ selection_of x ∷ []
+only_field : (fields : List NumberedField) (x : NumberedField) → length fields ≡ 1 → x ≡ get_or fields 0 x → listed fields ≡ selection_of x ∷ []
 only_field [] x one is = absurd (let no : ⊥ = cc in no)
 only_field (y ∷ []) x one is = ap (λ z. selection_of z ∷ []) (sym is)
 only_field (y ∷ z ∷ rest) x one is = absurd (let no : ⊥ = omega arith in no)
@@ -222,7 +227,7 @@ module _ (schema : Schema) where
       groups_on schema (x ∷ []) (objects_of schema (x ∷ [])) ≡ cond (option_map_or is_composite (type_definition schema x.parent) false) ((x ∷ []) ∷ []) []
   alone_on x = alone_among x (type_definition schema x.parent) refl
 
-  alone_in : (fields : List FieldSelection) (x : FieldSelection) (b : Bool) → length fields ≡ 1 → x ≡ get_or fields 0 x →
+  alone_in : (fields : List NumberedField) (x : NumberedField) (b : Bool) → length fields ≡ 1 → x ≡ get_or fields 0 x →
       option_map_or is_composite (type_definition schema x.parent_type.now) false ≡ b →
       groups_on schema (listed fields) (objects_of schema (listed fields)) ≡ cond b (listed fields ∷ []) []
   alone_in fields x b one is composite =
@@ -230,13 +235,13 @@ module _ (schema : Schema) where
       ap (λ l. groups_on schema l (objects_of schema l)) only ∙ alone_on (selection_of x) ∙
       ap (λ b. cond b ((selection_of x ∷ []) ∷ []) []) composite ∙ ap (λ l. cond b (l ∷ []) []) (sym only)
 
-  pub added_alone : (groups : List (Vec FieldSelection Global)) (group : Vec FieldSelection Global) (x : FieldSelection) →
+  pub added_alone : (groups : List (Vec NumberedField Global)) (group : Vec NumberedField Global) (x : NumberedField) →
       length group.items ≡ 1 → x ≡ get_or group.items 0 x → option_map_or is_composite (type_definition schema x.parent_type.now) false ≡ true →
       lists_of (groups ++ group ∷ []) ≡ lists_of groups ++ groups_on schema (listed group.items) (objects_of schema (listed group.items))
   added_alone groups group x one is composite =
       map-append (λ fields. listed fields.items) groups (group ∷ []) ∙ ap (λ l. lists_of groups ++ l) (sym (alone_in group.items x true one is composite))
 
-  pub left_alone : (groups : List (List merging.FieldSelection)) (fields : List FieldSelection) (x : FieldSelection) →
+  pub left_alone : (groups : List (List merging.FieldSelection)) (fields : List NumberedField) (x : NumberedField) →
       length fields ≡ 1 → x ≡ get_or fields 0 x → option_map_or is_composite (type_definition schema x.parent_type.now) false ≡ false →
       groups ≡ groups ++ groups_on schema (listed fields) (objects_of schema (listed fields))
   left_alone groups fields x one is composite =

@@ -5,12 +5,13 @@ pub mod ConflictReportLemmas
 pub mod DisagreementLemmas
 pub mod ExpansionSizeLemmas
 pub mod ExpansionStepLemmas
-pub mod FieldListLemmas
-pub mod FieldSelectionLemmas
 pub mod FirstNamedLemmas
 pub mod GroupLemmas
 pub mod MergedOperationLemmas
 pub mod MergingReportLemmas
+pub mod NumberedExaminedLemmas
+pub mod NumberedFieldLemmas
+pub mod NumberedGroupLemmas
 pub mod PassLemmas
 pub mod PassStepLemmas
 pub mod PositionLemmas

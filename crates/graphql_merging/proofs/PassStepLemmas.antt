@@ -22,13 +22,13 @@ use Rattle.graphql_documents.proofs.ListLemmas.{each_standing, more_is, stands_m
 use Rattle.graphql_diagnostics.proofs.ReportLemmas.{kept_wider}
 use Rattle.graphql_laws.proofs.OrderedGroupLaws.{comparisons_of_groups, groups_listed}
 use Rattle.graphql_variables.proofs.UseLemmas.{any_has, has_any}
-use Rattle.graphql_merging.specs.FieldSelections.{listed, lists_of, same_selection, selection_of}
-use Rattle.graphql_merging.proofs.FieldSelectionLemmas.{compared_with_any}
+use Rattle.graphql_merging.specs.NumberedFields.{listed, lists_of, selection_of}
+use Rattle.graphql_merging.proofs.NumberedFieldLemmas.{compared_with_any, same_selection}
 use Rattle.graphql_merging.specs.Passes.{IsConflict, IsConflictAmong, IsNew, counted}
-use Rattle.graphql_merging.specs.declared.field_selections.FieldSelection.{FieldSelection}
+use Rattle.graphql_merging.specs.declared.numbered_fields.NumberedField.{NumberedField}
 
 -- the groups of the code are those of its list
-module _ (schema : Schema) (pass : Pass) (list : List merging.FieldSelection) (groups : List (Vec FieldSelection Global))
+module _ (schema : Schema) (pass : Pass) (list : List merging.FieldSelection) (groups : List (Vec NumberedField Global))
     (are : lists_of groups ≡ groups_of schema pass list) where
   pub each_group : All (IsGroup schema list pass) (lists_of groups)
   each_group =
@@ -42,7 +42,7 @@ module _ (schema : Schema) (pass : Pass) (list : List merging.FieldSelection) (g
       kept_wider (λ e conflict. record { list = list; merged = merged; conflict = subst (λ g. IsConflictAmong schema pass g e) are conflict }) kept
 
 -- each group of a list is among them
-pub group_among : (P : List merging.FieldSelection → Type 0) (groups : List (Vec FieldSelection Global)) (group : Vec FieldSelection Global) →
+pub group_among : (P : List merging.FieldSelection → Type 0) (groups : List (Vec NumberedField Global)) (group : Vec NumberedField Global) →
     All P (lists_of groups) → Contains groups group → P (listed group.items)
 group_among P groups group all stands =
     All-contains P (lists_of groups) (listed group.items) all (stands_mapped (λ g. listed g.items) groups group stands)
@@ -97,7 +97,7 @@ not_reachable b count limit reachable other within is =
     omega (arith, apart, within, is)
 
 -- the code's test of a new list finds no known one
-pub not_known : (fields : List FieldSelection) (known : List (Vec FieldSelection Global)) → IsNew (lists_of known) (listed fields) →
+pub not_known : (fields : List NumberedField) (known : List (Vec NumberedField Global)) → IsNew (lists_of known) (listed fields) →
     IsFalse (list_any (λ k. pointwise same_selection fields k.items) known)
 not_known fields known is_new = by (list_any (λ k. pointwise same_selection fields k.items) known) refl where
   by : (b : Bool) → list_any (λ k. pointwise same_selection fields k.items) known ≡ b → IsFalse (list_any (λ k. pointwise same_selection fields k.items) known)
@@ -107,7 +107,7 @@ not_known fields known is_new = by (list_any (λ k. pointwise same_selection fie
       absurd (All-contains (λ l. ¬ merging.SameFields (listed fields) l) (lists_of known) h.0 is_new h.1 h.2)
 
 -- the sets of one field more: its own behind the others, if it selects something
-nested_more : (fields : List FieldSelection) (x : FieldSelection) →
+nested_more : (fields : List NumberedField) (x : NumberedField) →
     nested_sets (listed (fields ++ x ∷ [])) ≡ nested_sets (listed fields) ++ nested_sets (listed (x ∷ []))
 nested_more fields x =
     let selects = λ (set : SelectionSet). is_some (slice_get (selections_of set) 0) in
@@ -121,7 +121,7 @@ selects_something set b is = from set.selections.items refl where
   from [] none = let e : b ≡ true = search rules in rw (none, e) refl
   from (x ∷ xs) some = let e : b ≡ false = search rules in rw (some, e) refl
 
-pub nested_one_more : (sets : List SelectionSet) (group : List FieldSelection) (i : ℕ) (x : FieldSelection) (b : Bool) → i < length group → x ≡ get_or group i x →
+pub nested_one_more : (sets : List SelectionSet) (group : List NumberedField) (i : ℕ) (x : NumberedField) (b : Bool) → i < length group → x ≡ get_or group i x →
     b ≡ (vec_len x.field.now.value.value.selection_set.selections == 0) → sets ≡ nested_sets (listed (take i group)) →
     (IsFalse b → sets ++ x.field.now.value.value.selection_set ∷ [] ≡ nested_sets (listed (take (i + 1) group))) ×
     (IsTrue b → sets ≡ nested_sets (listed (take (i + 1) group)))

@@ -1,8 +1,7 @@
 -- Fields of the code, in the words of the definitions on merging.
-use Rattle.std.specs.Prelude.{Bool, List, Vec, map}
+use Rattle.std.specs.Prelude.{List, Vec, map}
 use Rattle.std.specs.declared.alloc.Global.{Global}
 use Rattle.graphql_specification.specs.Merging as merging
-use Rattle.graphql_merging.specs.contracts.field_selections.FieldSelectionPartialEq.TheImpl as selection_impl
 use Rattle.graphql_merging.specs.declared.field_selections.FieldSelection.{FieldSelection}
 
 -- the field, with the name of the type of its set
@@ -16,7 +15,3 @@ listed fields = map selection_of fields
 -- the same of each list
 abbrev pub lists_of : List (Vec FieldSelection Global) → List (List merging.FieldSelection)
 lists_of lists = map (λ fields. listed fields.items) lists
-
--- what `==` answers of two of them
-abbrev pub same_selection : FieldSelection → FieldSelection → Bool
-same_selection = selection_impl.ghosts.eq

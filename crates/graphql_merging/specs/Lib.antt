@@ -1,12 +1,15 @@
 pub mod Comparisons
 pub mod Conflicts
 pub mod ExpansionSteps
-pub mod FieldHashes
 pub mod FieldSelections
 pub mod FirstPlaces
 pub mod Groups
 pub mod MergedOperations
 pub mod Mergers
+pub mod NumberedExpansions
+pub mod NumberedFields
+pub mod NumberedGroups
 pub mod Passes
 pub mod Stages
+pub mod Tables
 pub mod Works

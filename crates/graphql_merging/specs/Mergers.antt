@@ -1,5 +1,6 @@
 -- What contracts see of values that merge operations.
 use Rattle.std.specs.Prelude.{Bool, IsFalse, map}
+use Rattle.graphql_contents.specs.Documents.{document_in}
 use Rattle.graphql_documents.specs.Selections.{fragments_of}
 use Rattle.graphql_documents.specs.declared.documents.executables.ExecutableDocument.{ExecutableDocument}
 use Rattle.graphql_documents.specs.declared.documents.schemas.Schema.{Schema}
@@ -14,7 +15,7 @@ abbrev pub schema_of : FieldsInSetCanMerge → Schema
 schema_of m = m.schema.now
 
 abbrev pub document_of : FieldsInSetCanMerge → ExecutableDocument
-document_of m = m.document.now
+document_of m = document_in m.numbered
 
 -- what is kept of the operations that were merged
 abbrev pub merging_of : FieldsInSetCanMerge → Merging
@@ -33,7 +34,7 @@ has_refused m = m.refused
 
 -- unless memory was refused, its operations were merged
 abbrev pub IsSound : FieldsInSetCanMerge → Type 0
-IsSound m = IsFalse m.refused → HasMerged m.schema.now (fragments_of m.document.now) (merging_of m)
+IsSound m = IsFalse m.refused → HasMerged m.schema.now (fragments_of (document_of m)) (merging_of m)
 
 -- what merges the operations that are decided within the bound
 abbrev pub merger_of : BoundedMerging → FieldsInSetCanMerge

@@ -5,7 +5,7 @@ use Rattle.graphql_specification.specs.Merging.{FieldSelection}
 use Rattle.graphql_diagnostics.specs.declared.lists.DiagnosticList.{DiagnosticList}
 use Rattle.graphql_guards.specs.Guards.{count_of, highest_of}
 use Rattle.graphql_guards.specs.declared.limits.LimitCounter.{LimitCounter}
-use Rattle.graphql_merging.specs.FieldSelections.{lists_of}
+use Rattle.graphql_merging.specs.NumberedFields.{lists_of}
 use Rattle.graphql_merging.specs.Passes.{Stage}
 use Rattle.graphql_merging.specs.declared.examined.Examined.{Examined}
 

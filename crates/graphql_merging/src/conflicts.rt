@@ -6,16 +6,17 @@ ghost use Rattle.graphql_specification.specs.Merging.{shape_pass, SameResponseSh
 ghost use Rattle.graphql_specification.specs.MergedSets.{AreConflicts};
 ghost use Rattle.graphql_diagnostics.specs.Reports.{Appends, KeepsReports};
 ghost use Rattle.graphql_merging.specs.Conflicts.{ComparesField};
-ghost use Rattle.graphql_merging.specs.FieldSelections.{listed, lists_of, selection_of};
+ghost use Rattle.graphql_merging.specs.NumberedFields.{listed, lists_of, selection_of};
+ghost use Rattle.graphql_merging.specs.FieldSelections as plain;
 ghost use Rattle.graphql_merging.specs.Groups.{pass_of};
 ghost use Rattle.graphql_merging.specs.Passes.{IsConflictAmong, counted};
-ghost use Rattle.graphql_merging.specs.Stages.{examined_lists};
 
 use super::comparisons::{find_field_conflict, same_output_type_shape};
 use super::conflict_reports::{report_conflict, report_types};
 use super::examined::Examined;
 use super::field_selections::FieldSelection;
 use super::groups::Pass;
+use super::numbered_fields::NumberedField;
 use graphql_diagnostics::DiagnosticList;
 use graphql_documents::documents::Schema;
 use graphql_nodes::ValidationError;
@@ -26,11 +27,11 @@ pub(crate) fn compare_groups<'doc>(
     examined: &mut Examined<'doc>,
     schema: &Schema,
     pass: Pass,
-    groups: &[Vec<FieldSelection<'doc>>],
+    groups: &[Vec<NumberedField<'doc>>],
 ) -> Result<(), ValidationError>
     ensures conflicts { OnOk result (Appends (AreConflicts schema.now (pass_of pass) (lists_of groups.now)) (entries diagnostics.old) (entries diagnostics.new)) }
     ensures comparisons { OnOk result (examined.new.comparisons ≡ counted (pass_of pass) examined.old.comparisons (sum_by (λ group. length group - 1) (lists_of groups.now))) }
-    ensures lists { examined_lists examined.new ≡ examined_lists examined.old }
+    ensures lists { examined.new.lists ≡ examined.old.lists }
     ensures truth { KeepsReports (IsConflictAmong schema.now (pass_of pass) (lists_of groups.now)) (entries diagnostics.old) (entries diagnostics.new) }
 {
     for group in groups {
@@ -45,11 +46,11 @@ fn compare_group<'doc>(
     examined: &mut Examined<'doc>,
     schema: &Schema,
     pass: Pass,
-    group: &[FieldSelection<'doc>],
+    group: &[NumberedField<'doc>],
 ) -> Result<(), ValidationError>
     ensures conflicts { OnOk result (Appends (AreConflicts schema.now (pass_of pass) (listed group.now ∷ [])) (entries diagnostics.old) (entries diagnostics.new)) }
     ensures comparisons { OnOk result (examined.new.comparisons ≡ counted (pass_of pass) examined.old.comparisons (length (listed group.now) - 1)) }
-    ensures lists { examined_lists examined.new ≡ examined_lists examined.old }
+    ensures lists { examined.new.lists ≡ examined.old.lists }
     ensures truth { KeepsReports (IsConflictAmong schema.now (pass_of pass) (listed group.now ∷ [])) (entries diagnostics.old) (entries diagnostics.new) }
 {
     let Some((first, rest)) = group.split_first() else {
@@ -67,13 +68,21 @@ fn compare<'doc>(
     examined: &mut Examined<'doc>,
     schema: &Schema,
     pass: Pass,
-    first: FieldSelection<'doc>,
-    field: FieldSelection<'doc>,
+    first: NumberedField<'doc>,
+    field: NumberedField<'doc>,
 ) -> Result<(), ValidationError>
     ensures reports { ComparesField result schema.now (pass_of pass) (selection_of first.entry) (selection_of field.entry) diagnostics.old diagnostics.new }
     ensures comparisons { examined.new.comparisons ≡ counted (pass_of pass) examined.old.comparisons 1 }
-    ensures lists { examined_lists examined.new ≡ examined_lists examined.old }
+    ensures lists { examined.new.lists ≡ examined.old.lists }
 {
+    let first = FieldSelection {
+        parent_type: first.parent_type,
+        field: first.field,
+    };
+    let field = FieldSelection {
+        parent_type: field.parent_type,
+        field: field.field,
+    };
     match pass {
         Pass::Shapes => {
             if have_one_shape(examined, schema, first, field) {
@@ -100,9 +109,9 @@ fn have_one_shape<'doc>(
     first: FieldSelection<'doc>,
     field: FieldSelection<'doc>,
 ) -> bool
-    ensures answer { IsTrue result ↔ SameResponseShape schema.now (type_of (selection_of first.entry)) (type_of (selection_of field.entry)) }
+    ensures answer { IsTrue result ↔ SameResponseShape schema.now (type_of (plain.selection_of first.entry)) (type_of (plain.selection_of field.entry)) }
     ensures comparisons { examined.new.comparisons ≡ counted shape_pass examined.old.comparisons 1 }
-    ensures lists { examined_lists examined.new ≡ examined_lists examined.old }
+    ensures lists { examined.new.lists ≡ examined.old.lists }
 {
     examined.comparisons = examined.comparisons.saturating_add(1);
     same_output_type_shape(schema, first, field)

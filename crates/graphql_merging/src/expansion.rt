@@ -5,7 +5,7 @@ ghost use Rattle.graphql_specification.specs.MergedSets.{Expansion};
 ghost use Rattle.graphql_nodes.specs.Names.{NameText};
 ghost use Rattle.graphql_documents.specs.Selections.{selections_of};
 ghost use Rattle.graphql_documents.specs.declared.documents.executables.Selection.TheVariants as kind;
-ghost use Rattle.graphql_merging.specs.ExpansionSteps.{Expands, fragments_in};
+ghost use Rattle.graphql_merging.specs.ExpansionSteps.{Expands, expanding, fragments_in};
 ghost use Rattle.graphql_merging.specs.FieldSelections.{listed};
 
 use super::field_selections::FieldSelection;
@@ -55,7 +55,7 @@ struct FieldExpansion<'doc> {
 impl<'doc> FieldExpansion<'doc> {
     /// Lists the fields of a set, and puts the sets of the fragments in it behind the others.
     fn expand_set(&mut self, set: &'doc SelectionSet) -> Result<(), ValidationError>
-        ensures { OnOk result (Expands self.old self.new set.now.ty (selections_of set.now)) }
+        ensures { OnOk result (Expands (expanding self.old) (expanding self.new) set.now.ty (selections_of set.now)) }
     {
         for selection in &set.selections {
             self.expand_selection(&set.ty, selection)?;
@@ -69,7 +69,7 @@ impl<'doc> FieldExpansion<'doc> {
         parent_type: &'doc NamedType,
         selection: &'doc Selection,
     ) -> Result<(), ValidationError>
-        ensures { OnOk result (Expands self.old self.new parent_type.now (selection.now ∷ [])) }
+        ensures { OnOk result (Expands (expanding self.old) (expanding self.new) parent_type.now (selection.now ∷ [])) }
     {
         match selection {
             Selection::Field(field) => Ok(self.fields.push(FieldSelection { parent_type, field })?),
@@ -82,7 +82,7 @@ impl<'doc> FieldExpansion<'doc> {
 
     /// The same of a spread.
     fn expand_spread(&mut self, spread: &'doc Node<FragmentSpread>) -> Result<(), ValidationError>
-        ensures { OnOk result ((parent : NameText) → Expands self.old self.new parent (kind.FragmentSpread spread.now ∷ [])) }
+        ensures { OnOk result ((parent : NameText) → Expands (expanding self.old) (expanding self.new) parent (kind.FragmentSpread spread.now ∷ [])) }
     {
         let name = &spread.value.fragment_name;
         if self.visited.insert(name)? {

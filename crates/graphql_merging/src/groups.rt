@@ -1,13 +1,16 @@
 //! The groups in which the fields of a list are put together.
 
-ghost use Rattle.std.specs.Prelude.{◌≡◌, ◌++◌, ◌∷◌, [], false, IfOk, OnOk, flat_map, length, map};
+ghost use Rattle.std.specs.Prelude.{◌≡◌, ◌++◌, ◌∷◌, [], false, IfOk, List, OnOk, flat_map, length, map};
 ghost use Rattle.std.specs.Option.{option_map_or};
 ghost use Rattle.graphql_documents.specs.Schemas.{is_composite, type_definition};
 ghost use Rattle.graphql_specification.specs.MergedSets.{is_abstract, with_parents, groups_of, groups_on, objects_of, unless_empty};
-ghost use Rattle.graphql_merging.specs.FieldSelections.{listed, lists_of, selection_of};
-ghost use Rattle.graphql_merging.specs.Groups.{by_keys, by_objects, named_fields, pass_of, with_field, with_owned};
+ghost use Rattle.graphql_merging.specs.NumberedFields.{AreGroupsNumbered, AreNumberedIn, IsNumberedIn, listed, lists_of, selection_of};
+ghost use Rattle.graphql_merging.specs.Groups.{by_keys, by_objects, pass_of, with_field, with_owned};
+ghost use Rattle.graphql_merging.specs.NumberedGroups.{AreEntriesNumbered, named_fields};
+ghost use Rattle.graphql_contents.specs.declared.contents.Content.{Content};
 
-use crate::field_selections::FieldSelection;
+pub use crate::keyed_fields::fields_by_key;
+use crate::numbered_fields::NumberedField;
 use graphql_documents::documents::{ExtendedType, Schema};
 use graphql_hash_seeds::HashSeed;
 use graphql_nodes::{Name, ValidationError};
@@ -36,14 +39,15 @@ pub(crate) fn groups_of<'doc>(
     hash_seed: HashSeed,
     schema: &Schema,
     pass: Pass,
-    fields: &[FieldSelection<'doc>],
-) -> Result<Vec<Vec<FieldSelection<'doc>>>, ValidationError>
-    ensures { IfOk result (λ groups. lists_of groups.items ≡ groups_of schema.now (pass_of pass) (listed fields.now)) }
+    fields: &[NumberedField<'doc>],
+) -> Result<Vec<Vec<NumberedField<'doc>>>, ValidationError>
+    ensures groups { IfOk result (λ groups. lists_of groups.items ≡ groups_of schema.now (pass_of pass) (listed fields.now)) }
+    ensures numbered { (contents : List Content) → AreNumberedIn contents fields.now → IfOk result (λ groups. AreGroupsNumbered contents groups.items) }
 {
     if fields.len() == 1 {
         return groups_of_one(alloc, schema, pass, fields[0]);
     }
-    let fields_by_key = fields_by_key(alloc, hash_seed, fields)?;
+    let fields_by_key = numbered_by_key(alloc, hash_seed, fields)?;
     match pass {
         Pass::Shapes => Ok(fields_by_key.into_values().collect(alloc)?),
         Pass::NamesAndArguments => groups_by_types(alloc, schema, fields_by_key),
@@ -55,9 +59,10 @@ fn groups_of_one<'doc>(
     alloc: Global,
     schema: &Schema,
     pass: Pass,
-    field: FieldSelection<'doc>,
-) -> Result<Vec<Vec<FieldSelection<'doc>>>, ValidationError>
-    ensures { IfOk result (λ groups. lists_of groups.items ≡ groups_of schema.now (pass_of pass) (selection_of field.entry ∷ [])) }
+    field: NumberedField<'doc>,
+) -> Result<Vec<Vec<NumberedField<'doc>>>, ValidationError>
+    ensures groups { IfOk result (λ groups. lists_of groups.items ≡ groups_of schema.now (pass_of pass) (selection_of field.entry ∷ [])) }
+    ensures numbered { (contents : List Content) → IsNumberedIn contents field.entry → IfOk result (λ groups. AreGroupsNumbered contents groups.items) }
 {
     let group = vec![in alloc; field]?;
     match pass {
@@ -74,10 +79,11 @@ fn groups_of_one<'doc>(
 fn groups_by_types<'doc>(
     alloc: Global,
     schema: &Schema,
-    fields_by_key: IndexMap<&'doc Name, Vec<FieldSelection<'doc>>, HashSeed>,
-) -> Result<Vec<Vec<FieldSelection<'doc>>>, ValidationError>
-    ensures { IfOk result (λ groups. lists_of groups.items ≡
+    fields_by_key: IndexMap<&'doc Name, Vec<NumberedField<'doc>>, HashSeed>,
+) -> Result<Vec<Vec<NumberedField<'doc>>>, ValidationError>
+    ensures groups { IfOk result (λ groups. lists_of groups.items ≡
         flat_map (λ entry. groups_on schema.now entry.1 (objects_of schema.now entry.1)) (named_fields fields_by_key.entry.entries)) }
+    ensures numbered { (contents : List Content) → AreEntriesNumbered contents fields_by_key.entry.entries → IfOk result (λ groups. AreGroupsNumbered contents groups.items) }
 {
     let mut groups = Vec::new(alloc);
     for fields in fields_by_key.into_values() {
@@ -86,16 +92,14 @@ fn groups_by_types<'doc>(
     Ok(groups)
 }
 
-/// The fields of a list by their response keys, these in order of first field, in a map of this seed. The only error
-/// is a failed allocation.
-///
-/// Specification: 5.3.2 Field Selection Merging; 6.3.2 Field Collection.
-pub fn fields_by_key<'doc>(
+/// The fields of a list by their response keys, as `fields_by_key` finds them.
+fn numbered_by_key<'doc>(
     alloc: Global,
     hash_seed: HashSeed,
-    fields: &[FieldSelection<'doc>],
-) -> Result<IndexMap<&'doc Name, Vec<FieldSelection<'doc>>, HashSeed>, ValidationError>
-    ensures { IfOk result (λ found. named_fields found.entries ≡ by_keys (listed fields.now)) }
+    fields: &[NumberedField<'doc>],
+) -> Result<IndexMap<&'doc Name, Vec<NumberedField<'doc>>, HashSeed>, ValidationError>
+    ensures found { IfOk result (λ found. named_fields found.entries ≡ by_keys (listed fields.now)) }
+    ensures numbered { (contents : List Content) → AreNumberedIn contents fields.now → IfOk result (λ found. AreEntriesNumbered contents found.entries) }
 {
     let mut fields_by_key = IndexMap::with_capacity_and_hasher(alloc, fields.len(), hash_seed)?;
     for field in fields {
@@ -111,13 +115,15 @@ pub fn fields_by_key<'doc>(
 
 /// Puts the field behind those under the name.
 fn push_under<'name, 'doc, S: BuildHasher>(
-    fields_by_name: &mut IndexMap<&'name Name, Vec<FieldSelection<'doc>>, S>,
+    fields_by_name: &mut IndexMap<&'name Name, Vec<NumberedField<'doc>>, S>,
     alloc: Global,
     name: &'name Name,
-    field: FieldSelection<'doc>,
+    field: NumberedField<'doc>,
 ) -> Result<(), ValidationError>
-    ensures { OnOk result (named_fields fields_by_name.new.entries ≡
+    ensures found { OnOk result (named_fields fields_by_name.new.entries ≡
         with_field (named_fields fields_by_name.old.entries) name.now (selection_of field.entry)) }
+    ensures numbered { (contents : List Content) → AreEntriesNumbered contents fields_by_name.old.entries → IsNumberedIn contents field.entry →
+        OnOk result (AreEntriesNumbered contents fields_by_name.new.entries) }
 {
     fields_by_name
         .entry(name)?
@@ -128,13 +134,14 @@ fn push_under<'name, 'doc, S: BuildHasher>(
 
 /// Adds the groups of fields with one response key.
 fn push_groups<'doc>(
-    groups: &mut Vec<Vec<FieldSelection<'doc>>>,
+    groups: &mut Vec<Vec<NumberedField<'doc>>>,
     alloc: Global,
     schema: &Schema,
-    fields: Vec<FieldSelection<'doc>>,
+    fields: Vec<NumberedField<'doc>>,
 ) -> Result<(), ValidationError>
-    ensures { OnOk result (lists_of groups.new.items ≡
+    ensures groups { OnOk result (lists_of groups.new.items ≡
         lists_of groups.old.items ++ groups_on schema.now (listed fields.entry.items) (objects_of schema.now (listed fields.entry.items))) }
+    ensures numbered { (contents : List Content) → AreGroupsNumbered contents groups.old.items → AreNumberedIn contents fields.entry.items → OnOk result (AreGroupsNumbered contents groups.new.items) }
 {
     if fields.len() == 1 {
         push_alone(groups, schema, fields)
@@ -146,13 +153,14 @@ fn push_groups<'doc>(
 /// Adds a field that no other has the response key of as a group, if it is on an object type, an interface or a
 /// union.
 fn push_alone<'doc>(
-    groups: &mut Vec<Vec<FieldSelection<'doc>>>,
+    groups: &mut Vec<Vec<NumberedField<'doc>>>,
     schema: &Schema,
-    group: Vec<FieldSelection<'doc>>,
+    group: Vec<NumberedField<'doc>>,
 ) -> Result<(), ValidationError>
     requires { length group.items ≡ 1 }
-    ensures { OnOk result (lists_of groups.new.items ≡
+    ensures groups { OnOk result (lists_of groups.new.items ≡
         lists_of groups.old.items ++ groups_on schema.now (listed group.entry.items) (objects_of schema.now (listed group.entry.items))) }
+    ensures numbered { (contents : List Content) → AreGroupsNumbered contents groups.old.items → AreNumberedIn contents group.entry.items → OnOk result (AreGroupsNumbered contents groups.new.items) }
 {
     if !is_on_composite(schema, group[0]) {
         return Ok(());
@@ -162,7 +170,7 @@ fn push_alone<'doc>(
 }
 
 /// Whether the field is on an object type, an interface or a union.
-fn is_on_composite(schema: &Schema, field: FieldSelection) -> bool
+fn is_on_composite(schema: &Schema, field: NumberedField) -> bool
     ensures { result ≡ option_map_or is_composite (type_definition schema.now field.entry.parent_type.now) false }
 {
     match schema.types.get(field.parent_type) {
@@ -174,13 +182,14 @@ fn is_on_composite(schema: &Schema, field: FieldSelection) -> bool
 /// Adds the groups of fields with one response key: for each object type the fields on it, and then those
 /// on abstract types; or the latter alone, where none is on an object type.
 fn push_by_types<'doc>(
-    groups: &mut Vec<Vec<FieldSelection<'doc>>>,
+    groups: &mut Vec<Vec<NumberedField<'doc>>>,
     alloc: Global,
     schema: &Schema,
-    fields: &[FieldSelection<'doc>],
+    fields: &[NumberedField<'doc>],
 ) -> Result<(), ValidationError>
-    ensures { OnOk result (lists_of groups.new.items ≡
+    ensures groups { OnOk result (lists_of groups.new.items ≡
         lists_of groups.old.items ++ groups_on schema.now (listed fields.now) (objects_of schema.now (listed fields.now))) }
+    ensures numbered { (contents : List Content) → AreGroupsNumbered contents groups.old.items → AreNumberedIn contents fields.now → OnOk result (AreGroupsNumbered contents groups.new.items) }
 {
     let FieldsOnTypes {
         on_objects,
@@ -195,10 +204,11 @@ fn push_by_types<'doc>(
 
 /// Adds a group, if there is a field in it.
 fn push_unless_empty<'doc>(
-    groups: &mut Vec<Vec<FieldSelection<'doc>>>,
-    group: Vec<FieldSelection<'doc>>,
+    groups: &mut Vec<Vec<NumberedField<'doc>>>,
+    group: Vec<NumberedField<'doc>>,
 ) -> Result<(), ValidationError>
-    ensures { OnOk result (lists_of groups.new.items ≡ lists_of groups.old.items ++ unless_empty (listed group.entry.items)) }
+    ensures groups { OnOk result (lists_of groups.new.items ≡ lists_of groups.old.items ++ unless_empty (listed group.entry.items)) }
+    ensures numbered { (contents : List Content) → AreGroupsNumbered contents groups.old.items → AreNumberedIn contents group.entry.items → OnOk result (AreGroupsNumbered contents groups.new.items) }
 {
     if !group.is_empty() {
         groups.push(group)?;
@@ -208,12 +218,13 @@ fn push_unless_empty<'doc>(
 
 /// Adds the fields on each object type as a group, each with these further fields.
 fn push_each_with<'doc>(
-    groups: &mut Vec<Vec<FieldSelection<'doc>>>,
-    on_objects: IndexMap<&Name, Vec<FieldSelection<'doc>>>,
-    further: &[FieldSelection<'doc>],
+    groups: &mut Vec<Vec<NumberedField<'doc>>>,
+    on_objects: IndexMap<&Name, Vec<NumberedField<'doc>>>,
+    further: &[NumberedField<'doc>],
 ) -> Result<(), ValidationError>
-    ensures { OnOk result (lists_of groups.new.items ≡
+    ensures groups { OnOk result (lists_of groups.new.items ≡
         lists_of groups.old.items ++ map (λ group. listed group.items ++ listed further.now) (map (λ entry. entry.1) on_objects.entry.entries)) }
+    ensures numbered { (contents : List Content) → AreGroupsNumbered contents groups.old.items → AreEntriesNumbered contents on_objects.entry.entries → AreNumberedIn contents further.now → OnOk result (AreGroupsNumbered contents groups.new.items) }
 {
     for group in on_objects.into_values() {
         push_with(groups, group, further)?;
@@ -223,11 +234,12 @@ fn push_each_with<'doc>(
 
 /// Adds a group with these further fields.
 fn push_with<'doc>(
-    groups: &mut Vec<Vec<FieldSelection<'doc>>>,
-    mut group: Vec<FieldSelection<'doc>>,
-    further: &[FieldSelection<'doc>],
+    groups: &mut Vec<Vec<NumberedField<'doc>>>,
+    mut group: Vec<NumberedField<'doc>>,
+    further: &[NumberedField<'doc>],
 ) -> Result<(), ValidationError>
-    ensures { OnOk result (lists_of groups.new.items ≡ lists_of groups.old.items ++ (listed group.entry.items ++ listed further.now) ∷ []) }
+    ensures groups { OnOk result (lists_of groups.new.items ≡ lists_of groups.old.items ++ (listed group.entry.items ++ listed further.now) ∷ []) }
+    ensures numbered { (contents : List Content) → AreGroupsNumbered contents groups.old.items → AreNumberedIn contents group.entry.items → AreNumberedIn contents further.now → OnOk result (AreGroupsNumbered contents groups.new.items) }
 {
     group.extend_from_slice(further)?;
     groups.push(group)?;
@@ -238,18 +250,20 @@ fn push_with<'doc>(
 /// and unions.
 #[derive(Drop)]
 struct FieldsOnTypes<'schema, 'doc> {
-    on_objects: IndexMap<&'schema Name, Vec<FieldSelection<'doc>>>,
-    on_abstract: Vec<FieldSelection<'doc>>,
+    on_objects: IndexMap<&'schema Name, Vec<NumberedField<'doc>>>,
+    on_abstract: Vec<NumberedField<'doc>>,
 }
 
 impl<'schema, 'doc> FieldsOnTypes<'schema, 'doc> {
     fn of(
         alloc: Global,
         schema: &'schema Schema,
-        fields: &[FieldSelection<'doc>],
+        fields: &[NumberedField<'doc>],
     ) -> Result<FieldsOnTypes<'schema, 'doc>, ValidationError>
         ensures objects { IfOk result (λ found. named_fields found.on_objects.entries ≡ by_objects schema.now (listed fields.now)) }
         ensures on_abstract { IfOk result (λ found. listed found.on_abstract.items ≡ with_parents schema.now is_abstract (listed fields.now)) }
+        ensures numbered { (contents : List Content) → AreNumberedIn contents fields.now →
+            IfOk result (λ found. AreEntriesNumbered contents found.on_objects.entries × AreNumberedIn contents found.on_abstract.items) }
     {
         let mut fields_on_types = FieldsOnTypes {
             on_objects: IndexMap::new(alloc),
@@ -266,12 +280,14 @@ impl<'schema, 'doc> FieldsOnTypes<'schema, 'doc> {
         &mut self,
         alloc: Global,
         schema: &'schema Schema,
-        field: FieldSelection<'doc>,
+        field: NumberedField<'doc>,
     ) -> Result<(), ValidationError>
         ensures objects { OnOk result (named_fields self.new.on_objects.entries ≡
             with_owned schema.now (named_fields self.old.on_objects.entries) (selection_of field.entry)) }
         ensures on_abstract { OnOk result (listed self.new.on_abstract.items ≡
             listed self.old.on_abstract.items ++ with_parents schema.now is_abstract (selection_of field.entry ∷ [])) }
+        ensures numbered { (contents : List Content) → AreEntriesNumbered contents self.old.on_objects.entries → AreNumberedIn contents self.old.on_abstract.items → IsNumberedIn contents field.entry →
+            OnOk result (AreEntriesNumbered contents self.new.on_objects.entries × AreNumberedIn contents self.new.on_abstract.items) }
     {
         match schema.types.get(field.parent_type) {
             Some(ExtendedType::Object(object)) => {

@@ -1,7 +1,11 @@
+ghost use Rattle.graphql_contents.specs.Documents.{contents_in};
+ghost use Rattle.graphql_merging.specs.Tables.{IsExaminedIn};
+
 use super::examined::Examined;
 use super::groups::Pass;
 use super::passes::MergingPass;
 use super::work::{Interruption, Work};
+use graphql_contents::{NumberedDocument, NumberedSet};
 use graphql_diagnostics::{Details, DiagnosticList};
 use graphql_documents::documents::{ExecutableDocument, Operation, Schema};
 use graphql_guards::LimitCounter;
@@ -19,13 +23,15 @@ const FIELD_DEPTH_LIMIT: usize = 128;
 #[derive(Drop)]
 pub struct FieldsInSetCanMerge<'s, 'doc> {
     schema: &'s Schema,
-    document: &'doc ExecutableDocument,
+    numbered: NumberedDocument<'doc>,
     operations: Vec<&'doc Node<Operation>>,
     shapes: Examined<'doc>,
     fields: Examined<'doc>,
     conflicting: bool,
     too_deep: bool,
     refused: bool,
+    ghost shapes_are: { IsExaminedIn (contents_in numbered) shapes },
+    ghost fields_are: { IsExaminedIn (contents_in numbered) fields },
 }
 
 impl<'s, 'doc> FieldsInSetCanMerge<'s, 'doc> {
@@ -57,7 +63,7 @@ impl<'s, 'doc> FieldsInSetCanMerge<'s, 'doc> {
     {
         FieldsInSetCanMerge {
             schema,
-            document,
+            numbered: NumberedDocument::new(alloc, document),
             operations: Vec::new(alloc),
             shapes: Examined::new(alloc, document.hash_seed()),
             fields: Examined::new(alloc, document.hash_seed()),
@@ -207,6 +213,7 @@ impl<'s, 'doc> FieldsInSetCanMerge<'s, 'doc> {
     }
 
     /// Examines the fields of an operation in both passes, and answers whether they nest too deep.
+    #[tactic(auto, using(crate::proofs::NumberedExaminedLemmas::grown_examined))]
     fn examine_operation(
         &mut self,
         operation: &'doc Node<Operation>,
@@ -227,16 +234,23 @@ impl<'s, 'doc> FieldsInSetCanMerge<'s, 'doc> {
             (entries diagnostics.old) (entries diagnostics.new) }
     {
         let set = &operation.value.selection_set;
+        let contents = self
+            .numbered
+            .number_operation(diagnostics.allocator(), set)?;
+        let set = NumberedSet {
+            set,
+            contents: &contents,
+        };
         let mut depth = LimitCounter::new(FIELD_DEPTH_LIMIT);
         let shapes = MergingPass {
             schema: self.schema,
-            document: self.document,
+            numbered: &self.numbered,
             pass: Pass::Shapes,
         };
         shapes.examine_set(diagnostics, &mut self.shapes, &mut depth, work, set)?;
         let fields = MergingPass {
             schema: self.schema,
-            document: self.document,
+            numbered: &self.numbered,
             pass: Pass::NamesAndArguments,
         };
         fields.examine_set(diagnostics, &mut self.fields, &mut depth, work, set)?;

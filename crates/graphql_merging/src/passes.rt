@@ -1,4 +1,5 @@
-ghost use Rattle.std.specs.Prelude.{◌≡◌, ◌≤◌, ◌+◌, ◌*◌, ◌-◌, ◌∷◌, [], IfErr, IfOk, List, OnOk, filter, map};
+ghost use Rattle.std.specs.Prelude.{◌≡◌, ◌≤◌, All, ◌+◌, ◌*◌, ◌-◌, ◌∷◌, [], IfErr, IfOk, List, OnOk, filter, map};
+ghost use Rattle.graphql_contents.specs.Documents.{HasFragments, IsNumberedSet, contents_in, document_in};
 ghost use Rattle.graphql_diagnostics.specs.Diagnostics.{entries};
 ghost use Rattle.graphql_specification.specs.MergedSets.{Expansion, IsGroup, MergedSet, nested_sets, merging_depth_limit};
 ghost use Rattle.graphql_specification.specs.Merging as merging;
@@ -7,33 +8,34 @@ ghost use Rattle.graphql_documents.specs.Selections.{fragments_of};
 ghost use Rattle.graphql_documents.specs.declared.documents.executables.Operation.{Operation};
 ghost use Rattle.graphql_nodes.specs.declared.nodes.Node.{Node};
 ghost use Rattle.graphql_guards.specs.Guards.{count_limit, count_of};
-ghost use Rattle.graphql_merging.specs.FieldHashes.{IsHashedBy};
-ghost use Rattle.graphql_merging.specs.FieldSelections.{listed};
+ghost use Rattle.graphql_merging.specs.NumberedFields.{AreNumberedIn, listed};
 ghost use Rattle.graphql_merging.specs.Groups.{pass_of};
 ghost use Rattle.graphql_merging.specs.Passes.{Examines, ExaminesSet, GoesBelow, IsConflict, IsNew};
 ghost use Rattle.graphql_merging.specs.Stages.{examined_lists, stage_of};
+ghost use Rattle.graphql_merging.specs.Tables.{AreInOneTable, IsExaminedIn};
 ghost use Rattle.graphql_merging.specs.Works.{IsUnbounded};
 ghost use Rattle.graphql_merging.specs.declared.work.Interruption.TheVariants.{OutOfMemory};
 
 use super::conflicts::compare_groups;
 use super::examined::Examined;
-use super::expansion::expand_selections;
-use super::field_lists::FieldList;
-use super::field_selections::FieldSelection;
 use super::groups::{Pass, groups_of};
+use super::numbered_expansion::expand_sets;
+use super::numbered_fields::{FieldList, NumberedField};
 use super::work::{Interruption, Work};
+use graphql_contents::{NumberedDocument, NumberedSet};
 use graphql_diagnostics::DiagnosticList;
-use graphql_documents::documents::{ExecutableDocument, Schema, SelectionSet};
+use graphql_documents::documents::Schema;
 use graphql_guards::LimitCounter;
 use graphql_nodes::ValidationError;
 use std::alloc::Global;
 
-/// A pass over the fields of operations.
+/// A pass over the fields of operations of a document.
 #[derive(Drop)]
 pub(crate) struct MergingPass<'s, 'doc> {
     pub(crate) schema: &'s Schema,
-    pub(crate) document: &'doc ExecutableDocument,
+    pub(crate) numbered: &'s NumberedDocument<'doc>,
     pub(crate) pass: Pass,
+    ghost fragments: { HasFragments numbered.now },
 }
 
 impl<'s, 'doc> MergingPass<'s, 'doc> {
@@ -45,19 +47,23 @@ impl<'s, 'doc> MergingPass<'s, 'doc> {
         examined: &mut Examined<'doc>,
         depth: &mut LimitCounter,
         work: &mut Work,
-        set: &'doc SelectionSet,
+        set: NumberedSet<'s, 'doc>,
     ) -> Result<(), Interruption>
-        requires { count_limit depth.old ≡ merging_depth_limit }
-        ensures examines { OnOk result (ExaminesSet self.now.schema.now (fragments_of self.now.document.now) (pass_of self.now.pass) set.now
+        requires limit { count_limit depth.old ≡ merging_depth_limit }
+        requires set { IsNumberedSet (contents_in self.now.numbered.now) set }
+        requires known { IsExaminedIn (contents_in self.now.numbered.now) examined.old }
+        ensures examines { OnOk result (ExaminesSet self.now.schema.now (fragments_of (document_in self.now.numbered.now)) (pass_of self.now.pass) set.entry.set.now
             (stage_of examined.old depth.old diagnostics.old) (stage_of examined.new depth.new diagnostics.new)) }
         ensures truth { (operations : List (Node Operation)) →
-            ((fields : List merging.FieldSelection) → Expansion (fragments_of self.now.document.now) (set.now ∷ []) fields →
-            MergedSet self.now.schema.now (fragments_of self.now.document.now) operations (pass_of self.now.pass) fields) →
-            KeepsReports (IsConflict self.now.schema.now (fragments_of self.now.document.now) operations (pass_of self.now.pass)) (entries diagnostics.old) (entries diagnostics.new) }
+            ((fields : List merging.FieldSelection) → Expansion (fragments_of (document_in self.now.numbered.now)) (set.entry.set.now ∷ []) fields →
+            MergedSet self.now.schema.now (fragments_of (document_in self.now.numbered.now)) operations (pass_of self.now.pass) fields) →
+            KeepsReports (IsConflict self.now.schema.now (fragments_of (document_in self.now.numbered.now)) operations (pass_of self.now.pass)) (entries diagnostics.old) (entries diagnostics.new) }
         ensures limit { OnOk result (count_limit depth.new ≡ count_limit depth.old) }
+        ensures known { IsExaminedIn (contents_in self.now.numbered.now) examined.new }
         ensures unbounded { IsUnbounded work.old → IsUnbounded work.new × IfErr result (λ e. e ≡ OutOfMemory) }
     {
-        let list = self.expand(diagnostics.allocator(), examined, work, &[set])?;
+        let alloc = diagnostics.allocator();
+        let list = self.expand(alloc, work, vec![in alloc; set]?)?;
         if examined.knows(&list) {
             return Ok(());
         }
@@ -76,22 +82,24 @@ impl<'s, 'doc> MergingPass<'s, 'doc> {
         list: FieldList<'doc>,
     ) -> Result<(), Interruption>
         requires limit { count_limit depth.old ≡ merging_depth_limit }
-        requires hashed { IsHashedBy examined.old.hash_seed list }
+        requires list { AreNumberedIn (contents_in self.now.numbered.now) list.fields.items }
+        requires known { IsExaminedIn (contents_in self.now.numbered.now) examined.old }
         requires is_new { IsNew (examined_lists examined.old) (listed list.fields.items) }
-        ensures examines { OnOk result (Examines self.now.schema.now (fragments_of self.now.document.now) (pass_of self.now.pass) (listed list.entry.fields.items)
+        ensures examines { OnOk result (Examines self.now.schema.now (fragments_of (document_in self.now.numbered.now)) (pass_of self.now.pass) (listed list.entry.fields.items)
             (stage_of examined.old depth.old diagnostics.old) (stage_of examined.new depth.new diagnostics.new)) }
         ensures truth { (operations : List (Node Operation)) →
-            MergedSet self.now.schema.now (fragments_of self.now.document.now) operations (pass_of self.now.pass) (listed list.entry.fields.items) →
-            KeepsReports (IsConflict self.now.schema.now (fragments_of self.now.document.now) operations (pass_of self.now.pass)) (entries diagnostics.old) (entries diagnostics.new) }
+            MergedSet self.now.schema.now (fragments_of (document_in self.now.numbered.now)) operations (pass_of self.now.pass) (listed list.entry.fields.items) →
+            KeepsReports (IsConflict self.now.schema.now (fragments_of (document_in self.now.numbered.now)) operations (pass_of self.now.pass)) (entries diagnostics.old) (entries diagnostics.new) }
         ensures limit { OnOk result (count_limit depth.new ≡ count_limit depth.old) }
+        ensures known { IsExaminedIn (contents_in self.now.numbered.now) examined.new }
         ensures unbounded { IsUnbounded work.old → IsUnbounded work.new × IfErr result (λ e. e ≡ OutOfMemory) }
     {
         let groups = groups_of(
             diagnostics.allocator(),
-            self.document.hash_seed(),
+            self.numbered.hash_seed(),
             self.schema,
             self.pass,
-            list.fields(),
+            &list.fields,
         )?;
         examined.add(list)?;
         compare_groups(diagnostics, examined, self.schema, self.pass, &groups)?;
@@ -110,24 +118,27 @@ impl<'s, 'doc> MergingPass<'s, 'doc> {
         examined: &mut Examined<'doc>,
         depth: &mut LimitCounter,
         work: &mut Work,
-        group: &[FieldSelection<'doc>],
+        group: &[NumberedField<'doc>],
     ) -> Result<(), Interruption>
-        requires { count_limit depth.old ≡ merging_depth_limit }
-        ensures examines { OnOk result (GoesBelow self.now.schema.now (fragments_of self.now.document.now) (pass_of self.now.pass) (listed group.now ∷ [])
+        requires limit { count_limit depth.old ≡ merging_depth_limit }
+        requires group { AreNumberedIn (contents_in self.now.numbered.now) group.now }
+        requires known { IsExaminedIn (contents_in self.now.numbered.now) examined.old }
+        ensures examines { OnOk result (GoesBelow self.now.schema.now (fragments_of (document_in self.now.numbered.now)) (pass_of self.now.pass) (listed group.now ∷ [])
             (stage_of examined.old depth.old diagnostics.old) (stage_of examined.new depth.new diagnostics.new)) }
         ensures truth { (operations : List (Node Operation)) (above : List merging.FieldSelection) →
-            MergedSet self.now.schema.now (fragments_of self.now.document.now) operations (pass_of self.now.pass) above →
+            MergedSet self.now.schema.now (fragments_of (document_in self.now.numbered.now)) operations (pass_of self.now.pass) above →
             IsGroup self.now.schema.now above (pass_of self.now.pass) (listed group.now) →
-            KeepsReports (IsConflict self.now.schema.now (fragments_of self.now.document.now) operations (pass_of self.now.pass)) (entries diagnostics.old) (entries diagnostics.new) }
+            KeepsReports (IsConflict self.now.schema.now (fragments_of (document_in self.now.numbered.now)) operations (pass_of self.now.pass)) (entries diagnostics.old) (entries diagnostics.new) }
         ensures limit { OnOk result (count_limit depth.new ≡ count_limit depth.old) }
+        ensures known { IsExaminedIn (contents_in self.now.numbered.now) examined.new }
         ensures unbounded { IsUnbounded work.old → IsUnbounded work.new × IfErr result (λ e. e ≡ OutOfMemory) }
     {
         let alloc = diagnostics.allocator();
-        let sets = nested_sets_of(alloc, group)?;
+        let sets = nested_sets_of(alloc, self.numbered, group)?;
         if sets.is_empty() {
             return Ok(());
         }
-        let list = self.expand(alloc, examined, work, &sets)?;
+        let list = self.expand(alloc, work, sets)?;
         if examined.knows(&list) {
             return Ok(());
         }
@@ -144,32 +155,36 @@ impl<'s, 'doc> MergingPass<'s, 'doc> {
     fn expand(
         &self,
         alloc: Global,
-        examined: &Examined<'doc>,
         work: &mut Work,
-        sets: &[&'doc SelectionSet],
+        sets: Vec<NumberedSet<'s, 'doc>>,
     ) -> Result<FieldList<'doc>, Interruption>
-        ensures hashed { IfOk result (IsHashedBy examined.now.hash_seed) }
-        ensures fields { IfOk result (λ list. Expansion (fragments_of self.now.document.now) (map (λ set. set.now) sets.now) (listed list.fields.items)) }
+        requires { All (IsNumberedSet (contents_in self.now.numbered.now)) sets.items }
+        ensures numbers { IfOk result (λ list. AreNumberedIn (contents_in self.now.numbered.now) list.fields.items) }
+        ensures fields { IfOk result (λ list. Expansion (fragments_of (document_in self.now.numbered.now)) (map (λ set. set.set.now) sets.entry.items) (listed list.fields.items)) }
         ensures unbounded { IsUnbounded work.old → IsUnbounded work.new × IfErr result (λ e. e ≡ OutOfMemory) }
     {
-        let fields = expand_selections(alloc, &self.document.fragments, sets)?;
+        let fields = expand_sets(alloc, self.numbered, sets)?;
         work.count(fields.len())?;
-        Ok(examined.list(fields))
+        Ok(FieldList { fields })
     }
 }
 
 /// The sets of the fields that select something.
-fn nested_sets_of<'doc>(
+fn nested_sets_of<'s, 'doc>(
     alloc: Global,
-    group: &[FieldSelection<'doc>],
-) -> Result<Vec<&'doc SelectionSet>, ValidationError>
-    ensures { IfOk result (λ sets. map (λ set. set.now) sets.items ≡ nested_sets (listed group.now)) }
+    numbered: &'s NumberedDocument<'doc>,
+    group: &[NumberedField<'doc>],
+) -> Result<Vec<NumberedSet<'s, 'doc>>, ValidationError>
+    requires { AreNumberedIn (contents_in numbered.now) group.now }
+    ensures sets { IfOk result (λ sets. map (λ set. set.set.now) sets.items ≡ nested_sets (listed group.now)) }
+    ensures numbers { IfOk result (λ sets. All (IsNumberedSet (contents_in numbered.now)) sets.items) }
 {
     let mut sets = Vec::new(alloc);
     for field in group {
         let set = &field.field.value.selection_set;
         if !set.selections.is_empty() {
-            sets.push(set)?;
+            let contents = numbered.nested(field.content);
+            sets.push(NumberedSet { set, contents })?;
         }
     }
     Ok(sets)

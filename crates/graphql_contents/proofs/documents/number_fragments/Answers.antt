@@ -1,4 +1,4 @@
-use Rattle.std.proofs.Common.{◌≡◌, ◌∷◌, ◌++◌, [], map, subst, sym}
+use Rattle.std.proofs.Common.{◌∷◌, ◌++◌, [], map, subst, sym}
 use Rattle.std.proofs.lemmas.List.{map-append}
 use Rattle.std.proofs.lemmas.Slice.Zip.{all_zipped_more}
 use Rattle.graphql_documents.proofs.ListLemmas.{done_next}

@@ -7,7 +7,7 @@ use Rattle.graphql_diagnostics.specs.Reports.{Appends}
 use Rattle.graphql_merging.proofs.ConflictLemmas.{compared_alike, compared_apart}
 use Rattle.graphql_merging.specs.Comparisons.{Conflicts}
 use Rattle.graphql_merging.specs.Conflicts.{ComparesField}
-use Rattle.graphql_merging.specs.FieldSelections.{selection_of}
+use Rattle.graphql_merging.specs.NumberedFields.{selection_of}
 use Rattle.graphql_merging.specs.Groups.{pass_of}
 use Rattle.graphql_merging.proofs.conflicts.compare.Goals as goal
 

@@ -6,17 +6,17 @@ use Rattle.graphql_specification.specs.MergedSets.{AreConflicts, ConflictsWith}
 use Rattle.graphql_diagnostics.specs.Reports.{Appends, KeepsReports}
 use Rattle.graphql_merging.proofs.ConflictLemmas.{compared_none, compared_then, empty_compared, group_compared, truly_compared}
 use Rattle.graphql_merging.proofs.PassLemmas.{counted_none, counted_then}
-use Rattle.graphql_merging.specs.FieldSelections.{listed, selection_of}
+use Rattle.graphql_merging.specs.NumberedFields.{listed, selection_of}
 use Rattle.graphql_merging.specs.Groups.{pass_of}
 use Rattle.graphql_merging.specs.Passes.{IsConflictAmong, counted}
-use Rattle.graphql_merging.specs.declared.field_selections.FieldSelection.{FieldSelection}
+use Rattle.graphql_merging.specs.declared.numbered_fields.NumberedField.{NumberedField}
 use Rattle.graphql_merging.proofs.conflicts.compare_group.Goals as goal
 
 -- what is done and what is left of the rest
-parts : (i : ℕ) (rest : List FieldSelection) → listed rest ≡ listed (take i rest) ++ listed (drop i rest)
+parts : (i : ℕ) (rest : List NumberedField) → listed rest ≡ listed (take i rest) ++ listed (drop i rest)
 parts i rest = ap listed (sym (take-append-drop i rest)) ∙ map-append selection_of (take i rest) (drop i rest)
 
-no_fields : (fields : List FieldSelection) → length fields ≡ 0 → listed fields ≡ []
+no_fields : (fields : List NumberedField) → length fields ≡ 0 → listed fields ≡ []
 no_fields [] none = refl
 no_fields (x ∷ xs) none = absurd (omega arith)
 

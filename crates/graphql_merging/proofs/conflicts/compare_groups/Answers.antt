@@ -14,10 +14,10 @@ use Rattle.graphql_diagnostics.specs.declared.lists.DiagnosticEntry.{DiagnosticE
 use Rattle.graphql_documents.specs.declared.documents.schemas.Schema.{Schema}
 use Rattle.graphql_merging.proofs.ConflictLemmas.{kept_among}
 use Rattle.graphql_merging.proofs.PassLemmas.{conflicts_then, counted_none, counted_then}
-use Rattle.graphql_merging.specs.FieldSelections.{listed, lists_of}
+use Rattle.graphql_merging.specs.NumberedFields.{listed, lists_of}
 use Rattle.graphql_merging.specs.Groups.{pass_of}
 use Rattle.graphql_merging.specs.Passes.{IsConflictAmong, counted}
-use Rattle.graphql_merging.specs.declared.field_selections.FieldSelection.{FieldSelection}
+use Rattle.graphql_merging.specs.declared.numbered_fields.NumberedField.{NumberedField}
 use Rattle.graphql_merging.proofs.conflicts.compare_groups.Goals as goal
 
 pub loop-group-init : goal.loop-group-init
@@ -33,7 +33,7 @@ loop-group-init c =
     }
 
 -- what is reported of a group is true of all
-whole : (schema : Schema) (pass : Pass) (groups : List (Vec FieldSelection Global)) (group : Vec FieldSelection Global) (old new : List DiagnosticEntry) → Contains groups group →
+whole : (schema : Schema) (pass : Pass) (groups : List (Vec NumberedField Global)) (group : Vec NumberedField Global) (old new : List DiagnosticEntry) → Contains groups group →
     KeepsReports (IsConflictAmong schema pass (listed group.items ∷ [])) old new → KeepsReports (IsConflictAmong schema pass (lists_of groups)) old new
 whole schema pass groups group old new stands = kept_among schema pass (listed group.items) (lists_of groups) old new (stands_mapped (λ g. listed g.items) groups group stands)
 
@@ -66,7 +66,7 @@ loop-group-preserved c =
           (conflicts_then c.loop-group.invariant.reports
           (subst (λ l. Appends (AreConflicts schema pass (listed l ∷ [])) mid new) c.deref.ensures.value c.in_ok-compare_group.ensures.conflicts));
       comparisons = c.in_ok-compare_group.ensures.comparisons ∙
-          ap (λ (l : List FieldSelection). counted pass c.loop-group.examined.comparisons (further (listed l))) c.deref.ensures.value ∙
+          ap (λ (l : List NumberedField). counted pass c.loop-group.examined.comparisons (further (listed l))) c.deref.ensures.value ∙
           ap (λ k. counted pass k (further (listed group.items))) c.loop-group.invariant.comparisons ∙
           counted_then pass n (sum_by further done) (further (listed group.items)) ∙
           ap (counted pass n) (sym (ap (sum_by further) one ∙ sum_by_push further done (listed group.items)));

@@ -1,22 +1,38 @@
-use Rattle.std.proofs.Common.{◌∷◌, ◌++◌, [], map, ◌∙◌, ap}
+use Rattle.std.proofs.Common.{◌∷◌, ◌++◌, [], map, subst, sym, ◌∙◌, ap}
 use Rattle.std.proofs.lemmas.List.{map-append}
+use Rattle.std.proofs.lemmas.List.Elements.{All-contains}
 use Rattle.std.specs.Prelude.{◌==◌}
 use Rattle.std.specs.Vec.{vec_len}
+use Rattle.graphql_contents.specs.Contents.{AreNumbered}
+use Rattle.graphql_contents.specs.Documents.{contents_in}
+use Rattle.graphql_contents.specs.declared.documents.NumberedSet.{NumberedSet}
+use Rattle.graphql_documents.specs.Selections.{selections_of}
 use Rattle.graphql_documents.specs.declared.documents.executables.Field.{Field}
+use Rattle.graphql_documents.specs.declared.documents.executables.Selection.TheVariants as kind
+use Rattle.graphql_merging.specs.NumberedFields.{IsNumberedIn}
+use Rattle.graphql_merging.proofs.NumberedFieldLemmas.{field_set_numbered, set_numbered}
 use Rattle.graphql_merging.proofs.PassStepLemmas.{nested_one_more}
 use Rattle.graphql_merging.proofs.passes.nested_sets_of.Goals as goal
 use Rattle.graphql_merging.proofs.passes.nested_sets_of.Goals.{then-not-is_empty+in_ok-push, else-not-is_empty}
 
 pub loop-field-preserved : goal.loop-field-preserved
 loop-field-preserved c =
+    let contents = contents_in c.args.numbered.now in
+    let set_in = λ (set : NumberedSet). set.set.now in
     let sets = c.loop-field.sets.items in
+    let x = c.field-item.result in
     let empty = c.is_empty.ensures ∙ ap (λ (f : Field). vec_len f.selection_set.selections == 0) c.deref.ensures in
-    let both = nested_one_more (map (λ set. set.now) sets) c.args.group.now c.loop-field.field-index c.field-item.result c.is_empty.result
-    c.loop-field-test.true c.field-item.is empty c.loop-field.invariant in
+    let both = nested_one_more (map set_in sets) c.args.group.now c.loop-field.field-index x c.is_empty.result
+    c.loop-field-test.true c.field-item.is empty c.loop-field.invariant.sets in
+    let has = All-contains (IsNumberedIn contents) c.args.group.now x c.requires (c.loop-field.field-index, c.loop-field-test.true, sym c.field-item.is) in
     elim c.if-not-is_empty.branch [
       | then-not-is_empty+in_ok-push w ↦
-          rw w.sets-is
-          (ap (map (λ set. set.now)) w.in_ok-push.ensures.items ∙ map-append (λ set. set.now) sets _ ∙
-          ap (λ (f : Field). map (λ set. set.now) sets ++ f.selection_set ∷ []) c.deref.ensures ∙ both.0 w.if-not-is_empty.true)
-      | else-not-is_empty w ↦ rw w.sets-is (both.1 w.if-not-is_empty.false)
+          rw w.sets-is (record {
+            sets = ap (map set_in) w.in_ok-push.ensures.items ∙ map-append set_in sets _ ∙
+                ap (λ (f : Field). map set_in sets ++ f.selection_set ∷ []) c.deref.ensures ∙ both.0 w.if-not-is_empty.true;
+            numbers = set_numbered contents sets _ _ w.in_ok-push.ensures.items
+                (subst (λ (f : Field). AreNumbered contents (selections_of f.selection_set) w.nested-contents.result.now) (sym c.deref.ensures)
+                (field_set_numbered contents x.field.now w.nested-contents.result.now (w.nested-contents.ensures (kind.Field x.field.now) has))) c.loop-field.invariant.numbers;
+          })
+      | else-not-is_empty w ↦ rw w.sets-is (record { sets = both.1 w.if-not-is_empty.false; numbers = c.loop-field.invariant.numbers })
     ]

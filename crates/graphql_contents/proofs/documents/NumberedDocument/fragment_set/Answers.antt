@@ -5,7 +5,6 @@ use Rattle.std.proofs.lemmas.Option.{slice_get-map, slice_get_read, slice_get_wi
 use Rattle.indexmap.specs.IndexMap.{values}
 use Rattle.graphql_documents.specs.Selections.{selections_of}
 use Rattle.graphql_documents.specs.declared.documents.executables.Fragment.{Fragment}
-use Rattle.graphql_documents.specs.declared.documents.executables.SelectionSet.{SelectionSet}
 use Rattle.graphql_nodes.specs.declared.nodes.Node.{Node}
 use Rattle.graphql_contents.specs.Contents.{AreNumbered}
 use Rattle.graphql_contents.specs.Documents.{contents_in, document_in}

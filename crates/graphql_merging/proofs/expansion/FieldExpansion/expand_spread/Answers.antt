@@ -6,8 +6,8 @@ use Rattle.graphql_nodes.specs.Names.{same_name}
 use Rattle.graphql_documents.specs.declared.documents.executables.Fragment.{Fragment}
 use Rattle.graphql_documents.specs.declared.documents.executables.FragmentSpread.{FragmentSpread}
 use Rattle.graphql_documents.specs.declared.documents.executables.SelectionSet.{SelectionSet}
-use Rattle.graphql_merging.specs.ExpansionSteps.{fragments_in, queued}
-use Rattle.graphql_merging.proofs.ExpansionStepLemmas.{known_expands, known_name, new_name, newest, spread_expands}
+use Rattle.graphql_merging.specs.ExpansionSteps.{expanding, fragments_in, newest}
+use Rattle.graphql_merging.proofs.ExpansionStepLemmas.{known_expands, known_name, new_name, spread_expands}
 use Rattle.graphql_merging.proofs.expansion.FieldExpansion.expand_spread.Goals as goal
 
 pub returns-in_ok-push_back : goal.returns-in_ok-push_back
@@ -21,8 +21,8 @@ returns-in_ok-push_back c = λ parent.
     let found : fragments_in old.fragments.now p.value.value.fragment_name ≡ Some d =
     subst (λ (q : FragmentSpread). fragments_in old.fragments.now q.fragment_name ≡ Some d) c.deref.ensures (sym c.in-Some.ensures.value) in
     let queue = ap (map (λ (set : Bor SelectionSet). set.now)) c.in_ok-push_back.ensures.items ∙ map-append (λ (set : Bor SelectionSet). set.now) old.queue.items _ ∙
-    ap (λ (e : Fragment). queued old ++ e.selection_set ∷ []) c.deref-in-Some.ensures in
-    spread_expands parent p refl refl named.0 named.1 (queue ∙ ap (λ o. queued old ++ followed_by o []) (sym found))
+    ap (λ (e : Fragment). (expanding old).queue ++ e.selection_set ∷ []) c.deref-in-Some.ensures in
+    spread_expands parent p refl refl named.0 named.1 (queue ∙ ap (λ o. (expanding old).queue ++ followed_by o []) (sym found))
 
 pub returns-in_default : goal.returns-in_default
 returns-in_default c = λ parent.
@@ -33,7 +33,7 @@ returns-in_default c = λ parent.
     c.in_ok-insert.ensures.added c.in_ok-insert.ensures.keys c.if-branch.true) in
     let found : fragments_in old.fragments.now p.value.value.fragment_name ≡ None =
     subst (λ (q : FragmentSpread). fragments_in old.fragments.now q.fragment_name ≡ None) c.deref.ensures (sym c.in_default.ensures.value) in
-    spread_expands parent p refl refl named.0 named.1 (sym (append-nil (queued old)) ∙ ap (λ o. queued old ++ followed_by o []) (sym found))
+    spread_expands parent p refl refl named.0 named.1 (sym (append-nil (expanding old).queue) ∙ ap (λ o. (expanding old).queue ++ followed_by o []) (sym found))
 
 pub returns-else-branch : goal.returns-else-branch
 returns-else-branch c = λ parent.

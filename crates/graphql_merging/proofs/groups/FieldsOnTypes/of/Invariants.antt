@@ -1,11 +1,15 @@
-use Rattle.std.proofs.Common.{◌≡◌, [], fold, take}
+use Rattle.std.proofs.Common.{◌≡◌, [], List, fold, take}
+use Rattle.graphql_contents.specs.declared.contents.Content.{Content}
 use Rattle.graphql_specification.specs.MergedSets.{is_abstract, with_parents}
-use Rattle.graphql_merging.specs.FieldSelections.{listed}
-use Rattle.graphql_merging.specs.Groups.{named_fields, with_owned}
+use Rattle.graphql_merging.specs.NumberedFields.{AreNumberedIn, listed}
+use Rattle.graphql_merging.specs.Groups.{with_owned}
+use Rattle.graphql_merging.specs.NumberedGroups.{AreEntriesNumbered, named_fields}
 use Rattle.graphql_merging.proofs.groups.FieldsOnTypes.of.Given as goal
 
 abbrev pub invariant-loop-field : goal.invariant-loop-field
 invariant-loop-field l = record {
   objects : named_fields l.fields_on_types.on_objects.entries ≡ fold (with_owned l.schema) [] (listed (take l.field-index l.fields));
   on_abstract : listed l.fields_on_types.on_abstract.items ≡ with_parents l.schema is_abstract (listed (take l.field-index l.fields));
+  numbered : (contents : List Content) → AreNumberedIn contents l.fields →
+      AreEntriesNumbered contents l.fields_on_types.on_objects.entries × AreNumberedIn contents l.fields_on_types.on_abstract.items;
 }

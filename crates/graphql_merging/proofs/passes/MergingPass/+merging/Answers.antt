@@ -2,6 +2,8 @@
 use Rattle.std.proofs.Common.{length, ◌+◌, ◌-◌, ◌<◌, ◌∷◌, ◌≢◌, [], map, take, refl, sym, ◌∙◌, ap, subst, arith}
 use Rattle.std.proofs.lemmas.List.{take_all, map-append}
 use Rattle.std.specs.Prelude.{sum_by}
+use Rattle.graphql_contents.specs.Documents.{contents_in, document_in}
+use Rattle.graphql_contents.specs.declared.documents.NumberedSet.{NumberedSet}
 use Rattle.graphql_diagnostics.specs.Diagnostics.{entries}
 use Rattle.graphql_specification.specs.MergedSets.{Expansion, IsGroup, merged_below, nested_sets, merging_depth_limit, AreConflicts, comparisons_of, groups_of}
 use Rattle.graphql_diagnostics.specs.Reports.{Appends}
@@ -10,7 +12,8 @@ use Rattle.graphql_diagnostics.proofs.ReportLemmas.{kept, kept_then}
 use Rattle.graphql_documents.proofs.ListLemmas.{more_is}
 use Rattle.graphql_guards.specs.Guards.{count_limit}
 use Rattle.graphql_laws.proofs.OrderedGroupLaws.{groups_listed}
-use Rattle.graphql_merging.specs.FieldSelections.{listed, lists_of}
+use Rattle.graphql_merging.specs.NumberedFields.{listed, lists_of}
+use Rattle.graphql_merging.proofs.NumberedExaminedLemmas.{in_one_table, still_examined}
 use Rattle.graphql_merging.specs.Groups.{pass_of}
 use Rattle.graphql_merging.specs.Passes.{GoesBelow, IsConflict, counted}
 use Rattle.graphql_merging.specs.Stages.{examined_lists, stage_of}
@@ -25,10 +28,12 @@ examine-loop-group-init t c =
     record {
       limit = refl;
       work = λ unbounded. unbounded;
-      below = below_none self.schema.now (fragments_of self.document.now) (pass_of self.pass)
+      known = still_examined (contents_in self.numbered.now) c.add.new.self c.compare_groups.new.examined c.compare_groups.ensures.lists
+          (c.add.ensures.numbered (contents_in self.numbered.now) c.requires.known c.requires.list);
+      below = below_none self.schema.now (fragments_of (document_in self.numbered.now)) (pass_of self.pass)
           (stage_of c.compare_groups.new.examined c.args.depth.now c.compare_groups.new.diagnostics) c.compare_groups.new.examined.small;
       truth = λ operations above merged groups.
-          kept (IsConflict self.schema.now (fragments_of self.document.now) operations (pass_of self.pass)) (entries c.compare_groups.new.diagnostics);
+          kept (IsConflict self.schema.now (fragments_of (document_in self.numbered.now)) operations (pass_of self.pass)) (entries c.compare_groups.new.diagnostics);
     }
 
 pub examine-returns-in_err-examine_below-clause-truth :
@@ -36,13 +41,13 @@ pub examine-returns-in_err-examine_below-clause-truth :
 examine-returns-in_err-examine_below-clause-truth t c operations merged =
     let self = c.args.self.now in
     let S = self.schema.now in
-    let F = fragments_of self.document.now in
+    let F = fragments_of (document_in self.numbered.now) in
     let pass = pass_of self.pass in
     let list = listed c.args.list.fields.items in
-    let are = ap lists_of c.deref.ensures.value ∙ c.in_ok-groups.ensures ∙ ap (λ l. groups_of S pass (listed l)) c.fields.ensures in
-    let walked = ap lists_of c.deref-group-items.ensures.value ∙ c.in_ok-groups.ensures ∙ ap (λ l. groups_of S pass (listed l)) c.fields.ensures in
+    let are = ap lists_of c.deref-2.ensures.value ∙ c.in_ok-groups.ensures.groups ∙ ap (λ l. groups_of S pass (listed l)) c.deref.ensures.value in
+    let walked = ap lists_of c.deref-group-items.ensures.value ∙ c.in_ok-groups.ensures.groups ∙ ap (λ l. groups_of S pass (listed l)) c.deref.ensures.value in
     let all = each_group S pass list c.deref-group-items.result.now walked in
-    kept_then (conflicts_true S pass list c.deref.result.now are F operations merged c.in_ok-compare_groups.ensures.truth)
+    kept_then (conflicts_true S pass list c.deref-2.result.now are F operations merged c.in_ok-compare_groups.ensures.truth)
     (kept_then (c.loop-group.invariant.truth operations list merged all)
     (c.examine_below.ensures.truth operations list merged
     (subst (λ l. IsGroup S list pass (listed l)) (sym c.deref-in-loop-group.ensures.value)
@@ -52,7 +57,7 @@ pub examine-loop-group-preserved : goal.examine-loop-group-preserved
 examine-loop-group-preserved t c =
     let self = c.args.self.now in
     let S = self.schema.now in
-    let F = fragments_of self.document.now in
+    let F = fragments_of (document_in self.numbered.now) in
     let pass = pass_of self.pass in
     let groups = c.deref-group-items.result.now in
     let i = c.loop-group.group-index in
@@ -61,6 +66,7 @@ examine-loop-group-preserved t c =
     record {
       limit = c.in_ok-examine_below.ensures.limit ∙ c.loop-group.invariant.limit;
       work = λ unbounded. (c.in_ok-examine_below.ensures.unbounded (c.loop-group.invariant.work unbounded)).0;
+      known = c.in_ok-examine_below.ensures.known;
       below = subst (λ g. GoesBelow S F pass g (stage_of c.compare_groups.new.examined c.args.depth.now c.compare_groups.new.diagnostics)
           (stage_of c.examine_below.new.examined c.examine_below.new.depth c.examine_below.new.diagnostics))
           (sym (ap lists_of one ∙ map-append (λ g. listed g.items) (take i groups) (item ∷ [])))
@@ -78,16 +84,16 @@ pub examine-returns-clause-examines : goal.examine-returns-clause-examines
 examine-returns-clause-examines t c =
     let self = c.args.self.now in
     let S = self.schema.now in
-    let F = fragments_of self.document.now in
+    let F = fragments_of (document_in self.numbered.now) in
     let pass = pass_of self.pass in
     let list = listed c.args.list.fields.items in
     let old = stage_of c.args.examined.now c.args.depth.now c.args.diagnostics.now in
     let mid = stage_of c.compare_groups.new.examined c.args.depth.now c.compare_groups.new.diagnostics in
     let new = stage_of c.loop-group.examined c.loop-group.depth c.loop-group.diagnostics in
-    let are = ap lists_of c.deref.ensures.value ∙ c.in_ok-groups.ensures ∙ ap (λ l. groups_of S pass (listed l)) c.fields.ensures in
-    let walked = ap lists_of c.deref-group-items.ensures.value ∙ c.in_ok-groups.ensures ∙ ap (λ l. groups_of S pass (listed l)) c.fields.ensures in
+    let are = ap lists_of c.deref-2.ensures.value ∙ c.in_ok-groups.ensures.groups ∙ ap (λ l. groups_of S pass (listed l)) c.deref.ensures.value in
+    let walked = ap lists_of c.deref-group-items.ensures.value ∙ c.in_ok-groups.ensures.groups ∙ ap (λ l. groups_of S pass (listed l)) c.deref.ensures.value in
     list_examined S F pass (λ fields group. groups_listed S fields pass group) list old mid new c.requires.is_new
-    (c.in_ok-compare_groups.ensures.lists ∙ c.in_ok-add.ensures.lists)
+    (ap (λ (l : _). lists_of (map (λ list. list.fields) l.keys)) c.in_ok-compare_groups.ensures.lists ∙ c.in_ok-add.ensures.lists)
     (c.in_ok-compare_groups.ensures.comparisons ∙ ap (λ g. counted pass c.add.new.self.comparisons (sum_by (λ group. length group - 1) g)) are ∙
     counted_groups S pass list c.add.new.self.comparisons ∙ ap (λ n. counted pass n (comparisons_of list)) c.in_ok-add.ensures.comparisons)
     refl refl
@@ -98,12 +104,12 @@ pub examine-returns-clause-truth : goal.examine-returns-clause-truth
 examine-returns-clause-truth t c operations merged =
     let self = c.args.self.now in
     let S = self.schema.now in
-    let F = fragments_of self.document.now in
+    let F = fragments_of (document_in self.numbered.now) in
     let pass = pass_of self.pass in
     let list = listed c.args.list.fields.items in
-    let are = ap lists_of c.deref.ensures.value ∙ c.in_ok-groups.ensures ∙ ap (λ l. groups_of S pass (listed l)) c.fields.ensures in
-    let walked = ap lists_of c.deref-group-items.ensures.value ∙ c.in_ok-groups.ensures ∙ ap (λ l. groups_of S pass (listed l)) c.fields.ensures in
-    kept_then (conflicts_true S pass list c.deref.result.now are F operations merged c.in_ok-compare_groups.ensures.truth)
+    let are = ap lists_of c.deref-2.ensures.value ∙ c.in_ok-groups.ensures.groups ∙ ap (λ l. groups_of S pass (listed l)) c.deref.ensures.value in
+    let walked = ap lists_of c.deref-group-items.ensures.value ∙ c.in_ok-groups.ensures.groups ∙ ap (λ l. groups_of S pass (listed l)) c.deref.ensures.value in
+    kept_then (conflicts_true S pass list c.deref-2.result.now are F operations merged c.in_ok-compare_groups.ensures.truth)
     (c.loop-group.invariant.truth operations list merged (each_group S pass list c.deref-group-items.result.now walked))
 
 pub examine_below-returns-then-is_empty-clause-examines :
@@ -111,17 +117,17 @@ pub examine_below-returns-then-is_empty-clause-examines :
 examine_below-returns-then-is_empty-clause-examines t c =
     let self = c.args.self.now in
     let empty = no_items c.in_ok-sets.sets c.is_empty.result c.is_empty.ensures c.if-is_empty.true in
-    below_leaves self.schema.now (fragments_of self.document.now) (pass_of self.pass) (listed c.args.group.now) (stage_of c.args.examined.now c.args.depth.now c.args.diagnostics.now)
-    c.args.examined.now.small (sym c.in_ok-sets.ensures ∙ ap (map (λ set. set.now)) empty)
+    below_leaves self.schema.now (fragments_of (document_in self.numbered.now)) (pass_of self.pass) (listed c.args.group.now) (stage_of c.args.examined.now c.args.depth.now c.args.diagnostics.now)
+    c.args.examined.now.small (sym c.in_ok-sets.ensures.sets ∙ ap (map (λ (set : NumberedSet). set.set.now)) empty)
 
 pub examine_below-returns-then-knows-clause-examines :
     goal.examine_below-returns-then-knows-clause-examines
 examine_below-returns-then-knows-clause-examines t c =
     let self = c.args.self.now in
-    let F = fragments_of self.document.now in
+    let F = fragments_of (document_in self.numbered.now) in
     let group = listed c.args.group.now in
     let stage = stage_of c.args.examined.now c.args.depth.now c.args.diagnostics.now in
-    let sets = ap (map (λ set. set.now)) c.deref.ensures.value ∙ c.in_ok-sets.ensures in
+    let sets = c.in_ok-sets.ensures.sets in
     parent_known self.schema.now F (pass_of self.pass) group stage c.args.examined.now.small
     (expansion_known F stage.lists (nested_sets group) (listed c.in_ok-list.list.fields.items) (subst (λ s. Expansion F s (listed c.in_ok-list.list.fields.items)) sets c.in_ok-list.ensures.fields)
     (c.knows.ensures.0 c.if-knows.true))
@@ -129,17 +135,17 @@ examine_below-returns-then-knows-clause-examines t c =
 pub examine_below-returns-then-check_and_increment-clause-examines : goal.examine_below-returns-then-check_and_increment-clause-examines
 examine_below-returns-then-check_and_increment-clause-examines t c =
     let self = c.args.self.now in
-    let F = fragments_of self.document.now in
+    let F = fragments_of (document_in self.numbered.now) in
     let group = listed c.args.group.now in
     let list = listed c.in_ok-list.list.fields.items in
     let old = stage_of c.args.examined.now c.args.depth.now c.args.diagnostics.now in
     let new = stage_of c.args.examined.now c.check_and_increment.new.self c.args.diagnostics.now in
     let at = count_at_limit c.check_and_increment.result old.depth new.depth (count_limit c.args.depth.now) old.highest new.highest
     c.check_and_increment.ensures.count c.check_and_increment.ensures.high c.if-check_and_increment.true in
-    let sets = ap (map (λ set. set.now)) c.deref.ensures.value ∙ c.in_ok-sets.ensures in
+    let sets = c.in_ok-sets.ensures.sets in
     below_cut self.schema.now F (pass_of self.pass) group list old new c.args.examined.now.small
-    (subst (λ n. n ≢ []) c.in_ok-sets.ensures (some_items (λ set. set.now) c.in_ok-sets.sets c.is_empty.result c.is_empty.ensures c.if-is_empty.false)) (subst (λ s. Expansion F s list) sets c.in_ok-list.ensures.fields) (new_unknown old.lists list (λ any. let known = c.knows.ensures.1 any in let no : ⊥ = cc in no))
-    (c.check_and_increment.ensures.reachable.0 c.if-check_and_increment.true ∙ c.requires) refl refl at.0 (at.1 ∙ ap (λ n. n + 1) c.requires) refl
+    (subst (λ n. n ≢ []) c.in_ok-sets.ensures.sets (some_items (λ (set : NumberedSet). set.set.now) c.in_ok-sets.sets c.is_empty.result c.is_empty.ensures c.if-is_empty.false)) (subst (λ s. Expansion F s list) sets c.in_ok-list.ensures.fields) (new_unknown old.lists list (λ any. let known = c.knows.ensures.1 any in let no : ⊥ = cc in no))
+    (c.check_and_increment.ensures.reachable.0 c.if-check_and_increment.true ∙ c.requires.limit) refl refl at.0 (at.1 ∙ ap (λ n. n + 1) c.requires.limit) refl
 
 pub examine_below-examine-requires : goal.examine_below-examine-requires
 examine_below-examine-requires t c =
@@ -148,14 +154,17 @@ examine_below-examine-requires t c =
     let below = count_below_limit c.check_and_increment.result old.depth down.depth (count_limit c.args.depth.now) old.highest down.highest
     c.check_and_increment.ensures.count c.check_and_increment.ensures.high c.if-check_and_increment.false in
     let step = below.0 in
-    let within : old.depth < merging_depth_limit = not_reachable c.check_and_increment.result old.depth (count_limit c.args.depth.now) c.check_and_increment.ensures.reachable c.if-check_and_increment.false c.args.depth.now.within c.requires in (
+    let within : old.depth < merging_depth_limit = not_reachable c.check_and_increment.result old.depth (count_limit c.args.depth.now) c.check_and_increment.ensures.reachable c.if-check_and_increment.false c.args.depth.now.within c.requires.limit in (
       omega (arith, step, within, c.decreases),
       (
-        c.check_and_increment.ensures.limit ∙ c.requires,
+        c.check_and_increment.ensures.limit ∙ c.requires.limit,
         (
-          c.in_ok-list.ensures.hashed,
-          new_unknown (examined_lists c.args.examined.now) (listed c.in_ok-list.list.fields.items)
-              (λ any. let known = c.knows.ensures.1 any in let no : ⊥ = cc in no),
+          c.in_ok-list.ensures.numbers,
+          (
+            c.requires.known,
+            new_unknown (examined_lists c.args.examined.now) (listed c.in_ok-list.list.fields.items)
+                (λ any. let known = c.knows.ensures.1 any in let no : ⊥ = cc in no),
+          ),
         ),
       ),
     )
@@ -163,38 +172,46 @@ examine_below-examine-requires t c =
 pub examine_below-returns-in_err-examine-clause-truth :
     goal.examine_below-returns-in_err-examine-clause-truth
 examine_below-returns-in_err-examine-clause-truth t c operations above merged is_group =
-    let sets = ap (map (λ set. set.now)) c.deref.ensures.value ∙ c.in_ok-sets.ensures in
+    let sets = c.in_ok-sets.ensures.sets in
     c.examine.ensures.truth operations (merged_below merged record {
       group = listed c.args.group.now;
       is_group = is_group;
-      nested = subst (λ n. n ≢ []) c.in_ok-sets.ensures (some_items (λ set. set.now) c.in_ok-sets.sets c.is_empty.result c.is_empty.ensures c.if-is_empty.false);
-      expansion = subst (λ s. Expansion (fragments_of c.args.self.now.document.now) s (listed c.in_ok-list.list.fields.items)) sets c.in_ok-list.ensures.fields;
+      nested = subst (λ n. n ≢ []) c.in_ok-sets.ensures.sets (some_items (λ (set : NumberedSet). set.set.now) c.in_ok-sets.sets c.is_empty.result c.is_empty.ensures c.if-is_empty.false);
+      expansion = subst (λ s. Expansion (fragments_of (document_in c.args.self.now.numbered.now)) s (listed c.in_ok-list.list.fields.items)) sets c.in_ok-list.ensures.fields;
     })
 
 pub examine_below-returns-clause-examines : goal.examine_below-returns-clause-examines
 examine_below-returns-clause-examines t c =
     let self = c.args.self.now in
-    let F = fragments_of self.document.now in
+    let F = fragments_of (document_in self.numbered.now) in
     let group = listed c.args.group.now in
     let list = listed c.in_ok-list.list.fields.items in
     let old = stage_of c.args.examined.now c.args.depth.now c.args.diagnostics.now in
     let down = stage_of c.args.examined.now c.check_and_increment.new.self c.args.diagnostics.now in
     let up = stage_of c.examine.new.examined c.examine.new.depth c.examine.new.diagnostics in
     let new = stage_of c.examine.new.examined c.decrement.new.self c.examine.new.diagnostics in
-    let sets = ap (map (λ set. set.now)) c.deref.ensures.value ∙ c.in_ok-sets.ensures in
+    let sets = c.in_ok-sets.ensures.sets in
     let below = count_below_limit c.check_and_increment.result old.depth down.depth (count_limit c.args.depth.now) old.highest down.highest
     c.check_and_increment.ensures.count c.check_and_increment.ensures.high c.if-check_and_increment.false in
-    let within = not_reachable c.check_and_increment.result old.depth (count_limit c.args.depth.now) c.check_and_increment.ensures.reachable c.if-check_and_increment.false c.args.depth.now.within c.requires in
+    let within = not_reachable c.check_and_increment.result old.depth (count_limit c.args.depth.now) c.check_and_increment.ensures.reachable c.if-check_and_increment.false c.args.depth.now.within c.requires.limit in
     below_examined self.schema.now F (pass_of self.pass) same_fields_itself group list old down up new
-    (subst (λ n. n ≢ []) c.in_ok-sets.ensures (some_items (λ set. set.now) c.in_ok-sets.sets c.is_empty.result c.is_empty.ensures c.if-is_empty.false)) (subst (λ s. Expansion F s list) sets c.in_ok-list.ensures.fields) within refl refl below.0 below.1 refl c.in_ok-examine.ensures.examines
+    (subst (λ n. n ≢ []) c.in_ok-sets.ensures.sets (some_items (λ (set : NumberedSet). set.set.now) c.in_ok-sets.sets c.is_empty.result c.is_empty.ensures c.if-is_empty.false)) (subst (λ s. Expansion F s list) sets c.in_ok-list.ensures.fields) within refl refl below.0 below.1 refl c.in_ok-examine.ensures.examines
     refl refl c.decrement.ensures.count c.decrement.ensures.high refl
 
 pub examine_below-returns-clause-truth : goal.examine_below-returns-clause-truth
 examine_below-returns-clause-truth t c operations above merged is_group =
-    let sets = ap (map (λ set. set.now)) c.deref.ensures.value ∙ c.in_ok-sets.ensures in
+    let sets = c.in_ok-sets.ensures.sets in
     c.in_ok-examine.ensures.truth operations (merged_below merged record {
       group = listed c.args.group.now;
       is_group = is_group;
-      nested = subst (λ n. n ≢ []) c.in_ok-sets.ensures (some_items (λ set. set.now) c.in_ok-sets.sets c.is_empty.result c.is_empty.ensures c.if-is_empty.false);
-      expansion = subst (λ s. Expansion (fragments_of c.args.self.now.document.now) s (listed c.in_ok-list.list.fields.items)) sets c.in_ok-list.ensures.fields;
+      nested = subst (λ n. n ≢ []) c.in_ok-sets.ensures.sets (some_items (λ (set : NumberedSet). set.set.now) c.in_ok-sets.sets c.is_empty.result c.is_empty.ensures c.if-is_empty.false);
+      expansion = subst (λ s. Expansion (fragments_of (document_in c.args.self.now.numbered.now)) s (listed c.in_ok-list.list.fields.items)) sets c.in_ok-list.ensures.fields;
     })
+
+pub examine_below-knows-requires : goal.examine_below-knows-requires
+examine_below-knows-requires t c =
+    in_one_table c.args.self.now.numbered.now c.args.examined.now c.in_ok-list.list.fields.items c.requires.known c.in_ok-list.ensures.numbers
+
+pub examine-add-requires-clause-numbered : goal.examine-add-requires-clause-numbered
+examine-add-requires-clause-numbered t c =
+    in_one_table c.args.self.now.numbered.now c.args.examined.now c.args.list.fields.items c.requires.known c.requires.list

@@ -3,7 +3,7 @@ use Rattle.std.proofs.lemmas.List.{take_all}
 use Rattle.graphql_merging.specs.FieldSelections.{listed}
 use Rattle.graphql_merging.specs.Groups.{with_keyed}
 use Rattle.graphql_merging.proofs.GroupLemmas.{keyed}
-use Rattle.graphql_merging.proofs.groups.fields_by_key.Goals as goal
+use Rattle.graphql_merging.proofs.keyed_fields.fields_by_key.Goals as goal
 
 pub returns : goal.returns
 returns c =

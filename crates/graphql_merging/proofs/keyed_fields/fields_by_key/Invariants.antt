@@ -1,7 +1,7 @@
 use Rattle.std.proofs.Common.{◌≡◌, [], fold, take}
 use Rattle.graphql_merging.specs.FieldSelections.{listed}
 use Rattle.graphql_merging.specs.Groups.{named_fields, with_keyed}
-use Rattle.graphql_merging.proofs.groups.fields_by_key.Given as goal
+use Rattle.graphql_merging.proofs.keyed_fields.fields_by_key.Given as goal
 
 abbrev pub invariant-loop-field : goal.invariant-loop-field
 invariant-loop-field l =

@@ -1,0 +1,121 @@
+//! The fields of sets, with those of the fragments in them, and with the numbers of the contents of each.
+
+ghost use Rattle.std.specs.Prelude.{◌≡◌, ◌∷◌, [], All, IfOk, OnOk, length, map};
+ghost use Rattle.graphql_contents.specs.Contents.{HasNumber};
+ghost use Rattle.graphql_contents.specs.Documents.{HasFragments, IsNumberedSet, contents_in, document_in};
+ghost use Rattle.graphql_specification.specs.MergedSets.{Expansion};
+ghost use Rattle.graphql_nodes.specs.Names.{NameText};
+ghost use Rattle.graphql_documents.specs.Selections.{fragments_of, selections_of};
+ghost use Rattle.graphql_documents.specs.declared.documents.executables.Selection.TheVariants as kind;
+ghost use Rattle.graphql_merging.specs.ExpansionSteps.{Expands};
+ghost use Rattle.graphql_merging.specs.NumberedFields.{AreNumberedIn, listed};
+ghost use Rattle.graphql_merging.specs.NumberedExpansions.{HasNumbers, expanding};
+
+use super::numbered_fields::NumberedField;
+use graphql_contents::{NumberedDocument, NumberedSet};
+use graphql_documents::documents::{FragmentSpread, Selection};
+use graphql_hash_seeds::HashSeed;
+use graphql_nodes::{Name, NamedType, Node, ValidationError};
+use indexmap::IndexSet;
+use std::alloc::Global;
+use std::collections::VecDeque;
+
+/// Lists the fields of these sets as `expand_selections` does, each with the number of its contents. The only error is a failed
+/// allocation.
+pub(crate) fn expand_sets<'n, 'doc>(
+    alloc: Global,
+    numbered: &'n NumberedDocument<'doc>,
+    sets: Vec<NumberedSet<'n, 'doc>>,
+) -> Result<Vec<NumberedField<'doc>>, ValidationError>
+    requires fragments { HasFragments numbered.now }
+    requires sets { All (IsNumberedSet (contents_in numbered.now)) sets.items }
+    ensures fields { IfOk result (λ fields. Expansion (fragments_of (document_in numbered.now)) (map (λ set. set.set.now) sets.entry.items) (listed fields.items)) }
+    ensures numbers { IfOk result (λ fields. AreNumberedIn (contents_in numbered.now) fields.items) }
+{
+    let mut expansion = NumberedExpansion {
+        numbered,
+        fields: Vec::new(alloc),
+        visited: IndexSet::with_hasher(alloc, numbered.hash_seed()),
+        queue: VecDeque::from(sets),
+    };
+    while let Some(set) = expansion.queue.pop_front() {
+        expansion.expand_set(set)?;
+    }
+    Ok(expansion.fields)
+}
+
+/// What was found so far: the fields, the names of the fragments that were visited, and the sets whose fields
+/// are still to be listed.
+#[derive(Drop)]
+struct NumberedExpansion<'n, 'doc> {
+    numbered: &'n NumberedDocument<'doc>,
+    fields: Vec<NumberedField<'doc>>,
+    visited: IndexSet<&'doc Name, HashSeed>,
+    queue: VecDeque<NumberedSet<'n, 'doc>>,
+}
+
+impl<'n, 'doc> NumberedExpansion<'n, 'doc> {
+    /// Lists the fields of a set, and puts the sets of the fragments in it behind the others.
+    fn expand_set(&mut self, set: NumberedSet<'n, 'doc>) -> Result<(), ValidationError>
+        requires fragments { HasFragments self.old.numbered.now }
+        requires numbers { HasNumbers (contents_in self.old.numbered.now) self.old }
+        requires set { IsNumberedSet (contents_in self.old.numbered.now) set }
+        ensures document { self.new.numbered ≡ self.old.numbered }
+        ensures expands { OnOk result (Expands (expanding self.old) (expanding self.new) set.entry.set.now.ty (selections_of set.entry.set.now)) }
+        ensures numbers { OnOk result (HasNumbers (contents_in self.old.numbered.now) self.new) }
+    {
+        for (index, selection) in set.set.selections.iter().enumerate() {
+            self.expand_selection(&set.set.ty, selection, set.contents[index])?;
+        }
+        Ok(())
+    }
+
+    /// The same of a selection of a set of this type, with the number of its contents.
+    fn expand_selection(
+        &mut self,
+        parent_type: &'doc NamedType,
+        selection: &'doc Selection,
+        content: usize,
+    ) -> Result<(), ValidationError>
+        requires fragments { HasFragments self.old.numbered.now }
+        requires numbers { HasNumbers (contents_in self.old.numbered.now) self.old }
+        requires content { HasNumber (contents_in self.old.numbered.now) selection.now content }
+        ensures document { self.new.numbered ≡ self.old.numbered }
+        ensures expands { OnOk result (Expands (expanding self.old) (expanding self.new) parent_type.now (selection.now ∷ [])) }
+        ensures numbers { OnOk result (HasNumbers (contents_in self.old.numbered.now) self.new) }
+    {
+        match selection {
+            Selection::Field(field) => Ok(
+                self.fields.push(NumberedField {
+                    parent_type,
+                    content,
+                    field,
+                })?,
+            ),
+            Selection::FragmentSpread(spread) => self.expand_spread(spread),
+            Selection::InlineFragment(inline) => Ok(
+                self.queue.push_back(NumberedSet {
+                    set: &inline.value.selection_set,
+                    contents: self.numbered.nested(content),
+                })?,
+            ),
+        }
+    }
+
+    /// The same of a spread.
+    fn expand_spread(&mut self, spread: &'doc Node<FragmentSpread>) -> Result<(), ValidationError>
+        requires fragments { HasFragments self.old.numbered.now }
+        requires numbers { HasNumbers (contents_in self.old.numbered.now) self.old }
+        ensures document { self.new.numbered ≡ self.old.numbered }
+        ensures expands { OnOk result ((parent : NameText) → Expands (expanding self.old) (expanding self.new) parent (kind.FragmentSpread spread.now ∷ [])) }
+        ensures numbers { OnOk result (HasNumbers (contents_in self.old.numbered.now) self.new) }
+    {
+        let name = &spread.value.fragment_name;
+        if self.visited.insert(name)? {
+            if let Some(set) = self.numbered.fragment_set(name) {
+                self.queue.push_back(set)?;
+            }
+        }
+        Ok(())
+    }
+}
