@@ -32,6 +32,7 @@ pub struct NumberedDocument<'doc> {
 impl<'doc> NumberedDocument<'doc> {
     ghost use Rattle.std.specs.Prelude.{[], IfSome, OnOk};
     ghost use Rattle.std.specs.Option.{option_map};
+    ghost use Rattle.indexmap.specs.IndexMap.{hasher_of};
     ghost use Rattle.graphql_documents.specs.Selections.{fragments_of, selections_of};
     ghost use Rattle.graphql_documents.specs.declared.documents.executables.Selection.{Selection};
     ghost use Rattle.graphql_contents.specs.Contents.{AreNumbered, HasNumber, nested_selections};
@@ -50,7 +51,9 @@ impl<'doc> NumberedDocument<'doc> {
     }
 
     /// The seed by which the names of the document are hashed.
-    pub fn hash_seed(&self) -> HashSeed {
+    pub fn hash_seed(&self) -> HashSeed
+        ensures { result ≡ hasher_of (document_in self.now).fragments }
+    {
         self.document.hash_seed()
     }
 
