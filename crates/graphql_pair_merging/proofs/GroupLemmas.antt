@@ -1,6 +1,6 @@
 -- The fields of sets by their response keys, one more at a time.
 use Rattle.std.proofs.Common.{◌≡◌, ℕ, zero, suc, ◌+◌, Bool, true, false, bytes_eq, cond, List, [], ◌∷◌, ◌++◌, Some, Vec, arith, length, refl, sym, ap, ◌∙◌, subst, if◌then◌else◌}
-use Rattle.std.specs.Prelude.{◌⊎◌, filter, slice_get}
+use Rattle.std.specs.Prelude.{◌⊎◌, Contains, filter, slice_get}
 use Rattle.std.specs.Borrow.{Bor}
 use Rattle.std.specs.Map.{lookup}
 use Rattle.std.specs.declared.alloc.Global.{Global}
@@ -9,7 +9,8 @@ use Rattle.std.proofs.lemmas.List.Elements.{filter-append}
 use Rattle.std.proofs.lemmas.Option.{slice_get_within}
 use mathlib.Core.Logic.{inl, inr}
 use Rattle.indexmap.specs.IndexMap.{IndexMap}
-use Rattle.graphql_nodes.proofs.NameLemmas.{same_text}
+use Rattle.graphql_documents.proofs.ListLemmas.{kept_by_filter, none_stands}
+use Rattle.graphql_nodes.proofs.NameLemmas.{same_name_itself, same_text}
 use Rattle.graphql_nodes.specs.Names.{NameText, SameName, same_name}
 use Rattle.graphql_specification.specs.MergedSets.{key_of}
 use Rattle.graphql_pair_merging.specs.FieldGroups.{AreGrouped, Groups, IsGrouped, fields_in, group_under, groups_at, has_key}
@@ -73,3 +74,10 @@ pub grouped_as : {S : Type 0} (first items slice : List NumberedSet) (maps read 
     first ≡ items → slice ≡ items → read ≡ maps → AreGrouped first (groups_at maps) → AreGrouped slice (groups_at read)
 grouped_as first items slice maps read same sliced as_read are =
     subst (λ l. AreGrouped slice (groups_at l)) (sym as_read) (subst (λ l. AreGrouped l (groups_at maps)) (same ∙ sym sliced) are)
+
+-- without groups there are no fields
+pub nothing_grouped : (others : List NumberedField) (groups : Groups) → length groups ≡ 0 → IsGrouped others groups → (y : NumberedField) → ¬ Contains others y
+nothing_grouped others [] empty grouped y in' =
+    let name = key_of (field_of y) in
+    none_stands y (subst (λ l. Contains l y) (sym (grouped name)) (kept_by_filter (has_key name) others y in' (same_name_itself name)))
+nothing_grouped others (g ∷ gs) empty grouped y in' = omega (arith, empty)

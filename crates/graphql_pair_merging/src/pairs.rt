@@ -98,6 +98,9 @@ impl<'s, 'doc> PairPass<'s, 'doc> {
             (Compares self.now.schema.now (pass_of self.now.pass) fields.now others pairs.old.keys pairs.new.keys)
             (Finds self.now.schema.now (pass_of self.now.pass) fields.now others)) }
     {
+        if groups.is_empty() {
+            return Ok(None);
+        }
         for field in fields {
             if let Some(conflict) = self.compare_under_key(pairs, *field, groups)? {
                 return Ok(Some(conflict));

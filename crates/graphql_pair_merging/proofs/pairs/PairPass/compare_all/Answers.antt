@@ -4,8 +4,14 @@ use Rattle.std.specs.Prelude.{MatchOption}
 use Rattle.graphql_documents.proofs.ListLemmas.{more_is, none_stands, only_one}
 use Rattle.graphql_merging.specs.Groups.{pass_of}
 use Rattle.graphql_pair_merging.specs.Pairs.{Compares, Finds}
+use Rattle.graphql_pair_merging.proofs.GroupLemmas.{nothing_grouped}
 use Rattle.graphql_pair_merging.proofs.PairLemmas.{compares_next, compares_none, finds_wider}
 use Rattle.graphql_pair_merging.proofs.pairs.PairPass.compare_all.Goals as goal
+
+pub returns-then-is_empty : goal.returns-then-is_empty
+returns-then-is_empty c others grouped =
+    compares_none c.args.self.now.schema.now (pass_of c.args.self.now.pass) c.args.fields.now others c.args.pairs.now.keys
+    (λ x y in_x in_y. nothing_grouped others c.args.groups.now.entries (c.is_empty.ensures.0 c.if-is_empty.true) grouped y in_y)
 
 pub loop-field-init : goal.loop-field-init
 loop-field-init c others grouped =
