@@ -9,7 +9,8 @@ ghost use Rattle.graphql_implementations.specs.ImplementationSteps.{ImplementedA
 
 use super::implementer::ImplementingField;
 use graphql_diagnostics::{Details, DiagnosticData, DiagnosticList};
-use graphql_documents::documents::{InputValueDefinition, Type, definition_named};
+use graphql_documents::documents::{InputValueDefinition, Type};
+use graphql_name_tables::ByName;
 use graphql_nodes::{Node, ValidationError};
 
 /// Reports the arguments of a field that do not agree with those of an interface's field.
@@ -21,21 +22,29 @@ pub(super) fn check_field_arguments(
     ensures { Checks result (FieldArgumentsAgree field.now.wanted.now field.now.own.now)
         (IsDiagnostic (ImplementedArgumentsReport field.now.implementer.now)) diagnostics.old diagnostics.new }
 {
-    check_provided_arguments(diagnostics, field)?;
-    check_further_arguments(diagnostics, field)
+    let alloc = diagnostics.allocator();
+    let hash_seed = diagnostics.hash_seed();
+    let own = &*field.own.node.value.arguments;
+    let wanted = &*field.wanted.node.value.arguments;
+    let own_by_name = ByName::new(alloc, hash_seed, own, wanted.len())?;
+    let wanted_by_name = ByName::new(alloc, hash_seed, wanted, own.len())?;
+    check_provided_arguments(diagnostics, field, &own_by_name)?;
+    check_further_arguments(diagnostics, field, &wanted_by_name)
 }
 
 /// Reports each argument of the interface's field that is missing or has another type.
 fn check_provided_arguments(
     diagnostics: &mut DiagnosticList,
     field: &ImplementingField,
+    own: &ByName<Node<InputValueDefinition>>,
 ) -> Result<(), ValidationError>
-    requires { IsImplementing field.now }
+    requires implementing { IsImplementing field.now }
+    requires own { own.now ≡ arguments_of field.now.own.now }
     ensures { Checks result (All (IsArgumentImplemented (arguments_of field.now.own.now)) (arguments_of field.now.wanted.now))
         (IsDiagnostic (ImplementedArgumentsReport field.now.implementer.now)) diagnostics.old diagnostics.new }
 {
     for argument in &field.wanted.node.value.arguments {
-        check_provided_argument(diagnostics, field, argument)?;
+        check_provided_argument(diagnostics, field, own, argument)?;
     }
     Ok(())
 }
@@ -44,14 +53,16 @@ fn check_provided_arguments(
 fn check_provided_argument(
     diagnostics: &mut DiagnosticList,
     field: &ImplementingField,
+    own: &ByName<Node<InputValueDefinition>>,
     argument: &Node<InputValueDefinition>,
 ) -> Result<(), ValidationError>
     requires implementing { IsImplementing field.now }
+    requires own { own.now ≡ arguments_of field.now.own.now }
     requires stands { Contains (arguments_of field.now.wanted.now) argument.now }
     ensures { Checks result (IsArgumentImplemented (arguments_of field.now.own.now) argument.now)
         (IsDiagnostic (ImplementedArgumentsReport field.now.implementer.now)) diagnostics.old diagnostics.new }
 {
-    match definition_named(&field.own.node.value.arguments, &argument.value.name) {
+    match own.find(&argument.value.name) {
         Some(own) => check_argument_type(diagnostics, field, argument, own),
         None => report_missing_argument(diagnostics, field, argument),
     }
@@ -136,13 +147,15 @@ fn is_same_type(ty: &Type, other: &Type) -> bool
 fn check_further_arguments(
     diagnostics: &mut DiagnosticList,
     field: &ImplementingField,
+    wanted: &ByName<Node<InputValueDefinition>>,
 ) -> Result<(), ValidationError>
-    requires { IsImplementing field.now }
+    requires implementing { IsImplementing field.now }
+    requires wanted { wanted.now ≡ arguments_of field.now.wanted.now }
     ensures { Checks result (All (IsNoExtra (arguments_of field.now.wanted.now)) (arguments_of field.now.own.now))
         (IsDiagnostic (ImplementedArgumentsReport field.now.implementer.now)) diagnostics.old diagnostics.new }
 {
     for argument in &field.own.node.value.arguments {
-        check_further_argument(diagnostics, field, argument)?;
+        check_further_argument(diagnostics, field, wanted, argument)?;
     }
     Ok(())
 }
@@ -151,14 +164,16 @@ fn check_further_arguments(
 fn check_further_argument(
     diagnostics: &mut DiagnosticList,
     field: &ImplementingField,
+    wanted: &ByName<Node<InputValueDefinition>>,
     argument: &Node<InputValueDefinition>,
 ) -> Result<(), ValidationError>
     requires implementing { IsImplementing field.now }
+    requires wanted { wanted.now ≡ arguments_of field.now.wanted.now }
     requires stands { Contains (arguments_of field.now.own.now) argument.now }
     ensures { Checks result (IsNoExtra (arguments_of field.now.wanted.now) argument.now)
         (IsDiagnostic (ImplementedArgumentsReport field.now.implementer.now)) diagnostics.old diagnostics.new }
 {
-    match definition_named(&field.wanted.node.value.arguments, &argument.value.name) {
+    match wanted.find(&argument.value.name) {
         Some(_) => Ok(()),
         None => check_not_required(diagnostics, field, argument),
     }

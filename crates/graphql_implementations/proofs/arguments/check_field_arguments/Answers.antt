@@ -3,7 +3,7 @@ use Rattle.graphql_implementations.proofs.ImplementationLemmas.{arguments_agree}
 use Rattle.graphql_implementations.proofs.arguments.check_field_arguments.Goals as goal
 
 pub returns-in_err-check_provided_arguments : goal.returns-in_err-check_provided_arguments
-returns-in_err-check_provided_arguments c = checks-err _ _ _ _ _ c.from_residual.ensures.0 (c.in_err-check_provided_arguments.ensures)
+returns-in_err-check_provided_arguments c = checks-err _ _ _ _ _ c.from_residual-in_err-check_provided_arguments.ensures.0 (c.in_err-check_provided_arguments.ensures)
 
 pub returns : goal.returns
 returns c =
