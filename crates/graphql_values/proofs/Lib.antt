@@ -2,6 +2,8 @@ pub mod AcceptsLemmas
 pub mod DirectiveLemmas
 pub mod GivenLemmas
 pub mod LeafLemmas
+pub mod MeasureLemmas
+pub mod NullNameLemmas
 pub mod ObjectLemmas
 pub mod RepetitionLemmas
 pub mod VariableLemmas

@@ -1,4 +1,5 @@
 pub mod DirectiveSteps
+pub mod EntriesByName
 pub mod GivenArguments
 pub mod Repetitions
 pub mod ValueSteps

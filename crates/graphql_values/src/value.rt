@@ -1,5 +1,6 @@
 //! Values against types.
 
+mod entries;
 mod expected;
 mod leaves;
 mod objects;
@@ -13,6 +14,7 @@ ghost use Rattle.graphql_documents.specs.Schemas.{IsInputObject, type_definition
 ghost use Rattle.graphql_documents.specs.TypeReferences.{TypeReference, inner_named_type, reference_of};
 ghost use Rattle.graphql_values.specs.ValueSteps.{AcceptsEntry, AcceptsField, AcceptsItem, ChecksValue, EntryReport, HasEntries, HasItems, ItemReport, written_at};
 
+use entries::EntriesByName;
 use expected::ExpectedType;
 use graphql_diagnostics::DiagnosticList;
 use graphql_documents::documents::{
@@ -203,7 +205,20 @@ fn check_object(
         return unsupported_type(diagnostics, expected, value);
     };
     check_known_entries(diagnostics, input_object, value, entries)?;
-    check_fields(diagnostics, schema, value, entries, input_object, variables)
+    let entries_by_name = EntriesByName::new(
+        diagnostics.allocator(),
+        diagnostics.hash_seed(),
+        entries,
+        input_object.value.fields.len(),
+    )?;
+    check_fields(
+        diagnostics,
+        schema,
+        value,
+        &entries_by_name,
+        input_object,
+        variables,
+    )
 }
 
 /// Checks each item of a list against the type of the items.
@@ -232,7 +247,7 @@ fn check_fields(
     diagnostics: &mut DiagnosticList,
     schema: &Schema,
     value: &Node<Value>,
-    entries: &[(Name, Node<Value>)],
+    entries: &EntriesByName<'_>,
     input_object: &Node<InputObjectType>,
     variables: &VariablesByName,
 ) -> Result<(), ValidationError>
@@ -253,7 +268,7 @@ fn check_fields(
 fn check_entry(
     diagnostics: &mut DiagnosticList,
     schema: &Schema,
-    entries: &[(Name, Node<Value>)],
+    entries: &EntriesByName<'_>,
     name: &Name,
     field: &Component<InputValueDefinition>,
     variables: &VariablesByName,
@@ -262,18 +277,16 @@ fn check_entry(
         (IsDiagnostic (EntryReport schema.now variables.now entries.now (name.now, field.now)))
         diagnostics.old diagnostics.new }
 {
+    let Some((_, entry)) = entries.find(name) else {
+        return Ok(());
+    };
     let ty = &field.node.value.ty;
-    for (key, entry) in entries {
-        if key == name {
-            return check_value(
-                diagnostics,
-                schema,
-                entry,
-                &ty.value,
-                ty.location,
-                variables,
-            );
-        }
-    }
-    Ok(())
+    check_value(
+        diagnostics,
+        schema,
+        entry,
+        &ty.value,
+        ty.location,
+        variables,
+    )
 }

@@ -1,4 +1,4 @@
-ghost use Rattle.std.specs.Prelude.{All, Contains, List};
+ghost use Rattle.std.specs.Prelude.{◌≡◌, All, Contains, List};
 ghost use Rattle.graphql_specification.specs.Arguments.{IsDefined};
 ghost use Rattle.graphql_diagnostics.specs.Diagnostics.{IsDiagnostic};
 ghost use Rattle.graphql_diagnostics.specs.Reports.{Checks};
@@ -10,7 +10,8 @@ ghost use Rattle.graphql_values.specs.GivenArguments.{GivenArgumentHolds, GivenA
 use super::owners::GivenArguments;
 use crate::value::check_value_of_type;
 use graphql_diagnostics::{Details, DiagnosticData, DiagnosticList};
-use graphql_documents::documents::{Argument, Schema, definition_named};
+use graphql_documents::documents::{Argument, InputValueDefinition, Schema};
+use graphql_name_tables::ByName;
 use graphql_nodes::{Node, ValidationError};
 use graphql_variables::{VariablesByName, check_variable_usage};
 
@@ -29,25 +30,41 @@ pub fn validate_given_arguments(
         (All (GivenArgumentHolds schema.now variables.now arguments.now.definitions.now) arguments.now.given.now)
         (IsDiagnostic (GivenArgumentReport schema.now variables.now arguments.now)) diagnostics.old diagnostics.new }
 {
+    let definitions = ByName::new(
+        diagnostics.allocator(),
+        diagnostics.hash_seed(),
+        arguments.definitions,
+        arguments.given.len(),
+    )?;
     for argument in arguments.given {
-        validate_given_argument(diagnostics, schema, arguments, argument, variables)?;
+        validate_given_argument(
+            diagnostics,
+            schema,
+            arguments,
+            &definitions,
+            argument,
+            variables,
+        )?;
     }
     Ok(())
 }
 
+/// The same for one of them, whose definition is found among these.
 fn validate_given_argument(
     diagnostics: &mut DiagnosticList,
     schema: &Schema,
     arguments: &GivenArguments,
+    definitions: &ByName<Node<InputValueDefinition>>,
     argument: &Node<Argument>,
     variables: &VariablesByName,
 ) -> Result<(), ValidationError>
-    requires { Contains arguments.now.given.now argument.now }
+    requires definitions { definitions.now ≡ arguments.now.definitions.now }
+    requires given { Contains arguments.now.given.now argument.now }
     ensures { Checks result
         (GivenArgumentHolds schema.now variables.now arguments.now.definitions.now argument.now)
         (IsDiagnostic (GivenArgumentReport schema.now variables.now arguments.now)) diagnostics.old diagnostics.new }
 {
-    let Some(definition) = definition_named(arguments.definitions, &argument.value.name) else {
+    let Some(definition) = definitions.find(&argument.value.name) else {
         return report_undefined_argument(diagnostics, arguments, argument);
     };
     if check_variable_usage(diagnostics, definition, variables, argument)? {

@@ -1,4 +1,4 @@
-ghost use Rattle.std.specs.Prelude.{◌↔◌, IsTrue, All, Contains};
+ghost use Rattle.std.specs.Prelude.{◌≡◌, ◌↔◌, IsTrue, All, Contains};
 ghost use Rattle.graphql_specification.specs.Arguments.{IsProvided, RequiredArgumentIsProvided};
 ghost use Rattle.graphql_diagnostics.specs.Diagnostics.{IsDiagnostic};
 ghost use Rattle.graphql_diagnostics.specs.Reports.{Checks};
@@ -6,7 +6,8 @@ ghost use Rattle.graphql_values.specs.GivenArguments.{MissingArgumentReport};
 
 use super::owners::GivenArguments;
 use graphql_diagnostics::{Details, DiagnosticData, DiagnosticList};
-use graphql_documents::documents::{Argument, InputValueDefinition, Value, argument_named};
+use graphql_documents::documents::{Argument, InputValueDefinition, Value};
+use graphql_name_tables::ByName;
 use graphql_nodes::{Name, Node, ValidationError};
 
 /// Reports each required argument that is not given or is literally null, in order of the definitions, at the
@@ -21,22 +22,31 @@ pub fn validate_required_arguments(
         (All (RequiredArgumentIsProvided arguments.now.given.now) arguments.now.definitions.now)
         (IsDiagnostic (MissingArgumentReport arguments.now)) diagnostics.old diagnostics.new }
 {
+    let given = ByName::new(
+        diagnostics.allocator(),
+        diagnostics.hash_seed(),
+        arguments.given,
+        arguments.definitions.len(),
+    )?;
     for definition in arguments.definitions {
-        validate_required_argument(diagnostics, arguments, definition)?;
+        validate_required_argument(diagnostics, arguments, &given, definition)?;
     }
     Ok(())
 }
 
+/// The same for one of the definitions, whose argument is found among these.
 fn validate_required_argument(
     diagnostics: &mut DiagnosticList,
     arguments: &GivenArguments,
+    given: &ByName<Node<Argument>>,
     definition: &Node<InputValueDefinition>,
 ) -> Result<(), ValidationError>
-    requires { Contains arguments.now.definitions.now definition.now }
+    requires given { given.now ≡ arguments.now.given.now }
+    requires defined { Contains arguments.now.definitions.now definition.now }
     ensures { Checks result (RequiredArgumentIsProvided arguments.now.given.now definition.now)
         (IsDiagnostic (MissingArgumentReport arguments.now)) diagnostics.old diagnostics.new }
 {
-    if !definition.value.is_required() || is_given(arguments.given, &definition.value.name) {
+    if !definition.value.is_required() || is_given(given, &definition.value.name) {
         return Ok(());
     }
     let alloc = diagnostics.allocator();
@@ -57,10 +67,10 @@ fn validate_required_argument(
 }
 
 /// Whether the first argument with this name is there and not literally null.
-fn is_given(arguments: &[Node<Argument>], name: &Name) -> bool
+fn is_given(arguments: &ByName<Node<Argument>>, name: &Name) -> bool
     ensures { IsTrue result ↔ IsProvided arguments.now name.now }
 {
-    match argument_named(arguments, name) {
+    match arguments.find(name) {
         Some(argument) => !matches!(&*argument.value.value.value, Value::Null),
         None => false,
     }

@@ -1,8 +1,6 @@
-ghost use Rattle.std.specs.Prelude.{◌≡◌, ◌↔◌, List, All, Contains, IsSome, IsFalse, IsTrue, find};
-ghost use Rattle.std.specs.Option.{option_copied};
+ghost use Rattle.std.specs.Prelude.{◌↔◌, List, All, Contains, IsSome, IsTrue};
 ghost use Rattle.graphql_diagnostics.specs.Diagnostics.{IsDiagnostic};
 ghost use Rattle.graphql_specification.specs.Values.{HasNoNullEntry, IsFieldProvided, IsInputField, ValueReport};
-ghost use Rattle.graphql_nodes.specs.Names.{same_name};
 ghost use Rattle.graphql_diagnostics.specs.Reports.{Checks};
 ghost use Rattle.graphql_documents.specs.Schemas.{IsInputObject, is_required};
 ghost use Rattle.graphql_documents.specs.TypeReferences.{TypeReference, inner_named_type};
@@ -12,6 +10,7 @@ ghost use Rattle.graphql_nodes.specs.declared.nodes.Node.{Node};
 ghost use Rattle.graphql_documents.specs.declared.documents.schemas.Schema.{Schema};
 ghost use Rattle.graphql_values.specs.ValueSteps.{HasEntries};
 
+use super::entries::EntriesByName;
 use graphql_coordinates::TypeAttributeCoordinate;
 use graphql_diagnostics::{Details, DiagnosticData, DiagnosticList};
 use graphql_documents::documents::{Component, InputObjectType, InputValueDefinition, Value};
@@ -58,7 +57,7 @@ pub(super) fn check_required_field(
     name: &Name,
     field: &Component<InputValueDefinition>,
     value: &Node<Value>,
-    entries: &[(Name, Node<Value>)],
+    entries: &EntriesByName,
 ) -> Result<(), ValidationError>
     requires object { HasEntries value.now.value.value entries.now }
     requires stands { Contains input_object.now.value.value.fields.entries (name.now, field.now) }
@@ -89,7 +88,7 @@ pub(super) fn check_required_field(
 }
 
 /// Whether the field is not required, or an entry has its name and none that does is null.
-fn is_satisfied(field: &InputValueDefinition, entries: &[(Name, Node<Value>)], name: &Name) -> bool
+fn is_satisfied(field: &InputValueDefinition, entries: &EntriesByName, name: &Name) -> bool
     ensures { IsTrue result ↔
         (IsTrue (is_required field.now) → IsSome (entry_named name.now entries.now) × HasNoNullEntry entries.now name.now) }
 {
@@ -101,25 +100,8 @@ fn is_satisfied(field: &InputValueDefinition, entries: &[(Name, Node<Value>)], n
 }
 
 /// Whether an entry has this name, and none that does is null.
-fn is_given(entries: &[(Name, Node<Value>)], name: &Name) -> bool
+fn is_given(entries: &EntriesByName, name: &Name) -> bool
     ensures { IsTrue result ↔ (IsSome (entry_named name.now entries.now) × HasNoNullEntry entries.now name.now) }
 {
-    find_entry(entries, name).is_some() && !has_null_entry(entries, name)
-}
-
-/// The first entry with this name.
-fn find_entry<'a>(
-    entries: &'a [(Name, Node<Value>)],
-    name: &Name,
-) -> Option<&'a (Name, Node<Value>)>
-    ensures { option_copied result ≡ find (λ entry. same_name entry.0 name.now) entries.now }
-{
-    entries.iter().find(|(key, _)| key == name)
-}
-
-/// Whether an entry with this name is null.
-fn has_null_entry(entries: &[(Name, Node<Value>)], name: &Name) -> bool
-    ensures { IsFalse result ↔ HasNoNullEntry entries.now name.now }
-{
-    entries.iter().any(|(key, value)| key == name && matches!(&*value.value, Value::Null))
+    entries.find(name).is_some() && !entries.has_null(name)
 }

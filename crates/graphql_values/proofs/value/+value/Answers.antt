@@ -1,12 +1,12 @@
 -- Each exit of the walk over a value.
-use Rattle.std.proofs.Common.{◌≡◌, ◌||◌, [], ◌∷◌, ◌++◌, Some, None, true, IsTrue, IsFalse, refl, sym, ap, ◌∙◌, subst, All, Contains, rules}
+use Rattle.std.proofs.Common.{◌≡◌, ◌||◌, [], ◌∷◌, ◌++◌, Some, None, IsTrue, IsFalse, refl, sym, ap, ◌∙◌, subst, All, Contains, arith, rules}
 use Rattle.std.specs.Option.{option_map}
-use Rattle.std.proofs.lemmas.List.{append-nil, take_all}
+use Rattle.std.proofs.lemmas.List.{append-nil}
 use Rattle.std.proofs.lemmas.List.Elements.{All-nil}
 use Rattle.std.proofs.lemmas.Option.{none-some}
 use Rattle.graphql_specification.specs.Values.{accepts_undefined, is_custom_scalar, CannotStandFor, ValueReport}
 use Rattle.graphql_diagnostics.specs.Diagnostics.{IsDiagnostic, entries}
-use Rattle.graphql_nodes.specs.Names.{NameText, same_name}
+use Rattle.graphql_nodes.specs.Names.{NameText}
 use Rattle.graphql_diagnostics.specs.Reports.{Reports}
 use Rattle.graphql_documents.specs.Values.{entry_named}
 use Rattle.graphql_documents.specs.declared.documents.components.Component.{Component}
@@ -15,11 +15,11 @@ use Rattle.graphql_nodes.specs.declared.nodes.Node.{Node}
 use Rattle.graphql_documents.specs.declared.documents.values.Value.{Value}
 use Rattle.graphql_documents.specs.Schemas.{IsInputObject, is_input_type, type_definition}
 use Rattle.graphql_documents.specs.TypeReferences.{inner_named_type, is_list, reference_of}
-use Rattle.graphql_diagnostics.proofs.ReportLemmas.{both, checks-err, done_more, holds, kept_by, kept_then, kept_wider, walked_all, walked_more, wider}
+use Rattle.graphql_diagnostics.proofs.ReportLemmas.{ChecksList, both, checks-err, done_more, holds, kept_by, kept_then, kept_wider, walked_all, walked_more, wider}
 use Rattle.graphql_documents.proofs.ListLemmas.{done_next, stands_next}
+use Rattle.graphql_values.proofs.MeasureLemmas.{entry_is_no_deeper}
 use Rattle.graphql_values.proofs.WalkLemmas.{names_item, names_entry, entry_checked, no_list_cannot, no_input_cannot, custom_object_accepted, no_object_cannot, list_checked, object_checked}
-use Rattle.graphql_variables.proofs.SplitLemmas.{find_first, find_later}
-use Rattle.graphql_values.specs.ValueSteps.{AcceptsEntry, AcceptsField, AcceptsItem, EntryReport, ItemReport, written_at}
+use Rattle.graphql_values.specs.ValueSteps.{AcceptsEntry, AcceptsField, AcceptsItem, ItemReport, written_at}
 use Rattle.graphql_values.proofs.value.+value.Goals as goal
 
 pub check_value-returns-in_default : goal.check_value-returns-in_default
@@ -69,12 +69,24 @@ check_object-returns-in_default t c =
 
 pub check_object-returns : goal.check_object-returns
 check_object-returns t c =
+    let schema = c.args.schema.now in
+    let variables = c.args.variables.now in
     let o = c.in-InputObject.input_object in
     let ty = written_at c.args.expected.now.ty.now c.args.expected.now.location in
-    let is : IsInputObject c.args.schema.now (inner_named_type c.args.expected.now.ty.now) o = c.requires.defined ∙ ap Some c.in-InputObject.is in
-    object_checked c.args.schema.now c.args.variables.now ty o c.args.value.now c.args.entries.now is c.requires.object _ _ _ _
-    (c.in_ok-check_known_entries.ensures c.args.schema.now c.args.variables.now ty is)
-    (c.check_fields.ensures ty is)
+    let is : IsInputObject schema (inner_named_type c.args.expected.now.ty.now) o = c.requires.defined ∙ ap Some c.in-InputObject.is in
+    let mid = entries c.check_known_entries.new.diagnostics in
+    let new = entries c.check_fields.new.diagnostics in
+    object_checked schema variables ty o c.args.value.now c.args.entries.now is c.requires.object _ _ _ _
+    (c.in_ok-check_known_entries.ensures schema variables ty is)
+    (subst (λ l. ChecksList c.check_fields.result (All (AcceptsField schema variables l) o.value.value.fields.entries)
+    (IsDiagnostic (ValueReport schema variables ty c.args.value.now)) mid new) c.in_ok-entries_by_name.ensures
+    (c.check_fields.ensures ty is))
+
+pub check_object-returns-in_err-entries_by_name : goal.check_object-returns-in_err-entries_by_name
+check_object-returns-in_err-entries_by_name t c =
+    let is : IsInputObject c.args.schema.now (inner_named_type c.args.expected.now.ty.now) c.in-InputObject.input_object = c.requires.defined ∙ ap Some c.in-InputObject.is in
+    checks-err _ _ _ _ _ c.from_residual-in_err-entries_by_name.ensures.0
+    (kept_by (c.in_ok-check_known_entries.ensures c.args.schema.now c.args.variables.now (written_at c.args.expected.now.ty.now c.args.expected.now.location) is))
 
 pub check_object-returns-in_err-check_known_entries : goal.check_object-returns-in_err-check_known_entries
 check_object-returns-in_err-check_known_entries t c =
@@ -109,35 +121,24 @@ check_items-returns t c =
     (IsDiagnostic (ItemReport c.args.schema.now c.args.variables.now (written_at c.args.expected.now.ty.now c.args.expected.now.location) xs)) xs c.loop-item.item-index xs _ _ refl
     c.loop-item-test.false c.loop-item.invariant
 
-pub check_entry-returns-then-eq : goal.check_entry-returns-then-eq
-check_entry-returns-then-eq t c =
-    let xs = c.args.entries.now in
-    let x = c.loop-key-item.result in
-    let named : same_name x.0 c.args.name.now ≡ true = sym c.eq.ensures ∙ c.if-eq.true in
-    let found : entry_named c.args.name.now xs ≡ Some x.1 =
-    ap (option_map (λ (e : NameText × Node Value). e.1)) (find_first (λ e. same_name e.0 c.args.name.now) xs c.loop-key.key-index x c.loop-key-test.true c.loop-key-item.is c.loop-key.invariant.missed named) in
-    let ty_is : written_at c.deref-then-eq.result.now c.deref.result.now.ty.location ≡ reference_of c.args.field.now.node.value.value.ty =
-    ap (λ t. written_at t c.deref.result.now.ty.location) c.deref-then-eq.ensures ∙ ap (λ (d : InputValueDefinition). reference_of d.ty) c.deref.ensures in
-    entry_checked _ c.args.schema.now c.args.variables.now xs (c.args.name.now, c.args.field.now) x.1 _ _ _ _
-    found ty_is c.loop-key.invariant.unchanged c.check_value.ensures
-
-pub check_entry-loop-key-preserved : goal.check_entry-loop-key-preserved
-check_entry-loop-key-preserved t c = record {
-  unchanged = c.loop-key.invariant.unchanged;
-  missed = find_later (λ (e : NameText × Node Value). same_name e.0 c.args.name.now) c.args.entries.now c.loop-key.key-index c.loop-key-item.result
-      c.loop-key-test.true c.loop-key-item.is c.loop-key.invariant.missed (sym c.eq.ensures ∙ c.if-eq.false);
-}
+pub check_entry-check_value-requires : goal.check_entry-check_value-requires
+check_entry-check_value-requires t c =
+    (omega (arith, c.decreases, entry_is_no_deeper c.args.name.now c.args.entries.now c.in-Some.field-0.now (sym c.in-Some.ensures)), tt)
 
 pub check_entry-returns : goal.check_entry-returns
 check_entry-returns t c =
     let xs = c.args.entries.now in
-    let missed : entry_named c.args.name.now xs ≡ None =
-    ap (entry_named c.args.name.now) (sym (take_all c.loop-key.key-index xs c.loop-key-test.false)) ∙
-    ap (option_map (λ (e : NameText × Node Value). e.1)) c.loop-key.invariant.missed in
-    subst (λ l. Reports (AcceptsEntry c.args.schema.now c.args.variables.now xs (c.args.name.now, c.args.field.now))
-    (IsDiagnostic (EntryReport c.args.schema.now c.args.variables.now xs (c.args.name.now, c.args.field.now))) (entries c.args.diagnostics.now) l)
-    (sym c.loop-key.invariant.unchanged)
-    (holds _ _ _ (λ value found. absurd (none-some value (sym missed ∙ found))))
+    let x = c.in-Some.field-0.now in
+    let found : entry_named c.args.name.now xs ≡ Some x.1 = ap (option_map (λ (e : NameText × Node Value). e.1)) (sym c.in-Some.ensures) in
+    let ty_is : written_at c.deref-2.result.now c.deref.result.now.ty.location ≡ reference_of c.args.field.now.node.value.value.ty =
+    ap (λ t. written_at t c.deref.result.now.ty.location) c.deref-2.ensures ∙ ap (λ (d : InputValueDefinition). reference_of d.ty) c.deref.ensures in
+    entry_checked _ c.args.schema.now c.args.variables.now xs (c.args.name.now, c.args.field.now) x.1 _ _ _ _
+    found ty_is refl c.check_value.ensures
+
+pub check_entry-returns-in_default : goal.check_entry-returns-in_default
+check_entry-returns-in_default t c =
+    let missed : entry_named c.args.name.now c.args.entries.now ≡ None = search rules in
+    holds _ _ _ (λ value found. absurd (none-some value (sym missed ∙ found)))
 
 pub check_fields-loop-name-init : goal.check_fields-loop-name-init
 check_fields-loop-name-init t c = record {

@@ -1,15 +1,14 @@
-use Rattle.std.proofs.Common.{◌≡◌, ◌+◌, ◌*◌, List, ◌++◌, None, All, find, take}
+use Rattle.std.proofs.Common.{◌≡◌, ◌+◌, ◌*◌, List, ◌++◌, All, take}
 use Rattle.graphql_diagnostics.specs.Diagnostics.{IsDiagnostic, entries}
-use Rattle.graphql_nodes.specs.Names.{NameText, same_name}
+use Rattle.graphql_nodes.specs.Names.{NameText}
 use Rattle.graphql_diagnostics.specs.Reports.{Reports}
 use Rattle.graphql_documents.specs.Schemas.{IsInputObject}
 use Rattle.graphql_documents.specs.TypeReferences.{TypeReference, inner_named_type}
 use Rattle.graphql_specification.specs.Values.{ValueReport}
 use Rattle.graphql_documents.specs.declared.documents.components.Component.{Component}
 use Rattle.graphql_documents.specs.declared.documents.definitions.InputValueDefinition.{InputValueDefinition}
-use Rattle.graphql_nodes.specs.declared.nodes.Node.{Node}
-use Rattle.graphql_documents.specs.declared.documents.values.Value.{Value}
 use Rattle.graphql_values.specs.ValueSteps.{AcceptsField, AcceptsItem, ItemReport, written_at}
+use Rattle.graphql_values.proofs.MeasureLemmas.{entries_size}
 use Rattle.graphql_values.proofs.value.+value.Given as goal
 
 -- the items and the entries of a value are less deep than it is
@@ -32,13 +31,7 @@ abbrev pub decreases-check_fields : goal.decreases-check_fields
 decreases-check_fields l = 5 * goal.size-check_fields l + 1
 
 abbrev pub decreases-check_entry : goal.decreases-check_entry
-decreases-check_entry l = 5 * goal.size-check_entry l + 5
-
-abbrev pub invariant-check_entry-loop-key : goal.invariant-check_entry-loop-key
-invariant-check_entry-loop-key l = record {
-  unchanged : entries l.diagnostics ≡ entries l.initial.diagnostics;
-  missed : find (λ (entry : NameText × Node Value). same_name entry.0 l.fn.name) (take l.key-index l.entries) ≡ None;
-}
+decreases-check_entry l = 5 * entries_size l.entries.now + 5
 
 abbrev pub invariant-check_fields-loop-name : goal.invariant-check_fields-loop-name
 invariant-check_fields-loop-name l = record {

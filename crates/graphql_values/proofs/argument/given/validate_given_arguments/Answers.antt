@@ -6,7 +6,7 @@ use Rattle.graphql_values.proofs.argument.given.validate_given_arguments.Goals a
 
 pub returns-in_err-validate_given_argument : goal.returns-in_err-validate_given_argument
 returns-in_err-validate_given_argument c =
-    checks-err _ _ _ _ _ c.from_residual.ensures.0
+    checks-err _ _ _ _ _ c.from_residual-in_err-validate_given_argument.ensures.0
     (kept_then (kept_by c.loop-argument.invariant) (c.in_err-validate_given_argument.ensures))
 
 pub loop-argument-preserved : goal.loop-argument-preserved

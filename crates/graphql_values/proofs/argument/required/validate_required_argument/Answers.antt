@@ -12,7 +12,7 @@ returns c =
     checks-push _ _ _ _ _ _ c.push.ensures.ok c.push.ensures.err (λ holds. missing (holds required))
     (of_missing_argument (record {
       definition = c.args.definition.now;
-      is_defined = c.requires;
+      is_defined = c.requires.defined;
       required = required;
       missing = missing;
       name_is = search rules;

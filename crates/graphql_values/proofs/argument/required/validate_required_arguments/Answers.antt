@@ -7,7 +7,7 @@ use Rattle.graphql_values.proofs.argument.required.validate_required_arguments.G
 
 pub returns-in_err-validate_required_argument : goal.returns-in_err-validate_required_argument
 returns-in_err-validate_required_argument c =
-    checks-err _ _ _ _ _ c.from_residual.ensures.0
+    checks-err _ _ _ _ _ c.from_residual-in_err-validate_required_argument.ensures.0
     (kept_then (kept_by c.loop-definition.invariant) (c.in_err-validate_required_argument.ensures))
 
 pub loop-definition-preserved : goal.loop-definition-preserved
