@@ -8,6 +8,7 @@ use crate::values::{check_arguments, check_directives};
 use graphql_documents::documents::{
     Field, Fragment, InlineFragment, Schema, Selection, SelectionSet,
 };
+use graphql_hash_seeds::HashSeed;
 use graphql_nodes::ValidationError;
 use graphql_variables::VariablesByName;
 
@@ -15,13 +16,20 @@ use graphql_variables::VariablesByName;
 pub(crate) fn check_fragment(
     reports: &mut Vec<VariableMisuse>,
     schema: &Schema,
+    hash_seed: HashSeed,
     variables: &VariablesByName,
     fragment: &Fragment,
 ) -> Result<(), ValidationError>
     ensures { ChecksUsages result variables.now (FragmentUses schema.now fragment.now) reports.old reports.new }
 {
-    check_directives(reports, schema, variables, &fragment.directives)?;
-    check_selection_set(reports, schema, variables, &fragment.selection_set)
+    check_directives(reports, schema, hash_seed, variables, &fragment.directives)?;
+    check_selection_set(
+        reports,
+        schema,
+        hash_seed,
+        variables,
+        &fragment.selection_set,
+    )
 }
 
 /// The same in the selections of a set, at any depth. Spreads are not followed.
@@ -29,13 +37,14 @@ pub(crate) fn check_fragment(
 pub(crate) fn check_selection_set(
     reports: &mut Vec<VariableMisuse>,
     schema: &Schema,
+    hash_seed: HashSeed,
     variables: &VariablesByName,
     set: &SelectionSet,
 ) -> Result<(), ValidationError>
     ensures { ChecksUsages result variables.now (SetUses schema.now set.now) reports.old reports.new }
 {
     for selection in &set.selections {
-        check_selection(reports, schema, variables, selection)?;
+        check_selection(reports, schema, hash_seed, variables, selection)?;
     }
     Ok(())
 }
@@ -44,18 +53,25 @@ pub(crate) fn check_selection_set(
 fn check_selection(
     reports: &mut Vec<VariableMisuse>,
     schema: &Schema,
+    hash_seed: HashSeed,
     variables: &VariablesByName,
     selection: &Selection,
 ) -> Result<(), ValidationError>
     ensures { ChecksUsages result variables.now (SelectionUses schema.now selection.now) reports.old reports.new }
 {
     match selection {
-        Selection::Field(field) => check_field(reports, schema, variables, &field.value),
+        Selection::Field(field) => check_field(reports, schema, hash_seed, variables, &field.value),
         Selection::FragmentSpread(spread) => {
-            check_directives(reports, schema, variables, &spread.value.directives)
+            check_directives(
+                reports,
+                schema,
+                hash_seed,
+                variables,
+                &spread.value.directives,
+            )
         }
         Selection::InlineFragment(fragment) => {
-            check_inline_fragment(reports, schema, variables, &fragment.value)
+            check_inline_fragment(reports, schema, hash_seed, variables, &fragment.value)
         }
     }
 }
@@ -64,26 +80,41 @@ fn check_selection(
 fn check_field(
     reports: &mut Vec<VariableMisuse>,
     schema: &Schema,
+    hash_seed: HashSeed,
     variables: &VariablesByName,
     field: &Field,
 ) -> Result<(), ValidationError>
     ensures { ChecksUsages result variables.now (FieldUses schema.now field.now) reports.old reports.new }
 {
     let definitions = &field.definition.value.arguments;
-    check_arguments(reports, schema, variables, definitions, &field.arguments)?;
-    check_directives(reports, schema, variables, &field.directives)?;
-    check_selection_set(reports, schema, variables, &field.selection_set)
+    check_arguments(
+        reports,
+        schema,
+        hash_seed,
+        variables,
+        definitions,
+        &field.arguments,
+    )?;
+    check_directives(reports, schema, hash_seed, variables, &field.directives)?;
+    check_selection_set(reports, schema, hash_seed, variables, &field.selection_set)
 }
 
 #[cycle(selection)]
 fn check_inline_fragment(
     reports: &mut Vec<VariableMisuse>,
     schema: &Schema,
+    hash_seed: HashSeed,
     variables: &VariablesByName,
     fragment: &InlineFragment,
 ) -> Result<(), ValidationError>
     ensures { ChecksUsages result variables.now (InlineFragmentUses schema.now fragment.now) reports.old reports.new }
 {
-    check_directives(reports, schema, variables, &fragment.directives)?;
-    check_selection_set(reports, schema, variables, &fragment.selection_set)
+    check_directives(reports, schema, hash_seed, variables, &fragment.directives)?;
+    check_selection_set(
+        reports,
+        schema,
+        hash_seed,
+        variables,
+        &fragment.selection_set,
+    )
 }

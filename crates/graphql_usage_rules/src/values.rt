@@ -15,8 +15,9 @@ use crate::locations::UsageLocation;
 use crate::reports::VariableMisuse;
 use graphql_documents::documents::{
     Argument, Directive, InputObjectType, InputValueDefinition, Schema, Value, VariableDefinition,
-    definition_named,
 };
+use graphql_hash_seeds::HashSeed;
+use graphql_name_tables::ByName;
 use graphql_nodes::{Name, Node, SourceSpan, ValidationError};
 use graphql_variables::VariablesByName;
 
@@ -176,14 +177,27 @@ fn report_misuse(
 pub(crate) fn check_arguments(
     reports: &mut Vec<VariableMisuse>,
     schema: &Schema,
+    hash_seed: HashSeed,
     variables: &VariablesByName,
     definitions: &[Node<InputValueDefinition>],
     arguments: &[Node<Argument>],
 ) -> Result<(), ValidationError>
     ensures { ChecksUsages result variables.now (UsedInArguments schema.now definitions.now arguments.now) reports.old reports.new }
 {
+    let definitions_by_name = ByName::new(
+        *reports.allocator(),
+        hash_seed,
+        definitions,
+        arguments.len(),
+    )?;
     for argument in arguments {
-        check_argument(reports, schema, variables, definitions, &argument.value)?;
+        check_argument(
+            reports,
+            schema,
+            variables,
+            &definitions_by_name,
+            &argument.value,
+        )?;
     }
     Ok(())
 }
@@ -192,12 +206,12 @@ fn check_argument(
     reports: &mut Vec<VariableMisuse>,
     schema: &Schema,
     variables: &VariablesByName,
-    definitions: &[Node<InputValueDefinition>],
+    definitions: &ByName<Node<InputValueDefinition>>,
     argument: &Argument,
 ) -> Result<(), ValidationError>
     ensures { ChecksUsages result variables.now (UsedInArgument schema.now definitions.now argument.now) reports.old reports.new }
 {
-    match definition_named(definitions, &argument.name) {
+    match definitions.find(&argument.name) {
         Some(definition) => {
             let location = UsageLocation::of(&definition.value);
             check_value(reports, schema, variables, location, &argument.value)
@@ -210,13 +224,14 @@ fn check_argument(
 pub(crate) fn check_directives(
     reports: &mut Vec<VariableMisuse>,
     schema: &Schema,
+    hash_seed: HashSeed,
     variables: &VariablesByName,
     directives: &[Node<Directive>],
 ) -> Result<(), ValidationError>
     ensures { ChecksUsages result variables.now (UsedInDirectives schema.now directives.now) reports.old reports.new }
 {
     for directive in directives {
-        check_directive(reports, schema, variables, &directive.value)?;
+        check_directive(reports, schema, hash_seed, variables, &directive.value)?;
     }
     Ok(())
 }
@@ -224,6 +239,7 @@ pub(crate) fn check_directives(
 fn check_directive(
     reports: &mut Vec<VariableMisuse>,
     schema: &Schema,
+    hash_seed: HashSeed,
     variables: &VariablesByName,
     directive: &Directive,
 ) -> Result<(), ValidationError>
@@ -233,6 +249,7 @@ fn check_directive(
         Some(definition) => check_arguments(
             reports,
             schema,
+            hash_seed,
             variables,
             &definition.value.arguments,
             &directive.arguments,

@@ -96,8 +96,15 @@ fn check_scope(
 ) -> Result<(), ValidationError>
     ensures { ChecksUsages result variables.now (UsedInParts schema.now (fragments_of document.now) operation.now (names_at reached.now.keys)) reports.old reports.new }
 {
-    check_directives(reports, schema, variables, &operation.directives)?;
-    check_selection_set(reports, schema, variables, &operation.selection_set)?;
+    let hash_seed = document.hash_seed();
+    check_directives(reports, schema, hash_seed, variables, &operation.directives)?;
+    check_selection_set(
+        reports,
+        schema,
+        hash_seed,
+        variables,
+        &operation.selection_set,
+    )?;
     check_fragments(reports, schema, variables, document, reached)
 }
 
@@ -127,7 +134,13 @@ fn check_fragment_named(
     ensures { ChecksUsages result variables.now (UsedInFragment schema.now (fragments_of document.now) name.now) reports.old reports.new }
 {
     match document.fragments.get(name) {
-        Some(fragment) => check_fragment(reports, schema, variables, &fragment.value),
+        Some(fragment) => check_fragment(
+            reports,
+            schema,
+            document.hash_seed(),
+            variables,
+            &fragment.value,
+        ),
         None => Ok(()),
     }
 }

@@ -12,9 +12,10 @@ returns-in_err-check_argument c =
     let In : Node Argument → Usage → Type 0 = λ a. UsedInArgument c.args.schema.now c.args.definitions.now a.value.value in
     let mid = c.loop-argument.reports.items in
     let new = c.check_argument.new.reports.items in
-    place_refused v In c.args.arguments.now c.from_residual.result c.loop-argument.argument-index c.argument-item.result c.args.reports.now.items mid new
-    c.from_residual.ensures.0 c.loop-argument-test.true c.argument-item.is c.loop-argument.invariant
-    (subst (λ a. Kept v (UsedInArgument c.args.schema.now c.args.definitions.now a) mid new) c.deref.ensures c.in_err-check_argument.ensures)
+    place_refused v In c.args.arguments.now c.from_residual-in_err-check_argument.result c.loop-argument.argument-index c.argument-item.result c.args.reports.now.items mid new
+    c.from_residual-in_err-check_argument.ensures.0 c.loop-argument-test.true c.argument-item.is c.loop-argument.invariant
+    (subst (λ l. Kept v (UsedInArgument c.args.schema.now l c.argument-item.result.value.value) mid new) c.in_ok-definitions_by_name.ensures
+    (subst (λ a. Kept v (UsedInArgument c.args.schema.now c.in_ok-definitions_by_name.definitions_by_name a) mid new) c.deref.ensures c.in_err-check_argument.ensures))
 
 pub loop-argument-preserved : goal.loop-argument-preserved
 loop-argument-preserved c =
@@ -24,7 +25,8 @@ loop-argument-preserved c =
     let new = c.check_argument.new.reports.items in
     places_more v In c.args.arguments.now c.loop-argument.argument-index c.argument-item.result c.args.reports.now.items mid new
     c.loop-argument-test.true c.argument-item.is c.loop-argument.invariant
-    (subst (λ a. Reported v (UsedInArgument c.args.schema.now c.args.definitions.now a) mid new) c.deref.ensures c.in_ok-check_argument.ensures)
+    (subst (λ l. Reported v (UsedInArgument c.args.schema.now l c.argument-item.result.value.value) mid new) c.in_ok-definitions_by_name.ensures
+    (subst (λ a. Reported v (UsedInArgument c.args.schema.now c.in_ok-definitions_by_name.definitions_by_name a) mid new) c.deref.ensures c.in_ok-check_argument.ensures))
 
 pub returns : goal.returns
 returns c =
