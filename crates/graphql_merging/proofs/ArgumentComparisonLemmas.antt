@@ -9,7 +9,7 @@ use Rattle.graphql_documents.specs.Values.{SameValue}
 use Rattle.graphql_documents.specs.declared.documents.directives.Argument.{Argument}
 use Rattle.graphql_nodes.specs.declared.nodes.Node.{Node}
 use Rattle.graphql_variables.proofs.SplitLemmas.{split_at}
-use Rattle.graphql_merging.proofs.FirstNamedLemmas.{each_more, each_of_none, first_alike, first_behind, first_has, first_of_name, first_stands}
+use Rattle.graphql_merging.proofs.FirstNamedLemmas.{each_behind, each_more, each_of_none, first_alike, first_behind, first_has, first_of_name, first_stands}
 use Rattle.graphql_merging.specs.Comparisons.{AreNamedAmong, HasArgument, IsReachable, StandAmong}
 
 -- the name of an argument
@@ -21,6 +21,11 @@ has_alike others a b x same (y, found, alike) = (y, sym (first_alike name_of a b
 
 pub none_among : (others : List (Node Argument)) → StandAmong [] others
 none_among others = each_of_none name_of (HasArgument others) (has_alike others)
+
+-- one more argument, behind the others
+pub behind_among : (before : List (Node Argument)) (x : Node Argument) (others : List (Node Argument)) → StandAmong before others →
+    IsSome (argument_named x.value.value.name before) ⊎ HasArgument others x.value.value.name x → StandAmong (before ++ x ∷ []) others
+behind_among before x others stand here = each_behind name_of (HasArgument others) (has_alike others) before x stand here
 
 pub more_among : (arguments : List (Node Argument)) (i : ℕ) (x : Node Argument) (others : List (Node Argument)) →
     i < length arguments → x ≡ get_or arguments i x → StandAmong (take i arguments) others →

@@ -69,14 +69,15 @@ module _ {X : Type 0} (name_of : X → NameText) where
     pub each_of_none : EachFirst []
     each_of_none name x e = absurd (let no : ⊥ = cc in no)
 
+    -- one more element, behind the others
+    pub each_behind : (xs : List X) (x : X) → EachFirst xs → IsSome (first_named (name_of x) xs) ⊎ Has (name_of x) x → EachFirst (xs ++ x ∷ [])
+    each_behind xs x before here name z e = last here (last_named name xs x z e) where
+      last : IsSome (first_named (name_of x) xs) ⊎ Has (name_of x) x →
+          (first_named name xs ≡ Some z) ⊎ ((first_named name xs ≡ None) × (x ≡ z) × SameName (name_of x) name) → Has name z
+      last here (inl found) = before name z found
+      last (inl known) (inr (none, is, same)) = absurd (let found = subst IsSome (first_alike (name_of x) name same xs ∙ none) known in let no : ⊥ = cc in no)
+      last (inr has) (inr (none, is, same)) = subst (Has name) is (alike (name_of x) name x same has)
+
     pub each_more : (xs : List X) (i : ℕ) (x : X) → i < length xs → x ≡ get_or xs i x → EachFirst (take i xs) →
         IsSome (first_named (name_of x) (take i xs)) ⊎ Has (name_of x) x → EachFirst (take (i + 1) xs)
-    each_more xs i x within item before here = subst EachFirst (sym (more_is xs i x within item)) each where
-      last : (name : NameText) (z : X) → IsSome (first_named (name_of x) (take i xs)) ⊎ Has (name_of x) x →
-          (first_named name (take i xs) ≡ Some z) ⊎ ((first_named name (take i xs) ≡ None) × (x ≡ z) × SameName (name_of x) name) → Has name z
-      last name z here (inl found) = before name z found
-      last name z (inl known) (inr (none, is, same)) = absurd (let found = subst IsSome (first_alike (name_of x) name same (take i xs) ∙ none) known in let no : ⊥ = cc in no)
-      last name z (inr has) (inr (none, is, same)) = subst (Has name) is (alike (name_of x) name x same has)
-
-      each : EachFirst (take i xs ++ x ∷ [])
-      each name z e = last name z here (last_named name (take i xs) x z e)
+    each_more xs i x within item before here = subst EachFirst (sym (more_is xs i x within item)) (each_behind (take i xs) x before here)

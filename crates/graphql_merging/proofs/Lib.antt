@@ -5,6 +5,7 @@ pub mod ConflictReportLemmas
 pub mod DisagreementLemmas
 pub mod ExpansionSizeLemmas
 pub mod ExpansionStepLemmas
+pub mod FirstFieldLemmas
 pub mod FirstNamedLemmas
 pub mod GroupLemmas
 pub mod MergedOperationLemmas

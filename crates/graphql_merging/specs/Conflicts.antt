@@ -1,12 +1,16 @@
 -- What is reported of two fields that were put together, for the contracts of the comparisons of groups.
-use Rattle.std.specs.Prelude.{◌≡◌, [], ◌∷◌, ◌++◌, Result, MatchResult}
+use Rattle.std.specs.Prelude.{◌≡◌, [], ◌∷◌, ◌++◌, Option, Some, None, Result, MatchResult}
 use Rattle.graphql_diagnostics.specs.Diagnostics.{entries}
 use Rattle.graphql_specification.specs.Merging.{Pass, FieldSelection}
 use Rattle.graphql_specification.specs.MergedSets.{ConflictsWith, ConflictReport}
 use Rattle.graphql_diagnostics.specs.Reports.{Appends}
 use Rattle.graphql_diagnostics.specs.declared.lists.DiagnosticEntry.{DiagnosticEntry}
 use Rattle.graphql_diagnostics.specs.declared.lists.DiagnosticList.{DiagnosticList}
+use Rattle.graphql_documents.specs.declared.documents.directives.Argument.{Argument}
 use Rattle.graphql_documents.specs.declared.documents.schemas.Schema.{Schema}
+use Rattle.graphql_documents.specs.declared.documents.values.Value.{Value}
+use Rattle.graphql_nodes.specs.Nodes.{SameNode}
+use Rattle.graphql_nodes.specs.declared.nodes.Node.{Node}
 
 -- a call that reports the conflict of two fields: where it answers there is one report more, which says so;
 -- where memory is refused there is none
@@ -23,3 +27,9 @@ ComparesField result schema pass first x old new =
     MatchResult result
     (λ _. Appends (ConflictsWith schema pass first (x ∷ [])) (entries old) (entries new))
     (λ _. entries new ≡ entries old)
+
+-- the value of the argument, or none where there is none
+abbrev pub IsValueOf : Option (Node Argument) → Option (Node Value) → Type 0
+IsValueOf (Some argument) (Some value) = SameNode argument.value.value.value value
+IsValueOf None None = Unit {0}
+IsValueOf _ _ = ⊥

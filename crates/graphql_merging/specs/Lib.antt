@@ -2,6 +2,7 @@ pub mod Comparisons
 pub mod Conflicts
 pub mod ExpansionSteps
 pub mod FieldSelections
+pub mod FirstFields
 pub mod FirstPlaces
 pub mod Groups
 pub mod MergedOperations

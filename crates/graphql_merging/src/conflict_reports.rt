@@ -1,19 +1,21 @@
 //! The diagnostics of two fields that were put together and do not agree. Each is at the later field.
 
+ghost use Rattle.std.specs.Option.{option_copied};
 ghost use Rattle.std.specs.Prelude.{◌≡◌, IfOk};
-ghost use Rattle.graphql_specification.specs.Merging.{field_pass, shape_pass, SameResponseShape, type_of, DisagreeFirstOn, IsArgumentValue};
+ghost use Rattle.graphql_specification.specs.Merging.{field_pass, shape_pass, SameResponseShape, type_of, DisagreeFirstOn};
+ghost use Rattle.graphql_documents.specs.Directives.{argument_named};
 ghost use Rattle.graphql_nodes.specs.Names.{DifferentNames, SameName};
 ghost use Rattle.graphql_documents.specs.TypeReferences.{as_written};
 ghost use Rattle.graphql_documents.specs.declared.documents.schemas.Schema.{Schema};
 ghost use Rattle.graphql_merging.specs.Comparisons.{Conflicts};
-ghost use Rattle.graphql_merging.specs.Conflicts.{ConflictEntryReport};
+ghost use Rattle.graphql_merging.specs.Conflicts.{ConflictEntryReport, IsValueOf};
 ghost use Rattle.graphql_merging.specs.FieldSelections.{selection_of};
 
 use super::comparisons::FieldConflict;
 use super::field_selections::FieldSelection;
 use graphql_coordinates::{FieldArgumentCoordinate, TypeAttributeCoordinate};
 use graphql_diagnostics::{BuildError, Details, DiagnosticList};
-use graphql_documents::documents::{Field, Type, Value, argument_named};
+use graphql_documents::documents::{Argument, Type, Value};
 use graphql_nodes::{Name, Node, ValidationError};
 use std::alloc::Global;
 
@@ -75,14 +77,24 @@ pub fn report_conflict(
 {
     match conflict {
         FieldConflict::Names => report_names(diagnostics, first, field),
-        FieldConflict::FirstAlone(argument) => {
-            report_argument(diagnostics, first, field, &argument.value.name)
+        FieldConflict::FirstAlone(original) => {
+            let name = &original.value.name;
+            report_argument(diagnostics, first, field, name, Some(original), None)
         }
-        FieldConflict::SecondAlone(argument) => {
-            report_argument(diagnostics, first, field, &argument.value.name)
+        FieldConflict::SecondAlone(conflicting) => {
+            let name = &conflicting.value.name;
+            report_argument(diagnostics, first, field, name, None, Some(conflicting))
         }
-        FieldConflict::Both(argument, _) => {
-            report_argument(diagnostics, first, field, &argument.value.name)
+        FieldConflict::Both(original, conflicting) => {
+            let name = &original.value.name;
+            report_argument(
+                diagnostics,
+                first,
+                field,
+                name,
+                Some(original),
+                Some(conflicting),
+            )
         }
     }
 }
@@ -112,21 +124,28 @@ fn report_names(
     )
 }
 
-/// Reports that two fields of one name do not have the same value for this argument, the first such one.
+/// Reports that two fields of one name do not have the same value for the argument with this name, the first such
+/// one. What either has for it is known.
 fn report_argument(
     diagnostics: &mut DiagnosticList,
     first: FieldSelection,
     field: FieldSelection,
-    argument: &Name,
+    name: &Name,
+    original: Option<&Node<Argument>>,
+    conflicting: Option<&Node<Argument>>,
 ) -> Result<(), ValidationError>
     ensures { (schema : Schema) →
         SameName first.entry.field.now.value.value.name field.entry.field.now.value.value.name →
-        DisagreeFirstOn argument.now first.entry.field.now.value.value field.entry.field.now.value.value →
+        DisagreeFirstOn name.now first.entry.field.now.value.value field.entry.field.now.value.value →
+        argument_named name.now first.entry.field.now.value.value.arguments.items ≡ option_copied original.entry →
+        argument_named name.now field.entry.field.now.value.value.arguments.items ≡ option_copied conflicting.entry →
         ConflictEntryReport result schema field_pass (selection_of first.entry) (selection_of field.entry) diagnostics.old diagnostics.new }
 {
     let alloc = diagnostics.allocator();
-    let (original_coordinate, original_value) = given_argument(alloc, first, argument)?;
-    let (conflicting_coordinate, conflicting_value) = given_argument(alloc, field, argument)?;
+    let original_coordinate = argument_coordinate(alloc, first, name)?;
+    let original_value = value_of_argument(original)?;
+    let conflicting_coordinate = argument_coordinate(alloc, field, name)?;
+    let conflicting_value = value_of_argument(conflicting)?;
     let alias = first.field.value.name.clone()?;
     diagnostics.push(
         field.field.location,
@@ -142,30 +161,24 @@ fn report_argument(
     )
 }
 
-/// The coordinate of an argument of a field, on the type of its set, and its value, if the field has it.
-fn given_argument(
+/// The coordinate of an argument of a field, on the type of its set.
+fn argument_coordinate(
     alloc: Global,
     field: FieldSelection,
     argument: &Name,
-) -> Result<(FieldArgumentCoordinate, Option<Node<Value>>), ValidationError>
-    ensures coordinate { IfOk result (λ given. given.0 ≡ record { ty = field.entry.parent_type.now; field = field.entry.field.now.value.value.name; argument = argument.now }) }
-    ensures value { IfOk result (λ given. IsArgumentValue argument.now field.entry.field.now.value.value given.1) }
+) -> Result<FieldArgumentCoordinate, ValidationError>
+    ensures { IfOk result (λ c. c ≡ record { ty = field.entry.parent_type.now; field = field.entry.field.now.value.value.name; argument = argument.now }) }
 {
-    let value = value_of_argument(&field.field.value, argument)?;
-    let coordinate = FieldArgumentCoordinate::new(
-        alloc,
-        field.parent_type,
-        &field.field.value.name,
-        argument,
-    )?;
-    Ok((coordinate, value))
+    FieldArgumentCoordinate::new(alloc, field.parent_type, &field.field.value.name, argument)
 }
 
-/// The value of the first argument with this name, shared with the field, if the field has one.
-fn value_of_argument(field: &Field, name: &Name) -> Result<Option<Node<Value>>, ValidationError>
-    ensures { IfOk result (λ value. IsArgumentValue name.now field.now value) }
+/// The value of an argument, shared with it, if there is one.
+fn value_of_argument(
+    argument: Option<&Node<Argument>>,
+) -> Result<Option<Node<Value>>, ValidationError>
+    ensures { IfOk result (λ value. IsValueOf (option_copied argument.entry) value) }
 {
-    match argument_named(&field.arguments, name) {
+    match argument {
         Some(argument) => Ok(Some(argument.value.value.clone()?)),
         None => Ok(None),
     }

@@ -6,12 +6,13 @@ ghost use Rattle.graphql_specification.specs.Merging.{shape_pass, SameResponseSh
 ghost use Rattle.graphql_specification.specs.MergedSets.{AreConflicts};
 ghost use Rattle.graphql_diagnostics.specs.Reports.{Appends, KeepsReports};
 ghost use Rattle.graphql_merging.specs.Conflicts.{ComparesField};
-ghost use Rattle.graphql_merging.specs.NumberedFields.{listed, lists_of, selection_of};
+ghost use Rattle.graphql_merging.specs.FirstFields.{HasRead};
+ghost use Rattle.graphql_merging.specs.NumberedFields.{listed, lists_of};
 ghost use Rattle.graphql_merging.specs.FieldSelections as plain;
 ghost use Rattle.graphql_merging.specs.Groups.{pass_of};
 ghost use Rattle.graphql_merging.specs.Passes.{IsConflictAmong, counted};
 
-use super::comparisons::{find_field_conflict, same_output_type_shape};
+use super::comparisons::{FirstField, same_output_type_shape};
 use super::conflict_reports::{report_conflict, report_types};
 use super::examined::Examined;
 use super::field_selections::FieldSelection;
@@ -56,8 +57,17 @@ fn compare_group<'doc>(
     let Some((first, rest)) = group.split_first() else {
         return Ok(());
     };
+    let alloc = diagnostics.allocator();
+    let mut first = FirstField::new(alloc, examined.hash_seed(), first.selection())?;
     for field in rest {
-        compare(diagnostics, examined, schema, pass, *first, *field)?;
+        compare(
+            diagnostics,
+            examined,
+            schema,
+            pass,
+            &mut first,
+            field.selection(),
+        )?;
     }
     Ok(())
 }
@@ -68,36 +78,26 @@ fn compare<'doc>(
     examined: &mut Examined<'doc>,
     schema: &Schema,
     pass: Pass,
-    first: NumberedField<'doc>,
-    field: NumberedField<'doc>,
+    first: &mut FirstField<'doc>,
+    field: FieldSelection<'doc>,
 ) -> Result<(), ValidationError>
-    ensures reports { ComparesField result schema.now (pass_of pass) (selection_of first.entry) (selection_of field.entry) diagnostics.old diagnostics.new }
+    requires { HasRead first.old }
+    ensures reports { ComparesField result schema.now (pass_of pass) (plain.selection_of first.old.selection) (plain.selection_of field.entry) diagnostics.old diagnostics.new }
     ensures comparisons { examined.new.comparisons ≡ counted (pass_of pass) examined.old.comparisons 1 }
     ensures lists { examined.new.lists ≡ examined.old.lists }
+    ensures read { OnOk result (HasRead first.new) }
+    ensures selection { first.new.selection ≡ first.old.selection }
 {
-    let first = FieldSelection {
-        parent_type: first.parent_type,
-        field: first.field,
-    };
-    let field = FieldSelection {
-        parent_type: field.parent_type,
-        field: field.field,
-    };
     match pass {
         Pass::Shapes => {
-            if have_one_shape(examined, schema, first, field) {
+            if have_one_shape(examined, schema, first.selection, field) {
                 return Ok(());
             }
-            report_types(diagnostics, first, field)
+            report_types(diagnostics, first.selection, field)
         }
-        Pass::NamesAndArguments => match find_field_conflict(
-            diagnostics.allocator(),
-            examined.hash_seed(),
-            first,
-            field,
-        )? {
+        Pass::NamesAndArguments => match first.find_conflict(field)? {
             None => Ok(()),
-            Some(conflict) => report_conflict(diagnostics, first, field, conflict),
+            Some(conflict) => report_conflict(diagnostics, first.selection, field, conflict),
         },
     }
 }

@@ -1,5 +1,10 @@
 //! Fields with the numbers of their contents, and lists of them.
 
+ghost use Rattle.std.specs.Prelude.{◌≡◌};
+ghost use Rattle.graphql_merging.specs.FieldSelections.{selection_of};
+ghost use Rattle.graphql_merging.specs.NumberedFields as numbered;
+
+use super::field_selections::FieldSelection;
 use graphql_documents::documents::Field;
 use graphql_nodes::{NamedType, Node};
 
@@ -12,6 +17,18 @@ pub(crate) struct NumberedField<'doc> {
     pub(crate) content: usize,
     #[derive_where(skip)]
     pub(crate) field: &'doc Node<Field>,
+}
+
+impl<'doc> NumberedField<'doc> {
+    /// The field without its number.
+    pub(crate) fn selection(&self) -> FieldSelection<'doc>
+        ensures { selection_of result ≡ numbered.selection_of self.now }
+    {
+        FieldSelection {
+            parent_type: self.parent_type,
+            field: self.field,
+        }
+    }
 }
 
 /// Fields that come together.

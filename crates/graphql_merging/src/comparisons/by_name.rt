@@ -1,7 +1,7 @@
 //! Arguments of a field and entries of an input object, each found by its name.
 
 ghost use Rattle.std.specs.Option.{option_copied};
-ghost use Rattle.std.specs.Prelude.{◌≡◌, ◌↔◌, ◌++◌, ◌∷◌, [], IfOk, IsNone, IsTrue, find};
+ghost use Rattle.std.specs.Prelude.{◌≡◌, ◌↔◌, ◌++◌, ◌∷◌, [], IfOk, IsNone, IsTrue, find, length};
 ghost use Rattle.graphql_nodes.specs.Names.{NameText, same_name};
 ghost use Rattle.graphql_merging.specs.FirstPlaces.{HasPlaces};
 
@@ -79,6 +79,13 @@ impl<'a, T: Named> ByName<'a, T> {
             elements,
             places: Some(places),
         })
+    }
+
+    /// How many elements there are.
+    pub(super) fn len(&self) -> usize
+        ensures { result ≡ length self.now }
+    {
+        self.elements.len()
     }
 
     /// The first element with this name.

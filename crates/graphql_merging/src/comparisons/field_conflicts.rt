@@ -2,14 +2,15 @@
 //! the two agree.
 
 ghost use Rattle.std.specs.Option.{option_copied};
-ghost use Rattle.std.specs.Prelude.{◌≡◌, [], IfOk, MatchOption, find, is_some, not};
+ghost use Rattle.std.specs.Prelude.{◌≡◌, IfOk, MatchOption, find, is_some, not};
 ghost use Rattle.graphql_documents.specs.Directives.{argument_named};
 ghost use Rattle.graphql_specification.specs.Merging.{SameNameAndArguments};
-ghost use Rattle.graphql_merging.specs.Comparisons.{ArgumentConflicts, ArgumentsConflict, Conflicts, HasArgument, StandAmong};
+ghost use Rattle.graphql_merging.specs.Comparisons.{ArgumentConflicts, Conflicts, HasArgument};
 
 use super::arguments::FieldConflict;
 use super::by_name::ByName;
 use super::equal_values::is_same_value;
+use super::first_field::FirstField;
 use crate::field_selections::FieldSelection;
 use graphql_documents::documents::Argument;
 use graphql_hash_seeds::HashSeed;
@@ -18,9 +19,7 @@ use std::alloc::{AllocError, Global};
 
 /// What two fields disagree on first, if they do, as `same_name_and_arguments` says. Arguments and entries of
 /// objects are found by tables where there are many, so the time is about linear in the size of the second
-/// field and in what the first has as far as the two agree; where there are few it takes no memory. So one
-/// long field is compared with many short ones in about the time that it takes to read them all. The only
-/// error is a failed allocation.
+/// field and in what the first has as far as the two agree. The only error is a failed allocation.
 ///
 /// Specification: 5.3.2 Field Selection Merging, FieldsInSetCanMerge.
 pub fn find_field_conflict<'a>(
@@ -33,48 +32,12 @@ pub fn find_field_conflict<'a>(
         (SameNameAndArguments a.entry.field.now.value.value b.entry.field.now.value.value)
         (Conflicts a.entry.field.now.value.value b.entry.field.now.value.value)) }
 {
-    let first = &*a.field.value;
-    let second = &*b.field.value;
-    if first.name != second.name {
-        return Ok(Some(FieldConflict::Names));
-    }
-    let others = ByName::new(alloc, hash_seed, &second.arguments)?;
-    let mut seen = ByName::new(alloc, hash_seed, &first.arguments[..0])?;
-    match conflict_of_arguments(alloc, hash_seed, &first.arguments, &mut seen, &others)? {
-        Some(conflict) => Ok(Some(conflict)),
-        None => match missing_argument(&second.arguments, &seen) {
-            Some(argument) => Ok(Some(FieldConflict::SecondAlone(argument))),
-            None => Ok(None),
-        },
-    }
-}
-
-/// The first of these arguments that the others lack, or give another value. What is seen grows up to it, and
-/// is all of them if there is none.
-fn conflict_of_arguments<'a>(
-    alloc: Global,
-    hash_seed: HashSeed,
-    arguments: &'a [Node<Argument>],
-    seen: &mut ByName<'a, Node<Argument>>,
-    others: &ByName<'a, Node<Argument>>,
-) -> Result<Option<FieldConflict<'a>>, AllocError>
-    requires { seen.old ≡ [] }
-    ensures { IfOk result (λ found. MatchOption found
-        (StandAmong arguments.now others.now × (seen.new ≡ arguments.now))
-        (ArgumentsConflict arguments.now others.now)) }
-{
-    for (i, argument) in arguments.iter().enumerate() {
-        if seen.grow(alloc, hash_seed, &arguments[..i + 1], argument)?
-            && let Some(conflict) = conflict_of_argument(alloc, hash_seed, argument, others)?
-        {
-            return Ok(Some(conflict));
-        }
-    }
-    Ok(None)
+    let mut first = FirstField::new(alloc, hash_seed, a)?;
+    first.find_conflict(b)
 }
 
 /// Whether the others lack this argument, or give it another value.
-fn conflict_of_argument<'a>(
+pub(super) fn conflict_of_argument<'a>(
     alloc: Global,
     hash_seed: HashSeed,
     argument: &'a Node<Argument>,
@@ -95,7 +58,7 @@ fn conflict_of_argument<'a>(
 }
 
 /// The first of these arguments that the others lack.
-fn missing_argument<'a>(
+pub(super) fn missing_argument<'a>(
     arguments: &'a [Node<Argument>],
     others: &ByName<Node<Argument>>,
 ) -> Option<&'a Node<Argument>>

@@ -7,14 +7,15 @@ use Rattle.graphql_diagnostics.specs.Reports.{Appends}
 use Rattle.graphql_merging.proofs.ConflictLemmas.{compared_alike, compared_apart}
 use Rattle.graphql_merging.specs.Comparisons.{Conflicts}
 use Rattle.graphql_merging.specs.Conflicts.{ComparesField}
-use Rattle.graphql_merging.specs.NumberedFields.{selection_of}
+use Rattle.graphql_merging.specs.FieldSelections.{selection_of}
 use Rattle.graphql_merging.specs.Groups.{pass_of}
+use Rattle.graphql_merging.specs.declared.field_selections.FieldSelection.{FieldSelection}
 use Rattle.graphql_merging.proofs.conflicts.compare.Goals as goal
 
 pub returns-then-have_one_shape-clause-reports : goal.returns-then-have_one_shape-clause-reports
 returns-then-have_one_shape-clause-reports c =
     let schema = c.args.schema.now in
-    let x = selection_of c.args.first in
+    let x = selection_of c.args.first.now.selection in
     let y = selection_of c.args.field in
     let reports = entries c.args.diagnostics.now in
     subst (λ pass. Appends (ConflictsWith schema (pass_of pass) x (y ∷ [])) reports reports) (sym c.in-Shapes.is)
@@ -23,7 +24,7 @@ returns-then-have_one_shape-clause-reports c =
 pub returns-else-have_one_shape-clause-reports : goal.returns-else-have_one_shape-clause-reports
 returns-else-have_one_shape-clause-reports c =
     let schema = c.args.schema.now in
-    let x = selection_of c.args.first in
+    let x = selection_of c.args.first.now.selection in
     let y = selection_of c.args.field in
     subst (λ pass. ComparesField c.report_types.result schema (pass_of pass) x y c.args.diagnostics.now c.report_types.new.diagnostics) (sym c.in-Shapes.is)
     (compared_apart schema shape_pass c.report_types.result x y _ _ (c.report_types.ensures schema
@@ -32,20 +33,23 @@ returns-else-have_one_shape-clause-reports c =
 pub returns-in-None-clause-reports : goal.returns-in-None-clause-reports
 returns-in-None-clause-reports c =
     let schema = c.args.schema.now in
-    let x = selection_of c.args.first in
+    let x = selection_of c.args.first.now.selection in
     let y = selection_of c.args.field in
     let reports = entries c.args.diagnostics.now in
     subst (λ pass. Appends (ConflictsWith schema (pass_of pass) x (y ∷ [])) reports reports) (sym c.in-NamesAndArguments.is)
     (compared_alike schema field_pass x y reports
     (subst (λ o. MatchOption o (SameNameAndArguments x.field.value.value y.field.value.value) (Conflicts x.field.value.value y.field.value.value)) c.in-None.is
-    c.in_ok-find_field_conflict-in-NamesAndArguments.ensures))
+    c.in_ok-find_conflict-in-NamesAndArguments.ensures.conflict))
 
 pub returns-in-Some-clause-reports : goal.returns-in-Some-clause-reports
 returns-in-Some-clause-reports c =
     let schema = c.args.schema.now in
-    let x = selection_of c.args.first in
+    let x = selection_of c.args.first.now.selection in
     let y = selection_of c.args.field in
-    subst (λ pass. ComparesField c.report_conflict.result schema (pass_of pass) x y c.args.diagnostics.now c.report_conflict.new.diagnostics) (sym c.in-NamesAndArguments.is)
-    (compared_apart schema field_pass c.report_conflict.result x y _ _ (c.report_conflict.ensures schema
-    (subst (λ o. MatchOption o (SameNameAndArguments x.field.value.value y.field.value.value) (Conflicts x.field.value.value y.field.value.value)) c.in-Some.is
-    c.in_ok-find_field_conflict-in-NamesAndArguments.ensures)))
+    let same = c.find_conflict.ensures.selection in
+    let conflicts = subst (λ o. MatchOption o (SameNameAndArguments x.field.value.value y.field.value.value) (Conflicts x.field.value.value y.field.value.value)) c.in-Some.is
+    c.in_ok-find_conflict-in-NamesAndArguments.ensures.conflict in
+    subst (λ (s : FieldSelection). ComparesField c.report_conflict.result schema (pass_of c.args.pass) (selection_of s) y c.args.diagnostics.now c.report_conflict.new.diagnostics) same
+    (subst (λ pass. ComparesField c.report_conflict.result schema (pass_of pass) (selection_of c.find_conflict.new.self.selection) y c.args.diagnostics.now c.report_conflict.new.diagnostics) (sym c.in-NamesAndArguments.is)
+    (compared_apart schema field_pass c.report_conflict.result (selection_of c.find_conflict.new.self.selection) y _ _ (c.report_conflict.ensures schema
+    (subst (λ (s : FieldSelection). Conflicts s.field.now.value.value y.field.value.value c.in-Some.conflict) (sym same) conflicts))))

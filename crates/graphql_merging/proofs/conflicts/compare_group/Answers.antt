@@ -2,10 +2,12 @@ use Rattle.std.proofs.Common.{◌≡◌, ℕ, ◌+◌, ◌∷◌, ◌++◌, [], 
 use Rattle.std.proofs.lemmas.List.{length-append, map-append, take-append-drop, take_all}
 use Rattle.graphql_documents.proofs.ListLemmas.{more_is}
 use Rattle.graphql_diagnostics.specs.Diagnostics.{entries}
+use Rattle.graphql_specification.specs.Merging.{FieldSelection}
 use Rattle.graphql_specification.specs.MergedSets.{AreConflicts, ConflictsWith}
 use Rattle.graphql_diagnostics.specs.Reports.{Appends, KeepsReports}
 use Rattle.graphql_merging.proofs.ConflictLemmas.{compared_none, compared_then, empty_compared, group_compared, truly_compared}
 use Rattle.graphql_merging.proofs.PassLemmas.{counted_none, counted_then}
+use Rattle.graphql_merging.specs.FieldSelections as plain
 use Rattle.graphql_merging.specs.NumberedFields.{listed, selection_of}
 use Rattle.graphql_merging.specs.Groups.{pass_of}
 use Rattle.graphql_merging.specs.Passes.{IsConflictAmong, counted}
@@ -30,9 +32,11 @@ returns-in_default-clause-conflicts c =
 
 pub loop-field-init : goal.loop-field-init
 loop-field-init c = record {
-  reports = compared_none c.args.schema.now (pass_of c.args.pass) (selection_of c.in-Some.first.now) (entries c.args.diagnostics.now);
+  reports = compared_none c.args.schema.now (pass_of c.args.pass) (plain.selection_of c.in_ok-first.first.selection) (entries c.args.diagnostics.now);
   comparisons = sym (counted_none (pass_of c.args.pass) c.args.examined.now.comparisons c.args.examined.now.small);
   lists = refl;
+  read = c.in_ok-first.ensures.read;
+  selection = refl;
 }
 
 pub returns-in_err-compare-clause-truth : goal.returns-in_err-compare-clause-truth
@@ -40,30 +44,39 @@ returns-in_err-compare-clause-truth c =
     let schema = c.args.schema.now in
     let pass = pass_of c.args.pass in
     let first = selection_of c.in-Some.first.now in
+    let first_is : plain.selection_of c.in_ok-first.first.selection ≡ first = ap plain.selection_of c.in_ok-first.ensures.selection ∙ c.selection.ensures in
     let rest = c.in-Some.rest.now in
     let i = c.loop-field.field-index in
     let group = ap listed c.in-Some.ensures.cases.0 ∙ ap (λ l. first ∷ l) (parts i rest) in
     subst (KeepsReports (IsConflictAmong schema pass (listed c.args.group.now ∷ [])) (entries c.args.diagnostics.now)) (sym c.in_err-compare.ensures.reports)
-    (truly_compared schema pass first (listed (take i rest)) (listed (drop i rest)) (listed c.args.group.now) _ _ group c.loop-field.invariant.reports)
+    (truly_compared schema pass first (listed (take i rest)) (listed (drop i rest)) (listed c.args.group.now) _ _ group
+    (subst (λ (s : FieldSelection). Appends (ConflictsWith schema pass s (listed (take i rest))) (entries c.args.diagnostics.now) (entries c.loop-field.diagnostics)) first_is c.loop-field.invariant.reports))
 
 pub loop-field-preserved : goal.loop-field-preserved
 loop-field-preserved c =
     let schema = c.args.schema.now in
     let pass = pass_of c.args.pass in
-    let first = selection_of c.in-Some.first.now in
+    let first = plain.selection_of c.in_ok-first.first.selection in
     let rest = c.in-Some.rest.now in
     let i = c.loop-field.field-index in
     let x = c.field-item.result in
     let done = listed (take i rest) in
     let one : listed (take (i + 1) rest) ≡ done ++ selection_of x ∷ [] =
     ap listed (more_is rest i x c.loop-field-test.true c.field-item.is) ∙ map-append selection_of (take i rest) (x ∷ []) in
+    let mid = entries c.loop-field.diagnostics in
+    let new = entries c.compare.new.diagnostics in
+    let compared = subst (λ (y : FieldSelection). Appends (ConflictsWith schema pass first (y ∷ [])) mid new) c.selection-in-loop-field.ensures
+    (subst (λ (s : FieldSelection). Appends (ConflictsWith schema pass s (plain.selection_of c.selection-in-loop-field.result ∷ [])) mid new)
+    (ap plain.selection_of c.loop-field.invariant.selection) c.in_ok-compare.ensures.reports) in
     record {
-      reports = subst (λ l. Appends (ConflictsWith schema pass first l) (entries c.args.diagnostics.now) (entries c.compare.new.diagnostics)) (sym one)
-          (compared_then schema pass c.loop-field.invariant.reports c.in_ok-compare.ensures.reports);
+      reports = subst (λ l. Appends (ConflictsWith schema pass first l) (entries c.args.diagnostics.now) new) (sym one)
+          (compared_then schema pass c.loop-field.invariant.reports compared);
       comparisons = c.compare.ensures.comparisons ∙ ap (λ n. counted pass n 1) c.loop-field.invariant.comparisons ∙
           counted_then pass c.args.examined.now.comparisons (length done) 1 ∙
           ap (counted pass c.args.examined.now.comparisons) (sym (ap length one ∙ length-append done (selection_of x ∷ [])));
       lists = c.compare.ensures.lists ∙ c.loop-field.invariant.lists;
+      read = c.in_ok-compare.ensures.read;
+      selection = c.compare.ensures.selection ∙ c.loop-field.invariant.selection;
     }
 
 pub returns-clause-conflicts : goal.returns-clause-conflicts
@@ -71,17 +84,24 @@ returns-clause-conflicts c =
     let schema = c.args.schema.now in
     let pass = pass_of c.args.pass in
     let first = selection_of c.in-Some.first.now in
+    let first_is : plain.selection_of c.in_ok-first.first.selection ≡ first = ap plain.selection_of c.in_ok-first.ensures.selection ∙ c.selection.ensures in
     let rest = c.in-Some.rest.now in
+    let i = c.loop-field.field-index in
     let old = entries c.args.diagnostics.now in
     let new = entries c.loop-field.diagnostics in
     subst (λ group. Appends (AreConflicts schema pass (group ∷ [])) old new) (sym (ap listed c.in-Some.ensures.cases.0))
     (group_compared schema pass first (listed rest) old new
-    (subst (λ l. Appends (ConflictsWith schema pass first (listed l)) old new) (take_all c.loop-field.field-index rest c.loop-field-test.false) c.loop-field.invariant.reports))
+    (subst (λ l. Appends (ConflictsWith schema pass first (listed l)) old new) (take_all i rest c.loop-field-test.false)
+    (subst (λ (s : FieldSelection). Appends (ConflictsWith schema pass s (listed (take i rest))) (entries c.args.diagnostics.now) (entries c.loop-field.diagnostics)) first_is c.loop-field.invariant.reports)))
 
 pub returns-clause-truth : goal.returns-clause-truth
 returns-clause-truth c =
+    let schema = c.args.schema.now in
+    let pass = pass_of c.args.pass in
     let first = selection_of c.in-Some.first.now in
+    let first_is : plain.selection_of c.in_ok-first.first.selection ≡ first = ap plain.selection_of c.in_ok-first.ensures.selection ∙ c.selection.ensures in
     let rest = c.in-Some.rest.now in
     let i = c.loop-field.field-index in
     let group = ap listed c.in-Some.ensures.cases.0 ∙ ap (λ l. first ∷ l) (parts i rest) in
-    truly_compared c.args.schema.now (pass_of c.args.pass) first (listed (take i rest)) (listed (drop i rest)) (listed c.args.group.now) _ _ group c.loop-field.invariant.reports
+    truly_compared schema pass first (listed (take i rest)) (listed (drop i rest)) (listed c.args.group.now) _ _ group
+    (subst (λ (s : FieldSelection). Appends (ConflictsWith schema pass s (listed (take i rest))) (entries c.args.diagnostics.now) (entries c.loop-field.diagnostics)) first_is c.loop-field.invariant.reports)
