@@ -1,15 +1,12 @@
 -- Tables of the places of the first elements of each name: what one more element changes, and what is found.
-use Rattle.std.proofs.Common.{◌≡◌, ℕ, ◌<◌, ◌+◌, Bool, true, Bor, List, [], ◌∷◌, ◌++◌, Option, Some, None, cond, refl, length, get_or, take, sym, ap, subst, ◌∙◌, arith}
+use Rattle.std.proofs.Common.{◌≡◌, ◌↔◌, ℕ, ◌<◌, ◌+◌, Bool, true, false, not, Bor, List, [], ◌∷◌, ◌++◌, Option, Some, None, cond, refl, length, get_or, take, sym, ap, subst, ◌∙◌, arith}
 use Rattle.std.specs.HashMap.{HashMap}
-use Rattle.std.specs.List.{position}
 use Rattle.std.specs.Option.{option_copied, option_or}
-use Rattle.std.specs.Prelude.{IsNone, IsSome, is_some}
+use Rattle.std.specs.Prelude.{IsNone, IsSome, IsTrue, is_some}
 use Rattle.std.proofs.lemmas.List.{length-take-le}
 use Rattle.graphql_nodes.specs.Names.{NameText, same_name}
 use Rattle.graphql_documents.proofs.ListLemmas.{more_is}
-use Rattle.graphql_merging.proofs.PositionLemmas.{none_at, position-push}
-use Rattle.graphql_merging.proofs.FirstNamedLemmas.{first_alike, first_named}
-use Rattle.graphql_variables.proofs.FirstPlaceLemmas.{kept_or}
+use Rattle.graphql_merging.proofs.PositionLemmas.{position-push}
 use Rattle.graphql_merging.specs.FirstPlaces.{AddsPlace, HasPlaces}
 
 module _ {T S : Type 0} (name_of : T → NameText) where
@@ -22,18 +19,6 @@ module _ {T S : Type 0} (name_of : T → NameText) where
         sym (position-push (λ (y : T). same_name (name_of y) name) xs x);
   }
 
-  -- the table stays as it is where an element before has the name
-  pub places_stay : {places : HashMap (Bor NameText) ℕ S} (xs : List T) (x : T) →
-      IsSome (first_named name_of (name_of x) xs) → HasPlaces name_of places xs → HasPlaces name_of places (xs ++ x ∷ [])
-  places_stay xs x known has = record {
-    look_up = λ name.
-        let first : T → Bool = λ y. same_name (name_of y) name in
-        has.look_up name ∙
-        kept_or (same_name (name_of x) name) (length xs) (position first xs)
-        (λ same none. let there = subst IsSome (first_alike name_of (name_of x) name same xs ∙ none_at first xs none) known in let no : ⊥ = cc in no) ∙
-        sym (position-push first xs x);
-  }
-
   -- the same of the first elements of a list
   pub places_more : {old new : HashMap (Bor NameText) ℕ S} (xs : List T) (i : ℕ) (x : T) →
       i < length xs → x ≡ get_or xs i x → AddsPlace old new (name_of x) i → HasPlaces name_of old (take i xs) → HasPlaces name_of new (take (i + 1) xs)
@@ -42,10 +27,15 @@ module _ {T S : Type 0} (name_of : T → NameText) where
       subst (HasPlaces name_of new) (sym (more_is xs i x within item))
       (places_push (take i xs) x (subst (AddsPlace old new (name_of x)) (sym count) adds) has)
 
--- whether something is found
-pub something_found : {X : Type 0} (got : Option (Bor X)) (found : Option X) → option_copied got ≡ found → is_some got ≡ true → IsSome found
-something_found None found same some = absurd (let no : ⊥ = cc in no)
-something_found (Some x) found same some = subst IsSome same refl
+-- whether nothing is found
+pub nothing_found : {X : Type 0} (got : Option (Bor X)) (found : Option X) (none : Bool) → option_copied got ≡ found → is_some got ≡ not none → IsTrue none ↔ IsNone found
+nothing_found None found true same is = (λ h. subst (λ o. IsNone o) same refl, λ h. refl)
+nothing_found None found false same is = absurd (let no : ⊥ = cc in no)
+nothing_found (Some x) found true same is = absurd (let no : ⊥ = cc in no)
+nothing_found (Some x) found false same is = (
+  λ h. absurd (let no : ⊥ = cc in no),
+  λ none. absurd (let there = subst (λ o. IsSome o) same refl in let no : ⊥ = cc in no),
+)
 
 pub is_nothing : {X : Type 0} (o : Option X) → IsNone o → o ≡ None
 is_nothing None none = refl

@@ -42,7 +42,7 @@ impl Named for (Name, Node<Value>) {
 #[derive(Drop)]
 pub(super) struct ByName<'a, T: Named> {
     elements: &'a [T],
-    // none only while each name first comes among the first few
+    // none only while there are few
     places: Option<Places<'a>>,
 }
 
@@ -115,10 +115,7 @@ impl<'a, T: Named> ByName<'a, T> {
         ensures first { IfOk result (λ first. IsTrue first ↔ IsNone (find (λ x. same_name (T.name_of x) (T.name_of last.now)) self.old)) }
     {
         let place = self.elements.len();
-        if self.find(last.name()).is_some() {
-            self.elements = elements;
-            return Ok(false);
-        }
+        let is_first = self.find(last.name()).is_none();
         // taken out, since a table that could not grow is of no use
         let places = match self.places.take() {
             Some(mut places) => {
@@ -130,7 +127,7 @@ impl<'a, T: Named> ByName<'a, T> {
         };
         self.elements = elements;
         self.places = places;
-        Ok(true)
+        Ok(is_first)
     }
 }
 

@@ -1,6 +1,5 @@
 use Rattle.std.proofs.Common.{◌≡◌, ◌++◌, ◌∷◌, [], List, length, sym, ap, subst, ◌∙◌}
-use Rattle.std.specs.Option.{option_copied}
-use Rattle.graphql_merging.proofs.ByNameLemmas.{places_push, places_stay, something_found}
+use Rattle.graphql_merging.proofs.ByNameLemmas.{nothing_found, places_push}
 use Rattle.graphql_merging.proofs.FirstNamedLemmas.{first_named}
 use Rattle.graphql_merging.specs.FirstPlaces.{AddsPlace, HasPlaces}
 use Rattle.graphql_merging.proofs.comparisons.by_name.ByName.grow.Goals as goal
@@ -28,20 +27,8 @@ invariant_of-self-2 g c places is =
           subst (λ table. HasPlaces name_of table c.args.elements.now) same w.in_ok-first_places-in-None-2.ensures
     ]
 
-pub invariant_of-self : goal.invariant_of-self
-invariant_of-self g c places is =
+pub returns-clause-first : goal.returns-clause-first
+returns-clause-first g c =
     let name_of = g.T.Named.name_of in
-    let known = c.self.inside.elements.now in
-    let x = c.args.last.now in
-    let grown : known ++ x ∷ [] ≡ c.args.elements.now = ap (λ (l : List g.row.T.Denot). l ++ x ∷ []) c.self.view_is ∙ sym c.requires in
-    let found : option_copied c.find.result ≡ first_named name_of (name_of x) known =
-    c.find.ensures ∙ ap (λ name. first_named name_of name c.args.self.now) c.name.ensures ∙ ap (first_named name_of (name_of x)) (sym c.self.view_is) in
-    let there = something_found c.find.result (first_named name_of (name_of x) known) found (sym c.is_some.ensures ∙ c.if-is_some.true) in
-    subst (HasPlaces name_of places) grown (places_stay name_of known x there (c.self.invariant places is))
-
-pub returns-then-is_some-clause-first : goal.returns-then-is_some-clause-first
-returns-then-is_some-clause-first g c =
-    let name_of = g.T.Named.name_of in
-    let found = first_named name_of (name_of c.args.last.now) c.args.self.now in
-    let there = something_found c.find.result found (c.find.ensures ∙ ap (λ name. first_named name_of name c.args.self.now) c.name.ensures) (sym c.is_some.ensures ∙ c.if-is_some.true) in
-    (λ e. absurd (let no : ⊥ = cc in no), λ none. absurd (let no : ⊥ = cc in no))
+    nothing_found c.find.result (first_named name_of (name_of c.args.last.now) c.args.self.now) c.is_none-is_first.result
+    (c.find.ensures ∙ ap (λ name. first_named name_of name c.args.self.now) c.name.ensures) c.is_none-is_first.ensures
