@@ -50,15 +50,15 @@ module _ (fragments : Fragments) (starts : List ℕ) (first : List SelectionSet)
   -- what was found is a conflict of two fields that meet
   pub met_conflict : (schema : Schema) (pass : Pass) (c : Conflict) → FindsBelow schema pass numbered starts c → IsMetConflict schema fragments first c
   met_conflict schema pass c f =
-      let met = reached_meet fragments schema pass starts first numbered are f.pair f.first f.second f.found.x f.found.y f.reached f.first_is f.second_is f.found.in_first f.found.in_second f.found.put in
+      let met = reached_meet fragments schema pass starts first numbered are f.pair f.first f.second f.found.among.x f.found.among.y f.reached f.first_is f.second_is f.found.among.in_first f.found.among.in_second f.found.put in
       record {
         set = met.0;
         among = met.1;
         pass = pass;
-        meet = subst (λ r. Meet schema fragments pass met.0 met.0 r (selection_of c.second)) (sym f.found.first_is)
-            (subst (λ r. Meet schema fragments pass met.0 met.0 (field_of f.found.x) r) (sym f.found.second_is) met.2);
-        disagree = subst (λ r. Disagrees schema pass r (selection_of c.second) c.disagreement) (sym f.found.first_is)
-            (subst (λ r. Disagrees schema pass (field_of f.found.x) r c.disagreement) (sym f.found.second_is) f.found.disagree);
+        meet = subst (λ r. Meet schema fragments pass met.0 met.0 r (selection_of c.second)) (sym f.found.among.first_is)
+            (subst (λ r. Meet schema fragments pass met.0 met.0 (field_of f.found.among.x) r) (sym f.found.among.second_is) met.2);
+        disagree = subst (λ r. Disagrees schema pass r (selection_of c.second) c.disagreement) (sym f.found.among.first_is)
+            (subst (λ r. Disagrees schema pass (field_of f.found.among.x) r c.disagreement) (sym f.found.among.second_is) f.found.among.disagree);
       }
 
   -- where nothing was found in either pass, all fields that meet agree

@@ -1,5 +1,5 @@
 -- Whether the parents of two fields may overlap, by the types that were found.
-use Rattle.std.proofs.Common.{◌≡◌, ◌↔◌, Bool, Some, subst, IsTrue}
+use Rattle.std.proofs.Common.{◌≡◌, ◌↔◌, Bool, true, None, Option, Some, is_some, refl, subst, IsTrue}
 use Rattle.graphql_documents.specs.Schemas.{type_definition}
 use Rattle.graphql_documents.specs.declared.documents.schemas.ExtendedType.{ExtendedType}
 use Rattle.graphql_documents.specs.declared.documents.schemas.Schema.{Schema}
@@ -13,3 +13,7 @@ parents_overlap schema a b x y r first second is = (
   λ p. is.1 (subst (λ t. MayOverlap t y) (one_at (type_definition schema a.parent) p.first x p.first_is first)
       (subst (λ t. MayOverlap p.first t) (one_at (type_definition schema b.parent) p.second y p.second_is second) p.overlap)),
 )
+
+pub some_of : {X : Type 0} (o : Option X) → is_some o ≡ true → (x : X) × (o ≡ Some x)
+some_of (Some x) is = (x, refl)
+some_of None is = absurd (let no : ⊥ = cc in no)

@@ -1,11 +1,13 @@
 pub mod ConflictLemmas
 pub mod DisagreementLemmas
 pub mod GroupLemmas
+pub mod JoinLemmas
 pub mod MeetingLemmas
 pub mod NumberLemmas
 pub mod NumberingLemmas
-pub mod PairLemmas
+pub mod ParentLemmas
 pub mod PlaceLemmas
 pub mod ReportedLemmas
+pub mod SettleLemmas
 pub mod WalkLemmas
 pub mod WeightLemmas

@@ -1,5 +1,5 @@
 -- The fields of pairs that are reached meet; and where all pairs that are reached were looked at, all fields that meet agree.
-use Rattle.std.proofs.Common.{◌≡◌, ℕ, List, [], Option, None, Some, map, refl, sym, ap, ◌∙◌, subst, Contains}
+use Rattle.std.proofs.Common.{◌≡◌, ℕ, List, [], Option, None, Some, map, refl, sym, ap, ◌∙◌, subst, Contains, true}
 use Rattle.std.specs.Prelude.{◌≢◌, filter_map, slice_get}
 use Rattle.std.specs.Option.{option_map}
 use Rattle.std.proofs.lemmas.List.Elements.{All-contains}
@@ -21,10 +21,9 @@ use Rattle.graphql_specification.specs.MergedSets.{Agree, ArePutTogether, Meet, 
 use Rattle.graphql_specification.specs.Merging.{FieldInExpandedSet, FieldSelection, Pass, set_of}
 use Rattle.graphql_laws.proofs.SizeLemmas.{Kind, is_field, is_inline, is_spread, kind_of}
 use Rattle.graphql_pair_merging.specs.NumberedSets.{AreNumbered, Describes, field_of, fragment_set, sets_of}
-use Rattle.graphql_pair_merging.specs.Pairs.{HasLooked, IsClosed, IsReached, IsStart, LeadsTo, pair_of, reached_first, reached_next}
+use Rattle.graphql_pair_merging.specs.Pairs.{HasLooked, IsClosed, IsReached, IsStart, LeadsTo, SetPair, pair_of, reached_first, reached_next}
 use Rattle.graphql_pair_merging.specs.declared.numbered_sets.NumberedField.{NumberedField}
 use Rattle.graphql_pair_merging.specs.declared.numbered_sets.NumberedSet.{NumberedSet}
-use Rattle.graphql_pair_merging.specs.declared.pairs.SetPair.{SetPair}
 use Rattle.graphql_pair_merging.proofs.PlaceLemmas.{mapped_at, one_at, stands_at}
 
 -- a selection as it opens
@@ -251,12 +250,12 @@ module _ (fragments : Fragments) where
         -- the pair of the two sets was looked at
         record Looked (s t : SelectionSet) : Type 0 where
           pair : SetPair
-          known : Contains looked.pairs pair
+          known : looked.looked pair.first pair.second ≡ true
           first : slice_get (sets_of numbered) pair.first ≡ Some s
           second : slice_get (sets_of numbered) pair.second ≡ Some t
 
-        closed : {s t : SelectionSet} (l : Looked s t) → IsClosed schema pass numbered looked.pairs l.pair
-        closed l = All-contains (IsClosed schema pass numbered looked.pairs) looked.pairs l.pair looked.closed l.known
+        closed : {s t : SelectionSet} (l : Looked s t) → IsClosed schema pass numbered looked.looked l.pair
+        closed l = looked.closed l.pair l.known
 
         into_first : {s t inner : SelectionSet} → Contains (fragment_sets s) inner → Looked s t → Looked inner t
         into_first {s = s} {t = t} {inner = inner} listed l =

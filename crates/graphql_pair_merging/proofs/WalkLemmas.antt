@@ -1,81 +1,25 @@
--- The walk over pairs comes to its end, and each of its steps looks at one pair more.
-use Rattle.std.proofs.Common.{◌≡◌, ℕ, zero, suc, ◌+◌, ◌*◌, ◌/◌, ◌%◌, ◌<◌, ◌≤◌, true, false, List, [], ◌∷◌, ◌++◌, Some, arith, get_or, length, refl, sym, ap, ◌∙◌, subst, All, Contains, take, length-append}
-use Rattle.std.specs.Prelude.{◌⊎◌, slice_get}
-use Rattle.std.specs.List.{IsDistinct}
-use Rattle.std.proofs.lemmas.Bool.{eq-eqb}
-use Rattle.std.proofs.lemmas.List.{take_more, take-append-le}
-use Rattle.std.proofs.lemmas.List.Elements.{All-append, All-contains, All-get_or, All-nil, All-cons, All-weaker, Contains-append_left}
-use Rattle.std.proofs.lemmas.Map.Keys.{apart_from_distinct}
-use Rattle.std.proofs.lemmas.Nat.{div-mul-add, mod-mul-add, mul-add-lt}
-use Rattle.std.proofs.lemmas.Option.{get_or_from_slice_get, slice_get_within}
-use mathlib.Core.Logic.{inl, inr}
-use Rattle.indexmap.proofs.IndexTableLemmas.Probe.{pigeonhole}
+-- The walk over lists of sets that come together ends, and then each pair that is reached was looked at.
+use Rattle.std.proofs.Common.{◌≡◌, ℕ, zero, suc, ◌<◌, true, false, List, [], ◌∷◌, Some, arith, length, map, refl, sym, ap, ◌∙◌, subst, All, Contains, inl, inr}
+use Rattle.std.specs.Prelude.{◌↔◌, ◌⊎◌, slice_get}
+use Rattle.std.proofs.lemmas.List.Elements.{All-contains}
+use Rattle.graphql_documents.proofs.ListLemmas.{each_standing, made_of, only_one, stands_first, stands_mapped}
 use Rattle.graphql_documents.specs.declared.documents.schemas.Schema.{Schema}
+use Rattle.graphql_number_sets.specs.NumberSets.{has_pair}
+use Rattle.graphql_number_sets.specs.declared.pair_sets.PairSet.{PairSet}
+use Rattle.graphql_specification.specs.MergedSets.{Agree, ArePutTogether}
 use Rattle.graphql_specification.specs.Merging.{Pass}
-use Rattle.graphql_pair_merging.specs.Pairs.{Adds, AreLinked, Finds, FindsBelow, HasLooked, IsClosed, IsLinked, IsReached, IsStart, LeadsTo, LooksAt, pair_of, reached_first, reached_next}
+use Rattle.graphql_pair_merging.specs.JoinedSets.{IsJoined, Takes, joined_first, joined_fragment}
+use Rattle.graphql_pair_merging.specs.NumberedSets.{field_of}
+use Rattle.graphql_pair_merging.specs.Pairs.{AreBelow, AreLinked, AreListed, FindsBelow, FindsIn, HasLooked, IsLinked, IsReached, IsStart, LeadsTo, LooksAt, SetPair, WereLookedAt, pair_of, reached_first, reached_next}
 use Rattle.graphql_pair_merging.specs.declared.disagreements.Conflict.{Conflict}
 use Rattle.graphql_pair_merging.specs.declared.numbered_sets.NumberedField.{NumberedField}
 use Rattle.graphql_pair_merging.specs.declared.numbered_sets.NumberedSet.{NumberedSet}
-use Rattle.graphql_pair_merging.specs.declared.pairs.SetPair.{SetPair}
-use Rattle.graphql_pair_merging.proofs.PairLemmas.{same_pair}
+use Rattle.graphql_number_sets.proofs.CountLemmas.{count_pairs, fewer_pairs}
 use Rattle.graphql_pair_merging.proofs.PlaceLemmas.{stands_at}
 
 -- both are numbers of so many sets
 abbrev pub IsWithin : ℕ → SetPair → Type 0
 IsWithin count p = (p.first < count) × (p.second < count)
-
--- a pair as one number
-abbrev code : ℕ → SetPair → ℕ
-code count p = p.first * count + p.second
-
-digits : (a b c d n : ℕ) → b < n → d < n → a * n + b ≡ c * n + d → (a ≡ c) × (b ≡ d)
-digits a b c d n b_in d_in same = (
-  sym (div-mul-add a n b b_in) ∙ ap (λ m. m / n) same ∙ div-mul-add c n d d_in,
-  sym (mod-mul-add a n b b_in) ∙ ap (λ m. m % n) same ∙ mod-mul-add c n d d_in,
-)
-
-order : (i j : ℕ) → (i < j) ⊎ ((j < i) ⊎ (i ≡ j))
-order zero zero = inr (inr refl)
-order zero (suc j) = inl (omega arith)
-order (suc i) zero = inr (inl (omega arith))
-order (suc i) (suc j) = elim (order i j) [
-  | inl less ↦ inl (omega (arith, less))
-  | inr (inl more) ↦ inr (inl (omega (arith, more)))
-  | inr (inr same) ↦ inr (inr (ap (λ n. suc n) same))
-]
-
-code_tells : (count : ℕ) (p q : SetPair) → IsWithin count p → IsWithin count q → code count p ≡ code count q → same_pair p q ≡ true
-code_tells count p q p_in q_in same =
-    let both = digits p.first p.second q.first q.second count p_in.1 q_in.1 same in
-    rw (eq-eqb p.first q.first both.0, eq-eqb p.second q.second both.1) refl
-
--- different pairs of so many numbers are no more than the square
-pub few_pairs : (count : ℕ) (keys : List SetPair) → IsDistinct same_pair keys → All (IsWithin count) keys → length keys ≤ count * count
-few_pairs count keys distinct all_in = pigeonhole (length keys) (count * count) number into one where
-  at : ℕ → SetPair
-  at i = get_or keys i (pair_of 0 0)
-
-  number : ℕ → ℕ
-  number i = code count (at i)
-
-  within : (i : ℕ) → i < length keys → IsWithin count (at i)
-  within i less = All-get_or (IsWithin count) keys i (pair_of 0 0) less all_in
-
-  into : (i : ℕ) → i < length keys → number i < count * count
-  into i less = let w = within i less in mul-add-lt (at i).first count (at i).second count w.0 w.1
-
-  apart : (i j : ℕ) → i < j → j < length keys → number i ≡ number j → ⊥
-  apart i j less j_in same =
-      let answer = code_tells count (at i) (at j) (within i (omega arith)) (within j j_in) same in
-      let other = apart_from_distinct same_pair keys i j (pair_of 0 0) distinct less j_in in
-      let no : true ≡ false = sym answer ∙ other in let no : ⊥ = cc in no
-
-  one : (i j : ℕ) → i < length keys → j < length keys → number i ≡ number j → i ≡ j
-  one i j i_in j_in same = elim (order i j) [
-    | inl less ↦ absurd (apart i j less j_in same)
-    | inr (inl more) ↦ absurd (apart j i more i_in (sym same))
-    | inr (inr equal) ↦ equal
-  ]
 
 -- there is a set at each number within
 pub some_at : {X : Type 0} (xs : List X) (i : ℕ) → i < length xs → (x : X) × (slice_get xs i ≡ Some x)
@@ -84,110 +28,251 @@ some_at (x ∷ xs) zero less = (x, refl)
 some_at (x ∷ xs) (suc i) less = some_at xs i (omega (arith, less))
 
 module _ (schema : Schema) (pass : Pass) (sets : List NumberedSet) (starts : List ℕ) where
-  linked_at : AreLinked sets → (i : ℕ) (a : NumberedSet) → slice_get sets i ≡ Some a → IsLinked (length sets) a
-  linked_at linked i a is = All-contains (IsLinked (length sets)) sets a linked (stands_at sets i a is)
+  -- each two of a list are a pair that is reached
+  abbrev pub AreReached : List ℕ → Type 0
+  AreReached l = (a b : ℕ) → Contains l a → Contains l b → IsReached schema pass sets starts (pair_of a b)
 
-  within_next : (p q : SetPair) (a b : NumberedSet) → IsLinked (length sets) a → IsLinked (length sets) b → IsWithin (length sets) p → LeadsTo schema pass a b p q → IsWithin (length sets) q
-  within_next p q a b a_linked b_linked p_in (inl (inl (n, in', is))) =
-      subst (IsWithin (length sets)) (sym is) (All-contains (λ m. m < length sets) a.fragments.items n a_linked.fragments in', p_in.1)
-  within_next p q a b a_linked b_linked p_in (inl (inr (n, in', is))) =
-      subst (IsWithin (length sets)) (sym is) (p_in.0, All-contains (λ m. m < length sets) b.fragments.items n b_linked.fragments in')
-  within_next p q a b a_linked b_linked p_in (inr (x, y, in_x, in_y, below)) =
-      subst (IsWithin (length sets)) (sym below.is)
-      (All-contains (λ (f : NumberedField). f.set < length sets) a.fields.items x a_linked.fields in_x, All-contains (λ (f : NumberedField). f.set < length sets) b.fields.items y b_linked.fields in_y)
-
-  -- what is reached is a pair of the sets
-  reached_within : AreLinked sets → All (λ n. n < length sets) starts → {p : SetPair} → IsReached schema pass sets starts p → IsWithin (length sets) p
-  reached_within linked start_in (reached_first {p = p} (n, listed, is)) =
-      let less = All-contains (λ m. m < length sets) starts n start_in listed in
-      subst (IsWithin (length sets)) (sym is) (less, less)
-  reached_within linked start_in (reached_next {p = p} {q = q} a b before first second leads) =
-      within_next p q a b (linked_at linked p.first a first) (linked_at linked p.second b second) (reached_within linked start_in before) leads
+  -- all to which the pair leads were looked at or wait, and its fields agree where they are put together
+  pub record IsOpen (looked : PairSet) (waiting : List (List ℕ)) (p : SetPair) : Type 0 where
+    pub first : NumberedSet
+    pub second : NumberedSet
+    pub first_is : slice_get sets p.first ≡ Some first
+    pub second_is : slice_get sets p.second ≡ Some second
+    pub all : (q : SetPair) → LeadsTo schema pass first second p q → (has_pair looked q.first q.second ≡ true) ⊎ AreListed waiting q.first q.second
+    pub agree : (x y : NumberedField) → Contains first.fields.items x → Contains second.fields.items y →
+        ArePutTogether schema pass (field_of x) (field_of y) → Agree schema pass (field_of x) (field_of y)
 
   -- where the walk is
-  pub record Walks (next : ℕ) (keys : List SetPair) : Type 0 where
-    pub begun : (p : SetPair) → IsStart starts p → Contains keys p
-    pub within : next ≤ length keys
-    pub reached : All (IsReached schema pass sets starts) keys
-    pub closed : All (IsClosed schema pass sets keys) (take next keys)
+  pub record Walks (looked : PairSet) (waiting : List (List ℕ)) : Type 0 where
+    pub begun : (p : SetPair) → IsStart starts p → (has_pair looked p.first p.second ≡ true) ⊎ AreListed waiting p.first p.second
+    pub reached : (l : List ℕ) → Contains waiting l → AreReached l
+    pub closed : (p : SetPair) → has_pair looked p.first p.second ≡ true → IsOpen looked waiting p
+    pub symmetric : (a b : ℕ) → has_pair looked a b ≡ true → has_pair looked b a ≡ true
 
-  pub all_within : AreLinked sets → All (λ n. n < length sets) starts → (next : ℕ) (keys : List SetPair) → Walks next keys → All (IsWithin (length sets)) keys
-  all_within linked start_in next keys walks = All-weaker (IsReached schema pass sets starts) (IsWithin (length sets)) (λ p reached. reached_within linked start_in reached) keys walks.reached
+  module _ (linked : AreLinked sets) (starts_within : All (λ n. n < length sets) starts) where
+    linked_at : (i : ℕ) (a : NumberedSet) → slice_get sets i ≡ Some a → IsLinked (length sets) a
+    linked_at i a is = All-contains (IsLinked (length sets)) sets a linked (stands_at sets i a is)
 
-  pub pair_within : AreLinked sets → All (λ n. n < length sets) starts → (next : ℕ) (keys : List SetPair) (p : SetPair) → Walks next keys → slice_get keys next ≡ Some p → IsWithin (length sets) p
-  pair_within linked start_in next keys p walks is = All-contains (IsWithin (length sets)) keys p (all_within linked start_in next keys walks) (stands_at keys next p is)
+    within_next : (p q : SetPair) (a b : NumberedSet) → IsLinked (length sets) a → IsLinked (length sets) b → IsWithin (length sets) p → LeadsTo schema pass a b p q → IsWithin (length sets) q
+    within_next p q a b a_linked b_linked p_in (inl (inl (n, in', is))) =
+        subst (IsWithin (length sets)) (sym is) (All-contains (λ m. m < length sets) a.fragments.items n a_linked.fragments in', p_in.1)
+    within_next p q a b a_linked b_linked p_in (inl (inr (n, in', is))) =
+        subst (IsWithin (length sets)) (sym is) (p_in.0, All-contains (λ m. m < length sets) b.fragments.items n b_linked.fragments in')
+    within_next p q a b a_linked b_linked p_in (inr (x, y, in_x, in_y, below)) =
+        subst (IsWithin (length sets)) (sym below.is)
+        (All-contains (λ (f : NumberedField). f.set < length sets) a.fields.items x a_linked.fields in_x, All-contains (λ (f : NumberedField). f.set < length sets) b.fields.items y b_linked.fields in_y)
 
-  still_closed : (keys added : List SetPair) (p : SetPair) → IsClosed schema pass sets keys p → IsClosed schema pass sets (keys ++ added) p
-  still_closed keys added p c = record {
-    first = c.first;
-    second = c.second;
-    first_is = c.first_is;
-    second_is = c.second_is;
-    all = λ q leads. Contains-append_left keys added q (c.all q leads);
-    agree = c.agree;
-  }
+    -- what is reached is a pair of the sets
+    reached_within : {p : SetPair} → IsReached schema pass sets starts p → IsWithin (length sets) p
+    reached_within (reached_first {p = p} (n, listed, is)) =
+        let less = All-contains (λ m. m < length sets) starts n starts_within listed in
+        subst (IsWithin (length sets)) (sym is) (less, less)
+    reached_within (reached_next {p = p} {q = q} a b before first second leads) =
+        within_next p q a b (linked_at p.first a first) (linked_at p.second b second) (reached_within before) leads
 
-  -- one pair more was looked at
-  pub walks_on : (next : ℕ) (keys new : List SetPair) (p : SetPair) (a b : NumberedSet) → slice_get keys next ≡ Some p →
-      slice_get sets p.first ≡ Some a → slice_get sets p.second ≡ Some b → LooksAt schema pass a b p keys new → Walks next keys → Walks (next + 1) new
-  walks_on next keys new p a b is first second looks walks = subst (Walks (next + 1)) (sym looks.adds.grown) (record {
-    begun = λ q is_start. Contains-append_left keys added q (walks.begun q is_start);
-    within = omega (arith, less, length-append keys added);
-    reached = All-append (IsReached schema pass sets starts) keys added walks.reached
-        (All-weaker (LeadsTo schema pass a b p) (IsReached schema pass sets starts) (λ q leads. reached_next a b reached first second leads) added looks.adds.each);
-    closed = subst (All (IsClosed schema pass sets (keys ++ added))) (sym taken)
-        (All-append (IsClosed schema pass sets (keys ++ added)) (take next keys) (p ∷ [])
-        (All-weaker (IsClosed schema pass sets keys) (IsClosed schema pass sets (keys ++ added)) (still_closed keys added) (take next keys) walks.closed)
-        (All-cons (IsClosed schema pass sets (keys ++ added)) p [] here (All-nil (IsClosed schema pass sets (keys ++ added)))));
-  }) where
-    added : List SetPair
-    added = looks.adds.added
+    pub list_within : (l : List ℕ) → AreReached l → All (λ n. n < length sets) l
+    list_within l reached = each_standing (λ n. n < length sets) l (λ n in'. (reached_within (reached n n in' in')).0)
 
-    less : next < length keys
-    less = slice_get_within keys next p is
+    pub waiting_within : (looked : PairSet) (waiting : List (List ℕ)) → Walks looked waiting → All (λ l. All (λ n. n < length sets) l) waiting
+    waiting_within looked waiting walks = each_standing (λ l. All (λ n. n < length sets) l) waiting (λ l in'. list_within l (walks.reached l in'))
 
-    reached : IsReached schema pass sets starts p
-    reached = All-contains (IsReached schema pass sets starts) keys p walks.reached (stands_at keys next p is)
+    pub walks_begin : (looked : PairSet) (waiting : List (List ℕ)) → ((a b : ℕ) → has_pair looked a b ≡ false) → waiting ≡ map (λ n. n ∷ []) starts → Walks looked waiting
+    walks_begin looked waiting none is = record {
+      begun = λ p start. inr (listed p start);
+      reached = λ l in'. alone l (made_of (λ n. n ∷ []) starts l (subst (λ w. Contains w l) is in'));
+      closed = λ p met. absurd (no p.first p.second met);
+      symmetric = λ a b met. absurd (no a b met);
+    } where
+      no : (a b : ℕ) → has_pair looked a b ≡ true → ⊥
+      no a b met = let e : true ≡ false = sym met ∙ none a b in let e : ⊥ = cc in e
 
-    taken : take (next + 1) (keys ++ added) ≡ take next keys ++ p ∷ []
-    taken =
-        take-append-le (next + 1) keys added (omega (arith, less)) ∙ take_more keys next p less ∙
-        ap (λ x. take next keys ++ x ∷ []) (get_or_from_slice_get keys next p p is)
+      listed : (p : SetPair) → IsStart starts p → AreListed waiting p.first p.second
+      listed p (n, in', same) = (
+        n ∷ [],
+        subst (λ w. Contains w (n ∷ [])) (sym is) (stands_mapped (λ m. m ∷ []) starts n in'),
+        subst (λ (q : SetPair). Contains (n ∷ []) q.first) (sym same) (stands_first n []),
+        subst (λ (q : SetPair). Contains (n ∷ []) q.second) (sym same) (stands_first n []),
+      )
 
-    here : IsClosed schema pass sets (keys ++ added) p
-    here = record {
-      first = a;
-      second = b;
-      first_is = first;
-      second_is = second;
-      all = λ q leads. subst (λ l. Contains l q) looks.adds.grown (looks.adds.all q leads);
-      agree = looks.agree;
-    }
+      alone : (l : List ℕ) → (n : ℕ) × Contains starts n × (n ∷ [] ≡ l) → AreReached l
+      alone l (n, in', same) a b in_a in_b =
+          let first : a ≡ n = only_one n a (subst (λ w. Contains w a) (sym same) in_a) in
+          let second : b ≡ n = only_one n b (subst (λ w. Contains w b) (sym same) in_b) in
+          reached_first (n, in', ap (λ m. pair_of m b) first ∙ ap (λ m. pair_of n m) second)
 
-  pub walks_end : (next : ℕ) (keys : List SetPair) → take next keys ≡ keys → Walks next keys → HasLooked schema pass sets starts
-  walks_end next keys all walks = record {
-    pairs = keys;
-    begun = walks.begun;
-    closed = subst (All (IsClosed schema pass sets keys)) all walks.closed;
-  }
+    -- sets that are joined to sets of which each two are reached are so too
+    joined_with : (list : List ℕ) → AreReached list → {n : ℕ} → IsJoined sets list n → (m : ℕ) → Contains list m → IsReached schema pass sets starts (pair_of n m)
+    joined_with list reached (joined_first {n = n} in') m in_m = reached n m in' in_m
+    joined_with list reached (joined_fragment {n = n} {m = k} a before at there) m in_m =
+        let was = joined_with list reached before m in_m in
+        let b = some_at sets m (reached_within was).1 in
+        reached_next a b.0 was at b.1 (inl (inl (k, there, refl)))
 
-  pub walks_begin : (none keys : List SetPair) → none ≡ [] → Adds (IsStart starts) none keys → Walks 0 keys
-  walks_begin none keys empty adds = record {
-    begun = adds.all;
-    within = omega arith;
-    reached = subst (All (IsReached schema pass sets starts)) (sym (adds.grown ∙ ap (λ l. l ++ adds.added) empty))
-        (All-weaker (IsStart starts) (IsReached schema pass sets starts) (λ p is. reached_first is) adds.added adds.each);
-    closed = All-nil (IsClosed schema pass sets keys);
-  }
+    joined_both : (list : List ℕ) → AreReached list → (n : ℕ) → IsJoined sets list n → {m : ℕ} → IsJoined sets list m → IsReached schema pass sets starts (pair_of n m)
+    joined_both list reached n is (joined_first {n = m} in') = joined_with list reached is m in'
+    joined_both list reached n is (joined_fragment {n = m} {m = k} b before at there) =
+        let was = joined_both list reached n is before in
+        let a = some_at sets n (reached_within was).0 in
+        reached_next a.0 b was a.1 at (inl (inr (k, there, refl)))
 
-  pub found_below : (next : ℕ) (keys : List SetPair) (p : SetPair) (a b : NumberedSet) (c : Conflict) → slice_get keys next ≡ Some p →
-      slice_get sets p.first ≡ Some a → slice_get sets p.second ≡ Some b → Finds schema pass a.fields.items b.fields.items c → Walks next keys → FindsBelow schema pass sets starts c
-  found_below next keys p a b c is first second found walks = record {
-    pair = p;
-    first = a;
-    second = b;
-    reached = All-contains (IsReached schema pass sets starts) keys p walks.reached (stands_at keys next p is);
-    first_is = first;
-    second_is = second;
-    found = found;
-  }
+    module _ (looked new : PairSet) (old mid after : List (List ℕ)) (unlooked : List ℕ) (takes : Takes sets looked old mid unlooked)
+        (looks : LooksAt schema pass sets unlooked mid after) (adds : (a b : ℕ) → (has_pair new a b ≡ true) ↔ ((has_pair looked a b ≡ true) ⊎ (Contains unlooked a × Contains unlooked b)))
+        (walks : Walks looked old) where
+      abbrev joined : List ℕ
+      joined = takes.joined
+
+      all_reached : AreReached joined
+      all_reached a b in_a in_b =
+          joined_both takes.list (walks.reached takes.list takes.taken) a (takes.are_joined.made a in_a) (takes.are_joined.made b in_b)
+
+      in_joined : (a : ℕ) → Contains unlooked a → Contains joined a
+      in_joined a in' = (takes.lacking.each a in').0
+
+      still : (a b : ℕ) → has_pair looked a b ≡ true → has_pair new a b ≡ true
+      still a b met = (adds a b).1 (inl met)
+
+      -- each two of the joined sets were looked at now
+      met_now : (a b : ℕ) → Contains joined a → Contains joined b → has_pair new a b ≡ true
+      met_now a b in_a in_b = elim (takes.lacking.others a in_a) [
+        | inl first ↦ elim (takes.lacking.others b in_b) [
+          | inl second ↦ (adds a b).1 (inr (first, second))
+          | inr all ↦ still a b (walks.symmetric b a (all a in_a))
+        ]
+        | inr all ↦ still a b (all b in_b)
+      ]
+
+      -- a pair that waited was looked at, or waits
+      waits_on : (a b : ℕ) → AreListed old a b → (has_pair new a b ≡ true) ⊎ AreListed after a b
+      waits_on a b (l, in', in_a, in_b) = elim (takes.others l in') [
+        | inl there ↦ inr (l, looks.2.kept l there, in_a, in_b)
+        | inr gone ↦ elim gone [
+          | inl same ↦
+              inl (met_now a b (takes.are_joined.begun a (subst (λ w. Contains w a) same in_a)) (takes.are_joined.begun b (subst (λ w. Contains w b) same in_b)))
+          | inr were ↦ inl (still a b (were a b in_a in_b))
+        ]
+      ]
+
+      either : (a b : ℕ) → (has_pair looked a b ≡ true) ⊎ AreListed old a b → (has_pair new a b ≡ true) ⊎ AreListed after a b
+      either a b (inl met) = inl (still a b met)
+      either a b (inr listed) = waits_on a b listed
+
+      below_reached : (l : List ℕ) → AreBelow schema pass looks.0 l → AreReached l
+      below_reached l below a b in_a in_b =
+          let u = below a b in_a in_b in
+          let x = (looks.1 u.0).0 u.2 in
+          let y = (looks.1 u.1).0 u.3 in
+          reached_next x.1 y.1 (all_reached x.0 y.0 (in_joined x.0 x.2) (in_joined y.0 y.2)) x.3 y.3 (inr (u.0, u.1, x.4, y.4, u.4))
+
+      opened : (p : SetPair) → (has_pair looked p.first p.second ≡ true) ⊎ (Contains unlooked p.first × Contains unlooked p.second) → IsOpen new after p
+      opened p (inl met) =
+          let o = walks.closed p met in
+          record {
+            first = o.first;
+            second = o.second;
+            first_is = o.first_is;
+            second_is = o.second_is;
+            all = λ q leads. either q.first q.second (o.all q leads);
+            agree = o.agree;
+          }
+      opened p (inr both) =
+          let in_a = in_joined p.first both.0 in
+          let in_b = in_joined p.second both.1 in
+          let within = reached_within (all_reached p.first p.second in_a in_b) in
+          let a = some_at sets p.first within.0 in
+          let b = some_at sets p.second within.1 in
+          record {
+            first = a.0;
+            second = b.0;
+            first_is = a.1;
+            second_is = b.1;
+            all = leads_on p a.0 b.0 a.1 b.1 both.0 both.1;
+            agree = λ x y in_x in_y put.
+                looks.2.agree x y ((looks.1 x).1 (p.first, a.0, both.0, a.1, in_x), (looks.1 y).1 (p.second, b.0, both.1, b.1, in_y)) put;
+          } where
+            leads_on : (p : SetPair) (a b : NumberedSet) → slice_get sets p.first ≡ Some a → slice_get sets p.second ≡ Some b → Contains unlooked p.first → Contains unlooked p.second →
+                (q : SetPair) → LeadsTo schema pass a b p q → (has_pair new q.first q.second ≡ true) ⊎ AreListed after q.first q.second
+            leads_on p a b at_a at_b un_a un_b q (inl (inl (n, there, is))) =
+                inl (subst (λ (r : SetPair). has_pair new r.first r.second ≡ true) (sym is)
+                (met_now n p.second (takes.are_joined.closed p.first n a (in_joined p.first un_a) at_a there) (in_joined p.second un_b)))
+            leads_on p a b at_a at_b un_a un_b q (inl (inr (n, there, is))) =
+                inl (subst (λ (r : SetPair). has_pair new r.first r.second ≡ true) (sym is)
+                (met_now p.first n (in_joined p.first un_a) (takes.are_joined.closed p.second n b (in_joined p.second un_b) at_b there)))
+            leads_on p a b at_a at_b un_a un_b q (inr (x, y, in_x, in_y, below)) =
+                inr (looks.2.below x y ((looks.1 x).1 (p.first, a, un_a, at_a, in_x), (looks.1 y).1 (p.second, b, un_b, at_b, in_y)) q below)
+
+      -- the sets of one list more were looked at together
+      pub walks_on : Walks new after
+      walks_on = record {
+        begun = λ p start. either p.first p.second (walks.begun p start);
+        reached = λ l in'. elim (looks.2.added l in') [
+          | inl there ↦ walks.reached l (takes.fewer l there)
+          | inr below ↦ below_reached l below
+        ];
+        closed = λ p met. opened p ((adds p.first p.second).0 met);
+        symmetric = λ a b met. elim ((adds a b).0 met) [
+          | inl was ↦ still b a (walks.symmetric a b was)
+          | inr both ↦ (adds b a).1 (inr (both.1, both.0))
+        ];
+      }
+
+      -- and fewer pairs are left
+      pub fewer_left : count_pairs (length sets) (length sets) (has_pair new) < count_pairs (length sets) (length sets) (has_pair looked)
+      fewer_left = by unlooked refl where
+        by : (l : List ℕ) → unlooked ≡ l → count_pairs (length sets) (length sets) (has_pair new) < count_pairs (length sets) (length sets) (has_pair looked)
+        by [] none = absurd (takes.some none)
+        by (a ∷ rest) is =
+            let in' = subst (λ l. Contains l a) (sym is) (stands_first a rest) in
+            let lacks = (takes.lacking.each a in').1 in
+            let in_a = in_joined a in' in
+            let within = reached_within (all_reached a lacks.0 in_a lacks.1) in
+            fewer_pairs (length sets) (length sets) (has_pair looked) (has_pair new) still a lacks.0 within.0 within.1 lacks.2 (met_now a lacks.0 in_a lacks.1)
+
+    -- what was found is below the first ones
+    pub found_below : (looked : PairSet) (old mid : List (List ℕ)) (unlooked : List ℕ) (c : Conflict) → Takes sets looked old mid unlooked → FindsIn schema pass sets unlooked c → Walks looked old →
+        FindsBelow schema pass sets starts c
+    found_below looked old mid unlooked c takes found walks =
+        let f = found.2 in
+        let x = (found.1 f.among.x).0 f.among.in_first in
+        let y = (found.1 f.among.y).0 f.among.in_second in
+        let in_x = (takes.lacking.each x.0 x.2).0 in
+        let in_y = (takes.lacking.each y.0 y.2).0 in
+        record {
+          pair = pair_of x.0 y.0;
+          first = x.1;
+          second = y.1;
+          reached = joined_both takes.list (walks.reached takes.list takes.taken) x.0 (takes.are_joined.made x.0 in_x) (takes.are_joined.made y.0 in_y);
+          first_is = x.3;
+          second_is = y.3;
+          found = record {
+            among = record {
+              x = f.among.x;
+              y = f.among.y;
+              in_first = x.4;
+              in_second = y.4;
+              first_is = f.among.first_is;
+              second_is = f.among.second_is;
+              disagree = f.among.disagree;
+            };
+            put = f.put;
+          };
+        }
+
+    -- where nothing is left that waits, all that is reached was looked at
+    pub walks_end : (looked : PairSet) (waiting : List (List ℕ)) → All (WereLookedAt looked) waiting → Walks looked waiting → HasLooked schema pass sets starts
+    walks_end looked waiting were walks = record {
+      looked = has_pair looked;
+      begun = λ p start. settled p.first p.second (walks.begun p start);
+      closed = λ p met.
+          let o = walks.closed p met in
+          record {
+            first = o.first;
+            second = o.second;
+            first_is = o.first_is;
+            second_is = o.second_is;
+            all = λ q leads. settled q.first q.second (o.all q leads);
+            agree = o.agree;
+          };
+    } where
+      settled : (a b : ℕ) → (has_pair looked a b ≡ true) ⊎ AreListed waiting a b → has_pair looked a b ≡ true
+      settled a b (inl met) = met
+      settled a b (inr (l, in', in_a, in_b)) = All-contains (WereLookedAt looked) waiting l were in' a b in_a in_b

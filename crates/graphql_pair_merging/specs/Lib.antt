@@ -1,5 +1,6 @@
 pub mod Disagreements
 pub mod FieldGroups
+pub mod JoinedSets
 pub mod Meetings
 pub mod NumberedSets
 pub mod Pairs

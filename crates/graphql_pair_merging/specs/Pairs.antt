@@ -1,16 +1,23 @@
 -- The pairs of sets whose fields come together, by the sets' numbers.
-use Rattle.std.specs.Prelude.{◌≡◌, ◌≢◌, ◌<◌, ◌⊎◌, ◌++◌, [], ℕ, List, Some, All, Contains, length, slice_get}
+use Rattle.std.specs.Prelude.{◌≡◌, ◌≢◌, ◌<◌, ◌⊎◌, ◌↔◌, [], ⊤, ℕ, Bool, true, List, Some, Vec, All, Contains, length, map, slice_get}
+use Rattle.std.specs.declared.alloc.Global.{Global}
 use Rattle.graphql_documents.specs.Selections.{selections_of}
 use Rattle.graphql_documents.specs.declared.documents.schemas.Schema.{Schema}
 use Rattle.graphql_specification.specs.MergedSets.{Agree, ArePutTogether}
-use Rattle.graphql_specification.specs.Merging.{Pass, set_of}
+use Rattle.graphql_specification.specs.Merging.{FieldSelection, Pass, SameKey, field_pass, set_of, shape_pass, type_of}
 use Rattle.graphql_merging.specs.FieldSelections.{selection_of}
-use Rattle.graphql_pair_merging.specs.Disagreements.{Disagrees}
+use Rattle.graphql_number_sets.specs.NumberSets.{has_pair}
+use Rattle.graphql_number_sets.specs.declared.pair_sets.PairSet.{PairSet}
+use Rattle.graphql_pair_merging.specs.Disagreements.{Disagrees, HasDefinition}
 use Rattle.graphql_pair_merging.specs.NumberedSets.{field_of}
 use Rattle.graphql_pair_merging.specs.declared.disagreements.Conflict.{Conflict}
 use Rattle.graphql_pair_merging.specs.declared.numbered_sets.NumberedField.{NumberedField}
 use Rattle.graphql_pair_merging.specs.declared.numbered_sets.NumberedSet.{NumberedSet}
-use Rattle.graphql_pair_merging.specs.declared.pairs.SetPair.{SetPair}
+
+-- two sets, by their numbers
+pub record SetPair : Type 0 where
+  pub first : ℕ
+  pub second : ℕ
 
 -- the pair of the sets of these numbers
 abbrev pub pair_of : ℕ → ℕ → SetPair
@@ -24,13 +31,6 @@ pub record IsLinked (count : ℕ) (x : NumberedSet) : Type 0 where
 abbrev pub AreLinked : List NumberedSet → Type 0
 AreLinked sets = All (IsLinked (length sets)) sets
 
--- further pairs were added: all that are needed are there, and no others came in
-pub record Adds (IsNeeded : SetPair → Type 0) (old new : List SetPair) : Type 0 where
-  pub added : List SetPair
-  pub grown : new ≡ old ++ added
-  pub each : All IsNeeded added
-  pub all : (p : SetPair) → IsNeeded p → Contains new p
-
 -- the pair of a fragment in the first set with the second, and of the first with a fragment in the second
 abbrev pub IntoFirst : List ℕ → ℕ → SetPair → Type 0
 IntoFirst fragments second p = (number : ℕ) × Contains fragments number × (p ≡ pair_of number second)
@@ -41,6 +41,36 @@ IntoSecond first fragments p = (number : ℕ) × Contains fragments number × (p
 -- the pair of one of these sets with itself
 abbrev pub IsStart : List ℕ → SetPair → Type 0
 IsStart starts p = (number : ℕ) × Contains starts number × (p ≡ pair_of number number)
+
+-- vectors of numbers as lists
+abbrev pub lists_at : List (Vec ℕ Global) → List (List ℕ)
+lists_at waiting = map (λ v. v.items) waiting
+
+-- the two sets are in one of these lists of sets that come together
+abbrev pub AreListed : List (List ℕ) → ℕ → ℕ → Type 0
+AreListed lists a b = (l : List ℕ) × Contains lists l × Contains l a × Contains l b
+
+-- each two of the sets were looked at together
+abbrev pub WereLookedAt : PairSet → List ℕ → Type 0
+WereLookedAt looked l = (a b : ℕ) → Contains l a → Contains l b → has_pair looked a b ≡ true
+
+-- some fields, each with each
+abbrev pub Both : List NumberedField → NumberedField → NumberedField → Type 0
+Both fields x y = Contains fields x × Contains fields y
+
+-- each two of the fields have one response key
+abbrev pub HaveOneKey : List NumberedField → Type 0
+HaveOneKey fields = (x y : NumberedField) → Contains fields x → Contains fields y → SameKey (field_of x) (field_of y)
+
+-- what agrees with the field agrees with whatever else does: its type is defined, where types are compared
+abbrev pub DecidesAlone : Schema → Pass → FieldSelection → Type 0
+DecidesAlone schema shape_pass x = HasDefinition schema (type_of x)
+DecidesAlone schema field_pass x = ⊤
+
+-- the numbers of the sets of those fields that select something
+pub record AreSetsBelow (fields : List NumberedField) (below : List ℕ) : Type 0 where
+  pub each : (n : ℕ) → Contains below n → (x : NumberedField) × Contains fields x × (selections_of (set_of (field_of x)) ≢ []) × (n ≡ x.set)
+  pub all : (x : NumberedField) → Contains fields x → selections_of (set_of (field_of x)) ≢ [] → Contains below x.set
 
 module _ (schema : Schema) (pass : Pass) where
   -- the pair of the sets of two fields that are put together, if both select something
@@ -54,34 +84,45 @@ module _ (schema : Schema) (pass : Pass) where
   abbrev pub IsBelowAny : List NumberedField → List NumberedField → SetPair → Type 0
   IsBelowAny xs ys p = (x : NumberedField) × (y : NumberedField) × Contains xs x × Contains ys y × IsBelow x y p
 
-  -- fields of the first list were compared with fields of the second, all that are put together agree, and the
-  -- pairs of their sets were added
-  pub record Compares (xs ys : List NumberedField) (old new : List SetPair) : Type 0 where
-    pub adds : Adds (IsBelowAny xs ys) old new
-    pub agree : (x y : NumberedField) → Contains xs x → Contains ys y →
-        ArePutTogether schema pass (field_of x) (field_of y) → Agree schema pass (field_of x) (field_of y)
+  -- each two of the fields are put together
+  abbrev pub AreTogether : List NumberedField → Type 0
+  AreTogether fields = (x y : NumberedField) → Contains fields x → Contains fields y → ArePutTogether schema pass (field_of x) (field_of y)
 
-  -- these are two fields of the lists that are put together and do not agree
-  pub record Finds (xs ys : List NumberedField) (c : Conflict) : Type 0 where
+  -- each two of the fields agree
+  abbrev pub AllAgree : List NumberedField → Type 0
+  AllAgree fields = (x y : NumberedField) → Contains fields x → Contains fields y → Agree schema pass (field_of x) (field_of y)
+
+  -- each two of the sets are those of two of the fields that are put together
+  abbrev pub AreBelow : List NumberedField → List ℕ → Type 0
+  AreBelow fields l = (a b : ℕ) → Contains l a → Contains l b → IsBelowAny fields fields (pair_of a b)
+
+  -- of some fields those that belong together in this way were compared: where they are put together they agree, and their
+  -- sets are in one list; only lists of sets below the fields came to those that were there
+  pub record Settles (fields : List NumberedField) (Belong : NumberedField → NumberedField → Type 0) (old new : List (List ℕ)) : Type 0 where
+    pub kept : (l : List ℕ) → Contains old l → Contains new l
+    pub added : (l : List ℕ) → Contains new l → Contains old l ⊎ AreBelow fields l
+    pub agree : (x y : NumberedField) → Belong x y → ArePutTogether schema pass (field_of x) (field_of y) → Agree schema pass (field_of x) (field_of y)
+    pub below : (x y : NumberedField) → Belong x y → (p : SetPair) → IsBelow x y p → AreListed new p.first p.second
+
+  -- these are two fields of the lists that do not agree
+  pub record DisagreeAmong (xs ys : List NumberedField) (c : Conflict) : Type 0 where
     pub x : NumberedField
     pub y : NumberedField
     pub in_first : Contains xs x
     pub in_second : Contains ys y
     pub first_is : selection_of c.first ≡ field_of x
     pub second_is : selection_of c.second ≡ field_of y
-    pub put : ArePutTogether schema pass (field_of x) (field_of y)
     pub disagree : Disagrees schema pass (field_of x) (field_of y) c.disagreement
+
+  -- these are two fields of the lists that are put together and do not agree
+  pub record Finds (xs ys : List NumberedField) (c : Conflict) : Type 0 where
+    pub among : DisagreeAmong xs ys c
+    pub put : ArePutTogether schema pass (field_of among.x) (field_of among.y)
 
   -- from a pair of these sets to another: into a fragment of one, or below two fields
   abbrev pub LeadsTo : NumberedSet → NumberedSet → SetPair → SetPair → Type 0
   LeadsTo a b p q =
       (IntoFirst a.fragments.items p.second q ⊎ IntoSecond p.first b.fragments.items q) ⊎ IsBelowAny a.fields.items b.fields.items q
-
-  -- a pair of these sets was looked at
-  pub record LooksAt (a b : NumberedSet) (p : SetPair) (old new : List SetPair) : Type 0 where
-    pub adds : Adds (LeadsTo a b p) old new
-    pub agree : (x y : NumberedField) → Contains a.fields.items x → Contains b.fields.items y →
-        ArePutTogether schema pass (field_of x) (field_of y) → Agree schema pass (field_of x) (field_of y)
 
   module _ (sets : List NumberedSet) where
     -- a pair that is reached where one of some sets is put together with itself
@@ -91,21 +132,37 @@ module _ (schema : Schema) (pass : Pass) where
           slice_get sets p.first ≡ Some a → slice_get sets p.second ≡ Some b → LeadsTo a b p q →
           IsReached starts q
 
+    -- the field is in one of these sets
+    abbrev pub StandsIn : List ℕ → NumberedField → Type 0
+    StandsIn numbers x = (n : ℕ) × (a : NumberedSet) × Contains numbers n × (slice_get sets n ≡ Some a) × Contains a.fields.items x
+
+    -- the fields are those in these sets
+    abbrev pub AreFieldsOf : List ℕ → List NumberedField → Type 0
+    AreFieldsOf numbers fields = (x : NumberedField) → Contains fields x ↔ StandsIn numbers x
+
+    -- each two of these sets were looked at: their fields were compared
+    abbrev pub LooksAt : List ℕ → List (List ℕ) → List (List ℕ) → Type 0
+    LooksAt numbers old new = (fields : List NumberedField) × AreFieldsOf numbers fields × Settles fields (Both fields) old new
+
+    -- two fields in these sets are put together and do not agree
+    abbrev pub FindsIn : List ℕ → Conflict → Type 0
+    FindsIn numbers c = (fields : List NumberedField) × AreFieldsOf numbers fields × Finds fields fields c
+
     -- all to which the pair leads are among these, and its fields agree where they are put together
-    pub record IsClosed (pairs : List SetPair) (p : SetPair) : Type 0 where
+    pub record IsClosed (looked : ℕ → ℕ → Bool) (p : SetPair) : Type 0 where
       pub first : NumberedSet
       pub second : NumberedSet
       pub first_is : slice_get sets p.first ≡ Some first
       pub second_is : slice_get sets p.second ≡ Some second
-      pub all : (q : SetPair) → LeadsTo first second p q → Contains pairs q
+      pub all : (q : SetPair) → LeadsTo first second p q → looked q.first q.second ≡ true
       pub agree : (x y : NumberedField) → Contains first.fields.items x → Contains second.fields.items y →
           ArePutTogether schema pass (field_of x) (field_of y) → Agree schema pass (field_of x) (field_of y)
 
     -- all pairs that are reached were looked at, and nothing was found
     pub record HasLooked (starts : List ℕ) : Type 0 where
-      pub pairs : List SetPair
-      pub begun : (p : SetPair) → IsStart starts p → Contains pairs p
-      pub closed : All (IsClosed pairs) pairs
+      pub looked : ℕ → ℕ → Bool
+      pub begun : (p : SetPair) → IsStart starts p → looked p.first p.second ≡ true
+      pub closed : (p : SetPair) → looked p.first p.second ≡ true → IsClosed looked p
 
     -- two fields of a pair that is reached do not agree
     pub record FindsBelow (starts : List ℕ) (c : Conflict) : Type 0 where

@@ -2,16 +2,16 @@
 
 ghost use Rattle.std.specs.Prelude.{◌↔◌, IfOk, IsTrue, MatchOption};
 ghost use Rattle.graphql_documents.specs.declared.documents.schemas.Schema.{Schema};
-ghost use Rattle.graphql_specification.specs.MergedSets.{Agree, ArePutTogether};
+ghost use Rattle.graphql_specification.specs.MergedSets.{Agree};
 ghost use Rattle.graphql_specification.specs.Merging as merging;
-ghost use Rattle.graphql_specification.specs.Merging.{MayOverlap, ParentsMayOverlap};
+ghost use Rattle.graphql_specification.specs.Merging.{MayOverlap, ParentsMayOverlap, type_of};
 ghost use Rattle.graphql_merging.specs.Conflicts.{ConflictEntryReport};
 ghost use Rattle.graphql_merging.specs.FieldSelections.{selection_of};
 ghost use Rattle.graphql_merging.specs.Groups.{pass_of};
-ghost use Rattle.graphql_pair_merging.specs.Disagreements.{Disagrees};
+ghost use Rattle.graphql_pair_merging.specs.Disagreements.{Disagrees, HasDefinition};
 
 use graphql_diagnostics::DiagnosticList;
-use graphql_documents::documents::{ExtendedType, Schema};
+use graphql_documents::documents::{ExtendedType, Schema, Type};
 use graphql_hash_seeds::HashSeed;
 use graphql_merging::comparisons::{FieldConflict, find_field_conflict, same_output_type_shape};
 use graphql_merging::conflict_reports::{report_conflict, report_types};
@@ -76,26 +76,12 @@ pub(crate) fn disagreement_of<'doc>(
     }
 }
 
-/// Whether two fields are put together in this pass.
-pub(crate) fn are_put_together(
+/// Whether one object can be of the types of both sets.
+pub(crate) fn parents_may_overlap(
     schema: &Schema,
-    pass: Pass,
     first: FieldSelection,
     second: FieldSelection,
 ) -> bool
-    ensures { IsTrue result ↔ ArePutTogether schema.now (pass_of pass) (selection_of first.entry) (selection_of second.entry) }
-{
-    if first.field.value.response_key() != second.field.value.response_key() {
-        return false;
-    }
-    match pass {
-        Pass::Shapes => true,
-        Pass::NamesAndArguments => parents_may_overlap(schema, first, second),
-    }
-}
-
-/// Whether one object can be of the types of both sets.
-fn parents_may_overlap(schema: &Schema, first: FieldSelection, second: FieldSelection) -> bool
     ensures { IsTrue result ↔ ParentsMayOverlap schema.now (selection_of first.entry) (selection_of second.entry) }
 {
     match (
@@ -117,4 +103,18 @@ fn may_overlap(first: &ExtendedType, second: &ExtendedType) -> bool
         }
         _ => first.is_composite() && second.is_composite(),
     }
+}
+
+/// Whether the type of a field is defined, inside its lists.
+pub(crate) fn has_defined_type(schema: &Schema, field: FieldSelection) -> bool
+    ensures { IsTrue result → HasDefinition schema.now (type_of (selection_of field.entry)) }
+{
+    is_defined(schema, &field.field.value.definition.value.ty)
+}
+
+/// Whether a type is defined, inside its lists.
+fn is_defined(schema: &Schema, ty: &Type) -> bool
+    ensures { IsTrue result → HasDefinition schema.now ty.now }
+{
+    schema.types.contains_key(ty.inner_named_type())
 }

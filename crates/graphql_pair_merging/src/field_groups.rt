@@ -1,66 +1,85 @@
-//! The fields of a numbered set by their response keys.
+//! Fields of numbered sets by a name of theirs.
 
 ghost use Rattle.std.specs.Prelude.{◌≡◌, ◌++◌, ◌∷◌, [], IfOk, OnOk, if◌then◌else◌};
 ghost use Rattle.graphql_nodes.specs.Names.{NameText, same_name};
-ghost use Rattle.graphql_pair_merging.specs.FieldGroups.{AreGrouped, IsGrouped, group_under, groups_at};
+ghost use Rattle.graphql_pair_merging.specs.FieldGroups.{IsGrouped, group_under, name_by, names_in};
 
-use super::numbered_sets::{NumberedField, NumberedSet};
+use super::numbered_sets::NumberedField;
 use graphql_hash_seeds::HashSeed;
 use graphql_nodes::{Name, ValidationError};
 use indexmap::IndexMap;
 use std::alloc::Global;
 
-/// Fields by their response keys.
-pub(crate) type FieldsByKey<'doc> = IndexMap<&'doc Name, Vec<NumberedField<'doc>>, HashSeed>;
-
-/// The fields of each set by their response keys. The only error is a failed allocation.
-pub(crate) fn group_sets<'doc>(
-    alloc: Global,
-    hash_seed: HashSeed,
-    sets: &[NumberedSet<'doc>],
-) -> Result<Vec<FieldsByKey<'doc>>, ValidationError>
-    ensures { IfOk result (λ groups. AreGrouped sets.now (groups_at groups.items)) }
-{
-    let mut groups = Vec::new(alloc);
-    for set in sets {
-        let fields_by_key = group_fields(alloc, hash_seed, &set.fields)?;
-        groups.push(fields_by_key)?;
-    }
-    Ok(groups)
+/// By which name fields are grouped.
+#[derive(Clone, Copy, Debug)]
+pub(crate) enum GroupedBy {
+    /// Their response key.
+    ResponseKey,
+    /// The type of the set in which they are.
+    ParentType,
 }
 
-/// These fields by their response keys. The only error is a failed allocation.
-fn group_fields<'doc>(
+impl GroupedBy {
+    /// The name of a field.
+    fn name<'doc>(self, field: NumberedField<'doc>) -> &'doc Name
+        ensures { result.now ≡ name_by self field.entry }
+    {
+        match self {
+            GroupedBy::ResponseKey => field.field.field.value.response_key(),
+            GroupedBy::ParentType => field.field.parent_type,
+        }
+    }
+}
+
+/// Fields by names.
+pub(crate) type FieldsByName<'doc> = IndexMap<&'doc Name, Vec<NumberedField<'doc>>, HashSeed>;
+
+/// These fields by their names. The only error is a failed allocation.
+pub(crate) fn group_fields<'doc>(
     alloc: Global,
     hash_seed: HashSeed,
     fields: &[NumberedField<'doc>],
-) -> Result<FieldsByKey<'doc>, ValidationError>
-    ensures { IfOk result (λ groups. IsGrouped fields.now groups.entries) }
+    by: GroupedBy,
+) -> Result<FieldsByName<'doc>, ValidationError>
+    ensures { IfOk result (λ groups. IsGrouped by fields.now groups.entries) }
 {
     let mut groups = IndexMap::with_hasher(alloc, hash_seed);
     for field in fields {
-        let key = field.field.field.value.response_key();
-        push_under(&mut groups, alloc, key, *field)?;
+        push_under(&mut groups, alloc, by.name(*field), *field)?;
     }
     Ok(groups)
 }
 
-/// Puts a field behind those under the key.
-fn push_under<'doc>(
-    groups: &mut FieldsByKey<'doc>,
+/// The names under which there are fields. The only error is a failed allocation.
+pub(crate) fn names_of<'doc>(
     alloc: Global,
-    key: &'doc Name,
+    groups: &FieldsByName<'doc>,
+) -> Result<Vec<&'doc Name>, ValidationError>
+    ensures { IfOk result (λ names. names.items ≡ names_in groups.now.entries) }
+{
+    let mut names = Vec::new(alloc);
+    for name in groups.keys() {
+        names.push(*name)?;
+    }
+    Ok(names)
+}
+
+/// Puts a field behind those under the name.
+fn push_under<'doc>(
+    groups: &mut FieldsByName<'doc>,
+    alloc: Global,
+    name: &'doc Name,
     field: NumberedField<'doc>,
 ) -> Result<(), ValidationError>
-    ensures { OnOk result ((name : NameText) → group_under groups.new.entries name ≡
-        (if same_name key.now name then group_under groups.old.entries name ++ field.entry ∷ [] else group_under groups.old.entries name)) }
+    ensures { OnOk result ((other : NameText) → group_under groups.new.entries other ≡
+        (if same_name name.now other then group_under groups.old.entries other ++ field.entry ∷ [] else group_under groups.old.entries other)) }
 {
-    match groups.get_mut(&key) {
+    match groups.get_mut(&name) {
         Some(fields) => fields.push(field)?,
         None => {
             let mut fields = Vec::new(alloc);
             fields.push(field)?;
-            groups.insert(key, fields)?;
+            groups.insert(name, fields)?;
         }
     }
     Ok(())

@@ -4,6 +4,7 @@
 
 mod disagreements;
 mod field_groups;
+mod joined_sets;
 pub mod merging;
 mod numbered_sets;
 mod pairs;

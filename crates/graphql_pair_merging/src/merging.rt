@@ -12,7 +12,6 @@ ghost use Rattle.graphql_pair_merging.specs.Meetings.{IsMetConflict};
 ghost use Rattle.graphql_pair_merging.specs.NumberedSets.{operation_sets};
 
 use super::disagreements::Conflict;
-use super::field_groups::group_sets;
 use super::numbered_sets::number_sets;
 use super::pairs::PairPass;
 use graphql_diagnostics::DiagnosticList;
@@ -65,21 +64,22 @@ fn find_conflict<'doc>(
 {
     let hash_seed = *fragments.hasher();
     let numbered = number_sets(alloc, fragments, operations)?;
-    let groups = group_sets(alloc, hash_seed, &numbered.sets)?;
     let shapes = PairPass {
+        alloc,
+        hash_seed,
         schema,
         sets: &numbered.sets,
-        groups: &groups,
         pass: Pass::Shapes,
     };
-    if let Some(conflict) = shapes.find_conflict(alloc, hash_seed, &numbered.starts)? {
+    if let Some(conflict) = shapes.find_conflict(&numbered.starts)? {
         return Ok(Some(conflict));
     }
     let fields = PairPass {
+        alloc,
+        hash_seed,
         schema,
         sets: &numbered.sets,
-        groups: &groups,
         pass: Pass::NamesAndArguments,
     };
-    fields.find_conflict(alloc, hash_seed, &numbered.starts)
+    fields.find_conflict(&numbered.starts)
 }

@@ -1,227 +1,417 @@
 //! The pairs of sets whose fields come together.
 
-ghost use Rattle.std.specs.Prelude.{◌≡◌, ◌<◌, ◌∷◌, [], All, IfOk, List, MatchOption, OnOk, Some, length, slice_get};
+ghost use Rattle.std.specs.Prelude.{◌≡◌, ◌<◌, ◌∷◌, [], ⊤, All, Contains, IfOk, IsTrue, List, MatchOption, length, map, true, vec_len};
 ghost use Rattle.graphql_merging.specs.Groups.{pass_of};
-ghost use Rattle.graphql_pair_merging.specs.FieldGroups.{AreGrouped, IsGrouped, groups_at};
-ghost use Rattle.graphql_pair_merging.specs.Pairs.{Adds, AreLinked, Compares, Finds, FindsBelow, HasLooked, IntoFirst, IntoSecond, IsStart, LooksAt, pair_of};
+ghost use Rattle.graphql_number_sets.specs.NumberSets.{AreExact, numbers_of};
+ghost use Rattle.graphql_pair_merging.specs.FieldGroups.{IsGroupOf, IsGrouped, has_name, names_in};
+ghost use Rattle.graphql_pair_merging.specs.JoinedSets.{Takes};
+ghost use Rattle.graphql_pair_merging.specs.NumberedSets.{field_of};
+ghost use Rattle.graphql_pair_merging.specs.Pairs.{AllAgree, AreFieldsOf, AreLinked, AreSetsBelow, AreTogether, Both, DecidesAlone, DisagreeAmong, Finds, FindsBelow, FindsIn, HasLooked, HaveOneKey, LooksAt, Settles, WereLookedAt, lists_at};
+ghost use Rattle.graphql_pair_merging.specs.declared.field_groups.GroupedBy.TheVariants.{ParentType, ResponseKey};
 ghost use Rattle.graphql_pair_merging.specs.declared.numbered_sets.NumberedField.{NumberedField};
-ghost use Rattle.graphql_pair_merging.specs.declared.numbered_sets.NumberedSet.{NumberedSet};
+ghost use Rattle.graphql_specification.specs.MergedSets.{Agree};
+ghost use Rattle.graphql_specification.specs.Merging.{field_pass};
 
-use super::disagreements::{Conflict, are_put_together, disagreement_of};
-use super::field_groups::FieldsByKey;
+use super::disagreements::{Conflict, disagreement_of, has_defined_type, parents_may_overlap};
+use super::field_groups::{FieldsByName, GroupedBy, group_fields, names_of};
+use super::joined_sets::with_fragments;
 use super::numbered_sets::{NumberedField, NumberedSet};
 use graphql_documents::documents::Schema;
 use graphql_hash_seeds::HashSeed;
 use graphql_merging::groups::Pass;
-use graphql_nodes::ValidationError;
-use indexmap::IndexSet;
+use graphql_nodes::{Name, ValidationError};
+use graphql_number_sets::distinct_numbers::DistinctNumbers;
+use graphql_number_sets::pair_sets::PairSet;
 use std::alloc::Global;
-
-/// Two sets, by their numbers.
-#[derive(Clone, Copy, Debug, PartialEq, Eq, Hash)]
-struct SetPair {
-    first: usize,
-    second: usize,
-}
-
-/// Pairs of sets, in the order in which they were found.
-type SetPairs = IndexSet<SetPair, HashSeed>;
 
 /// What a pass over pairs of sets reads.
 #[derive(Clone, Copy)]
 pub(crate) struct PairPass<'s, 'doc> {
+    pub(crate) alloc: Global,
+    pub(crate) hash_seed: HashSeed,
     pub(crate) schema: &'s Schema,
     pub(crate) sets: &'s [NumberedSet<'doc>],
-    pub(crate) groups: &'s [FieldsByKey<'doc>],
     pub(crate) pass: Pass,
 }
 
+/// Lists of sets that come together, by their numbers, each still to be looked at.
+type Waiting = Vec<Vec<usize>>;
+
 impl<'s, 'doc> PairPass<'s, 'doc> {
-    /// The first two fields that come together below one of the sets with these numbers and do not agree, if there
-    /// are any. Each pair of sets is looked at once. The only error is a failed allocation.
+    /// Two fields that come together below one of the sets with these numbers and do not agree, if there are any.
+    /// Each pair of sets is looked at once: of a list of sets that come together those are looked at, all at once,
+    /// that were not yet looked at with each of the list. The only error is a failed allocation.
     pub(crate) fn find_conflict(
         &self,
-        alloc: Global,
-        hash_seed: HashSeed,
         starts: &[usize],
     ) -> Result<Option<Conflict<'doc>>, ValidationError>
         requires linked { AreLinked self.now.sets.now }
         requires within { All (λ number. number < length self.now.sets.now) starts.now }
-        requires grouped { AreGrouped self.now.sets.now (groups_at self.now.groups.now) }
         ensures { IfOk result (λ found. MatchOption found
             (HasLooked self.now.schema.now (pass_of self.now.pass) self.now.sets.now starts.now)
             (FindsBelow self.now.schema.now (pass_of self.now.pass) self.now.sets.now starts.now)) }
     {
-        let mut pairs = IndexSet::with_hasher(alloc, hash_seed);
-        add_starts(&mut pairs, starts)?;
-        let mut next = 0;
-        while next < pairs.len() {
-            let pair = pairs[next];
-            if let Some(conflict) = self.look_at(&mut pairs, pair)? {
+        let mut waiting = self.each_alone(starts)?;
+        let mut looked = PairSet::new(self.alloc, self.sets.len())?;
+        while let Some(joined) = self.next_unlooked(&looked, &mut waiting)? {
+            if let Some(conflict) = self.look_at(&mut waiting, joined.as_slice())? {
                 return Ok(Some(conflict));
             }
-            next += 1;
+            looked.add_all(&joined)?;
         }
         Ok(None)
     }
 
-    /// Looks at a pair of sets: adds the pairs of each with the fragments in the other, and compares their fields.
+    /// Each of these sets in a list of its own.
+    fn each_alone(&self, starts: &[usize]) -> Result<Waiting, ValidationError>
+        ensures { IfOk result (λ waiting. lists_at waiting.items ≡ map (λ n. n ∷ []) starts.now) }
+    {
+        let mut waiting = Vec::new(self.alloc);
+        for start in starts {
+            let alone = vec![in self.alloc; *start]?;
+            waiting.push(alone)?;
+        }
+        Ok(waiting)
+    }
+
+    /// Takes lists until some sets of one, with those of its fragments, were not yet looked at together, and
+    /// answers these.
+    fn next_unlooked(
+        &self,
+        looked: &PairSet,
+        waiting: &mut Waiting,
+    ) -> Result<Option<DistinctNumbers>, ValidationError>
+        requires linked { AreLinked self.now.sets.now }
+        requires count { vec_len looked.now.rows ≡ length self.now.sets.now }
+        requires within { All (λ l. All (λ number. number < length self.now.sets.now) l) (lists_at waiting.old.items) }
+        ensures exact { IfOk result (λ found. MatchOption found ⊤ AreExact) }
+        ensures within { IfOk result (λ found. MatchOption found ⊤ (λ joined. All (λ number. number < length self.now.sets.now) (numbers_of joined))) }
+        ensures taken { IfOk result (λ found. MatchOption found
+            (All (WereLookedAt looked.now) (lists_at waiting.old.items))
+            (λ joined. Takes self.now.sets.now looked.now (lists_at waiting.old.items) (lists_at waiting.new.items) (numbers_of joined))) }
+    {
+        while let Some(first) = waiting.pop() {
+            let joined = with_fragments(self.alloc, self.sets, &first)?;
+            let unlooked = looked.lacking(self.alloc, &joined)?;
+            if !unlooked.as_slice().is_empty() {
+                return Ok(Some(unlooked));
+            }
+        }
+        Ok(None)
+    }
+
+    /// Looks at each pair of these sets: compares their fields, and adds lists of the sets below those that come
+    /// together.
     fn look_at(
         &self,
-        pairs: &mut SetPairs,
-        pair: SetPair,
+        waiting: &mut Waiting,
+        joined: &[usize],
     ) -> Result<Option<Conflict<'doc>>, ValidationError>
-        requires grouped { AreGrouped self.now.sets.now (groups_at self.now.groups.now) }
-        requires first { pair.first < length self.now.sets.now }
-        requires second { pair.second < length self.now.sets.now }
-        ensures { (first second : NumberedSet) →
-            slice_get self.now.sets.now pair.first ≡ Some first → slice_get self.now.sets.now pair.second ≡ Some second →
-            IfOk result (λ found. MatchOption found
-            (LooksAt self.now.schema.now (pass_of self.now.pass) first second pair pairs.old.keys pairs.new.keys)
-            (Finds self.now.schema.now (pass_of self.now.pass) first.fields.items second.fields.items)) }
+        requires { All (λ number. number < length self.now.sets.now) joined.now }
+        ensures { IfOk result (λ found. MatchOption found
+            (LooksAt self.now.schema.now (pass_of self.now.pass) self.now.sets.now joined.now (lists_at waiting.old.items) (lists_at waiting.new.items))
+            (FindsIn self.now.schema.now (pass_of self.now.pass) self.now.sets.now joined.now)) }
     {
-        let first = &self.sets[pair.first];
-        let second = &self.sets[pair.second];
-        add_into_first(pairs, &first.fragments, pair.second)?;
-        add_into_second(pairs, pair.first, &second.fragments)?;
-        self.compare_all(pairs, &first.fields, &self.groups[pair.second])
+        let fields = self.fields_of(joined)?;
+        let groups = group_fields(self.alloc, self.hash_seed, &fields, GroupedBy::ResponseKey)?;
+        let keys = names_of(self.alloc, &groups)?;
+        self.look_by_keys(waiting, &groups, &keys)
     }
 
-    /// Compares each of some fields with those of some others that have its response key.
-    fn compare_all(
-        &self,
-        pairs: &mut SetPairs,
-        fields: &[NumberedField<'doc>],
-        groups: &FieldsByKey<'doc>,
-    ) -> Result<Option<Conflict<'doc>>, ValidationError>
-        ensures { (others : List NumberedField) → IsGrouped others groups.now.entries → IfOk result (λ found. MatchOption found
-            (Compares self.now.schema.now (pass_of self.now.pass) fields.now others pairs.old.keys pairs.new.keys)
-            (Finds self.now.schema.now (pass_of self.now.pass) fields.now others)) }
+    /// The fields of these sets.
+    fn fields_of(&self, numbers: &[usize]) -> Result<Vec<NumberedField<'doc>>, ValidationError>
+        requires { All (λ number. number < length self.now.sets.now) numbers.now }
+        ensures { IfOk result (λ fields. AreFieldsOf self.now.schema.now (pass_of self.now.pass) self.now.sets.now numbers.now fields.items) }
     {
-        if groups.is_empty() {
-            return Ok(None);
+        let mut fields = Vec::new(self.alloc);
+        for number in numbers {
+            fields.extend_from_slice(&self.sets[*number].fields)?;
         }
-        for field in fields {
-            if let Some(conflict) = self.compare_under_key(pairs, *field, groups)? {
+        Ok(fields)
+    }
+
+    /// Compares fields that are grouped by their response keys, as `look_at` does.
+    fn look_by_keys(
+        &self,
+        waiting: &mut Waiting,
+        groups: &FieldsByName<'doc>,
+        keys: &[&'doc Name],
+    ) -> Result<Option<Conflict<'doc>>, ValidationError>
+        ensures { (fields : List NumberedField) → IsGrouped ResponseKey fields groups.now.entries → keys.now ≡ names_in groups.now.entries → IfOk result (λ found. MatchOption found
+            (Settles self.now.schema.now (pass_of self.now.pass) fields (Both fields) (lists_at waiting.old.items) (lists_at waiting.new.items))
+            (Finds self.now.schema.now (pass_of self.now.pass) fields fields)) }
+    {
+        for key in keys {
+            if let Some(conflict) = self.look_under_name(waiting, groups, *key)? {
                 return Ok(Some(conflict));
             }
         }
         Ok(None)
     }
 
-    /// The same of one field.
-    fn compare_under_key(
+    /// The same of those that are under one of the keys.
+    fn look_under_name(
         &self,
-        pairs: &mut SetPairs,
-        field: NumberedField<'doc>,
-        groups: &FieldsByKey<'doc>,
+        waiting: &mut Waiting,
+        groups: &FieldsByName<'doc>,
+        key: &'doc Name,
     ) -> Result<Option<Conflict<'doc>>, ValidationError>
-        ensures { (others : List NumberedField) → IsGrouped others groups.now.entries → IfOk result (λ found. MatchOption found
-            (Compares self.now.schema.now (pass_of self.now.pass) (field.entry ∷ []) others pairs.old.keys pairs.new.keys)
-            (Finds self.now.schema.now (pass_of self.now.pass) (field.entry ∷ []) others)) }
+        ensures { (fields : List NumberedField) → IsGrouped ResponseKey fields groups.now.entries → IfOk result (λ found. MatchOption found
+            (Settles self.now.schema.now (pass_of self.now.pass) fields (λ x y. Both fields x y × (has_name ResponseKey key.now x ≡ true)) (lists_at waiting.old.items) (lists_at waiting.new.items))
+            (Finds self.now.schema.now (pass_of self.now.pass) fields fields)) }
     {
-        match groups.get(&field.field.field.value.response_key()) {
-            Some(others) => self.compare_with_each(pairs, field, others),
+        match groups.get(&key) {
+            Some(fields) => self.look_under_key(waiting, fields),
             None => Ok(None),
         }
     }
 
-    /// Compares a field with each of some others.
-    fn compare_with_each(
+    /// The same of fields that have one response key.
+    fn look_under_key(
         &self,
-        pairs: &mut SetPairs,
-        field: NumberedField<'doc>,
-        others: &[NumberedField<'doc>],
+        waiting: &mut Waiting,
+        fields: &[NumberedField<'doc>],
     ) -> Result<Option<Conflict<'doc>>, ValidationError>
-        ensures { IfOk result (λ found. MatchOption found
-            (Compares self.now.schema.now (pass_of self.now.pass) (field.entry ∷ []) others.now pairs.old.keys pairs.new.keys)
-            (Finds self.now.schema.now (pass_of self.now.pass) (field.entry ∷ []) others.now)) }
+        ensures { HaveOneKey fields.now → IfOk result (λ found. MatchOption found
+            (Settles self.now.schema.now (pass_of self.now.pass) fields.now (Both fields.now) (lists_at waiting.old.items) (lists_at waiting.new.items))
+            (Finds self.now.schema.now (pass_of self.now.pass) fields.now fields.now)) }
     {
-        for other in others {
-            if let Some(conflict) = self.compare(pairs, field, *other)? {
+        match self.pass {
+            Pass::Shapes => self.settle(waiting, fields),
+            Pass::NamesAndArguments => {
+                let groups = group_fields(
+                    self.alloc,
+                    self.hash_seed,
+                    fields,
+                    GroupedBy::ParentType,
+                )?;
+                let parents = names_of(self.alloc, &groups)?;
+                self.look_by_parents(waiting, &groups, &parents)
+            }
+        }
+    }
+
+    /// The same of those that are grouped by the types on which they are.
+    fn look_by_parents(
+        &self,
+        waiting: &mut Waiting,
+        groups: &FieldsByName<'doc>,
+        parents: &[&'doc Name],
+    ) -> Result<Option<Conflict<'doc>>, ValidationError>
+        requires { pass_of self.now.pass ≡ field_pass }
+        ensures { (fields : List NumberedField) → HaveOneKey fields → IsGrouped ParentType fields groups.now.entries → parents.now ≡ names_in groups.now.entries → IfOk result (λ found. MatchOption found
+            (Settles self.now.schema.now (pass_of self.now.pass) fields (Both fields) (lists_at waiting.old.items) (lists_at waiting.new.items))
+            (Finds self.now.schema.now (pass_of self.now.pass) fields fields)) }
+    {
+        for parent in parents {
+            if let Some(conflict) = self.look_from_parent(waiting, groups, parents, *parent)? {
                 return Ok(Some(conflict));
             }
         }
         Ok(None)
     }
 
-    /// Compares two fields, if they are put together, and adds the pair of their sets where they agree.
-    fn compare(
+    /// The same of those on one of the types with all of them.
+    fn look_from_parent(
         &self,
-        pairs: &mut SetPairs,
+        waiting: &mut Waiting,
+        groups: &FieldsByName<'doc>,
+        parents: &[&'doc Name],
+        parent: &'doc Name,
+    ) -> Result<Option<Conflict<'doc>>, ValidationError>
+        requires { pass_of self.now.pass ≡ field_pass }
+        ensures { (fields : List NumberedField) → HaveOneKey fields → IsGrouped ParentType fields groups.now.entries → parents.now ≡ names_in groups.now.entries → IfOk result (λ found. MatchOption found
+            (Settles self.now.schema.now (pass_of self.now.pass) fields (λ x y. Both fields x y × (has_name ParentType parent.now x ≡ true)) (lists_at waiting.old.items) (lists_at waiting.new.items))
+            (Finds self.now.schema.now (pass_of self.now.pass) fields fields)) }
+    {
+        match groups.get(&parent) {
+            Some(first) => self.look_with_parents(waiting, first, groups, parents),
+            None => Ok(None),
+        }
+    }
+
+    /// The same of those on one type with all of them.
+    fn look_with_parents(
+        &self,
+        waiting: &mut Waiting,
+        first: &[NumberedField<'doc>],
+        groups: &FieldsByName<'doc>,
+        parents: &[&'doc Name],
+    ) -> Result<Option<Conflict<'doc>>, ValidationError>
+        requires { pass_of self.now.pass ≡ field_pass }
+        ensures { (fields : List NumberedField) → HaveOneKey fields → IsGrouped ParentType fields groups.now.entries → IsGroupOf ParentType fields first.now → parents.now ≡ names_in groups.now.entries → IfOk result (λ found. MatchOption found
+            (Settles self.now.schema.now (pass_of self.now.pass) fields (λ x y. Contains first.now x × Contains fields y) (lists_at waiting.old.items) (lists_at waiting.new.items))
+            (Finds self.now.schema.now (pass_of self.now.pass) fields fields)) }
+    {
+        for parent in parents {
+            if let Some(conflict) = self.look_to_parent(waiting, first, groups, *parent)? {
+                return Ok(Some(conflict));
+            }
+        }
+        Ok(None)
+    }
+
+    /// The same of those on one type with those on one of the types.
+    fn look_to_parent(
+        &self,
+        waiting: &mut Waiting,
+        first: &[NumberedField<'doc>],
+        groups: &FieldsByName<'doc>,
+        parent: &'doc Name,
+    ) -> Result<Option<Conflict<'doc>>, ValidationError>
+        requires { pass_of self.now.pass ≡ field_pass }
+        ensures { (fields : List NumberedField) → HaveOneKey fields → IsGrouped ParentType fields groups.now.entries → IsGroupOf ParentType fields first.now → IfOk result (λ found. MatchOption found
+            (Settles self.now.schema.now (pass_of self.now.pass) fields (λ x y. Contains first.now x × (Contains fields y × (has_name ParentType parent.now y ≡ true))) (lists_at waiting.old.items) (lists_at waiting.new.items))
+            (Finds self.now.schema.now (pass_of self.now.pass) fields fields)) }
+    {
+        match groups.get(&parent) {
+            Some(second) => self.look_at_two(waiting, first, second),
+            None => Ok(None),
+        }
+    }
+
+    /// The same of those on one type with those on another, if the types may overlap.
+    fn look_at_two(
+        &self,
+        waiting: &mut Waiting,
+        first: &[NumberedField<'doc>],
+        second: &[NumberedField<'doc>],
+    ) -> Result<Option<Conflict<'doc>>, ValidationError>
+        requires { pass_of self.now.pass ≡ field_pass }
+        ensures { (fields : List NumberedField) → HaveOneKey fields → IsGroupOf ParentType fields first.now → IsGroupOf ParentType fields second.now → IfOk result (λ found. MatchOption found
+            (Settles self.now.schema.now (pass_of self.now.pass) fields (λ x y. Contains first.now x × Contains second.now y) (lists_at waiting.old.items) (lists_at waiting.new.items))
+            (Finds self.now.schema.now (pass_of self.now.pass) fields fields)) }
+    {
+        let (Some(one), Some(other)) = (first.first(), second.first()) else {
+            return Ok(None);
+        };
+        if !parents_may_overlap(self.schema, one.field, other.field) {
+            return Ok(None);
+        }
+        let mut both = Vec::from_slice(self.alloc, first)?;
+        both.extend_from_slice(second)?;
+        self.settle(waiting, &both)
+    }
+
+    /// Compares fields of which each two come together, and adds the list of their sets.
+    fn settle(
+        &self,
+        waiting: &mut Waiting,
+        fields: &[NumberedField<'doc>],
+    ) -> Result<Option<Conflict<'doc>>, ValidationError>
+        ensures { AreTogether self.now.schema.now (pass_of self.now.pass) fields.now → IfOk result (λ found. MatchOption found
+            (Settles self.now.schema.now (pass_of self.now.pass) fields.now (Both fields.now) (lists_at waiting.old.items) (lists_at waiting.new.items))
+            (Finds self.now.schema.now (pass_of self.now.pass) fields.now fields.now)) }
+    {
+        if let Some(conflict) = self.conflict_among(fields)? {
+            return Ok(Some(conflict));
+        }
+        let below = self.sets_below(fields)?;
+        waiting.push(below)?;
+        Ok(None)
+    }
+
+    /// The sets of those fields that select something.
+    fn sets_below(&self, fields: &[NumberedField<'doc>]) -> Result<Vec<usize>, ValidationError>
+        ensures { IfOk result (λ below. AreSetsBelow fields.now below.items) }
+    {
+        let mut below = Vec::new(self.alloc);
+        for field in fields {
+            if field.selects_something() {
+                below.push(field.set)?;
+            }
+        }
+        Ok(below)
+    }
+
+    /// Two of these fields that do not agree, if there are any.
+    fn conflict_among(
+        &self,
+        fields: &[NumberedField<'doc>],
+    ) -> Result<Option<Conflict<'doc>>, ValidationError>
+        ensures { IfOk result (λ found. MatchOption found
+            (AllAgree self.now.schema.now (pass_of self.now.pass) fields.now)
+            (DisagreeAmong self.now.schema.now (pass_of self.now.pass) fields.now fields.now)) }
+    {
+        let Some(first) = fields.first() else {
+            return Ok(None);
+        };
+        if self.decides_alone(*first) {
+            return self.conflict_with_each(*first, fields);
+        }
+        self.conflict_of_any(fields)
+    }
+
+    /// The same, each with each.
+    fn conflict_of_any(
+        &self,
+        fields: &[NumberedField<'doc>],
+    ) -> Result<Option<Conflict<'doc>>, ValidationError>
+        ensures { IfOk result (λ found. MatchOption found
+            (AllAgree self.now.schema.now (pass_of self.now.pass) fields.now)
+            (DisagreeAmong self.now.schema.now (pass_of self.now.pass) fields.now fields.now)) }
+    {
+        for field in fields {
+            if let Some(conflict) = self.conflict_with_each(*field, fields)? {
+                return Ok(Some(conflict));
+            }
+        }
+        Ok(None)
+    }
+
+    /// Whether fields that agree with this one agree with one another: all but those whose type is not defined.
+    fn decides_alone(&self, field: NumberedField) -> bool
+        ensures { IsTrue result → DecidesAlone self.now.schema.now (pass_of self.now.pass) (field_of field.entry) }
+    {
+        match self.pass {
+            Pass::Shapes => has_defined_type(self.schema, field.field),
+            Pass::NamesAndArguments => true,
+        }
+    }
+
+    /// The first of these fields that does not agree with this one, if there is any.
+    fn conflict_with_each(
+        &self,
+        field: NumberedField<'doc>,
+        others: &[NumberedField<'doc>],
+    ) -> Result<Option<Conflict<'doc>>, ValidationError>
+        ensures { IfOk result (λ found. MatchOption found
+            (All (λ other. Agree self.now.schema.now (pass_of self.now.pass) (field_of field.entry) (field_of other)) others.now)
+            (DisagreeAmong self.now.schema.now (pass_of self.now.pass) (field.entry ∷ []) others.now)) }
+    {
+        for other in others {
+            if let Some(conflict) = self.conflict_of(field, *other)? {
+                return Ok(Some(conflict));
+            }
+        }
+        Ok(None)
+    }
+
+    /// The two fields, if they do not agree.
+    fn conflict_of(
+        &self,
         first: NumberedField<'doc>,
         second: NumberedField<'doc>,
     ) -> Result<Option<Conflict<'doc>>, ValidationError>
         ensures { IfOk result (λ found. MatchOption found
-            (Compares self.now.schema.now (pass_of self.now.pass) (first.entry ∷ []) (second.entry ∷ []) pairs.old.keys pairs.new.keys)
-            (Finds self.now.schema.now (pass_of self.now.pass) (first.entry ∷ []) (second.entry ∷ []))) }
+            (Agree self.now.schema.now (pass_of self.now.pass) (field_of first.entry) (field_of second.entry))
+            (DisagreeAmong self.now.schema.now (pass_of self.now.pass) (first.entry ∷ []) (second.entry ∷ []))) }
     {
-        if !are_put_together(self.schema, self.pass, first.field, second.field) {
-            return Ok(None);
-        }
-        if let Some(disagreement) = disagreement_of(
-            *pairs.allocator(),
-            *pairs.hasher(),
+        let found = disagreement_of(
+            self.alloc,
+            self.hash_seed,
             self.schema,
             self.pass,
             first.field,
             second.field,
-        )? {
-            return Ok(Some(Conflict {
+        )?;
+        match found {
+            Some(disagreement) => Ok(Some(Conflict {
                 first: first.field,
                 second: second.field,
                 disagreement,
-            }));
+            })),
+            None => Ok(None),
         }
-        if first.selects_something() && second.selects_something() {
-            add(pairs, first.set, second.set)?;
-        }
-        Ok(None)
     }
-}
-
-/// Adds the pair of each of some sets with itself.
-fn add_starts(pairs: &mut SetPairs, starts: &[usize]) -> Result<(), ValidationError>
-    ensures { OnOk result (Adds (IsStart starts.now) pairs.old.keys pairs.new.keys) }
-{
-    for start in starts {
-        add(pairs, *start, *start)?;
-    }
-    Ok(())
-}
-
-/// Adds the pair of each of some sets with another.
-fn add_into_first(
-    pairs: &mut SetPairs,
-    fragments: &[usize],
-    second: usize,
-) -> Result<(), ValidationError>
-    ensures { OnOk result (Adds (IntoFirst fragments.now second) pairs.old.keys pairs.new.keys) }
-{
-    for first in fragments {
-        add(pairs, *first, second)?;
-    }
-    Ok(())
-}
-
-/// Adds the pair of a set with each of some others.
-fn add_into_second(
-    pairs: &mut SetPairs,
-    first: usize,
-    fragments: &[usize],
-) -> Result<(), ValidationError>
-    ensures { OnOk result (Adds (IntoSecond first fragments.now) pairs.old.keys pairs.new.keys) }
-{
-    for second in fragments {
-        add(pairs, first, *second)?;
-    }
-    Ok(())
-}
-
-/// Adds the pair of two sets, if it is not there.
-fn add(pairs: &mut SetPairs, first: usize, second: usize) -> Result<(), ValidationError>
-    ensures { OnOk result (Adds (λ p. p ≡ pair_of first second) pairs.old.keys pairs.new.keys) }
-{
-    pairs.insert(SetPair { first, second })?;
-    Ok(())
 }

@@ -5,7 +5,6 @@ use Rattle.graphql_specification.specs.Merging.{shape_pass}
 use Rattle.graphql_pair_merging.specs.NumberedSets.{operation_sets}
 use Rattle.graphql_pair_merging.specs.Pairs.{FindsBelow, HasLooked}
 use Rattle.graphql_pair_merging.proofs.ConflictLemmas.{decided, linked, met_conflict, numbered_as, within}
-use Rattle.graphql_pair_merging.proofs.GroupLemmas.{grouped_as}
 use Rattle.graphql_pair_merging.proofs.merging.find_conflict.Goals as goal
 
 pub find_conflict-requires-clause-linked : goal.find_conflict-requires-clause-linked
@@ -13,26 +12,16 @@ find_conflict-requires-clause-linked c =
     let F = fragments_in c.args.fragments.now in
     let sets = operation_sets c.args.operations.now in
     let n = c.in_ok-numbered.numbered in
-    linked F c.deref-4.result.now sets c.deref-2.result.now
-    (numbered_as F n.starts.items c.deref-4.result.now sets n.sets.items c.deref-2.result.now c.in_ok-numbered.ensures c.deref-4.ensures.value c.deref-2.ensures.value)
+    linked F c.deref-2.result.now sets c.deref.result.now
+    (numbered_as F n.starts.items c.deref-2.result.now sets n.sets.items c.deref.result.now c.in_ok-numbered.ensures c.deref-2.ensures.value c.deref.ensures.value)
 
 pub find_conflict-requires-clause-within : goal.find_conflict-requires-clause-within
 find_conflict-requires-clause-within c =
     let F = fragments_in c.args.fragments.now in
     let sets = operation_sets c.args.operations.now in
     let n = c.in_ok-numbered.numbered in
-    within F c.deref-4.result.now sets c.deref-2.result.now
-    (numbered_as F n.starts.items c.deref-4.result.now sets n.sets.items c.deref-2.result.now c.in_ok-numbered.ensures c.deref-4.ensures.value c.deref-2.ensures.value)
-
-pub find_conflict-requires-clause-grouped : goal.find_conflict-requires-clause-grouped
-find_conflict-requires-clause-grouped c =
-    grouped_as c.deref.result.now c.in_ok-numbered.numbered.sets.items c.deref-2.result.now c.in_ok-groups.groups.items c.deref-3.result.now
-    c.deref.ensures.value c.deref-2.ensures.value c.deref-3.ensures.value c.in_ok-groups.ensures
-
-pub find_conflict-requires-2-clause-grouped : goal.find_conflict-requires-2-clause-grouped
-find_conflict-requires-2-clause-grouped c =
-    grouped_as c.deref.result.now c.in_ok-numbered.numbered.sets.items c.deref-5.result.now c.in_ok-groups.groups.items c.deref-6.result.now
-    c.deref.ensures.value c.deref-5.ensures.value c.deref-6.ensures.value c.in_ok-groups.ensures
+    within F c.deref-2.result.now sets c.deref.result.now
+    (numbered_as F n.starts.items c.deref-2.result.now sets n.sets.items c.deref.result.now c.in_ok-numbered.ensures c.deref-2.ensures.value c.deref.ensures.value)
 
 pub returns-in-Some : goal.returns-in-Some
 returns-in-Some c =
@@ -40,9 +29,9 @@ returns-in-Some c =
     let sets = operation_sets c.args.operations.now in
     let schema = c.args.schema.now in
     let n = c.in_ok-numbered.numbered in
-    let starts = c.deref-4.result.now in
-    let slice = c.deref-2.result.now in
-    let are = numbered_as F n.starts.items starts sets n.sets.items slice c.in_ok-numbered.ensures c.deref-4.ensures.value c.deref-2.ensures.value in
+    let starts = c.deref-2.result.now in
+    let slice = c.deref.result.now in
+    let are = numbered_as F n.starts.items starts sets n.sets.items slice c.in_ok-numbered.ensures c.deref-2.ensures.value c.deref.ensures.value in
     met_conflict F starts sets slice are schema shape_pass c.in-Some.conflict
     (subst (λ o. MatchOption o (HasLooked schema shape_pass slice starts) (FindsBelow schema shape_pass slice starts)) c.in-Some.is c.in_ok-conflict.ensures)
 
@@ -51,16 +40,16 @@ find_conflict-requires-2-clause-linked c =
     let F = fragments_in c.args.fragments.now in
     let sets = operation_sets c.args.operations.now in
     let n = c.in_ok-numbered.numbered in
-    linked F c.deref-7.result.now sets c.deref-5.result.now
-    (numbered_as F n.starts.items c.deref-7.result.now sets n.sets.items c.deref-5.result.now c.in_ok-numbered.ensures c.deref-7.ensures.value c.deref-5.ensures.value)
+    linked F c.deref-4.result.now sets c.deref-3.result.now
+    (numbered_as F n.starts.items c.deref-4.result.now sets n.sets.items c.deref-3.result.now c.in_ok-numbered.ensures c.deref-4.ensures.value c.deref-3.ensures.value)
 
 pub find_conflict-requires-2-clause-within : goal.find_conflict-requires-2-clause-within
 find_conflict-requires-2-clause-within c =
     let F = fragments_in c.args.fragments.now in
     let sets = operation_sets c.args.operations.now in
     let n = c.in_ok-numbered.numbered in
-    within F c.deref-7.result.now sets c.deref-5.result.now
-    (numbered_as F n.starts.items c.deref-7.result.now sets n.sets.items c.deref-5.result.now c.in_ok-numbered.ensures c.deref-7.ensures.value c.deref-5.ensures.value)
+    within F c.deref-4.result.now sets c.deref-3.result.now
+    (numbered_as F n.starts.items c.deref-4.result.now sets n.sets.items c.deref-3.result.now c.in_ok-numbered.ensures c.deref-4.ensures.value c.deref-3.ensures.value)
 
 pub returns : goal.returns
 returns c =
@@ -68,12 +57,12 @@ returns c =
     let sets = operation_sets c.args.operations.now in
     let schema = c.args.schema.now in
     let n = c.in_ok-numbered.numbered in
-    let starts = c.deref-7.result.now in
-    let slice = c.deref-5.result.now in
-    let are = numbered_as F n.starts.items starts sets n.sets.items slice c.in_ok-numbered.ensures c.deref-7.ensures.value c.deref-5.ensures.value in
-    let was = c.deref-2.result.now in
-    let begun = c.deref-4.result.now in
+    let starts = c.deref-4.result.now in
+    let slice = c.deref-3.result.now in
+    let are = numbered_as F n.starts.items starts sets n.sets.items slice c.in_ok-numbered.ensures c.deref-4.ensures.value c.deref-3.ensures.value in
+    let was = c.deref.result.now in
+    let begun = c.deref-2.result.now in
     let before = subst (λ o. MatchOption o (HasLooked schema shape_pass was begun) (FindsBelow schema shape_pass was begun)) c.in_default.is c.in_ok-conflict.ensures in
-    let shapes = subst (λ l. HasLooked schema shape_pass l starts) (c.deref-2.ensures.value ∙ sym c.deref-5.ensures.value)
-    (subst (λ l. HasLooked schema shape_pass was l) (c.deref-4.ensures.value ∙ sym c.deref-7.ensures.value) before) in
+    let shapes = subst (λ l. HasLooked schema shape_pass l starts) (c.deref.ensures.value ∙ sym c.deref-3.ensures.value)
+    (subst (λ l. HasLooked schema shape_pass was l) (c.deref-2.ensures.value ∙ sym c.deref-4.ensures.value) before) in
     decided c.find_conflict-2.result schema F starts sets slice are shapes c.find_conflict-2.ensures

@@ -1,76 +1,90 @@
-use Rattle.std.proofs.Common.{◌≤◌, ◌*◌, arith, length, subst}
-use Rattle.std.specs.Prelude.{MatchOption}
-use Rattle.std.proofs.lemmas.List.{take_all}
+use Rattle.std.proofs.Common.{◌<◌, All, length, subst, sym, ◌∙◌}
+use Rattle.std.specs.Prelude.{⊤, MatchOption}
 use Rattle.graphql_merging.specs.Groups.{pass_of}
-use Rattle.graphql_pair_merging.specs.Pairs.{Finds, LooksAt}
-use Rattle.graphql_pair_merging.proofs.WalkLemmas.{all_within, few_pairs, found_below, pair_within, some_at, walks_begin, walks_end, walks_on}
+use Rattle.graphql_number_sets.specs.NumberSets.{numbers_of}
+use Rattle.graphql_number_sets.specs.declared.distinct_numbers.DistinctNumbers.{DistinctNumbers}
+use Rattle.graphql_pair_merging.specs.JoinedSets.{Takes}
+use Rattle.graphql_pair_merging.specs.Pairs.{FindsIn, LooksAt, WereLookedAt, lists_at}
+use Rattle.graphql_pair_merging.proofs.WalkLemmas.{fewer_left, found_below, waiting_within, walks_begin, walks_end, walks_on}
 use Rattle.graphql_pair_merging.proofs.pairs.PairPass.find_conflict.Goals as goal
 
-pub loop-next-init : goal.loop-next-init
-loop-next-init c =
-    walks_begin c.args.self.now.schema.now (pass_of c.args.self.now.pass) c.args.self.now.sets.now c.args.starts.now c.with_hasher-pairs.result.keys c.add_starts.new.pairs.keys
-    c.with_hasher-pairs.ensures.empty c.in_ok-add_starts.ensures
-
-pub look_at-requires-clause-first : goal.look_at-requires-clause-first
-look_at-requires-clause-first c =
+pub loop-looked-init : goal.loop-looked-init
+loop-looked-init c =
     let self = c.args.self.now in
-    let within = pair_within self.schema.now (pass_of self.pass) self.sets.now c.args.starts.now c.requires.linked c.requires.within
-    c.loop-next.next c.loop-next.pairs.keys c.index-pair.result.now c.loop-next.invariant c.index-pair.ensures in
-    within.0
+    record {
+      count = c.in_ok-looked.ensures.count;
+      walks = walks_begin self.schema.now (pass_of self.pass) self.sets.now c.args.starts.now c.requires.linked c.requires.within c.in_ok-looked.looked (lists_at c.in_ok-waiting.waiting.items)
+          c.in_ok-looked.ensures.empty c.in_ok-waiting.ensures;
+    }
 
-pub look_at-requires-clause-second : goal.look_at-requires-clause-second
-look_at-requires-clause-second c =
+pub next_unlooked-requires-clause-count : goal.next_unlooked-requires-clause-count
+next_unlooked-requires-clause-count c = c.loop-looked.invariant.count
+
+pub next_unlooked-requires-clause-within : goal.next_unlooked-requires-clause-within
+next_unlooked-requires-clause-within c =
     let self = c.args.self.now in
-    let within = pair_within self.schema.now (pass_of self.pass) self.sets.now c.args.starts.now c.requires.linked c.requires.within
-    c.loop-next.next c.loop-next.pairs.keys c.index-pair.result.now c.loop-next.invariant c.index-pair.ensures in
-    within.1
+    waiting_within self.schema.now (pass_of self.pass) self.sets.now c.args.starts.now c.requires.linked c.requires.within c.loop-looked.looked (lists_at c.loop-looked.waiting.items)
+    c.loop-looked.invariant.walks
 
-pub returns-in-Some : goal.returns-in-Some
-returns-in-Some c =
-    let self = c.args.self.now in
-    let schema = self.schema.now in
-    let pass = pass_of self.pass in
-    let sets = self.sets.now in
-    let p = c.index-pair.result.now in
-    let keys = c.loop-next.pairs.keys in
-    let start = c.args.starts.now in
-    let within = pair_within schema pass sets start c.requires.linked c.requires.within c.loop-next.next keys p c.loop-next.invariant c.index-pair.ensures in
-    let a = some_at sets p.first within.0 in
-    let b = some_at sets p.second within.1 in
-    let found = subst (λ o. MatchOption o (LooksAt schema pass a.0 b.0 p keys c.look_at.new.pairs.keys) (Finds schema pass a.0.fields.items b.0.fields.items)) c.in-Some.is
-    (c.in_ok-conflict.ensures a.0 b.0 a.1 b.1) in
-    found_below schema pass sets start c.loop-next.next keys p a.0 b.0 c.in-Some.conflict c.index-pair.ensures a.1 b.1 found c.loop-next.invariant
-
-pub loop-next-smaller : goal.loop-next-smaller
-loop-next-smaller c =
-    let self = c.args.self.now in
-    let sets = self.sets.now in
-    let start = c.args.starts.now in
-    let keys = c.loop-next.pairs.keys in
-    let few : length keys ≤ length sets * length sets =
-    few_pairs (length sets) keys c.len.ensures.unique
-    (all_within self.schema.now (pass_of self.pass) sets start c.requires.linked c.requires.within c.loop-next.next keys c.loop-next.invariant) in
-    omega (arith, few, c.loop-next-test.true, c.len.ensures.len)
-
-pub loop-next-preserved : goal.loop-next-preserved
-loop-next-preserved c =
+pub returns-in-Some-2 : goal.returns-in-Some-2
+returns-in-Some-2 c =
     let self = c.args.self.now in
     let schema = self.schema.now in
     let pass = pass_of self.pass in
     let sets = self.sets.now in
-    let p = c.index-pair.result.now in
-    let keys = c.loop-next.pairs.keys in
-    let start = c.args.starts.now in
-    let within = pair_within schema pass sets start c.requires.linked c.requires.within c.loop-next.next keys p c.loop-next.invariant c.index-pair.ensures in
-    let a = some_at sets p.first within.0 in
-    let b = some_at sets p.second within.1 in
-    let looks = subst (λ o. MatchOption o (LooksAt schema pass a.0 b.0 p keys c.look_at.new.pairs.keys) (Finds schema pass a.0.fields.items b.0.fields.items)) c.in_default.is
-    (c.in_ok-conflict.ensures a.0 b.0 a.1 b.1) in
-    walks_on schema pass sets start c.loop-next.next keys c.look_at.new.pairs.keys p a.0 b.0 c.index-pair.ensures a.1 b.1 looks c.loop-next.invariant
+    let old = lists_at c.loop-looked.waiting.items in
+    let mid = lists_at c.next_unlooked.new.waiting.items in
+    let after = lists_at c.look_at.new.waiting.items in
+    let joined = c.in-Some.joined in
+    let taken = subst (λ o. MatchOption o (All (WereLookedAt c.loop-looked.looked) old) (λ (j : DistinctNumbers). Takes sets c.loop-looked.looked old mid (numbers_of j))) c.in-Some.is c.in_ok-joined.ensures.taken in
+    let found = subst (λ o. MatchOption o (LooksAt schema pass sets c.as_slice.result.now mid after) (FindsIn schema pass sets c.as_slice.result.now)) c.in-Some-2.is c.in_ok-conflict.ensures in
+    found_below schema pass sets c.args.starts.now c.requires.linked c.requires.within c.loop-looked.looked old mid (numbers_of joined) c.in-Some-2.conflict taken
+    (subst (λ l. FindsIn schema pass sets l c.in-Some-2.conflict) c.as_slice.ensures found) c.loop-looked.invariant.walks
+
+pub add_all-requires-clause-within : goal.add_all-requires-clause-within
+add_all-requires-clause-within c =
+    let count = length c.args.self.now.sets.now in
+    let within = subst (λ o. MatchOption o ⊤ (λ (j : DistinctNumbers). All (λ n. n < count) (numbers_of j))) c.in-Some.is c.in_ok-joined.ensures.within in
+    subst (λ m. All (λ n. n < m) (numbers_of c.in-Some.joined)) (sym c.loop-looked.invariant.count) within
+
+pub loop-looked-smaller : goal.loop-looked-smaller
+loop-looked-smaller c =
+    let self = c.args.self.now in
+    let schema = self.schema.now in
+    let pass = pass_of self.pass in
+    let sets = self.sets.now in
+    let old = lists_at c.loop-looked.waiting.items in
+    let mid = lists_at c.next_unlooked.new.waiting.items in
+    let after = lists_at c.look_at.new.waiting.items in
+    let joined = c.in-Some.joined in
+    let taken = subst (λ o. MatchOption o (All (WereLookedAt c.loop-looked.looked) old) (λ (j : DistinctNumbers). Takes sets c.loop-looked.looked old mid (numbers_of j))) c.in-Some.is c.in_ok-joined.ensures.taken in
+    let looks = subst (λ o. MatchOption o (LooksAt schema pass sets c.as_slice.result.now mid after) (FindsIn schema pass sets c.as_slice.result.now)) c.in_default-2.is c.in_ok-conflict.ensures in
+    fewer_left schema pass sets c.args.starts.now c.requires.linked c.requires.within c.loop-looked.looked c.add_all.new.self old mid after (numbers_of joined) taken
+    (subst (λ l. LooksAt schema pass sets l mid after) c.as_slice.ensures looks) c.in_ok-add_all.ensures.added c.loop-looked.invariant.walks
+
+pub loop-looked-preserved : goal.loop-looked-preserved
+loop-looked-preserved c =
+    let self = c.args.self.now in
+    let schema = self.schema.now in
+    let pass = pass_of self.pass in
+    let sets = self.sets.now in
+    let old = lists_at c.loop-looked.waiting.items in
+    let mid = lists_at c.next_unlooked.new.waiting.items in
+    let after = lists_at c.look_at.new.waiting.items in
+    let joined = c.in-Some.joined in
+    let taken = subst (λ o. MatchOption o (All (WereLookedAt c.loop-looked.looked) old) (λ (j : DistinctNumbers). Takes sets c.loop-looked.looked old mid (numbers_of j))) c.in-Some.is c.in_ok-joined.ensures.taken in
+    let looks = subst (λ o. MatchOption o (LooksAt schema pass sets c.as_slice.result.now mid after) (FindsIn schema pass sets c.as_slice.result.now)) c.in_default-2.is c.in_ok-conflict.ensures in
+    record {
+      count = c.add_all.ensures.count ∙ c.loop-looked.invariant.count;
+      walks = walks_on schema pass sets c.args.starts.now c.requires.linked c.requires.within c.loop-looked.looked c.add_all.new.self old mid after (numbers_of joined) taken
+          (subst (λ l. LooksAt schema pass sets l mid after) c.as_slice.ensures looks) c.in_ok-add_all.ensures.added c.loop-looked.invariant.walks;
+    }
 
 pub returns : goal.returns
 returns c =
     let self = c.args.self.now in
-    let keys = c.loop-next.pairs.keys in
-    let at_end : length keys ≤ c.loop-next.next = omega (arith, c.loop-next-test.false, c.len.ensures.len) in
-    walks_end self.schema.now (pass_of self.pass) self.sets.now c.args.starts.now c.loop-next.next keys (take_all c.loop-next.next keys at_end) c.loop-next.invariant
+    let sets = self.sets.now in
+    let old = lists_at c.loop-looked.waiting.items in
+    let mid = lists_at c.next_unlooked.new.waiting.items in
+    let were = subst (λ o. MatchOption o (All (WereLookedAt c.loop-looked.looked) old) (λ (j : DistinctNumbers). Takes sets c.loop-looked.looked old mid (numbers_of j))) c.in_default.is c.in_ok-joined.ensures.taken in
+    walks_end self.schema.now (pass_of self.pass) sets c.args.starts.now c.requires.linked c.requires.within c.loop-looked.looked old were c.loop-looked.invariant.walks

@@ -1,11 +1,17 @@
--- Each pair is reached, and the first ones were looked at; there are at most as many pairs as the square of the number of sets.
-use Rattle.std.proofs.Common.{◌*◌, ◌-◌, length}
+-- Pairs that are reached were looked at, or wait; there are fewer and fewer that were not looked at.
+use Rattle.std.proofs.Common.{◌≡◌, length, vec_len}
 use Rattle.graphql_merging.specs.Groups.{pass_of}
+use Rattle.graphql_number_sets.proofs.CountLemmas.{count_pairs}
+use Rattle.graphql_number_sets.specs.NumberSets.{has_pair}
+use Rattle.graphql_pair_merging.specs.Pairs.{lists_at}
 use Rattle.graphql_pair_merging.proofs.WalkLemmas.{Walks}
 use Rattle.graphql_pair_merging.proofs.pairs.PairPass.find_conflict.Given as goal
 
-abbrev pub invariant-loop-next : goal.invariant-loop-next
-invariant-loop-next l = Walks l.fn.self.schema.now (pass_of l.fn.self.pass) l.fn.self.sets.now l.fn.starts l.next l.pairs.keys
+abbrev pub invariant-loop-looked : goal.invariant-loop-looked
+invariant-loop-looked l = record {
+  count : vec_len l.looked.rows ≡ length l.self.sets.now;
+  walks : Walks l.self.schema.now (pass_of l.self.pass) l.self.sets.now l.starts l.looked (lists_at l.waiting.items);
+}
 
-abbrev pub decreases-loop-next : goal.decreases-loop-next
-decreases-loop-next l = length l.fn.self.sets.now * length l.fn.self.sets.now - l.next
+abbrev pub decreases-loop-looked : goal.decreases-loop-looked
+decreases-loop-looked l = count_pairs (length l.self.sets.now) (length l.self.sets.now) (has_pair l.looked)

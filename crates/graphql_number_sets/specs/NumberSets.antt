@@ -1,0 +1,55 @@
+-- Sets of numbers as words of 64 bits, lists of different numbers, and sets of pairs of numbers.
+use Rattle.std.specs.Prelude.{◌≡◌, ◌↔◌, ◌⊎◌, ◌++◌, ◌∷◌, ◌/◌, ◌%◌, ◌==◌, ℕ, Bool, true, false, List, [], Option, None, Some, Contains, slice_get, slice_index}
+use Rattle.std.specs.Int.{bit_at}
+use Rattle.graphql_number_sets.specs.declared.bit_sets.BitSet.{BitSet}
+use Rattle.graphql_number_sets.specs.declared.distinct_numbers.DistinctNumbers.{DistinctNumbers}
+use Rattle.graphql_number_sets.specs.declared.pair_sets.PairSet.{PairSet}
+
+-- the word at a place, and one without bits behind the last
+abbrev pub word_at : List ℕ → ℕ → ℕ
+word_at words place = slice_index words place
+
+-- the words have the bit of this number
+abbrev pub has_bit : List ℕ → ℕ → Bool
+has_bit words number = bit_at (word_at words (number / 64)) (number % 64) == 1
+
+-- the number is in the set
+abbrev pub has : BitSet → ℕ → Bool
+has set number = has_bit set.words.items number
+
+-- the numbers of the list
+abbrev pub numbers_of : DistinctNumbers → List ℕ
+numbers_of x = x.numbers.items
+
+-- each number of the list is there once, and its set has the same numbers
+pub record AreExact (x : DistinctNumbers) : Type 0 where
+  pub distinct : (i j number : ℕ) → slice_get (numbers_of x) i ≡ Some number → slice_get (numbers_of x) j ≡ Some number → i ≡ j
+  pub members : (number : ℕ) → (has x.members number ≡ true) ↔ Contains (numbers_of x) number
+
+-- a number was added behind those of a list, unless it was there
+abbrev pub IsAdded : ℕ → List ℕ → List ℕ → Type 0
+IsAdded number old new = (Contains old number × (new ≡ old)) ⊎ ((¬ Contains old number) × (new ≡ old ++ number ∷ []))
+
+-- the number is in the set, if there is one
+abbrev pub has_in : Option BitSet → ℕ → Bool
+has_in None number = false
+has_in (Some set) number = has set number
+
+-- the pair is in the set
+abbrev pub has_pair : PairSet → ℕ → ℕ → Bool
+has_pair pairs first second = has_in (slice_get pairs.rows.items first) second
+
+-- one of the numbers makes no pair of the set with this one
+abbrev pub LacksOne : PairSet → List ℕ → ℕ → Type 0
+LacksOne pairs numbers number = (other : ℕ) × Contains numbers other × (has_pair pairs number other ≡ false)
+
+-- a number was added to others, or makes a pair of the set with each
+abbrev pub IsAddedIfLacking : PairSet → List ℕ → ℕ → List ℕ → List ℕ → Type 0
+IsAddedIfLacking pairs numbers number old new =
+    (((other : ℕ) → Contains numbers other → has_pair pairs number other ≡ true) × (new ≡ old)) ⊎ (LacksOne pairs numbers number × IsAdded number old new)
+
+-- those of some numbers that lack one of them
+pub record AreLacking (pairs : PairSet) (numbers lacking : List ℕ) : Type 0 where
+  pub each : (number : ℕ) → Contains lacking number → Contains numbers number × LacksOne pairs numbers number
+  pub others : (number : ℕ) → Contains numbers number →
+      Contains lacking number ⊎ ((other : ℕ) → Contains numbers other → has_pair pairs number other ≡ true)

@@ -1,0 +1,87 @@
+//! Sets of numbers.
+
+ghost use Rattle.std.specs.Prelude.{◌≡◌, ◌↔◌, ◌⊎◌, ◌≤◌, ℕ, IsFalse, IsTrue, OnOk, false, true, vec_len};
+ghost use Rattle.graphql_number_sets.specs.NumberSets.{has, word_at};
+
+use graphql_nodes::ValidationError;
+use std::alloc::Global;
+
+/// A set of numbers, a bit for each: two are compared and joined 64 numbers at a time. It takes memory by its
+/// greatest number.
+#[derive(Debug, Drop)]
+pub struct BitSet {
+    words: Vec<u64>,
+}
+
+impl BitSet {
+    /// The empty set. It takes no memory.
+    pub fn new(alloc: Global) -> BitSet
+        ensures { (number : ℕ) → has result number ≡ false }
+    {
+        BitSet {
+            words: Vec::new(alloc),
+        }
+    }
+
+    /// Whether the number is in the set.
+    pub fn contains(&self, number: usize) -> bool
+        ensures { result ≡ has self.now number }
+    {
+        (self.word(number / 64) >> (number % 64)) & 1 == 1
+    }
+
+    /// Whether each number of the other set is in this one.
+    pub fn contains_all(&self, other: &BitSet) -> bool
+        ensures all { IsTrue result → (number : ℕ) → has other.now number ≡ true → has self.now number ≡ true }
+        ensures one { IsFalse result → (number : ℕ) × (has other.now number ≡ true) × (has self.now number ≡ false) }
+    {
+        for (place, word) in other.words.iter().enumerate() {
+            if *word & !self.word(place) != 0 {
+                return false;
+            }
+        }
+        true
+    }
+
+    /// Adds a number. The only error is a failed allocation.
+    pub fn insert(&mut self, number: usize) -> Result<(), ValidationError>
+        ensures { OnOk result ((other : ℕ) → (has self.new other ≡ true) ↔ ((has self.old other ≡ true) ⊎ (other ≡ number))) }
+    {
+        let place = number / 64;
+        self.make_words(place + 1)?;
+        self.words[place] |= 1 << (number % 64);
+        Ok(())
+    }
+
+    /// Adds each number of another set. The only error is a failed allocation.
+    pub fn add_all(&mut self, other: &BitSet) -> Result<(), ValidationError>
+        ensures { OnOk result ((number : ℕ) → (has self.new number ≡ true) ↔ ((has self.old number ≡ true) ⊎ (has other.now number ≡ true))) }
+    {
+        self.make_words(other.words.len())?;
+        for (place, word) in other.words.iter().enumerate() {
+            self.words[place] |= *word;
+        }
+        Ok(())
+    }
+
+    /// Has at least so many words from now on, and the same numbers.
+    fn make_words(&mut self, count: usize) -> Result<(), ValidationError>
+        ensures length { OnOk result (count ≤ vec_len self.new.words) }
+        ensures words { (place : ℕ) → word_at self.new.words.items place ≡ word_at self.old.words.items place }
+    {
+        while self.words.len() < count {
+            self.words.push(0)?;
+        }
+        Ok(())
+    }
+
+    /// The word at this place, or one without numbers behind the last.
+    fn word(&self, place: usize) -> u64
+        ensures { result ≡ word_at self.now.words.items place }
+    {
+        match self.words.get(place) {
+            Some(word) => *word,
+            None => 0,
+        }
+    }
+}

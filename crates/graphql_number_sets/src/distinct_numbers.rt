@@ -1,0 +1,48 @@
+//! Lists of different numbers.
+
+ghost use Rattle.std.specs.Prelude.{◌≡◌, [], OnOk};
+ghost use Rattle.graphql_number_sets.specs.NumberSets.{AreExact, IsAdded, numbers_of};
+
+use super::bit_sets::BitSet;
+use graphql_nodes::ValidationError;
+use std::alloc::Global;
+
+/// Numbers in the order in which they were added, each once.
+#[derive(Debug, Drop)]
+pub struct DistinctNumbers {
+    pub(crate) numbers: Vec<usize>,
+    pub(crate) members: BitSet,
+}
+
+impl DistinctNumbers {
+    /// No number. It takes no memory.
+    pub fn new(alloc: Global) -> DistinctNumbers
+        ensures numbers { numbers_of result ≡ [] }
+        ensures exact { AreExact result }
+    {
+        DistinctNumbers {
+            numbers: Vec::new(alloc),
+            members: BitSet::new(alloc),
+        }
+    }
+
+    /// Adds a number, unless it is there. The only error is a failed allocation.
+    pub fn add(&mut self, number: usize) -> Result<(), ValidationError>
+        requires { AreExact self.old }
+        ensures exact { OnOk result (AreExact self.new) }
+        ensures added { OnOk result (IsAdded number (numbers_of self.old) (numbers_of self.new)) }
+    {
+        if self.members.contains(number) {
+            return Ok(());
+        }
+        self.numbers.push(number)?;
+        self.members.insert(number)
+    }
+
+    /// The numbers, in order.
+    pub fn as_slice(&self) -> &[usize]
+        ensures { result.now ≡ numbers_of self.now }
+    {
+        &self.numbers
+    }
+}

@@ -1,0 +1,6 @@
+//! Sets of numbers, and of pairs of numbers.
+#![tactic(auto)]
+
+pub mod bit_sets;
+pub mod distinct_numbers;
+pub mod pair_sets;

@@ -1,0 +1,7 @@
+use Rattle.std.proofs.Common.{take}
+use Rattle.graphql_merging.specs.Groups.{pass_of}
+use Rattle.graphql_pair_merging.specs.Pairs.{AreFieldsOf}
+use Rattle.graphql_pair_merging.proofs.pairs.PairPass.fields_of.Given as goal
+
+abbrev pub invariant-loop-number : goal.invariant-loop-number
+invariant-loop-number l = AreFieldsOf l.self.schema.now (pass_of l.self.pass) l.self.sets.now (take l.number-index l.numbers) l.fields.items

@@ -1,0 +1,10 @@
+use Rattle.std.proofs.Common.{vec_len}
+use Rattle.graphql_pair_merging.specs.Pairs.{lists_at}
+use Rattle.graphql_pair_merging.proofs.JoinLemmas.{Taken}
+use Rattle.graphql_pair_merging.proofs.pairs.PairPass.next_unlooked.Given as goal
+
+abbrev pub invariant-loop-first : goal.invariant-loop-first
+invariant-loop-first l = Taken l.self.sets.now l.looked (lists_at l.initial.waiting.items) (lists_at l.waiting.items)
+
+abbrev pub decreases-loop-first : goal.decreases-loop-first
+decreases-loop-first l = vec_len l.waiting

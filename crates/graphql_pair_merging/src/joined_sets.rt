@@ -1,0 +1,62 @@
+//! Selection sets whose fields come together.
+
+ghost use Rattle.std.specs.Prelude.{◌≡◌, ◌<◌, All, IfOk, OnOk, Some, length, slice_get};
+ghost use Rattle.graphql_number_sets.specs.NumberSets.{AreExact, numbers_of};
+ghost use Rattle.graphql_pair_merging.specs.JoinedSets.{AddsEach, AreJoined};
+ghost use Rattle.graphql_pair_merging.specs.Pairs.{AreLinked};
+ghost use Rattle.graphql_pair_merging.specs.declared.numbered_sets.NumberedSet.{NumberedSet};
+
+use super::numbered_sets::NumberedSet;
+use graphql_nodes::ValidationError;
+use graphql_number_sets::distinct_numbers::DistinctNumbers;
+use std::alloc::Global;
+
+/// The numbers of some sets with those of the fragments in them, and so on. The only error is a failed allocation.
+pub(crate) fn with_fragments(
+    alloc: Global,
+    sets: &[NumberedSet],
+    first: &[usize],
+) -> Result<DistinctNumbers, ValidationError>
+    requires linked { AreLinked sets.now }
+    requires within { All (λ number. number < length sets.now) first.now }
+    ensures exact { IfOk result AreExact }
+    ensures within { IfOk result (λ joined. All (λ number. number < length sets.now) (numbers_of joined)) }
+    ensures joined { IfOk result (λ joined. AreJoined sets.now first.now (numbers_of joined)) }
+{
+    let mut joined = DistinctNumbers::new(alloc);
+    add_each(&mut joined, first)?;
+    let mut next = 0;
+    while next < joined.as_slice().len() {
+        let number = joined.as_slice()[next];
+        add_fragments(&mut joined, sets, number)?;
+        next += 1;
+    }
+    Ok(joined)
+}
+
+/// Adds the sets of the fragments in a set.
+fn add_fragments(
+    joined: &mut DistinctNumbers,
+    sets: &[NumberedSet],
+    number: usize,
+) -> Result<(), ValidationError>
+    requires exact { AreExact joined.old }
+    requires within { number < length sets.now }
+    ensures exact { OnOk result (AreExact joined.new) }
+    ensures added { (set : NumberedSet) → slice_get sets.now number ≡ Some set →
+        OnOk result (AddsEach set.fragments.items (numbers_of joined.old) (numbers_of joined.new)) }
+{
+    add_each(joined, &sets[number].fragments)
+}
+
+/// Adds these numbers, each unless it is there.
+fn add_each(joined: &mut DistinctNumbers, numbers: &[usize]) -> Result<(), ValidationError>
+    requires { AreExact joined.old }
+    ensures exact { OnOk result (AreExact joined.new) }
+    ensures added { OnOk result (AddsEach numbers.now (numbers_of joined.old) (numbers_of joined.new)) }
+{
+    for number in numbers {
+        joined.add(*number)?;
+    }
+    Ok(())
+}
