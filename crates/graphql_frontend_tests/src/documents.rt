@@ -17,6 +17,10 @@ const SCHEMA: &str = "type Query { a(i: I): Int b: B } type B { c: Int } input I
 const USAGES: &str =
     "type Query { f(l: [Int!], n: Int, o: P): Int } input P { r: Int!, d: Int! = 1 }";
 
+/// A schema with more arguments and input fields than are looked through one by one.
+const MANY: &str =
+    "type Query { f(a: Int!, b: Int, c: Int, d: Int, e: Int, g: Int, h: Int, i: Int, j: Int!, k: Int, o: M): Int } input M { a: Int!, b: Int, c: Int, d: Int, e: Int, g: Int, h: Int, i: Int, j: Int!, k: Int }";
+
 /// Texts of a schema, and texts that are one document, with what is reported: the file, the byte and the rule, and the byte
 /// of the first of a repetition. The schema is file 9, the others are files 1 and 2.
 const TEXTS: &[(&str, &str, &str, &str)] = &[
@@ -55,6 +59,42 @@ const TEXTS: &[(&str, &str, &str, &str)] = &[
         "{ a }",
         "",
         "9:16 UndefinedDefinition\n",
+    ),
+    (
+        MANY,
+        "{ f(a: 1, b: 1, c: 1, d: 1, e: 1, g: 1, h: 1, i: 1, j: 1, k: 1) }",
+        "",
+        "",
+    ),
+    (
+        MANY,
+        "{ f(a: 1, b: 1, c: 1, d: 1, e: 1, g: 1, h: 1, i: 1, k: 1) }",
+        "",
+        "1:2 RequiredArgument\n",
+    ),
+    (
+        MANY,
+        "{ f(a: 1, b: 1, c: 1, d: 1, e: 1, g: 1, h: 1, i: 1, j: 1, k: 1, z: 1) }",
+        "",
+        "1:64 UndefinedArgument\n",
+    ),
+    (
+        MANY,
+        "{ f(a: 1, j: 1, o: {a: 1, b: 1, c: 1, d: 1, e: 1, g: 1, h: 1, i: 1, j: 1, k: 1}) }",
+        "",
+        "",
+    ),
+    (
+        MANY,
+        "{ f(a: 1, j: 1, o: {a: 1, b: 1, c: 1, d: 1, e: 1, g: 1, h: 1, i: 1, k: 1}) }",
+        "",
+        "1:19 RequiredField\n",
+    ),
+    (
+        MANY,
+        "{ f(a: 1, j: 1, o: {a: 1, b: 1, c: 1, d: 1, e: 1, g: 1, h: 1, i: 1, j: 1, k: 1, z: 1}) }",
+        "",
+        "1:83 UndefinedInputValue\n",
     ),
     (
         USAGES,

@@ -36,11 +36,33 @@ const DOCUMENTS: &[(&str, &str)] = &[
     // below fields of one key
     ("{ q { k: a } q { k: a } }", ""),
     ("{ q { k: a } q { k: b } }", "names"),
+    ("{ q { j: a } q { k: a } q { i: b } }", ""),
+    ("{ q { j: a } q { k: a } q { i: b k: b } }", "names"),
+    (
+        "{ q { q { j: a } } q { q { k: a } } q { q { k: b } } }",
+        "names",
+    ),
     // fields of different objects need one shape alone
     ("{ node { ... on A { k: x } ... on B { k: y } } }", ""),
     ("{ node { ... on A { z } ... on B { z } } }", "types"),
     ("{ node { k: x ... on B { k: y } } }", "names"),
+    (
+        "{ node { ... on A { k: x } ... on B { k: y } ... on B { k: y } } }",
+        "",
+    ),
+    (
+        "{ node { ... on A { k: x } ... on B { k: y } ... on A { k: y } } }",
+        "names",
+    ),
     // through fragments, cyclic ones too
+    (
+        "{ ...F ...G } fragment F on Query { q { j: a } } fragment G on Query { q { k: b } }",
+        "",
+    ),
+    (
+        "{ ...F ...G } fragment F on Query { q { k: a } } fragment G on Query { q { k: b } }",
+        "names",
+    ),
     ("{ ...F k: a } fragment F on Query { q { ...F } k: a }", ""),
     (
         "{ ...F k: a } fragment F on Query { q { ...F k: b } k: a }",
