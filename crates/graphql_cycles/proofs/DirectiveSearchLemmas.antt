@@ -48,7 +48,7 @@ same_key_itself (of_directive a) = same_name_itself a
 same_key_itself (of_type a) = same_name_itself a
 
 -- names of one text find one definition, of a directive or of a type
-one_directive_found : (schema : Schema) (a b : NameText) → SameName a b → directive_definition schema a ≡ directive_definition schema b
+pub one_directive_found : (schema : Schema) (a b : NameText) → SameName a b → directive_definition schema a ≡ directive_definition schema b
 one_directive_found schema a b same = ap (λ (text : List ℕ). get_by (λ (key : NameText). bytes_eq text key.text) schema.directive_definitions) (same_text a b same)
 
 one_part : (schema : Schema) (s r : SchemaReference) → SameKey (name_in s) (name_in r) → part_of schema s ≡ part_of schema r

@@ -1,10 +1,14 @@
 pub mod CycleLemmas
+pub mod DifferentNameLemmas
+pub mod DirectiveLevelLemmas
 pub mod DirectiveRoomLemmas
 pub mod DirectiveSearchLemmas
 pub mod DirectiveSearchRootLemmas
 pub mod FragmentRoomLemmas
 pub mod FragmentSearchLemmas
+pub mod InputObjectLevelLemmas
 pub mod InputObjectSearchLemmas
+pub mod LevelLemmas
 pub mod ReferenceLemmas
 pub mod SeenNameLemmas
 pub mod SpreadLevelLemmas

@@ -1,17 +1,12 @@
 -- A path of spreads goes down at least one level with each of them. So a fragment of known levels leads to no way back to it, and
 -- its paths have no more spreads than it has levels.
-use Rattle.std.proofs.Common.{◌≡◌, ℕ, false, suc, ◌+◌, ◌<◌, ◌≤◌, List, [], ◌∷◌, None, Some, All, Contains, arith, inl, inr, get_or, length, map, refl, sym, ap, ◌∙◌, subst, ◌⊎◌}
-use Rattle.std.specs.Prelude.{AllPairs, ◌==◌, if◌then◌else◌}
+use Rattle.std.proofs.Common.{◌≡◌, ℕ, false, suc, ◌+◌, ◌<◌, ◌≤◌, List, [], ◌∷◌, None, Some, All, Contains, arith, length, map, refl, ap, ◌∙◌, subst}
+use Rattle.std.specs.Prelude.{◌==◌, if◌then◌else◌}
 use Rattle.std.specs.Option.{option_map}
-use Rattle.std.proofs.lemmas.Bool.{cases_lt}
 use Rattle.std.proofs.lemmas.List.{length-map}
 use Rattle.std.proofs.lemmas.List.Elements.{All-cons, All-head, All-nil, All-weaker}
-use native.Mathlib.Decide.{dec_lt}
-use Rattle.indexmap.proofs.IndexTableLemmas.Probe.{OneToOne, pigeonhole}
-use Rattle.indexmap.proofs.IndexTableLemmas.Writes.{index_any_default}
-use Rattle.graphql_nodes.specs.Names.{DifferentNames, NameText}
+use Rattle.graphql_nodes.specs.Names.{DifferentNames}
 use Rattle.graphql_nodes.specs.declared.nodes.Node.{Node}
-use Rattle.graphql_nodes.proofs.NameLemmas.{not_both, same_name_itself}
 use Rattle.graphql_documents.specs.Paths.{Path, path_of_one, path_of_more}
 use Rattle.graphql_specification.specs.Fragments.{FragmentHasNoCycle, HasLongSpreadPath, SpreadsBy, fragment_of}
 use Rattle.graphql_documents.specs.Selections.{Fragments, SetWritten, fragments_of, selections_of, set_itself, set_in_field, set_in_inline_fragment}
@@ -27,6 +22,7 @@ use Rattle.graphql_documents.proofs.ListLemmas.{All-append_right, kept_by_map, n
 use Rattle.graphql_documents.proofs.SelectionLemmas.{one_fragment_found}
 use Rattle.graphql_nesting.specs.Nesting.{Descends, HasLevels, one_level, one_more, set_below, sets_below}
 use Rattle.graphql_nesting.proofs.DescentLemmas.{opened_below}
+use Rattle.graphql_cycles.proofs.DifferentNameLemmas.{differs_from_itself, no_more}
 use Rattle.graphql_cycles.proofs.FragmentSearchLemmas.{name_of}
 
 -- a set in which something is written has a selection
@@ -96,44 +92,6 @@ module _ (fragments : Fragments) where
       let (m, below, less) = as_long rest in
       let (k, far, further) = longer r next spreads.1 spreads.2 is below in
       (k, far, omega arith)
-
--- names that differ are no more than those among which they are
-module _ {X : Type 0} (chosen all : List X) (Differ : X → X → Type 0) (differ : (x : X) → ¬ Differ x x) (distinct : AllPairs Differ chosen)
-    (among : All (Contains all) chosen) (own : X) where
-  abbrev place_by : (i : ℕ) → Dec (i < length chosen) → ℕ
-  place_by i (yes within) = (among i own within).0
-  place_by i (no past) = 0
-
-  abbrev place : ℕ → ℕ
-  place i = place_by i (dec_lt i (length chosen))
-
-  place_is : (i : ℕ) → i < length chosen → (place i < length all) × (get_or all (place i) own ≡ get_or chosen i own)
-  place_is i within = by (dec_lt i (length chosen)) where
-    by : (t : Dec (i < length chosen)) → (place_by i t < length all) × (get_or all (place_by i t) own ≡ get_or chosen i own)
-    by (yes there) = let (k, less, is) = among i own there in (less, index_any_default all k own (get_or chosen i own) less ∙ is)
-    by (no past) = absurd (past within)
-
-  apart : (i j : ℕ) → i < j → j < length chosen → place i ≡ place j → ⊥
-  apart i j less within same =
-      let one = (place_is i (omega arith)).1 in
-      let other = (place_is j within).1 in
-      let equal : get_or chosen i own ≡ get_or chosen j own = sym one ∙ ap (λ k. get_or all k own) same ∙ other in
-      differ (get_or chosen j own) (subst (λ x. Differ x (get_or chosen j own)) equal (distinct i j own less within))
-
-  one_place : OneToOne place (length chosen)
-  one_place i j i_in j_in same = by (cases_lt i j) where
-    by : (i < j) ⊎ (j ≤ i) → i ≡ j
-    by (inl less) = absurd (apart i j less j_in same)
-    by (inr le) = others (cases_lt j i) where
-      others : (j < i) ⊎ (i ≤ j) → i ≡ j
-      others (inl less) = absurd (apart j i less i_in (sym same))
-      others (inr more) = omega arith
-
-  no_more : length chosen ≤ length all
-  no_more = pigeonhole (length chosen) (length all) place (λ i within. (place_is i within).0) one_place
-
-differs_from_itself : (name : NameText) → ¬ DifferentNames name name
-differs_from_itself name other = not_both name name (same_name_itself name) other
 
 module _ (document : ExecutableDocument) (d : Node Fragment) (levels : ℕ) (has : HasLevels (fragments_of document) d.value.value.selection_set levels) where
   -- no path leads back to a fragment of known levels that the document has under its own name

@@ -3,8 +3,11 @@
 //! and its contract says what it means that nothing is reported.
 #![tactic(auto)]
 
+pub mod directive_levels;
 pub mod directives;
 pub mod fragments;
+pub mod input_object_levels;
 pub mod input_objects;
+mod levels;
 mod schema_references;
 mod steps;

@@ -1,5 +1,5 @@
 -- Words of bits.
-use Rattle.std.proofs.Common.{◌≡◌, ℕ, zero, suc, ◌+◌, ◌*◌, ◌-◌, ◌^◌, ◌<◌, ◌≤◌, ◌/◌, ◌%◌, Bool, true, false, List, [], ◌∷◌, get_or, set, length, arith, refl, sym, ap, ◌∙◌, subst, eqb, eqb-true, eq-eqb, inl, inr, w64}
+use Rattle.std.proofs.Common.{◌≡◌, ℕ, zero, suc, ◌+◌, ◌*◌, ◌^◌, ◌<◌, ◌≤◌, ◌/◌, ◌%◌, true, false, List, [], ◌∷◌, get_or, set, length, arith, refl, sym, ap, ◌∙◌, eqb, eqb-true, eq-eqb, inl, inr, w64}
 use Rattle.std.specs.Prelude.{◌≢◌, ◌↔◌, ◌⊎◌, bit_and, bit_or}
 use Rattle.std.specs.Int.{bit_at, bit_not, trailing_zeros}
 use Rattle.std.proofs.lemmas.Bool.{cases_eq, cases_lt}

@@ -1,8 +1,9 @@
 -- Lists of different numbers, and sets of pairs.
-use Rattle.std.proofs.Common.{◌≡◌, ℕ, zero, suc, ◌+◌, ◌<◌, Bool, true, false, List, [], ◌∷◌, ◌++◌, get_or, set, Some, arith, length, refl, sym, ap, ◌∙◌, subst, Contains, inl, inr}
-use Rattle.std.specs.Prelude.{◌≢◌, ◌↔◌, ◌⊎◌, Err, None, Ok, OnOk, Option, Result, slice_get}
+use Rattle.std.proofs.Common.{◌≡◌, ℕ, zero, suc, ◌<◌, Bool, true, false, List, [], ◌∷◌, ◌++◌, get_or, set, take, Some, arith, length, refl, sym, ap, ◌∙◌, subst, Contains, inl, inr}
+use Rattle.std.specs.Prelude.{◌≢◌, ◌↔◌, ◌⊎◌, Err, None, Ok, OnErr, OnOk, Result, slice_get}
 use Rattle.std.proofs.lemmas.Bool.{cases_eq}
-use Rattle.std.proofs.lemmas.List.Elements.{Contains-append_cases, Contains-append_left, Contains-append_right}
+use Rattle.std.proofs.lemmas.List.{take-append-le, take_all}
+use Rattle.std.proofs.lemmas.List.Elements.{All-contains, All-contains_itself, All-take, Contains-append_cases, Contains-append_left, Contains-append_right}
 use Rattle.std.proofs.lemmas.Option.{get_or_from_slice_get, slice_get_read, slice_get_within}
 use Rattle.graphql_number_sets.specs.NumberSets.{AreExact, IsAdded, has, has_in, numbers_of}
 use Rattle.graphql_number_sets.specs.declared.bit_sets.BitSet.{BitSet}
@@ -52,11 +53,6 @@ added old new number exact unknown grown members = record {
     | inl was ↦ inl ((exact.members n).1 was)
     | inr last ↦ inr (in_one number n last)
   ])
-
-pub added_if : {T E : Type 0} (r : Result T E) (old new : DistinctNumbers) (number : ℕ) → AreExact old → ¬ Contains (numbers_of old) number → numbers_of new ≡ numbers_of old ++ number ∷ [] →
-    OnOk r ((other : ℕ) → (has new.members other ≡ true) ↔ ((has old.members other ≡ true) ⊎ (other ≡ number))) → OnOk r (AreExact new)
-added_if (Ok v) old new number exact unknown grown members = added old new number exact unknown grown members
-added_if (Err e) old new number exact unknown grown members = tt
 
 -- no number is at two places of an empty list
 pub none_exact : (new : DistinctNumbers) → numbers_of new ≡ [] → ((other : ℕ) → has new.members other ≡ false) → AreExact new
@@ -208,3 +204,37 @@ rows_more first rows row made members all done zs number is at adds exact before
     | inl in' ↦ stay ((before a b).1 (inr (in', both.1)))
     | inr one ↦ ap (λ k. pair_in new k b) (in_one number a one) ∙ here ∙ (adds b).1 (inr ((exact b).1 both.1))
   ]
+
+-- a row was put in the place of one that had the same numbers
+pub row_as_before : (rows : List BitSet) (row made : BitSet) (number : ℕ) → slice_get rows number ≡ Some row → ((n : ℕ) → has made n ≡ has row n) →
+    (a b : ℕ) → pair_in (set rows number made) a b ≡ pair_in rows a b
+row_as_before rows row made number at same a b = elim (cases_eq a number) [
+  | inl is ↦
+      ap (λ k. pair_in (set rows number made) k b) is ∙ ap (λ o. has_in o b) (at_same rows number made (slice_get_within rows number row at)) ∙ same b ∙
+      sym (ap (λ o. has_in o b) at) ∙ sym (ap (λ k. pair_in rows k b) is)
+  | inr other ↦ ap (λ o. has_in o b) (at_other rows number a made other)
+]
+
+-- the first numbers of a list are in it
+pub first_of : (xs : List ℕ) (i x : ℕ) → Contains (take i xs) x → Contains xs x
+first_of xs i x in' = All-contains (Contains xs) (take i xs) x (All-take (Contains xs) i xs (All-contains_itself xs)) in'
+
+-- what holds at all holds after an error
+pub on_err : {T E P : Type 0} (r : Result T E) → P → OnErr r P
+on_err (Ok v) p = tt
+on_err (Err e) p = p
+
+-- a number was taken away again, and the set has the numbers that it had
+pub exact_again : (old new : DistinctNumbers) → AreExact old → numbers_of new ≡ numbers_of old → ((n : ℕ) → has new.members n ≡ has old.members n) → AreExact new
+exact_again old new exact numbers members = record {
+  distinct = λ i j n at_i at_j. exact.distinct i j n (subst (λ l. slice_get l i ≡ Some n) numbers at_i) (subst (λ l. slice_get l j ≡ Some n) numbers at_j);
+  members = λ n. (
+    λ is. subst (λ l. Contains l n) (sym numbers) ((exact.members n).0 (sym (members n) ∙ is)),
+    λ in'. members n ∙ (exact.members n).1 (subst (λ l. Contains l n) numbers in'),
+  );
+}
+
+-- the last number is gone again
+pub popped : (old mid new : List ℕ) (n count : ℕ) → mid ≡ old ++ n ∷ [] → new ≡ take count mid → count ≡ length old → new ≡ old
+popped old mid new n count is rest long =
+    rest ∙ ap (take count) is ∙ ap (λ k. take k (old ++ n ∷ [])) long ∙ take-append-le (length old) old (n ∷ []) (omega arith) ∙ take_all (length old) old (omega arith)

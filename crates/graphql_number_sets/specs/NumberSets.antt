@@ -53,3 +53,9 @@ pub record AreLacking (pairs : PairSet) (numbers lacking : List ℕ) : Type 0 wh
   pub each : (number : ℕ) → Contains lacking number → Contains numbers number × LacksOne pairs numbers number
   pub others : (number : ℕ) → Contains numbers number →
       Contains lacking number ⊎ ((other : ℕ) → Contains numbers other → has_pair pairs number other ≡ true)
+
+-- the new set has the pairs of the old one, and perhaps some of these numbers
+pub record HasSomeOf (old new : PairSet) (numbers : List ℕ) : Type 0 where
+  pub kept : (first second : ℕ) → has_pair old first second ≡ true → has_pair new first second ≡ true
+  pub added : (first second : ℕ) → has_pair new first second ≡ true →
+      (has_pair old first second ≡ true) ⊎ (Contains numbers first × Contains numbers second)

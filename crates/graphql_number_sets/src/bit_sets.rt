@@ -1,6 +1,6 @@
 //! Sets of numbers.
 
-ghost use Rattle.std.specs.Prelude.{◌≡◌, ◌↔◌, ◌⊎◌, ◌≤◌, ℕ, IsFalse, IsTrue, OnOk, false, true, vec_len};
+ghost use Rattle.std.specs.Prelude.{◌≡◌, ◌↔◌, ◌⊎◌, ◌≤◌, ℕ, IsFalse, IsTrue, OnErr, OnOk, false, true, vec_len};
 ghost use Rattle.graphql_number_sets.specs.NumberSets.{has, word_at};
 
 use graphql_nodes::ValidationError;
@@ -43,9 +43,10 @@ impl BitSet {
         true
     }
 
-    /// Adds a number. The only error is a failed allocation.
+    /// Adds a number. The only error is a failed allocation, and then the set has the numbers that it had.
     pub fn insert(&mut self, number: usize) -> Result<(), ValidationError>
-        ensures { OnOk result ((other : ℕ) → (has self.new other ≡ true) ↔ ((has self.old other ≡ true) ⊎ (other ≡ number))) }
+        ensures added { OnOk result ((other : ℕ) → (has self.new other ≡ true) ↔ ((has self.old other ≡ true) ⊎ (other ≡ number))) }
+        ensures refused { OnErr result ((other : ℕ) → has self.new other ≡ has self.old other) }
     {
         let place = number / 64;
         self.make_words(place + 1)?;
@@ -53,9 +54,11 @@ impl BitSet {
         Ok(())
     }
 
-    /// Adds each number of another set. The only error is a failed allocation.
+    /// Adds each number of another set. The only error is a failed allocation, and then the set has the numbers that
+    /// it had.
     pub fn add_all(&mut self, other: &BitSet) -> Result<(), ValidationError>
-        ensures { OnOk result ((number : ℕ) → (has self.new number ≡ true) ↔ ((has self.old number ≡ true) ⊎ (has other.now number ≡ true))) }
+        ensures added { OnOk result ((number : ℕ) → (has self.new number ≡ true) ↔ ((has self.old number ≡ true) ⊎ (has other.now number ≡ true))) }
+        ensures refused { OnErr result ((number : ℕ) → has self.new number ≡ has self.old number) }
     {
         self.make_words(other.words.len())?;
         for (place, word) in other.words.iter().enumerate() {

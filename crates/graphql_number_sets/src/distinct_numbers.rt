@@ -1,6 +1,6 @@
 //! Lists of different numbers.
 
-ghost use Rattle.std.specs.Prelude.{◌≡◌, [], OnOk};
+ghost use Rattle.std.specs.Prelude.{◌≡◌, [], OnErr, OnOk};
 ghost use Rattle.graphql_number_sets.specs.NumberSets.{AreExact, IsAdded, numbers_of};
 
 use super::bit_sets::BitSet;
@@ -26,17 +26,23 @@ impl DistinctNumbers {
         }
     }
 
-    /// Adds a number, unless it is there. The only error is a failed allocation.
+    /// Adds a number, unless it is there. The only error is a failed allocation, and then the numbers are those that
+    /// were there.
     pub fn add(&mut self, number: usize) -> Result<(), ValidationError>
         requires { AreExact self.old }
-        ensures exact { OnOk result (AreExact self.new) }
+        ensures exact { AreExact self.new }
         ensures added { OnOk result (IsAdded number (numbers_of self.old) (numbers_of self.new)) }
+        ensures refused { OnErr result (numbers_of self.new ≡ numbers_of self.old) }
     {
         if self.members.contains(number) {
             return Ok(());
         }
         self.numbers.push(number)?;
-        self.members.insert(number)
+        if let Err(refused) = self.members.insert(number) {
+            self.numbers.pop();
+            return Err(refused);
+        }
+        Ok(())
     }
 
     /// The numbers, in order.

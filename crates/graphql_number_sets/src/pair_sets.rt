@@ -1,7 +1,7 @@
 //! Sets of pairs of numbers.
 
-ghost use Rattle.std.specs.Prelude.{◌≡◌, ◌↔◌, ◌⊎◌, ◌<◌, ℕ, All, Contains, IfOk, OnOk, false, true, vec_len};
-ghost use Rattle.graphql_number_sets.specs.NumberSets.{AreExact, AreLacking, IsAddedIfLacking, has_pair, numbers_of};
+ghost use Rattle.std.specs.Prelude.{◌≡◌, ◌↔◌, ◌⊎◌, ◌<◌, ℕ, All, Contains, IfOk, OnErr, OnOk, false, true, vec_len};
+ghost use Rattle.graphql_number_sets.specs.NumberSets.{AreExact, AreLacking, HasSomeOf, IsAddedIfLacking, has_pair, numbers_of};
 
 use super::bit_sets::BitSet;
 use super::distinct_numbers::DistinctNumbers;
@@ -65,13 +65,15 @@ impl PairSet {
         lacking.add(number)
     }
 
-    /// Adds each pair of these numbers. The only error is a failed allocation.
+    /// Adds each pair of these numbers. The only error is a failed allocation, and then some of these pairs may have been
+    /// added, and no other.
     pub fn add_all(&mut self, numbers: &DistinctNumbers) -> Result<(), ValidationError>
         requires exact { AreExact numbers.now }
         requires within { All (λ number. number < vec_len self.old.rows) (numbers_of numbers.now) }
         ensures count { vec_len self.new.rows ≡ vec_len self.old.rows }
         ensures added { OnOk result ((first second : ℕ) → (has_pair self.new first second ≡ true) ↔
             ((has_pair self.old first second ≡ true) ⊎ (Contains (numbers_of numbers.now) first × Contains (numbers_of numbers.now) second))) }
+        ensures refused { OnErr result (HasSomeOf self.old self.new (numbers_of numbers.now)) }
     {
         for number in &numbers.numbers {
             self.rows[*number].add_all(&numbers.members)?;

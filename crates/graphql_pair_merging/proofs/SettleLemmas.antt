@@ -135,13 +135,6 @@ module _ (schema : Schema) (pass : Pass) where
     pub finds_together : (c : Conflict) → AreTogether schema pass fields → DisagreeAmong schema pass fields fields c → Finds schema pass fields fields c
     finds_together c together d = record { among = d; put = together d.x d.y d.in_first d.in_second }
 
-    pub settled_or_found : {E : Type 0} (r : Result (Option Conflict) E) (below : List ℕ) (old new : List (List ℕ)) → AreTogether schema pass fields →
-        IfOk r (λ found. MatchOption found (Settles schema pass fields (Both fields) old new) (DisagreeAmong schema pass fields fields)) →
-        IfOk r (λ found. MatchOption found (Settles schema pass fields (Both fields) old new) (Finds schema pass fields fields))
-    settled_or_found (Err e) below old new together found = tt
-    settled_or_found (Ok None) below old new together settles = settles
-    settled_or_found (Ok (Some c)) below old new together d = finds_together c together d
-
   -- what is so of some fields is so among more
   pub settles_wider : (fields more : List NumberedField) (P : NumberedField → NumberedField → Type 0) (a b : List (List ℕ)) → ((x : NumberedField) → Contains fields x → Contains more x) →
       Settles schema pass fields P a b → Settles schema pass more P a b

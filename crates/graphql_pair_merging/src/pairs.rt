@@ -177,7 +177,7 @@ impl<'s, 'doc> PairPass<'s, 'doc> {
             (Finds self.now.schema.now (pass_of self.now.pass) fields.now fields.now)) }
     {
         match self.pass {
-            Pass::Shapes => self.settle(waiting, fields),
+            Pass::Shapes => self.look_at_fields(waiting, fields),
             Pass::NamesAndArguments => {
                 let groups = group_fields(
                     self.alloc,
@@ -244,7 +244,7 @@ impl<'s, 'doc> PairPass<'s, 'doc> {
             (Finds self.now.schema.now (pass_of self.now.pass) fields fields)) }
     {
         for parent in parents {
-            if let Some(conflict) = self.look_to_parent(waiting, first, groups, *parent)? {
+            if let Some(conflict) = self.look_with_parent(waiting, first, groups, *parent)? {
                 return Ok(Some(conflict));
             }
         }
@@ -252,7 +252,7 @@ impl<'s, 'doc> PairPass<'s, 'doc> {
     }
 
     /// The same of those on one type with those on one of the types.
-    fn look_to_parent(
+    fn look_with_parent(
         &self,
         waiting: &mut Waiting,
         first: &[NumberedField<'doc>],
@@ -265,13 +265,13 @@ impl<'s, 'doc> PairPass<'s, 'doc> {
             (Finds self.now.schema.now (pass_of self.now.pass) fields fields)) }
     {
         match groups.get(&parent) {
-            Some(second) => self.look_at_two(waiting, first, second),
+            Some(second) => self.look_at_two_parents(waiting, first, second),
             None => Ok(None),
         }
     }
 
     /// The same of those on one type with those on another, if the types may overlap.
-    fn look_at_two(
+    fn look_at_two_parents(
         &self,
         waiting: &mut Waiting,
         first: &[NumberedField<'doc>],
@@ -290,11 +290,11 @@ impl<'s, 'doc> PairPass<'s, 'doc> {
         }
         let mut both = Vec::from_slice(self.alloc, first)?;
         both.extend_from_slice(second)?;
-        self.settle(waiting, &both)
+        self.look_at_fields(waiting, &both)
     }
 
     /// Compares fields of which each two come together, and adds the list of their sets.
-    fn settle(
+    fn look_at_fields(
         &self,
         waiting: &mut Waiting,
         fields: &[NumberedField<'doc>],

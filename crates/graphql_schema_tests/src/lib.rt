@@ -9,6 +9,8 @@ mod directives;
 #[cfg(test)]
 mod fixtures;
 #[cfg(test)]
+mod levels;
+#[cfg(test)]
 mod schema_rules;
 #[cfg(test)]
 mod schemas;

@@ -9,7 +9,7 @@ ghost use Rattle.graphql_schemas.specs.BuiltInScalarUses.{Keeps, Records};
 use crate::built_in_scalars::BuiltInScalars;
 use crate::input_values::{each_argument, validate_argument_definitions};
 use crate::names::validate_type_system_name;
-use graphql_cycles::directives::validate_directive_cycles;
+use graphql_cycles::directive_levels::{DirectiveLevels, validate_directive_cycles_by_levels};
 use graphql_diagnostics::DiagnosticList;
 use graphql_documents::documents::{DirectiveDefinition, Schema};
 use graphql_nodes::{DirectiveLocation, Node, ValidationError};
@@ -32,6 +32,23 @@ pub fn validate_directive_definition(
     ensures records { OnOk result (Records built_in_scalars.old built_in_scalars.new (argument_types definition.now.value.value.arguments.items)) }
     ensures keeps { Keeps built_in_scalars.old built_in_scalars.new }
 {
+    let levels = DirectiveLevels::unknown(diagnostics.allocator(), schema);
+    validate_definition_by_levels(diagnostics, &levels, built_in_scalars, definition)
+}
+
+/// The same in the schema of the levels; no cycle is searched from a definition whose level is known.
+fn validate_definition_by_levels(
+    diagnostics: &mut DiagnosticList,
+    levels: &DirectiveLevels<'_>,
+    built_in_scalars: &mut BuiltInScalars,
+    definition: &Node<DirectiveDefinition>,
+) -> Result<(), ValidationError>
+    ensures checks { ChecksWithin result (DirectiveDefinitionHolds levels.now.schema.now definition.now)
+        (IsDiagnostic (DirectiveDefinitionReport levels.now.schema.now definition.now))
+        (λ e. DirectiveLimit levels.now.schema.now definition.now e.details e.location) diagnostics.old diagnostics.new }
+    ensures records { OnOk result (Records built_in_scalars.old built_in_scalars.new (argument_types definition.now.value.value.arguments.items)) }
+    ensures keeps { Keeps built_in_scalars.old built_in_scalars.new }
+{
     let arguments = each_argument(diagnostics.allocator(), &definition.value.arguments)?;
     validate_type_system_name(
         diagnostics,
@@ -40,12 +57,12 @@ pub fn validate_directive_definition(
     )?;
     validate_argument_definitions(
         diagnostics,
-        schema,
+        levels.schema,
         built_in_scalars,
         &arguments,
         DirectiveLocation::ArgumentDefinition,
     )?;
-    validate_directive_cycles(diagnostics, schema, definition)
+    validate_directive_cycles_by_levels(diagnostics, levels, definition)
 }
 
 /// Validates the directive definitions of a schema, in order. The only error is a failed allocation.
@@ -64,8 +81,26 @@ pub fn validate_directive_definitions(
         (flat_map (λ entry. argument_types entry.1.value.value.arguments.items) schema.now.directive_definitions.entries)) }
     ensures keeps { Keeps built_in_scalars.old built_in_scalars.new }
 {
-    for (_, definition) in &schema.directive_definitions {
-        validate_directive_definition(diagnostics, schema, built_in_scalars, definition)?;
+    let levels = DirectiveLevels::find(diagnostics.allocator(), schema)?;
+    validate_definitions_by_levels(diagnostics, &levels, built_in_scalars)
+}
+
+/// The same in the schema of the levels.
+fn validate_definitions_by_levels(
+    diagnostics: &mut DiagnosticList,
+    levels: &DirectiveLevels<'_>,
+    built_in_scalars: &mut BuiltInScalars,
+) -> Result<(), ValidationError>
+    ensures checks { ChecksWithin result
+        (All (λ entry. DirectiveDefinitionHolds levels.now.schema.now entry.1) levels.now.schema.now.directive_definitions.entries)
+        (IsDiagnostic (DirectiveDefinitionsReport levels.now.schema.now))
+        (λ e. DirectivesLimit levels.now.schema.now e.details e.location) diagnostics.old diagnostics.new }
+    ensures records { OnOk result (Records built_in_scalars.old built_in_scalars.new
+        (flat_map (λ entry. argument_types entry.1.value.value.arguments.items) levels.now.schema.now.directive_definitions.entries)) }
+    ensures keeps { Keeps built_in_scalars.old built_in_scalars.new }
+{
+    for (_, definition) in &levels.schema.directive_definitions {
+        validate_definition_by_levels(diagnostics, levels, built_in_scalars, definition)?;
     }
     Ok(())
 }

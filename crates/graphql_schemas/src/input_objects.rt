@@ -14,7 +14,9 @@ use crate::built_in_scalars::BuiltInScalars;
 use crate::definition_directives::validate_component_directives;
 use crate::extensions::{input_object_extensions, locations_of};
 use crate::input_values::validate_input_value_definitions;
-use graphql_cycles::input_objects::validate_input_object_cycles;
+use graphql_cycles::input_object_levels::{
+    InputObjectLevels, validate_input_object_cycles_by_levels,
+};
 use graphql_diagnostics::{Details, DiagnosticData, DiagnosticList};
 use graphql_documents::documents::{Component, InputObjectType, InputValueDefinition, Schema};
 use graphql_nodes::{DirectiveLocation, Name, Node, ValidationError};
@@ -39,14 +41,31 @@ pub fn validate_input_object_definition(
     ensures records { OnOk result (Records built_in_scalars.old built_in_scalars.new (types_referred_by (types.InputObject input_object.now))) }
     ensures keeps { Keeps built_in_scalars.old built_in_scalars.new }
 {
+    let levels = InputObjectLevels::unknown(diagnostics.allocator(), schema);
+    validate_input_object_by_levels(diagnostics, &levels, built_in_scalars, input_object)
+}
+
+/// The same in the schema of the levels; no cycle is searched from an input object whose level is known.
+pub(crate) fn validate_input_object_by_levels(
+    diagnostics: &mut DiagnosticList,
+    levels: &InputObjectLevels<'_>,
+    built_in_scalars: &mut BuiltInScalars,
+    input_object: &Node<InputObjectType>,
+) -> Result<(), ValidationError>
+    ensures checks { ChecksWithin result (InputObjectHolds levels.now.schema.now input_object.now)
+        (IsDiagnostic (TypeReport levels.now.schema.now (types.InputObject input_object.now)))
+        (λ e. InputObjectLimit levels.now.schema.now input_object.now e.details e.location) diagnostics.old diagnostics.new }
+    ensures records { OnOk result (Records built_in_scalars.old built_in_scalars.new (types_referred_by (types.InputObject input_object.now))) }
+    ensures keeps { Keeps built_in_scalars.old built_in_scalars.new }
+{
     validate_component_directives(
         diagnostics,
-        schema,
+        levels.schema,
         &input_object.value.directives,
         DirectiveLocation::InputObject,
     )?;
-    validate_input_object_cycles(diagnostics, schema, input_object)?;
-    validate_input_fields(diagnostics, schema, built_in_scalars, input_object)?;
+    validate_input_object_cycles_by_levels(diagnostics, levels, input_object)?;
+    validate_input_fields(diagnostics, levels.schema, built_in_scalars, input_object)?;
     validate_is_not_empty(diagnostics, input_object)
 }
 

@@ -11,12 +11,13 @@ ghost use Rattle.graphql_schemas.specs.TypeSteps.{NamedTypeReport, TypeLimit};
 
 use crate::built_in_scalars::BuiltInScalars;
 use crate::enums::validate_enum_definition;
-use crate::input_objects::validate_input_object_definition;
+use crate::input_objects::validate_input_object_by_levels;
 use crate::interfaces::validate_interface_definition;
 use crate::names::validate_type_system_name;
 use crate::objects::validate_object_type_definition;
 use crate::scalars::validate_scalar_definition;
 use crate::unions::validate_union_definition;
+use graphql_cycles::input_object_levels::InputObjectLevels;
 use graphql_diagnostics::DiagnosticList;
 use graphql_documents::documents::{ExtendedType, Schema};
 use graphql_nodes::{Name, ValidationError};
@@ -36,8 +37,25 @@ pub fn validate_types(
         (flat_map (λ entry. types_referred_by entry.1) schema.now.types.entries)) }
     ensures keeps { Keeps built_in_scalars.old built_in_scalars.new }
 {
-    for (name, definition) in &schema.types {
-        validate_type_definition(diagnostics, schema, built_in_scalars, name, definition)?;
+    let levels = InputObjectLevels::find(diagnostics.allocator(), schema)?;
+    validate_types_by_levels(diagnostics, &levels, built_in_scalars)
+}
+
+/// The same in the schema of the levels.
+fn validate_types_by_levels(
+    diagnostics: &mut DiagnosticList,
+    levels: &InputObjectLevels<'_>,
+    built_in_scalars: &mut BuiltInScalars,
+) -> Result<(), ValidationError>
+    ensures checks { ChecksWithin result
+        (All (λ entry. IsFreeName entry.0 × TypeHolds levels.now.schema.now entry.1) levels.now.schema.now.types.entries)
+        (IsDiagnostic (TypesReport levels.now.schema.now)) (IsDiagnostic (TypesLimit levels.now.schema.now)) diagnostics.old diagnostics.new }
+    ensures records { OnOk result (Records built_in_scalars.old built_in_scalars.new
+        (flat_map (λ entry. types_referred_by entry.1) levels.now.schema.now.types.entries)) }
+    ensures keeps { Keeps built_in_scalars.old built_in_scalars.new }
+{
+    for (name, definition) in &levels.schema.types {
+        validate_type_definition(diagnostics, levels, built_in_scalars, name, definition)?;
     }
     Ok(())
 }
@@ -46,34 +64,35 @@ pub fn validate_types(
 /// recorded.
 fn validate_type_definition(
     diagnostics: &mut DiagnosticList,
-    schema: &Schema,
+    levels: &InputObjectLevels<'_>,
     built_in_scalars: &mut BuiltInScalars,
     name: &Name,
     definition: &ExtendedType,
 ) -> Result<(), ValidationError>
-    ensures checks { ChecksWithin result (IsFreeName name.now × TypeHolds schema.now definition.now)
-        (IsDiagnostic (NamedTypeReport schema.now name.now definition.now))
-        (λ e. TypeLimit schema.now definition.now e.details e.location) diagnostics.old diagnostics.new }
+    ensures checks { ChecksWithin result (IsFreeName name.now × TypeHolds levels.now.schema.now definition.now)
+        (IsDiagnostic (NamedTypeReport levels.now.schema.now name.now definition.now))
+        (λ e. TypeLimit levels.now.schema.now definition.now e.details e.location) diagnostics.old diagnostics.new }
     ensures records { OnOk result (Records built_in_scalars.old built_in_scalars.new (types_referred_by definition.now)) }
     ensures keeps { Keeps built_in_scalars.old built_in_scalars.new }
 {
     validate_type_system_name(diagnostics, name, definition.describe())?;
-    validate_by_kind(diagnostics, schema, built_in_scalars, definition)
+    validate_by_kind(diagnostics, levels, built_in_scalars, definition)
 }
 
 /// Validates a type by its kind, its name apart.
 fn validate_by_kind(
     diagnostics: &mut DiagnosticList,
-    schema: &Schema,
+    levels: &InputObjectLevels<'_>,
     built_in_scalars: &mut BuiltInScalars,
     definition: &ExtendedType,
 ) -> Result<(), ValidationError>
-    ensures checks { ChecksWithin result (TypeHolds schema.now definition.now)
-        (IsDiagnostic (TypeReport schema.now definition.now))
-        (λ e. TypeLimit schema.now definition.now e.details e.location) diagnostics.old diagnostics.new }
+    ensures checks { ChecksWithin result (TypeHolds levels.now.schema.now definition.now)
+        (IsDiagnostic (TypeReport levels.now.schema.now definition.now))
+        (λ e. TypeLimit levels.now.schema.now definition.now e.details e.location) diagnostics.old diagnostics.new }
     ensures records { OnOk result (Records built_in_scalars.old built_in_scalars.new (types_referred_by definition.now)) }
     ensures keeps { Keeps built_in_scalars.old built_in_scalars.new }
 {
+    let schema = levels.schema;
     match definition {
         ExtendedType::Scalar(scalar) => validate_scalar_definition(diagnostics, schema, scalar),
         ExtendedType::Object(object) => {
@@ -85,7 +104,7 @@ fn validate_by_kind(
         ExtendedType::Union(union) => validate_union_definition(diagnostics, schema, union),
         ExtendedType::Enum(enum_type) => validate_enum_definition(diagnostics, schema, enum_type),
         ExtendedType::InputObject(input_object) => {
-            validate_input_object_definition(diagnostics, schema, built_in_scalars, input_object)
+            validate_input_object_by_levels(diagnostics, levels, built_in_scalars, input_object)
         }
     }
 }

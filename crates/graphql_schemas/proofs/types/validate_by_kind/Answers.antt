@@ -50,7 +50,7 @@ pub returns-in-Enum-clause-keeps : goal.returns-in-Enum-clause-keeps
 returns-in-Enum-clause-keeps c = keeps_itself c.args.built_in_scalars.now
 
 pub returns-in-InputObject-clause-checks : goal.returns-in-InputObject-clause-checks
-returns-in-InputObject-clause-checks c = rw c.in-InputObject.is c.validate_input_object_definition.ensures.checks
+returns-in-InputObject-clause-checks c = rw c.in-InputObject.is c.validate_input_object_by_levels.ensures.checks
 
 pub returns-in-InputObject-clause-records : goal.returns-in-InputObject-clause-records
-returns-in-InputObject-clause-records c = rw c.in-InputObject.is c.validate_input_object_definition.ensures.records
+returns-in-InputObject-clause-records c = rw c.in-InputObject.is c.validate_input_object_by_levels.ensures.records

@@ -8,7 +8,7 @@ use Rattle.graphql_schemas.proofs.types.validate_type_definition.Goals as goal
 pub returns-in_err-validate_type_system_name-clause-checks : goal.returns-in_err-validate_type_system_name-clause-checks
 returns-in_err-validate_type_system_name-clause-checks c =
     checks_refused_within IsLimitEntry _ _ _ _ _ c.from_residual.ensures.0
-    (kept_wider (names_key c.args.schema.now c.args.name.now c.args.definition.now)
+    (kept_wider (names_key c.args.levels.now.schema.now c.args.name.now c.args.definition.now)
     (rw c.describe.ensures at c.in_err-validate_type_system_name.ensures))
 
 pub returns-in_err-validate_type_system_name-clause-keeps : goal.returns-in_err-validate_type_system_name-clause-keeps
@@ -16,5 +16,5 @@ returns-in_err-validate_type_system_name-clause-keeps c = keeps_itself c.args.bu
 
 pub returns-clause-checks : goal.returns-clause-checks
 returns-clause-checks c =
-    type_checked c.args.schema.now c.args.name.now c.args.definition.now c.validate_by_kind.result _ _ _
+    type_checked c.args.levels.now.schema.now c.args.name.now c.args.definition.now c.validate_by_kind.result _ _ _
     (rw c.describe.ensures at c.in_ok-validate_type_system_name.ensures) c.validate_by_kind.ensures.checks

@@ -4,8 +4,8 @@ use Rattle.graphql_number_sets.specs.NumberSets.{has_bit}
 use Rattle.graphql_number_sets.proofs.BitLemmas.{inserted, read_at}
 use Rattle.graphql_number_sets.proofs.bit_sets.BitSet.insert.Goals as goal
 
-pub returns : goal.returns
-returns c other =
+pub returns-clause-added : goal.returns-clause-added
+returns-clause-added c other =
     let old = c.args.self.now.words.items in
     let made = c.make_words.new.self.words in
     let n = c.args.number in

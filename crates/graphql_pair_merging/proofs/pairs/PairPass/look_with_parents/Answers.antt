@@ -21,7 +21,7 @@ returns-in-Some c fields key grouped first_is named =
     let pass = pass_of c.args.self.now.pass in
     subst (λ o. MatchOption o
     (Settles schema pass fields (λ x y. Contains c.args.first.now x × (Contains fields y × (has_name ParentType c.parent-item.result.now y ≡ true))) (lists_at c.loop-parent.waiting.items)
-    (lists_at c.look_to_parent.new.waiting.items)) (Finds schema pass fields fields))
+    (lists_at c.look_with_parent.new.waiting.items)) (Finds schema pass fields fields))
     c.in-Some.is (c.in_ok-conflict.ensures fields key grouped first_is)
 
 pub loop-parent-preserved : goal.loop-parent-preserved
@@ -33,7 +33,7 @@ loop-parent-preserved c fields key grouped first_is named =
     let i = c.loop-parent.parent-index in
     let name = c.parent-item.result in
     let mid = lists_at c.loop-parent.waiting.items in
-    let new = lists_at c.look_to_parent.new.waiting.items in
+    let new = lists_at c.look_with_parent.new.waiting.items in
     let step = subst (λ o. MatchOption o (Settles schema pass fields (λ x y. Contains first x × (Contains fields y × (has_name ParentType name.now y ≡ true))) mid new) (Finds schema pass fields fields)) c.in_default.is
     (c.in_ok-conflict.ensures fields key grouped first_is) in
     settles_next schema pass fields (λ x y. Contains first x × (Contains fields y × (is_among ParentType (take i names) y ≡ true))) (λ x y. Contains first x × (Contains fields y × (has_name ParentType name.now y ≡ true)))

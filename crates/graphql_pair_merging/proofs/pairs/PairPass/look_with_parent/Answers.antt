@@ -6,7 +6,7 @@ use Rattle.graphql_pair_merging.specs.FieldGroups.{IsGroupOf, fields_in, has_nam
 use Rattle.graphql_pair_merging.specs.Pairs.{lists_at}
 use Rattle.graphql_pair_merging.specs.declared.field_groups.GroupedBy.TheVariants.{ParentType}
 use Rattle.graphql_pair_merging.proofs.SettleLemmas.{into_group, settled_words, settles_nothing}
-use Rattle.graphql_pair_merging.proofs.pairs.PairPass.look_to_parent.Goals as goal
+use Rattle.graphql_pair_merging.proofs.pairs.PairPass.look_with_parent.Goals as goal
 
 pub returns-in-Some : goal.returns-in-Some
 returns-in-Some c fields key grouped first_is =
@@ -16,8 +16,8 @@ returns-in-Some c fields key grouped first_is =
     let name = c.args.parent.now in
     let group = c.deref.result.now in
     let is : IsGroupOf ParentType fields group = (name, c.deref.ensures.value ∙ ap fields_in c.in-Some.ensures.value ∙ grouped name) in
-    settled_words schema pass c.look_at_two.result fields (λ x y. Contains first x × Contains group y) (λ x y. Contains first x × (Contains fields y × (has_name ParentType name y ≡ true))) (lists_at c.args.waiting.now.items)
-    (lists_at c.look_at_two.new.waiting.items) (λ x y p put. (p.0, into_group ParentType fields group is y p.1.0 p.1.1)) (c.look_at_two.ensures fields key first_is is)
+    settled_words schema pass c.look_at_two_parents.result fields (λ x y. Contains first x × Contains group y) (λ x y. Contains first x × (Contains fields y × (has_name ParentType name y ≡ true))) (lists_at c.args.waiting.now.items)
+    (lists_at c.look_at_two_parents.new.waiting.items) (λ x y p put. (p.0, into_group ParentType fields group is y p.1.0 p.1.1)) (c.look_at_two_parents.ensures fields key first_is is)
 
 pub returns-in-None : goal.returns-in-None
 returns-in-None c fields key grouped first_is =

@@ -6,7 +6,7 @@ use Rattle.graphql_pair_merging.specs.Pairs.{AreTogether, lists_at}
 use Rattle.graphql_pair_merging.specs.declared.field_groups.GroupedBy.TheVariants.{ParentType}
 use Rattle.graphql_pair_merging.proofs.PlaceLemmas.{stands_at}
 use Rattle.graphql_pair_merging.proofs.SettleLemmas.{apart, in_both, of_group, settled_two, settles_nothing, together}
-use Rattle.graphql_pair_merging.proofs.pairs.PairPass.look_at_two.Goals as goal
+use Rattle.graphql_pair_merging.proofs.pairs.PairPass.look_at_two_parents.Goals as goal
 
 pub returns-then-not-parents_may_overlap : goal.returns-then-not-parents_may_overlap
 returns-then-not-parents_may_overlap c fields key a b =
@@ -30,11 +30,11 @@ returns c fields key a b =
     let other = c.in-Some-Some.other.now in
     let all = c.deref.result.now in
     let is : all ≡ first ++ second = c.deref.ensures.value ∙ c.in_ok-extend_from_slice.ensures.items ∙ ap (λ l. l ++ second) c.in_ok-both.ensures.items in
-    settled_two schema pass c.settle.result fields all first second (lists_at c.args.waiting.now.items) (lists_at c.settle.new.waiting.items) is
+    settled_two schema pass c.look_at_fields.result fields all first second (lists_at c.args.waiting.now.items) (lists_at c.look_at_fields.new.waiting.items) is
     (λ x in'. elim (in_both first second all is x in') [
       | inl h ↦ of_group ParentType fields first a x h
       | inr h ↦ of_group ParentType fields second b x h
     ])
-    (c.settle.ensures (subst (λ p. AreTogether schema p all) (sym c.requires)
+    (c.look_at_fields.ensures (subst (λ p. AreTogether schema p all) (sym c.requires)
     (together schema fields first second key a b one other (stands_at first 0 one (sym c.in-Some-Some.ensures.value)) (stands_at second 0 other (sym c.in-Some-Some.ensures'.value)) all is
     (c.parents_may_overlap.ensures.0 c.if-not-parents_may_overlap.false))))

@@ -4,7 +4,7 @@ use Rattle.std.proofs.lemmas.List.{map-append}
 use Rattle.graphql_merging.specs.Groups.{pass_of}
 use Rattle.graphql_pair_merging.specs.Pairs.{AllAgree, DisagreeAmong, lists_at}
 use Rattle.graphql_pair_merging.proofs.SettleLemmas.{finds_together, settles_all}
-use Rattle.graphql_pair_merging.proofs.pairs.PairPass.settle.Goals as goal
+use Rattle.graphql_pair_merging.proofs.pairs.PairPass.look_at_fields.Goals as goal
 
 pub returns-in-Some : goal.returns-in-Some
 returns-in-Some c together =

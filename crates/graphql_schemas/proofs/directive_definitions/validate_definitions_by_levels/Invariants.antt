@@ -9,15 +9,15 @@ use Rattle.graphql_documents.specs.declared.documents.definitions.DirectiveDefin
 use Rattle.graphql_nodes.specs.declared.nodes.Node.{Node}
 use Rattle.graphql_schemas.proofs.DirectiveDefinitionLemmas.{NamesDefinitions}
 use Rattle.graphql_schemas.specs.BuiltInScalarUses.{Records}
-use Rattle.graphql_schemas.proofs.directive_definitions.validate_directive_definitions.Given as goal
+use Rattle.graphql_schemas.proofs.directive_definitions.validate_definitions_by_levels.Given as goal
 
 abbrev pub invariant-loop-definition : goal.invariant-loop-definition
 invariant-loop-definition l = record {
   can_next : (goal.iterator-loop-definition).can_next l.definition-iterator;
   is_finite : (goal.iterator-loop-definition).is_finite l.definition-iterator;
   done : List (NameText × Node DirectiveDefinition);
-  all : l.schema.directive_definitions.entries ≡ done ++ l.definition-iterator;
-  checked : ReportsWithin IsLimitEntry (All (λ entry. DirectiveDefinitionHolds l.schema entry.1) done) (NamesDefinitions l.schema)
+  all : l.levels.schema.now.directive_definitions.entries ≡ done ++ l.definition-iterator;
+  checked : ReportsWithin IsLimitEntry (All (λ entry. DirectiveDefinitionHolds l.levels.schema.now entry.1) done) (NamesDefinitions l.levels.schema.now)
       (entries l.initial.diagnostics) (entries l.diagnostics);
   records : Records l.initial.built_in_scalars l.built_in_scalars (flat_map (λ entry. argument_types entry.1.value.value.arguments.items) done);
 }
