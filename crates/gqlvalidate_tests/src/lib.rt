@@ -1,5 +1,7 @@
-//! Tests of the program `gqlvalidate`: what each command prints of files, and how it ends.
+//! Tests of the program `gqlvalidate`: what its words ask for, what each command prints of files, and how it ends.
 #![tactic(auto)]
 
 #[cfg(test)]
 mod runs;
+#[cfg(test)]
+mod words;

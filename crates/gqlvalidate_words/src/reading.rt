@@ -146,6 +146,3 @@ fn inputs_of(given: &ArgMatches<'_>, argument: &str) -> usize {
         .filter(|path| **path == STANDARD_INPUT)
         .count()
 }
-
-#[cfg(test)]
-mod tests;

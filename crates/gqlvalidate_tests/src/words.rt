@@ -1,4 +1,6 @@
-use super::*;
+//! The command line: what words ask for, and what is wrong with them.
+use gqlvalidate_words::{Refusal, parse};
+use std::alloc::Global;
 use std::process::Abort;
 
 /// Words, and what they ask for as its `Debug` shows it, or what is wrong with them.
