@@ -5,9 +5,10 @@ use Rattle.std.proofs.lemmas.Bool.{cases_eq}
 use Rattle.std.proofs.lemmas.List.{take-append-le, take_all}
 use Rattle.std.proofs.lemmas.List.Elements.{All-contains, All-contains_itself, All-take, Contains-append_cases, Contains-append_left, Contains-append_right}
 use Rattle.std.proofs.lemmas.Option.{get_or_from_slice_get, slice_get_read, slice_get_within}
-use Rattle.graphql_number_sets.specs.NumberSets.{AreExact, IsAdded, has, has_in, numbers_of}
+use Rattle.graphql_number_sets.specs.NumberSets.{AreEnds, AreExact, ArePaired, IsAdded, IsPlaced, LacksOne, has, has_in, has_pair, is_end, is_paired, numbers_of}
 use Rattle.graphql_number_sets.specs.declared.bit_sets.BitSet.{BitSet}
 use Rattle.graphql_number_sets.specs.declared.distinct_numbers.DistinctNumbers.{DistinctNumbers}
+use Rattle.graphql_number_sets.specs.declared.pair_sets.PairSet.{PairSet}
 
 -- what is at a place of a list with one more behind is in the list, or the last
 pub at_more : {X : Type 0} (xs : List X) (x : X) (n : ℕ) (y : X) → slice_get (xs ++ x ∷ []) n ≡ Some y → (slice_get xs n ≡ Some y) ⊎ ((n ≡ length xs) × (x ≡ y))
@@ -83,43 +84,93 @@ pub is_added : (number : ℕ) (old new : List ℕ) → IsAdded number old new �
 is_added number old new (inl same) = subst (λ l. Contains l number) (sym same.1) same.0
 is_added number old new (inr more) = subst (λ l. Contains l number) (sym more.1) (Contains-append_right old (number ∷ []) number (0, omega arith, refl))
 
-module _ (Has : ℕ → ℕ → Bool) (all : List ℕ) where
-  -- those so far that lack one of all
-  pub record Lacking (done lacking : List ℕ) : Type 0 where
-    pub each : (n : ℕ) → Contains lacking n → Contains done n × ((m : ℕ) × Contains all m × (Has n m ≡ false))
-    pub others : (n : ℕ) → Contains done n → Contains lacking n ⊎ ((m : ℕ) → Contains all m → Has n m ≡ true)
+module _ (pairs : PairSet) where
+  -- of the numbers so far those that are pairs with one another, and the ends
+  pub record Placing (done paired ends : List ℕ) : Type 0 where
+    pub each : (n : ℕ) → Contains ends n → Contains done n × LacksOne pairs done n
+    pub there : (n : ℕ) → Contains paired n → Contains done n
+    pub either : (n : ℕ) → Contains done n → Contains paired n ⊎ Contains ends n
+    pub are_paired : (n m : ℕ) → Contains paired n → Contains paired m → ArePaired pairs n m
 
-  pub lacking_none : Lacking [] []
-  lacking_none = record {
-    each = λ n in'. absurd (omega (arith, in'.1));
-    others = λ n in'. absurd (omega (arith, in'.1));
-  }
+  pub placing_begins : (paired ends : List ℕ) → paired ≡ [] → ends ≡ [] → Placing [] paired ends
+  placing_begins paired ends none no_ends = record {
+    each = λ n in'. absurd (not_in_none n (subst (λ l. Contains l n) no_ends in'));
+    there = λ n in'. subst (λ l. Contains l n) none in';
+    either = λ n in'. absurd (not_in_none n in');
+    are_paired = λ n m in_n in_m. absurd (not_in_none n (subst (λ l. Contains l n) none in_n));
+  } where
+    not_in_none : (n : ℕ) → Contains [] n → ⊥
+    not_in_none n in' = omega (arith, in'.1)
 
-  pub lacking_more : (done zs lacking new : List ℕ) (number : ℕ) → zs ≡ done ++ number ∷ [] → Lacking done lacking → ((m : ℕ) × Contains all m × (Has number m ≡ false)) →
-      IsAdded number lacking new → Lacking zs new
-  lacking_more done zs lacking new number is before lacks add = record {
-    each = λ n in'. elim (after_adding number lacking new add n in') [
-      | inl was ↦ (subst (λ l. Contains l n) (sym is) (Contains-append_left done (number ∷ []) n (before.each n was).0), (before.each n was).1)
-      | inr same ↦ (
-        subst (λ l. Contains l n) (sym is) (subst (Contains (done ++ number ∷ [])) (sym same) (Contains-append_right done (number ∷ []) number (0, omega arith, refl))),
-        subst (λ k. (m : ℕ) × Contains all m × (Has k m ≡ false)) (sym same) lacks,
-      )
-    ];
-    others = λ n in'. elim (Contains-append_cases done (number ∷ []) n (subst (λ l. Contains l n) is in')) [
-      | inl was ↦ elim (before.others n was) [
-        | inl there ↦ inl (stays number lacking new add n there)
-        | inr none ↦ inr none
+  module _ (done zs : List ℕ) (number : ℕ) (is : zs ≡ done ++ number ∷ []) where
+    earlier : (n : ℕ) → Contains done n → Contains zs n
+    earlier n in' = subst (λ l. Contains l n) (sym is) (Contains-append_left done (number ∷ []) n in')
+
+    last : (n : ℕ) → n ≡ number → Contains zs n
+    last n same = subst (λ l. Contains l n) (sym is) (subst (Contains (done ++ number ∷ [])) (sym same) (Contains-append_right done (number ∷ []) number (0, omega arith, refl)))
+
+    cases : (n : ℕ) → Contains zs n → Contains done n ⊎ (n ≡ number)
+    cases n in' = elim (Contains-append_cases done (number ∷ []) n (subst (λ l. Contains l n) is in')) [
+      | inl was ↦ inl was
+      | inr here ↦ inr (in_one number n here)
+    ]
+
+    wider : (n : ℕ) → LacksOne pairs done n → LacksOne pairs zs n
+    wider n lacks = (lacks.0, earlier lacks.0 lacks.1, lacks.2)
+
+    pub placing_more : (paired ends new_paired new_ends : List ℕ) → Placing done paired ends → IsPlaced pairs number paired ends new_paired new_ends → Placing zs new_paired new_ends
+    placing_more paired ends new_paired new_ends before (is_paired own each add same) = record {
+      each = λ n in'. let was = before.each n (subst (λ l. Contains l n) same in') in (earlier n was.0, wider n was.1);
+      there = λ n in'. elim (after_adding number paired new_paired add n in') [
+        | inl was ↦ earlier n (before.there n was)
+        | inr here ↦ last n here
+      ];
+      either = λ n in'. elim (cases n in') [
+        | inl was ↦ elim (before.either n was) [
+          | inl first ↦ inl (stays number paired new_paired add n first)
+          | inr second ↦ inr (subst (λ l. Contains l n) (sym same) second)
+        ]
+        | inr here ↦ inl (subst (Contains new_paired) (sym here) (is_added number paired new_paired add))
+      ];
+      are_paired = λ n m in_n in_m. elim (after_adding number paired new_paired add n in_n) [
+        | inl n_was ↦ elim (after_adding number paired new_paired add m in_m) [
+          | inl m_was ↦ before.are_paired n m n_was m_was
+          | inr m_here ↦ inr (ap (λ k. has_pair pairs k n) m_here ∙ each n n_was)
+        ]
+        | inr n_here ↦ elim (after_adding number paired new_paired add m in_m) [
+          | inl m_was ↦ inl (ap (λ k. has_pair pairs k m) n_here ∙ each m m_was)
+          | inr m_here ↦ inl (ap (λ k. has_pair pairs k m) n_here ∙ ap (λ k. has_pair pairs number k) m_here ∙ own)
+        ]
+      ];
+    }
+    placing_more paired ends new_paired new_ends before (is_end other where' lacks add same) = record {
+      each = λ n in'. elim (after_adding number ends new_ends add n in') [
+        | inl was ↦ let e = before.each n was in (earlier n e.0, wider n e.1)
+        | inr here ↦ (last n here, subst (LacksOne pairs zs) (sym here) (other, found where', lacks))
+      ];
+      there = λ n in'. earlier n (before.there n (subst (λ l. Contains l n) same in'));
+      either = λ n in'. elim (cases n in') [
+        | inl was ↦ elim (before.either n was) [
+          | inl first ↦ inl (subst (λ l. Contains l n) (sym same) first)
+          | inr second ↦ inr (stays number ends new_ends add n second)
+        ]
+        | inr here ↦ inr (subst (Contains new_ends) (sym here) (is_added number ends new_ends add))
+      ];
+      are_paired = λ n m in_n in_m. before.are_paired n m (subst (λ l. Contains l n) same in_n) (subst (λ l. Contains l m) same in_m);
+    } where
+      found : Contains paired other ⊎ (other ≡ number) → Contains zs other
+      found (inl there) = earlier other (before.there other there)
+      found (inr here) = last other here
+
+  pub placed : (numbers paired ends : List ℕ) → Placing numbers paired ends → AreEnds pairs numbers ends
+  placed numbers paired ends p = record {
+    each = p.each;
+    others = λ a b in_a in_b. elim (p.either a in_a) [
+      | inl first ↦ elim (p.either b in_b) [
+        | inl second ↦ inl (p.are_paired a b first second)
+        | inr end ↦ inr (inr end)
       ]
-      | inr last ↦ inl (subst (Contains new) (sym (in_one number n last)) (is_added number lacking new add))
-    ];
-  }
-
-  pub lacking_same : (done zs lacking : List ℕ) (number : ℕ) → zs ≡ done ++ number ∷ [] → Lacking done lacking → ((m : ℕ) → Contains all m → Has number m ≡ true) → Lacking zs lacking
-  lacking_same done zs lacking number is before full = record {
-    each = λ n in'. (subst (λ l. Contains l n) (sym is) (Contains-append_left done (number ∷ []) n (before.each n in').0), (before.each n in').1);
-    others = λ n in'. elim (Contains-append_cases done (number ∷ []) n (subst (λ l. Contains l n) is in')) [
-      | inl was ↦ before.others n was
-      | inr last ↦ inr (subst (λ k. (m : ℕ) → Contains all m → Has k m ≡ true) (sym (in_one number n last)) full)
+      | inr end ↦ inr (inl end)
     ];
   }
 
@@ -144,14 +195,10 @@ pair_in rows a b = has_in (slice_get rows a) b
 pub row_has : (rows : List BitSet) (n : ℕ) (row : BitSet) → n < length rows → row ≡ get_or rows n row → slice_get rows n ≡ Some row
 row_has rows n row within read = slice_get_read rows (length rows) n row refl within read
 
--- a number was looked for in a row
-pub considered_if : {T E : Type 0} (r : Result T E) (P Q : Type 0) → P → OnOk r Q → OnOk r (P × Q)
-considered_if (Ok v) P Q p q = (p, q)
-considered_if (Err e) P Q p q = tt
-
-pub second_if : {T E : Type 0} (r : Result T E) (P Q : Type 0) → OnOk r Q → OnOk r (P ⊎ Q)
-second_if (Ok v) P Q q = inr q
-second_if (Err e) P Q q = tt
+-- what follows where a call answers
+pub where_ok : {T E : Type 0} {P Q : Type 0} (r : Result T E) → (P → Q) → OnOk r P → OnOk r Q
+where_ok (Ok v) follows p = follows p
+where_ok (Err e) follows p = tt
 
 -- one row more has all numbers
 pub rows_more : (first rows : List BitSet) (row made members : BitSet) (all done zs : List ℕ) (number : ℕ) → zs ≡ done ++ number ∷ [] → slice_get rows number ≡ Some row →

@@ -39,23 +39,30 @@ has_in (Some set) number = has set number
 abbrev pub has_pair : PairSet → ℕ → ℕ → Bool
 has_pair pairs first second = has_in (slice_get pairs.rows.items first) second
 
+-- the numbers are a pair of the set, one way or the other
+abbrev pub ArePaired : PairSet → ℕ → ℕ → Type 0
+ArePaired pairs first second = (has_pair pairs first second ≡ true) ⊎ (has_pair pairs second first ≡ true)
+
 -- one of the numbers makes no pair of the set with this one
 abbrev pub LacksOne : PairSet → List ℕ → ℕ → Type 0
 LacksOne pairs numbers number = (other : ℕ) × Contains numbers other × (has_pair pairs number other ≡ false)
 
--- a number was added to others, or makes a pair of the set with each
-abbrev pub IsAddedIfLacking : PairSet → List ℕ → ℕ → List ℕ → List ℕ → Type 0
-IsAddedIfLacking pairs numbers number old new =
-    (((other : ℕ) → Contains numbers other → has_pair pairs number other ≡ true) × (new ≡ old)) ⊎ (LacksOne pairs numbers number × IsAdded number old new)
+-- such of some numbers that of each two which are no pair at least one is among them
+pub record AreEnds (pairs : PairSet) (numbers ends : List ℕ) : Type 0 where
+  pub each : (number : ℕ) → Contains ends number → Contains numbers number × LacksOne pairs numbers number
+  pub others : (first second : ℕ) → Contains numbers first → Contains numbers second →
+      ArePaired pairs first second ⊎ (Contains ends first ⊎ Contains ends second)
 
--- those of some numbers that lack one of them
-pub record AreLacking (pairs : PairSet) (numbers lacking : List ℕ) : Type 0 where
-  pub each : (number : ℕ) → Contains lacking number → Contains numbers number × LacksOne pairs numbers number
-  pub others : (number : ℕ) → Contains numbers number →
-      Contains lacking number ⊎ ((other : ℕ) → Contains numbers other → has_pair pairs number other ≡ true)
+-- a number came to those that are pairs with one another, since it is one with each of them and itself; or to the ends, since
+-- it is not
+pub data IsPlaced (pairs : PairSet) (number : ℕ) (paired ends new_paired new_ends : List ℕ) : Type 0 where
+  is_paired : has_pair pairs number number ≡ true → ((other : ℕ) → Contains paired other → has_pair pairs number other ≡ true) →
+      IsAdded number paired new_paired → new_ends ≡ ends → IsPlaced pairs number paired ends new_paired new_ends
+  is_end : (other : ℕ) → Contains paired other ⊎ (other ≡ number) → has_pair pairs number other ≡ false →
+      IsAdded number ends new_ends → new_paired ≡ paired → IsPlaced pairs number paired ends new_paired new_ends
 
--- the new set has the pairs of the old one, and perhaps some of these numbers
-pub record HasSomeOf (old new : PairSet) (numbers : List ℕ) : Type 0 where
+-- the new set has the pairs of the old one, and perhaps some of one of the first numbers and one of the second
+pub record HasSomeOf (old new : PairSet) (firsts seconds : List ℕ) : Type 0 where
   pub kept : (first second : ℕ) → has_pair old first second ≡ true → has_pair new first second ≡ true
   pub added : (first second : ℕ) → has_pair new first second ≡ true →
-      (has_pair old first second ≡ true) ⊎ (Contains numbers first × Contains numbers second)
+      (has_pair old first second ≡ true) ⊎ (Contains firsts first × Contains seconds second)

@@ -1,7 +1,7 @@
 //! Sets of pairs of numbers.
 
 ghost use Rattle.std.specs.Prelude.{◌≡◌, ◌↔◌, ◌⊎◌, ◌<◌, ℕ, All, Contains, IfOk, OnErr, OnOk, false, true, vec_len};
-ghost use Rattle.graphql_number_sets.specs.NumberSets.{AreExact, AreLacking, HasSomeOf, IsAddedIfLacking, has_pair, numbers_of};
+ghost use Rattle.graphql_number_sets.specs.NumberSets.{AreEnds, AreExact, HasSomeOf, IsPlaced, has_pair, numbers_of};
 
 use super::bit_sets::BitSet;
 use super::distinct_numbers::DistinctNumbers;
@@ -27,56 +27,67 @@ impl PairSet {
         Ok(PairSet { rows })
     }
 
-    /// Those of some numbers that do not make a pair of the set with each of them, in order. The only error is
-    /// a failed allocation.
-    pub fn lacking(
+    /// Such of some numbers that of each two which are no pair of the set, one way or the other, at least one is among
+    /// them: those that are no pair with one of the numbers before them that are not among them, or with themselves. None,
+    /// where each two are a pair. The only error is a failed allocation.
+    pub fn ends(
         &self,
         alloc: Global,
         numbers: &DistinctNumbers,
     ) -> Result<DistinctNumbers, ValidationError>
-        requires exact { AreExact numbers.now }
         requires within { All (λ number. number < vec_len self.now.rows) (numbers_of numbers.now) }
         ensures exact { IfOk result AreExact }
-        ensures lacking { IfOk result (λ lacking. AreLacking self.now (numbers_of numbers.now) (numbers_of lacking)) }
+        ensures ends { IfOk result (λ ends. AreEnds self.now (numbers_of numbers.now) (numbers_of ends)) }
     {
-        let mut lacking = DistinctNumbers::new(alloc);
+        let mut paired = DistinctNumbers::new(alloc);
+        let mut ends = DistinctNumbers::new(alloc);
         for number in &numbers.numbers {
-            self.add_if_lacking(&mut lacking, *number, numbers)?;
+            self.place(&mut paired, &mut ends, *number)?;
         }
-        Ok(lacking)
+        Ok(ends)
     }
 
-    /// Adds a number, unless it makes a pair of the set with each of some numbers.
-    fn add_if_lacking(
+    /// Adds a number to those that are pairs with one another, if it is one with each of them and itself, and else to the ends.
+    fn place(
         &self,
-        lacking: &mut DistinctNumbers,
+        paired: &mut DistinctNumbers,
+        ends: &mut DistinctNumbers,
         number: usize,
-        numbers: &DistinctNumbers,
     ) -> Result<(), ValidationError>
-        requires exact { AreExact numbers.now }
         requires within { number < vec_len self.now.rows }
-        requires lacking { AreExact lacking.old }
-        ensures exact { OnOk result (AreExact lacking.new) }
-        ensures added { OnOk result (IsAddedIfLacking self.now (numbers_of numbers.now) number (numbers_of lacking.old) (numbers_of lacking.new)) }
+        requires paired { AreExact paired.old }
+        requires ends { AreExact ends.old }
+        ensures paired { AreExact paired.new }
+        ensures ends { AreExact ends.new }
+        ensures placed { OnOk result (IsPlaced self.now number (numbers_of paired.old) (numbers_of ends.old) (numbers_of paired.new) (numbers_of ends.new)) }
     {
-        if self.rows[number].contains_all(&numbers.members) {
-            return Ok(());
+        let row = &self.rows[number];
+        if !row.contains(number) {
+            return ends.add(number);
         }
-        lacking.add(number)
+        if row.contains_all(&paired.members) {
+            paired.add(number)
+        } else {
+            ends.add(number)
+        }
     }
 
-    /// Adds each pair of these numbers. The only error is a failed allocation, and then some of these pairs may have been
-    /// added, and no other.
-    pub fn add_all(&mut self, numbers: &DistinctNumbers) -> Result<(), ValidationError>
-        requires exact { AreExact numbers.now }
-        requires within { All (λ number. number < vec_len self.old.rows) (numbers_of numbers.now) }
+    /// Adds each pair of one of the first numbers and one of the second ones. The only error is a failed allocation, and then
+    /// some of these pairs may have been added, and no other.
+    pub fn add_all(
+        &mut self,
+        firsts: &DistinctNumbers,
+        seconds: &DistinctNumbers,
+    ) -> Result<(), ValidationError>
+        requires exact { AreExact seconds.now }
+        requires within { All (λ number. number < vec_len self.old.rows) (numbers_of firsts.now) }
         ensures count { vec_len self.new.rows ≡ vec_len self.old.rows }
         ensures added { OnOk result ((first second : ℕ) → (has_pair self.new first second ≡ true) ↔
-            ((has_pair self.old first second ≡ true) ⊎ (Contains (numbers_of numbers.now) first × Contains (numbers_of numbers.now) second))) }
-        ensures refused { OnErr result (HasSomeOf self.old self.new (numbers_of numbers.now)) }
+            ((has_pair self.old first second ≡ true) ⊎ (Contains (numbers_of firsts.now) first × Contains (numbers_of seconds.now) second))) }
+        ensures refused { OnErr result (HasSomeOf self.old self.new (numbers_of firsts.now) (numbers_of seconds.now)) }
     {
-        for number in &numbers.numbers {
-            self.rows[*number].add_all(&numbers.members)?;
+        for number in &firsts.numbers {
+            self.rows[*number].add_all(&seconds.members)?;
         }
         Ok(())
     }

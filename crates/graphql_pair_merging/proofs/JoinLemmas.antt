@@ -1,21 +1,26 @@
 -- Sets that are joined to others, and lists of them that wait.
 use Rattle.std.proofs.Common.{◌≡◌, ℕ, ◌+◌, ◌<◌, ◌≤◌, true, false, eqb, eqb-true, List, [], ◌∷◌, ◌++◌, Some, arith, get_or, length, refl, sym, ap, ◌∙◌, subst, All, Contains, take, length-append, inl, inr}
-use Rattle.std.specs.Prelude.{◌≢◌, ◌⊎◌, Vec, slice_get}
+use Rattle.std.specs.Prelude.{◌≢◌, ◌⊎◌, ◌↔◌, Err, IfOk, Ok, OnOk, Result, Vec, slice_get}
 use Rattle.std.specs.declared.alloc.Global.{Global}
 use Rattle.std.proofs.lemmas.List.{append-nil, append_assoc, map-append, take-append-le, take_more}
 use Rattle.std.proofs.lemmas.List.Elements.{All-contains, All-get_or, Contains-append_cases}
 use Rattle.std.proofs.lemmas.Option.{get_or_from_slice_get, slice_get-get_or, slice_get_within}
 use Rattle.indexmap.proofs.IndexTableLemmas.Probe.{pigeonhole}
-use Rattle.graphql_documents.proofs.ListLemmas.{each_standing, none_stands, only_one, stands_first}
+use Rattle.graphql_documents.proofs.ListLemmas.{each_standing, kept_by_filter, none_stands, only_one, stands_first}
 use Rattle.graphql_number_sets.proofs.NumberLemmas.{is_added, stays}
-use Rattle.graphql_number_sets.specs.NumberSets.{AreLacking, IsAdded}
+use Rattle.graphql_number_sets.specs.NumberSets.{AreEnds, IsAdded, has_pair}
 use Rattle.graphql_number_sets.specs.declared.pair_sets.PairSet.{PairSet}
-use Rattle.graphql_pair_merging.specs.JoinedSets.{AddsEach, AreJoined, IsJoined, Takes, joined_first, joined_fragment}
+use Rattle.graphql_pair_merging.specs.JoinedSets.{AddsEach, AreJoined, HaveEnd, IsJoined, Takes, joined_first, joined_fragment}
 use Rattle.graphql_documents.specs.Selections.{selections_of}
 use Rattle.graphql_documents.specs.declared.documents.schemas.Schema.{Schema}
-use Rattle.graphql_specification.specs.Merging.{Pass, set_of}
+use Rattle.graphql_specification.specs.MergedSets.{key_of}
+use Rattle.graphql_specification.specs.Merging.{Pass, SameKey, set_of}
+use Rattle.graphql_nodes.proofs.NameLemmas.{same_name_itself}
+use Rattle.graphql_pair_merging.specs.FieldGroups.{AddsNamed, Groups, IsGrouped, group_under, has_name, name_by}
+use Rattle.graphql_pair_merging.specs.declared.field_groups.GroupedBy.{GroupedBy}
+use Rattle.graphql_pair_merging.specs.declared.field_groups.GroupedBy.TheVariants.{ResponseKey}
 use Rattle.graphql_pair_merging.specs.NumberedSets.{field_of}
-use Rattle.graphql_pair_merging.specs.Pairs.{AreFieldsOf, AreSetsBelow, StandsIn, WereLookedAt, lists_at}
+use Rattle.graphql_pair_merging.specs.Pairs.{AreFieldsAround, AreFieldsOf, AreNamedIn, AreSetsBelow, StandsIn, WereLookedAt, lists_at}
 use Rattle.graphql_pair_merging.specs.declared.numbered_sets.NumberedField.{NumberedField}
 use Rattle.graphql_pair_merging.proofs.PlaceLemmas.{one_at}
 use Rattle.graphql_pair_merging.specs.declared.numbered_sets.NumberedSet.{NumberedSet}
@@ -147,34 +152,36 @@ module _ (sets : List NumberedSet) (looked : PairSet) (initial : List (List ℕ)
   pub nothing_taken : Taken initial
   nothing_taken = record { fewer = λ l in'. in'; others = λ l in'. inl in' }
 
-  was_looked : (list joined unlooked : List ℕ) → AreJoined sets list joined → AreLacking looked joined unlooked → unlooked ≡ [] → WereLookedAt looked list
-  was_looked list joined unlooked are lacking none a b in_a in_b = elim (lacking.others a (are.begun a in_a)) [
-    | inl there ↦ absurd (none_stands a (subst (λ l. Contains l a) none there))
-    | inr all ↦ all b (are.begun b in_b)
+  was_looked : (list joined ends : List ℕ) → AreJoined sets list joined → AreEnds looked joined ends → ends ≡ [] → WereLookedAt looked list
+  was_looked list joined ends are are_ends none a b in_a in_b = elim (are_ends.others a b (are.begun a in_a) (are.begun b in_b)) [
+    | inl paired ↦ paired
+    | inr end ↦ elim end [
+      | inl first ↦ absurd (none_stands a (subst (λ l. Contains l a) none first))
+      | inr second ↦ absurd (none_stands b (subst (λ l. Contains l b) none second))
+    ]
   ]
 
-  pub one_taken : (old new : List (List ℕ)) (list joined unlooked : List ℕ) → old ≡ new ++ list ∷ [] → AreJoined sets list joined → AreLacking looked joined unlooked → unlooked ≡ [] →
+  pub one_taken : (old new : List (List ℕ)) (list joined ends : List ℕ) → old ≡ new ++ list ∷ [] → AreJoined sets list joined → AreEnds looked joined ends → ends ≡ [] →
       Taken old → Taken new
-  one_taken old new list joined unlooked is are lacking none before = record {
+  one_taken old new list joined ends is are are_ends none before = record {
     fewer = λ l in'. before.fewer l (in_first new (list ∷ []) old is l in');
     others = λ l in'. elim (before.others l in') [
       | inl there ↦ elim (in_both new (list ∷ []) old is l there) [
         | inl still ↦ inl still
-        | inr last ↦ inr (subst (WereLookedAt looked) (sym (only_one list l last)) (was_looked list joined unlooked are lacking none))
+        | inr last ↦ inr (subst (WereLookedAt looked) (sym (only_one list l last)) (was_looked list joined ends are are_ends none))
       ]
       | inr looked ↦ inr looked
     ];
   }
 
-  pub takes : (old new : List (List ℕ)) (list joined unlooked : List ℕ) → old ≡ new ++ list ∷ [] → AreJoined sets list joined → AreLacking looked joined unlooked → unlooked ≢ [] →
-      Taken old → Takes sets looked initial new unlooked
-  takes old new list joined unlooked is are lacking some before = record {
+  pub takes : (old new : List (List ℕ)) (list joined ends : List ℕ) → old ≡ new ++ list ∷ [] → AreJoined sets list joined → AreEnds looked joined ends → ends ≢ [] →
+      Taken old → Takes sets looked initial new joined ends
+  takes old new list joined ends is are are_ends some before = record {
     list = list;
-    joined = joined;
     fewer = λ l in'. before.fewer l (in_first new (list ∷ []) old is l in');
     taken = before.fewer list (in_second new (list ∷ []) old is list (stands_first list []));
     are_joined = are;
-    lacking = lacking;
+    are_ends = are_ends;
     others = λ l in'. elim (before.others l in') [
       | inl there ↦ elim (in_both new (list ∷ []) old is l there) [
         | inl still ↦ inl still
@@ -184,6 +191,14 @@ module _ (sets : List NumberedSet) (looked : PairSet) (initial : List (List ℕ)
     ];
     some = some;
   }
+
+  -- the ends are among the joined sets
+  pub ends_among : (new : List (List ℕ)) (joined ends : List ℕ) → Takes sets looked initial new joined ends → (n : ℕ) → Contains ends n → Contains joined n
+  ends_among new joined ends taken n in' = (taken.are_ends.each n in').0
+
+  pub ends_within : (new : List (List ℕ)) (joined ends : List ℕ) (count : ℕ) → Takes sets looked initial new joined ends → All (λ n. n < count) joined → All (λ n. n < count) ends
+  ends_within new joined ends count taken within =
+      each_standing (λ n. n < count) ends (λ n in'. All-contains (λ m. m < count) joined n within (taken.are_ends.each n in').0)
 
   pub all_taken : Taken [] → All (WereLookedAt looked) initial
   all_taken t = each_standing (WereLookedAt looked) initial (λ l in'. elim (t.others l in') [
@@ -242,3 +257,106 @@ below_same done zs x old is none before = record {
     | inr last ↦ absurd (none (subst (λ (r : NumberedField). selections_of (set_of (field_of r)) ≢ []) (only_one x y last) selects))
   ];
 }
+
+-- what is among the fields of one set more
+pub named_more : (schema : Schema) (pass : Pass) (sets : List NumberedSet) (groups : Groups) (done zs : List ℕ) (number : ℕ) (set : NumberedSet) (old new : List NumberedField) → zs ≡ done ++ number ∷ [] →
+    slice_get sets number ≡ Some set → AddsNamed ResponseKey groups set.fields.items old new → AreNamedIn schema pass sets groups done old → AreNamedIn schema pass sets groups zs new
+named_more schema pass sets groups done zs number set old new is at adds before = record {
+  among = λ x in'. elim (adds.added x in') [
+    | inl was ↦ (let s = before.among x was in (s.0, s.1, in_first done (number ∷ []) zs is s.0 s.2, s.3, s.4))
+    | inr own ↦ (number, set, in_second done (number ∷ []) zs is number (stands_first number []), at, own)
+  ];
+  all = λ x stands some. elim (in_both done (number ∷ []) zs is stands.0 stands.2) [
+    | inl was ↦ adds.kept x (before.all x (stands.0, stands.1, was, stands.3, stands.4) some)
+    | inr last ↦
+        (let same : set ≡ stands.1 = one_at (slice_get sets stands.0) set stands.1 (ap (slice_get sets) (only_one number stands.0 last) ∙ at) stands.3 in
+        adds.all x (subst (λ (r : NumberedSet). Contains r.fields.items x) (sym same) stands.4) some)
+  ];
+}
+
+module _ (schema : Schema) (pass : Pass) (sets : List NumberedSet) (ends numbers : List ℕ) (among : (n : ℕ) → Contains ends n → Contains numbers n) where
+  wider : (x : NumberedField) → StandsIn schema pass sets ends x → StandsIn schema pass sets numbers x
+  wider x s = (s.0, s.1, among s.0 s.2, s.3, s.4)
+
+  -- where all sets are ends, all their fields are around these
+  pub all_around : (own : List NumberedField) → AreFieldsOf schema pass sets ends own → ends ≡ numbers → AreFieldsAround schema pass sets ends numbers own
+  all_around own are same = record {
+    among = λ x in'. wider x ((are x).0 in');
+    all = λ x y in_end in_any one_key. ((are x).1 in_end, (are y).1 (subst (λ l. StandsIn schema pass sets l y) (sym same) in_any));
+  }
+
+  -- and else those are whose key one in an end has
+  pub named_around : (own fields : List NumberedField) (groups : Groups) → AreFieldsOf schema pass sets ends own → IsGrouped ResponseKey own groups →
+      AreNamedIn schema pass sets groups numbers fields → AreFieldsAround schema pass sets ends numbers fields
+  named_around own fields groups are grouped named = record {
+    among = named.among;
+    all = λ x y in_end in_any one_key.
+        let own_x = (are x).1 in_end in (
+          named.all x (wider x in_end) (some x x own_x (same_name_itself (key_of (field_of x)))),
+          named.all y in_any (some x y own_x one_key),
+        );
+  } where
+    some : (x y : NumberedField) → Contains own x → SameKey (field_of x) (field_of y) → group_under groups (key_of (field_of y)) ≢ []
+    some x y own_x one_key none =
+        let name = key_of (field_of y) in
+        none_stands x (subst (λ l. Contains l x) (sym (grouped name) ∙ none) (kept_by_filter (has_name ResponseKey name) own x own_x one_key))
+
+-- pairs of an end and any set were added, and those of any set and an end
+pub both_added : {T E : Type 0} (r : Result T E) (old mid new : PairSet) (joined ends : List ℕ) →
+    ((a b : ℕ) → (has_pair mid a b ≡ true) ↔ ((has_pair old a b ≡ true) ⊎ (Contains ends a × Contains joined b))) →
+    OnOk r ((a b : ℕ) → (has_pair new a b ≡ true) ↔ ((has_pair mid a b ≡ true) ⊎ (Contains joined a × Contains ends b))) →
+    OnOk r ((a b : ℕ) → (has_pair new a b ≡ true) ↔ ((has_pair old a b ≡ true) ⊎ HaveEnd joined ends a b))
+both_added (Err e) old mid new joined ends first second = tt
+both_added (Ok v) old mid new joined ends first second = λ a b. (
+  λ has. elim ((second a b).0 has) [
+    | inl in_mid ↦ elim ((first a b).0 in_mid) [
+      | inl was ↦ inl was
+      | inr end ↦ inr (inl end)
+    ]
+    | inr end ↦ inr (inr end)
+  ],
+  λ has. elim has [
+    | inl was ↦ (second a b).1 (inl ((first a b).1 (inl was)))
+    | inr end ↦ elim end [
+      | inl one ↦ (second a b).1 (inl ((first a b).1 (inr one)))
+      | inr other ↦ (second a b).1 (inr other)
+    ]
+  ],
+)
+
+-- one field more was looked at: it came to the fields, or there are none of its name
+pub named_one : (by : GroupedBy) (groups : Groups) (done zs : List NumberedField) (x : NumberedField) (old now new : List NumberedField) → zs ≡ done ++ x ∷ [] → new ≡ now ++ x ∷ [] →
+    AddsNamed by groups done old now → AddsNamed by groups zs old new
+named_one by groups done zs x old now new is grown before = record {
+  kept = λ y in'. in_first now (x ∷ []) new grown y (before.kept y in');
+  added = λ y in'. elim (in_both now (x ∷ []) new grown y in') [
+    | inl was ↦ elim (before.added y was) [
+      | inl in_old ↦ inl in_old
+      | inr other ↦ inr (in_first done (x ∷ []) zs is y other)
+    ]
+    | inr last ↦ inr (in_second done (x ∷ []) zs is y last)
+  ];
+  all = λ y in' some. elim (in_both done (x ∷ []) zs is y in') [
+    | inl was ↦ in_first now (x ∷ []) new grown y (before.all y was some)
+    | inr last ↦ in_second now (x ∷ []) new grown y last
+  ];
+}
+
+pub named_none : (by : GroupedBy) (groups : Groups) (done zs : List NumberedField) (x : NumberedField) (old now : List NumberedField) → zs ≡ done ++ x ∷ [] → group_under groups (name_by by x) ≡ [] →
+    AddsNamed by groups done old now → AddsNamed by groups zs old now
+named_none by groups done zs x old now is none before = record {
+  kept = before.kept;
+  added = λ y in'. elim (before.added y in') [
+    | inl in_old ↦ inl in_old
+    | inr other ↦ inr (in_first done (x ∷ []) zs is y other)
+  ];
+  all = λ y in' some. elim (in_both done (x ∷ []) zs is y in') [
+    | inl was ↦ before.all y was some
+    | inr last ↦ absurd (some (subst (λ k. group_under groups (name_by by k) ≡ []) (sym (only_one x y last)) none))
+  ];
+}
+
+-- what follows where a call answers
+pub follows : {T E : Type 0} {P Q : T → Type 0} (r : Result T E) → ((v : T) → P v → Q v) → IfOk r P → IfOk r Q
+follows (Ok v) then' p = then' v p
+follows (Err e) then' p = tt

@@ -12,7 +12,7 @@ use Rattle.graphql_specification.specs.MergedSets.{Agree, ArePutTogether}
 use Rattle.graphql_specification.specs.Merging.{FieldSelection, Pass, ParentsMayOverlap, SameKey, field_pass, shape_pass, type_of}
 use Rattle.graphql_pair_merging.specs.FieldGroups.{IsGroupOf, has_name, name_by}
 use Rattle.graphql_pair_merging.specs.NumberedSets.{field_of}
-use Rattle.graphql_pair_merging.specs.Pairs.{AllAgree, AreBelow, AreFieldsOf, AreListed, AreSetsBelow, AreTogether, Both, DecidesAlone, DisagreeAmong, Finds, FindsIn, HaveOneKey, LooksAt, Settles, SetPair, pair_of}
+use Rattle.graphql_pair_merging.specs.Pairs.{AllAgree, AreBelow, AreFieldsAround, AreListed, AreSetsBelow, AreTogether, Both, DecidesAlone, DisagreeAmong, Finds, FindsIn, HaveOneKey, LooksAt, Settles, SetPair, pair_of}
 use Rattle.graphql_pair_merging.specs.declared.disagreements.Conflict.{Conflict}
 use Rattle.graphql_pair_merging.specs.declared.field_groups.GroupedBy.TheVariants.{ParentType, ResponseKey}
 use Rattle.graphql_pair_merging.specs.declared.field_groups.GroupedBy.{GroupedBy}
@@ -285,9 +285,9 @@ both_in_group schema pass fields group is x y both named put = (
 )
 
 -- sets that were looked at by their fields
-pub looked_or_found : {E : Type 0} (schema : Schema) (pass : Pass) (r : Result (Option Conflict) E) (sets : List NumberedSet) (numbers : List ℕ) (fields : List NumberedField) (old new : List (List ℕ)) →
-    AreFieldsOf schema pass sets numbers fields → IfOk r (λ found. MatchOption found (Settles schema pass fields (Both fields) old new) (Finds schema pass fields fields)) →
-    IfOk r (λ found. MatchOption found (LooksAt schema pass sets numbers old new) (FindsIn schema pass sets numbers))
-looked_or_found schema pass (Err e) sets numbers fields old new are found = tt
-looked_or_found schema pass (Ok None) sets numbers fields old new are s = (fields, are, s)
-looked_or_found schema pass (Ok (Some c)) sets numbers fields old new are f = (fields, are, f)
+pub looked_or_found : {E : Type 0} (schema : Schema) (pass : Pass) (r : Result (Option Conflict) E) (sets : List NumberedSet) (ends numbers : List ℕ) (fields : List NumberedField) (old new : List (List ℕ)) →
+    AreFieldsAround schema pass sets ends numbers fields → IfOk r (λ found. MatchOption found (Settles schema pass fields (Both fields) old new) (Finds schema pass fields fields)) →
+    IfOk r (λ found. MatchOption found (LooksAt schema pass sets ends numbers old new) (FindsIn schema pass sets numbers))
+looked_or_found schema pass (Err e) sets ends numbers fields old new are found = tt
+looked_or_found schema pass (Ok None) sets ends numbers fields old new are s = (fields, are, s)
+looked_or_found schema pass (Ok (Some c)) sets ends numbers fields old new are f = (fields, are.among, f)

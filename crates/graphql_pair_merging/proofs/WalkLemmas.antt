@@ -4,18 +4,24 @@ use Rattle.std.specs.Prelude.{◌↔◌, ◌⊎◌, slice_get}
 use Rattle.std.proofs.lemmas.List.Elements.{All-contains}
 use Rattle.graphql_documents.proofs.ListLemmas.{each_standing, made_of, only_one, stands_first, stands_mapped}
 use Rattle.graphql_documents.specs.declared.documents.schemas.Schema.{Schema}
-use Rattle.graphql_number_sets.specs.NumberSets.{has_pair}
+use Rattle.graphql_number_sets.specs.NumberSets.{ArePaired, has_pair}
 use Rattle.graphql_number_sets.specs.declared.pair_sets.PairSet.{PairSet}
-use Rattle.graphql_specification.specs.MergedSets.{Agree, ArePutTogether}
-use Rattle.graphql_specification.specs.Merging.{Pass}
-use Rattle.graphql_pair_merging.specs.JoinedSets.{IsJoined, Takes, joined_first, joined_fragment}
+use Rattle.graphql_specification.specs.MergedSets.{Agree, ArePutTogether, key_of}
+use Rattle.graphql_specification.specs.Merging.{FieldSelection, Pass, SameKey, field_pass, shape_pass}
+use Rattle.graphql_pair_merging.specs.JoinedSets.{HaveEnd, IsJoined, Takes, joined_first, joined_fragment}
 use Rattle.graphql_pair_merging.specs.NumberedSets.{field_of}
-use Rattle.graphql_pair_merging.specs.Pairs.{AreBelow, AreLinked, AreListed, FindsBelow, FindsIn, HasLooked, IsLinked, IsReached, IsStart, LeadsTo, LooksAt, SetPair, WereLookedAt, pair_of, reached_first, reached_next}
+use Rattle.graphql_pair_merging.specs.Pairs.{AreBelow, AreLinked, AreListed, Both, FindsBelow, FindsIn, HasLooked, IsLinked, IsReached, IsStart, LeadsTo, LooksAt, SetPair, WereLookedAt, pair_of, reached_first, reached_next}
 use Rattle.graphql_pair_merging.specs.declared.disagreements.Conflict.{Conflict}
 use Rattle.graphql_pair_merging.specs.declared.numbered_sets.NumberedField.{NumberedField}
 use Rattle.graphql_pair_merging.specs.declared.numbered_sets.NumberedSet.{NumberedSet}
+use Rattle.graphql_nodes.proofs.NameLemmas.{same_name_back}
 use Rattle.graphql_number_sets.proofs.CountLemmas.{count_pairs, fewer_pairs}
 use Rattle.graphql_pair_merging.proofs.PlaceLemmas.{stands_at}
+
+-- fields that are put together have one key
+have_one_key : (schema : Schema) (pass : Pass) (x y : FieldSelection) → ArePutTogether schema pass x y → SameKey x y
+have_one_key schema shape_pass x y put = put
+have_one_key schema field_pass x y put = put.0
 
 -- both are numbers of so many sets
 abbrev pub IsWithin : ℕ → SetPair → Type 0
@@ -115,30 +121,35 @@ module _ (schema : Schema) (pass : Pass) (sets : List NumberedSet) (starts : Lis
         let a = some_at sets n (reached_within was).0 in
         reached_next a.0 b was a.1 at (inl (inr (k, there, refl)))
 
-    module _ (looked new : PairSet) (old mid after : List (List ℕ)) (unlooked : List ℕ) (takes : Takes sets looked old mid unlooked)
-        (looks : LooksAt schema pass sets unlooked mid after) (adds : (a b : ℕ) → (has_pair new a b ≡ true) ↔ ((has_pair looked a b ≡ true) ⊎ (Contains unlooked a × Contains unlooked b)))
+    module _ (looked new : PairSet) (old mid after : List (List ℕ)) (joined ends : List ℕ) (takes : Takes sets looked old mid joined ends)
+        (looks : LooksAt schema pass sets ends joined mid after) (adds : (a b : ℕ) → (has_pair new a b ≡ true) ↔ ((has_pair looked a b ≡ true) ⊎ HaveEnd joined ends a b))
         (walks : Walks looked old) where
-      abbrev joined : List ℕ
-      joined = takes.joined
-
       all_reached : AreReached joined
       all_reached a b in_a in_b =
           joined_both takes.list (walks.reached takes.list takes.taken) a (takes.are_joined.made a in_a) (takes.are_joined.made b in_b)
 
-      in_joined : (a : ℕ) → Contains unlooked a → Contains joined a
-      in_joined a in' = (takes.lacking.each a in').0
+      in_joined : (a : ℕ) → Contains ends a → Contains joined a
+      in_joined a in' = (takes.are_ends.each a in').0
+
+      both_joined : (a b : ℕ) → HaveEnd joined ends a b → Contains joined a × Contains joined b
+      both_joined a b (inl first) = (in_joined a first.0, first.1)
+      both_joined a b (inr second) = (second.0, in_joined b second.1)
 
       still : (a b : ℕ) → has_pair looked a b ≡ true → has_pair new a b ≡ true
       still a b met = (adds a b).1 (inl met)
 
+      still_paired : (a b : ℕ) → ArePaired looked a b → has_pair new a b ≡ true
+      still_paired a b (inl met) = still a b met
+      still_paired a b (inr back) = still a b (walks.symmetric b a back)
+
       -- each two of the joined sets were looked at now
       met_now : (a b : ℕ) → Contains joined a → Contains joined b → has_pair new a b ≡ true
-      met_now a b in_a in_b = elim (takes.lacking.others a in_a) [
-        | inl first ↦ elim (takes.lacking.others b in_b) [
-          | inl second ↦ (adds a b).1 (inr (first, second))
-          | inr all ↦ still a b (walks.symmetric b a (all a in_a))
+      met_now a b in_a in_b = elim (takes.are_ends.others a b in_a in_b) [
+        | inl paired ↦ still_paired a b paired
+        | inr end ↦ elim end [
+          | inl first ↦ (adds a b).1 (inr (inl (first, in_b)))
+          | inr second ↦ (adds a b).1 (inr (inr (in_a, second)))
         ]
-        | inr all ↦ still a b (all b in_b)
       ]
 
       -- a pair that waited was looked at, or waits
@@ -148,7 +159,7 @@ module _ (schema : Schema) (pass : Pass) (sets : List NumberedSet) (starts : Lis
         | inr gone ↦ elim gone [
           | inl same ↦
               inl (met_now a b (takes.are_joined.begun a (subst (λ w. Contains w a) same in_a)) (takes.are_joined.begun b (subst (λ w. Contains w b) same in_b)))
-          | inr were ↦ inl (still a b (were a b in_a in_b))
+          | inr were ↦ inl (still_paired a b (were a b in_a in_b))
         ]
       ]
 
@@ -159,11 +170,20 @@ module _ (schema : Schema) (pass : Pass) (sets : List NumberedSet) (starts : Lis
       below_reached : (l : List ℕ) → AreBelow schema pass looks.0 l → AreReached l
       below_reached l below a b in_a in_b =
           let u = below a b in_a in_b in
-          let x = (looks.1 u.0).0 u.2 in
-          let y = (looks.1 u.1).0 u.3 in
-          reached_next x.1 y.1 (all_reached x.0 y.0 (in_joined x.0 x.2) (in_joined y.0 y.2)) x.3 y.3 (inr (u.0, u.1, x.4, y.4, u.4))
+          let x = looks.1.among u.0 u.2 in
+          let y = looks.1.among u.1 u.3 in
+          reached_next x.1 y.1 (all_reached x.0 y.0 x.2 y.2) x.3 y.3 (inr (u.0, u.1, x.4, y.4, u.4))
 
-      opened : (p : SetPair) → (has_pair looked p.first p.second ≡ true) ⊎ (Contains unlooked p.first × Contains unlooked p.second) → IsOpen new after p
+      -- two fields of one key in sets of which one is an end were compared
+      compared : (p : SetPair) (a b : NumberedSet) → slice_get sets p.first ≡ Some a → slice_get sets p.second ≡ Some b → HaveEnd joined ends p.first p.second →
+          (x y : NumberedField) → Contains a.fields.items x → Contains b.fields.items y → SameKey (field_of x) (field_of y) → Both looks.0 x y
+      compared p a b at_a at_b (inl first) x y in_x in_y same = looks.1.all x y (p.first, a, first.0, at_a, in_x) (p.second, b, first.1, at_b, in_y) same
+      compared p a b at_a at_b (inr second) x y in_x in_y same =
+          let both = looks.1.all y x (p.second, b, second.1, at_b, in_y) (p.first, a, second.0, at_a, in_x)
+          (same_name_back (key_of (field_of x)) (key_of (field_of y)) same) in
+          (both.1, both.0)
+
+      opened : (p : SetPair) → (has_pair looked p.first p.second ≡ true) ⊎ HaveEnd joined ends p.first p.second → IsOpen new after p
       opened p (inl met) =
           let o = walks.closed p met in
           record {
@@ -174,9 +194,8 @@ module _ (schema : Schema) (pass : Pass) (sets : List NumberedSet) (starts : Lis
             all = λ q leads. either q.first q.second (o.all q leads);
             agree = o.agree;
           }
-      opened p (inr both) =
-          let in_a = in_joined p.first both.0 in
-          let in_b = in_joined p.second both.1 in
+      opened p (inr end) =
+          let (in_a, in_b) = both_joined p.first p.second end in
           let within = reached_within (all_reached p.first p.second in_a in_b) in
           let a = some_at sets p.first within.0 in
           let b = some_at sets p.second within.1 in
@@ -185,20 +204,19 @@ module _ (schema : Schema) (pass : Pass) (sets : List NumberedSet) (starts : Lis
             second = b.0;
             first_is = a.1;
             second_is = b.1;
-            all = leads_on p a.0 b.0 a.1 b.1 both.0 both.1;
-            agree = λ x y in_x in_y put.
-                looks.2.agree x y ((looks.1 x).1 (p.first, a.0, both.0, a.1, in_x), (looks.1 y).1 (p.second, b.0, both.1, b.1, in_y)) put;
+            all = leads_on p a.0 b.0 a.1 b.1 end;
+            agree = λ x y in_x in_y put. looks.2.agree x y (compared p a.0 b.0 a.1 b.1 end x y in_x in_y (have_one_key schema pass (field_of x) (field_of y) put)) put;
           } where
-            leads_on : (p : SetPair) (a b : NumberedSet) → slice_get sets p.first ≡ Some a → slice_get sets p.second ≡ Some b → Contains unlooked p.first → Contains unlooked p.second →
+            leads_on : (p : SetPair) (a b : NumberedSet) → slice_get sets p.first ≡ Some a → slice_get sets p.second ≡ Some b → HaveEnd joined ends p.first p.second →
                 (q : SetPair) → LeadsTo schema pass a b p q → (has_pair new q.first q.second ≡ true) ⊎ AreListed after q.first q.second
-            leads_on p a b at_a at_b un_a un_b q (inl (inl (n, there, is))) =
-                inl (subst (λ (r : SetPair). has_pair new r.first r.second ≡ true) (sym is)
-                (met_now n p.second (takes.are_joined.closed p.first n a (in_joined p.first un_a) at_a there) (in_joined p.second un_b)))
-            leads_on p a b at_a at_b un_a un_b q (inl (inr (n, there, is))) =
-                inl (subst (λ (r : SetPair). has_pair new r.first r.second ≡ true) (sym is)
-                (met_now p.first n (in_joined p.first un_a) (takes.are_joined.closed p.second n b (in_joined p.second un_b) at_b there)))
-            leads_on p a b at_a at_b un_a un_b q (inr (x, y, in_x, in_y, below)) =
-                inr (looks.2.below x y ((looks.1 x).1 (p.first, a, un_a, at_a, in_x), (looks.1 y).1 (p.second, b, un_b, at_b, in_y)) q below)
+            leads_on p a b at_a at_b end q (inl (inl (n, there, is))) =
+                let (in_a, in_b) = both_joined p.first p.second end in
+                inl (subst (λ (r : SetPair). has_pair new r.first r.second ≡ true) (sym is) (met_now n p.second (takes.are_joined.closed p.first n a in_a at_a there) in_b))
+            leads_on p a b at_a at_b end q (inl (inr (n, there, is))) =
+                let (in_a, in_b) = both_joined p.first p.second end in
+                inl (subst (λ (r : SetPair). has_pair new r.first r.second ≡ true) (sym is) (met_now p.first n in_a (takes.are_joined.closed p.second n b in_b at_b there)))
+            leads_on p a b at_a at_b end q (inr (x, y, in_x, in_y, below)) =
+                inr (looks.2.below x y (compared p a b at_a at_b end x y in_x in_y (have_one_key schema pass (field_of x) (field_of y) below.put)) q below)
 
       -- the sets of one list more were looked at together
       pub walks_on : Walks new after
@@ -211,36 +229,37 @@ module _ (schema : Schema) (pass : Pass) (sets : List NumberedSet) (starts : Lis
         closed = λ p met. opened p ((adds p.first p.second).0 met);
         symmetric = λ a b met. elim ((adds a b).0 met) [
           | inl was ↦ still b a (walks.symmetric a b was)
-          | inr both ↦ (adds b a).1 (inr (both.1, both.0))
+          | inr end ↦ elim end [
+            | inl first ↦ (adds b a).1 (inr (inr (first.1, first.0)))
+            | inr second ↦ (adds b a).1 (inr (inl (second.1, second.0)))
+          ]
         ];
       }
 
       -- and fewer pairs are left
       pub fewer_left : count_pairs (length sets) (length sets) (has_pair new) < count_pairs (length sets) (length sets) (has_pair looked)
-      fewer_left = by unlooked refl where
-        by : (l : List ℕ) → unlooked ≡ l → count_pairs (length sets) (length sets) (has_pair new) < count_pairs (length sets) (length sets) (has_pair looked)
+      fewer_left = by ends refl where
+        by : (l : List ℕ) → ends ≡ l → count_pairs (length sets) (length sets) (has_pair new) < count_pairs (length sets) (length sets) (has_pair looked)
         by [] none = absurd (takes.some none)
         by (a ∷ rest) is =
             let in' = subst (λ l. Contains l a) (sym is) (stands_first a rest) in
-            let lacks = (takes.lacking.each a in').1 in
+            let lacks = (takes.are_ends.each a in').1 in
             let in_a = in_joined a in' in
             let within = reached_within (all_reached a lacks.0 in_a lacks.1) in
             fewer_pairs (length sets) (length sets) (has_pair looked) (has_pair new) still a lacks.0 within.0 within.1 lacks.2 (met_now a lacks.0 in_a lacks.1)
 
     -- what was found is below the first ones
-    pub found_below : (looked : PairSet) (old mid : List (List ℕ)) (unlooked : List ℕ) (c : Conflict) → Takes sets looked old mid unlooked → FindsIn schema pass sets unlooked c → Walks looked old →
+    pub found_below : (looked : PairSet) (old mid : List (List ℕ)) (joined ends : List ℕ) (c : Conflict) → Takes sets looked old mid joined ends → FindsIn schema pass sets joined c → Walks looked old →
         FindsBelow schema pass sets starts c
-    found_below looked old mid unlooked c takes found walks =
+    found_below looked old mid joined ends c takes found walks =
         let f = found.2 in
-        let x = (found.1 f.among.x).0 f.among.in_first in
-        let y = (found.1 f.among.y).0 f.among.in_second in
-        let in_x = (takes.lacking.each x.0 x.2).0 in
-        let in_y = (takes.lacking.each y.0 y.2).0 in
+        let x = found.1 f.among.x f.among.in_first in
+        let y = found.1 f.among.y f.among.in_second in
         record {
           pair = pair_of x.0 y.0;
           first = x.1;
           second = y.1;
-          reached = joined_both takes.list (walks.reached takes.list takes.taken) x.0 (takes.are_joined.made x.0 in_x) (takes.are_joined.made y.0 in_y);
+          reached = joined_both takes.list (walks.reached takes.list takes.taken) x.0 (takes.are_joined.made x.0 x.2) (takes.are_joined.made y.0 y.2);
           first_is = x.3;
           second_is = y.3;
           found = record {
@@ -275,4 +294,7 @@ module _ (schema : Schema) (pass : Pass) (sets : List NumberedSet) (starts : Lis
     } where
       settled : (a b : ℕ) → (has_pair looked a b ≡ true) ⊎ AreListed waiting a b → has_pair looked a b ≡ true
       settled a b (inl met) = met
-      settled a b (inr (l, in', in_a, in_b)) = All-contains (WereLookedAt looked) waiting l were in' a b in_a in_b
+      settled a b (inr (l, in', in_a, in_b)) = elim (All-contains (WereLookedAt looked) waiting l were in' a b in_a in_b) [
+        | inl met ↦ met
+        | inr back ↦ walks.symmetric b a back
+      ]

@@ -1,5 +1,5 @@
 -- The fields of numbered sets by their response keys, or by their parents.
-use Rattle.std.specs.Prelude.{◌≡◌, Bool, List, [], Option, None, Some, Vec, filter, map}
+use Rattle.std.specs.Prelude.{◌≡◌, ◌≢◌, ◌⊎◌, Bool, Contains, List, [], Option, None, Some, Vec, filter, map}
 use Rattle.std.specs.Borrow.{Bor}
 use Rattle.std.specs.Map.{lookup}
 use Rattle.std.specs.declared.alloc.Global.{Global}
@@ -43,3 +43,9 @@ IsGrouped by fields groups = (name : NameText) → group_under groups name ≡ f
 -- these are the fields with one name
 abbrev pub IsGroupOf : GroupedBy → List NumberedField → List NumberedField → Type 0
 IsGroupOf by fields group = (name : NameText) × (group ≡ filter (has_name by name) fields)
+
+-- those of the other fields came to the old ones under whose name there are fields in the groups, and perhaps more of them
+pub record AddsNamed (by : GroupedBy) (groups : Groups) (others old new : List NumberedField) : Type 0 where
+  pub kept : (x : NumberedField) → Contains old x → Contains new x
+  pub added : (x : NumberedField) → Contains new x → Contains old x ⊎ Contains others x
+  pub all : (x : NumberedField) → Contains others x → group_under groups (name_by by x) ≢ [] → Contains new x

@@ -1,6 +1,6 @@
 -- Sets that come together, with those of the fragments in them.
 use Rattle.std.specs.Prelude.{◌≡◌, ◌≢◌, ◌⊎◌, ◌++◌, [], ℕ, List, Some, Contains, slice_get}
-use Rattle.graphql_number_sets.specs.NumberSets.{AreLacking}
+use Rattle.graphql_number_sets.specs.NumberSets.{AreEnds}
 use Rattle.graphql_number_sets.specs.declared.pair_sets.PairSet.{PairSet}
 use Rattle.graphql_pair_merging.specs.Pairs.{WereLookedAt}
 use Rattle.graphql_pair_merging.specs.declared.numbered_sets.NumberedSet.{NumberedSet}
@@ -25,12 +25,15 @@ module _ (sets : List NumberedSet) where
     pub made : (n : ℕ) → Contains numbers n → IsJoined first n
 
   -- lists were taken from those that wait, up to one of which some sets were not looked at together
-  pub record Takes (looked : PairSet) (old new : List (List ℕ)) (unlooked : List ℕ) : Type 0 where
+  pub record Takes (looked : PairSet) (old new : List (List ℕ)) (joined ends : List ℕ) : Type 0 where
     pub list : List ℕ
-    pub joined : List ℕ
     pub fewer : (l : List ℕ) → Contains new l → Contains old l
     pub taken : Contains old list
     pub are_joined : AreJoined list joined
-    pub lacking : AreLacking looked joined unlooked
+    pub are_ends : AreEnds looked joined ends
     pub others : (l : List ℕ) → Contains old l → Contains new l ⊎ ((l ≡ list) ⊎ WereLookedAt looked l)
-    pub some : unlooked ≢ []
+    pub some : ends ≢ []
+
+-- two of the sets of which one is an end
+abbrev pub HaveEnd : (joined ends : List ℕ) → ℕ → ℕ → Type 0
+HaveEnd joined ends a b = (Contains ends a × Contains joined b) ⊎ (Contains joined a × Contains ends b)

@@ -6,11 +6,13 @@ use Rattle.graphql_documents.specs.declared.documents.schemas.Schema.{Schema}
 use Rattle.graphql_specification.specs.MergedSets.{Agree, ArePutTogether}
 use Rattle.graphql_specification.specs.Merging.{FieldSelection, Pass, SameKey, field_pass, set_of, shape_pass, type_of}
 use Rattle.graphql_merging.specs.FieldSelections.{selection_of}
-use Rattle.graphql_number_sets.specs.NumberSets.{has_pair}
+use Rattle.graphql_number_sets.specs.NumberSets.{ArePaired}
 use Rattle.graphql_number_sets.specs.declared.pair_sets.PairSet.{PairSet}
 use Rattle.graphql_pair_merging.specs.Disagreements.{Disagrees, HasDefinition}
+use Rattle.graphql_pair_merging.specs.FieldGroups.{Groups, group_under, name_by}
 use Rattle.graphql_pair_merging.specs.NumberedSets.{field_of}
 use Rattle.graphql_pair_merging.specs.declared.disagreements.Conflict.{Conflict}
+use Rattle.graphql_pair_merging.specs.declared.field_groups.GroupedBy.TheVariants.{ResponseKey}
 use Rattle.graphql_pair_merging.specs.declared.numbered_sets.NumberedField.{NumberedField}
 use Rattle.graphql_pair_merging.specs.declared.numbered_sets.NumberedSet.{NumberedSet}
 
@@ -52,7 +54,7 @@ AreListed lists a b = (l : List ℕ) × Contains lists l × Contains l a × Cont
 
 -- each two of the sets were looked at together
 abbrev pub WereLookedAt : PairSet → List ℕ → Type 0
-WereLookedAt looked l = (a b : ℕ) → Contains l a → Contains l b → has_pair looked a b ≡ true
+WereLookedAt looked l = (a b : ℕ) → Contains l a → Contains l b → ArePaired looked a b
 
 -- some fields, each with each
 abbrev pub Both : List NumberedField → NumberedField → NumberedField → Type 0
@@ -140,13 +142,24 @@ module _ (schema : Schema) (pass : Pass) where
     abbrev pub AreFieldsOf : List ℕ → List NumberedField → Type 0
     AreFieldsOf numbers fields = (x : NumberedField) → Contains fields x ↔ StandsIn numbers x
 
-    -- each two of these sets were looked at: their fields were compared
-    abbrev pub LooksAt : List ℕ → List (List ℕ) → List (List ℕ) → Type 0
-    LooksAt numbers old new = (fields : List NumberedField) × AreFieldsOf numbers fields × Settles fields (Both fields) old new
+    -- the fields are in these sets, and among them are all under whose response key there are fields in the groups
+    pub record AreNamedIn (groups : Groups) (numbers : List ℕ) (fields : List NumberedField) : Type 0 where
+      pub among : (x : NumberedField) → Contains fields x → StandsIn numbers x
+      pub all : (x : NumberedField) → StandsIn numbers x → group_under groups (name_by ResponseKey x) ≢ [] → Contains fields x
+
+    -- the fields are in these sets, and among them are each two of one key of which one is in an end
+    pub record AreFieldsAround (ends numbers : List ℕ) (fields : List NumberedField) : Type 0 where
+      pub among : (x : NumberedField) → Contains fields x → StandsIn numbers x
+      pub all : (x y : NumberedField) → StandsIn ends x → StandsIn numbers y → SameKey (field_of x) (field_of y) →
+          Contains fields x × Contains fields y
+
+    -- each end was looked at with each of these sets: their fields were compared
+    abbrev pub LooksAt : (ends numbers : List ℕ) → (old new : List (List ℕ)) → Type 0
+    LooksAt ends numbers old new = (fields : List NumberedField) × AreFieldsAround ends numbers fields × Settles fields (Both fields) old new
 
     -- two fields in these sets are put together and do not agree
     abbrev pub FindsIn : List ℕ → Conflict → Type 0
-    FindsIn numbers c = (fields : List NumberedField) × AreFieldsOf numbers fields × Finds fields fields c
+    FindsIn numbers c = (fields : List NumberedField) × ((x : NumberedField) → Contains fields x → StandsIn numbers x) × Finds fields fields c
 
     -- all to which the pair leads are among these, and its fields agree where they are put together
     pub record IsClosed (looked : ℕ → ℕ → Bool) (p : SetPair) : Type 0 where

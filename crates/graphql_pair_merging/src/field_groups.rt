@@ -1,8 +1,8 @@
 //! Fields of numbered sets by a name of theirs.
 
-ghost use Rattle.std.specs.Prelude.{◌≡◌, ◌++◌, ◌∷◌, [], IfOk, OnOk, if◌then◌else◌};
+ghost use Rattle.std.specs.Prelude.{◌≡◌, ◌++◌, ◌∷◌, [], IfOk, IsFalse, OnOk, if◌then◌else◌};
 ghost use Rattle.graphql_nodes.specs.Names.{NameText, same_name};
-ghost use Rattle.graphql_pair_merging.specs.FieldGroups.{IsGrouped, group_under, name_by, names_in};
+ghost use Rattle.graphql_pair_merging.specs.FieldGroups.{AddsNamed, IsGrouped, group_under, name_by, names_in};
 
 use super::numbered_sets::NumberedField;
 use graphql_hash_seeds::HashSeed;
@@ -62,6 +62,31 @@ pub(crate) fn names_of<'doc>(
         names.push(*name)?;
     }
     Ok(names)
+}
+
+/// Adds those of the other fields under whose name there are fields in the groups. The only error is a failed allocation.
+pub(crate) fn add_named_in<'doc>(
+    fields: &mut Vec<NumberedField<'doc>>,
+    groups: &FieldsByName<'doc>,
+    by: GroupedBy,
+    others: &[NumberedField<'doc>],
+) -> Result<(), ValidationError>
+    ensures { OnOk result (AddsNamed by groups.now.entries others.now fields.old.items fields.new.items) }
+{
+    for field in others {
+        if is_named_in(groups, by, *field) {
+            fields.push(*field)?;
+        }
+    }
+    Ok(())
+}
+
+/// Whether there are fields under the name of this one.
+fn is_named_in(groups: &FieldsByName<'_>, by: GroupedBy, field: NumberedField<'_>) -> bool
+    ensures { IsFalse result → group_under groups.now.entries (name_by by field.entry) ≡ [] }
+{
+    let name = by.name(field);
+    groups.get(&name).is_some()
 }
 
 /// Puts a field behind those under the name.

@@ -1,15 +1,40 @@
 //! Selection sets whose fields come together.
 
-ghost use Rattle.std.specs.Prelude.{◌≡◌, ◌<◌, All, IfOk, OnOk, Some, length, slice_get};
-ghost use Rattle.graphql_number_sets.specs.NumberSets.{AreExact, numbers_of};
-ghost use Rattle.graphql_pair_merging.specs.JoinedSets.{AddsEach, AreJoined};
+ghost use Rattle.std.specs.Prelude.{◌≡◌, ◌<◌, ◌⊎◌, ◌↔◌, ℕ, All, IfOk, OnOk, Some, length, slice_get, true, vec_len};
+ghost use Rattle.graphql_number_sets.specs.NumberSets.{AreExact, has_pair, numbers_of};
+ghost use Rattle.graphql_pair_merging.specs.JoinedSets.{AddsEach, AreJoined, HaveEnd};
 ghost use Rattle.graphql_pair_merging.specs.Pairs.{AreLinked};
 ghost use Rattle.graphql_pair_merging.specs.declared.numbered_sets.NumberedSet.{NumberedSet};
 
 use super::numbered_sets::NumberedSet;
 use graphql_nodes::ValidationError;
 use graphql_number_sets::distinct_numbers::DistinctNumbers;
+use graphql_number_sets::pair_sets::PairSet;
 use std::alloc::Global;
+
+/// Sets that come together, by their numbers, and the ends: such of them that of each two which were not yet looked at together
+/// at least one is an end.
+#[derive(Debug, Drop)]
+pub(crate) struct JoinedSets {
+    pub(crate) all: DistinctNumbers,
+    pub(crate) ends: DistinctNumbers,
+}
+
+impl JoinedSets {
+    /// Adds each pair of the sets of which one is an end. The only error is a failed allocation.
+    pub(crate) fn add_to(&self, looked: &mut PairSet) -> Result<(), ValidationError>
+        requires all_exact { AreExact self.now.all }
+        requires ends_exact { AreExact self.now.ends }
+        requires all_within { All (λ number. number < vec_len looked.old.rows) (numbers_of self.now.all) }
+        requires ends_within { All (λ number. number < vec_len looked.old.rows) (numbers_of self.now.ends) }
+        ensures count { vec_len looked.new.rows ≡ vec_len looked.old.rows }
+        ensures added { OnOk result ((first second : ℕ) → (has_pair looked.new first second ≡ true) ↔
+            ((has_pair looked.old first second ≡ true) ⊎ HaveEnd (numbers_of self.now.all) (numbers_of self.now.ends) first second)) }
+    {
+        looked.add_all(&self.ends, &self.all)?;
+        looked.add_all(&self.all, &self.ends)
+    }
+}
 
 /// The numbers of some sets with those of the fragments in them, and so on. The only error is a failed allocation.
 pub(crate) fn with_fragments(

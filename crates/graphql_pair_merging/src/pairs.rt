@@ -1,26 +1,25 @@
 //! The pairs of sets whose fields come together.
 
-ghost use Rattle.std.specs.Prelude.{◌≡◌, ◌<◌, ◌∷◌, [], ⊤, All, Contains, IfOk, IsTrue, List, MatchOption, length, map, true, vec_len};
+ghost use Rattle.std.specs.Prelude.{◌≡◌, ◌<◌, ◌∷◌, [], ⊤, ℕ, All, Contains, IfOk, IsTrue, List, MatchOption, length, map, true, vec_len};
 ghost use Rattle.graphql_merging.specs.Groups.{pass_of};
 ghost use Rattle.graphql_number_sets.specs.NumberSets.{AreExact, numbers_of};
 ghost use Rattle.graphql_pair_merging.specs.FieldGroups.{IsGroupOf, IsGrouped, has_name, names_in};
 ghost use Rattle.graphql_pair_merging.specs.JoinedSets.{Takes};
 ghost use Rattle.graphql_pair_merging.specs.NumberedSets.{field_of};
-ghost use Rattle.graphql_pair_merging.specs.Pairs.{AllAgree, AreFieldsOf, AreLinked, AreSetsBelow, AreTogether, Both, DecidesAlone, DisagreeAmong, Finds, FindsBelow, FindsIn, HasLooked, HaveOneKey, LooksAt, Settles, WereLookedAt, lists_at};
+ghost use Rattle.graphql_pair_merging.specs.Pairs.{AllAgree, AreFieldsAround, AreFieldsOf, AreLinked, AreNamedIn, AreSetsBelow, AreTogether, Both, DecidesAlone, DisagreeAmong, Finds, FindsBelow, FindsIn, HasLooked, HaveOneKey, LooksAt, Settles, WereLookedAt, lists_at};
 ghost use Rattle.graphql_pair_merging.specs.declared.field_groups.GroupedBy.TheVariants.{ParentType, ResponseKey};
 ghost use Rattle.graphql_pair_merging.specs.declared.numbered_sets.NumberedField.{NumberedField};
 ghost use Rattle.graphql_specification.specs.MergedSets.{Agree};
 ghost use Rattle.graphql_specification.specs.Merging.{field_pass};
 
 use super::disagreements::{Conflict, disagreement_of, has_defined_type, parents_may_overlap};
-use super::field_groups::{FieldsByName, GroupedBy, group_fields, names_of};
-use super::joined_sets::with_fragments;
+use super::field_groups::{FieldsByName, GroupedBy, add_named_in, group_fields, names_of};
+use super::joined_sets::{JoinedSets, with_fragments};
 use super::numbered_sets::{NumberedField, NumberedSet};
 use graphql_documents::documents::Schema;
 use graphql_hash_seeds::HashSeed;
 use graphql_merging::groups::Pass;
 use graphql_nodes::{Name, ValidationError};
-use graphql_number_sets::distinct_numbers::DistinctNumbers;
 use graphql_number_sets::pair_sets::PairSet;
 use std::alloc::Global;
 
@@ -39,8 +38,8 @@ type Waiting = Vec<Vec<usize>>;
 
 impl<'s, 'doc> PairPass<'s, 'doc> {
     /// Two fields that come together below one of the sets with these numbers and do not agree, if there are any.
-    /// Each pair of sets is looked at once: of a list of sets that come together those are looked at, all at once,
-    /// that were not yet looked at with each of the list. The only error is a failed allocation.
+    /// Each pair of sets is looked at once: of a list of sets that come together the ends are looked at with all of the
+    /// list, at once. The only error is a failed allocation.
     pub(crate) fn find_conflict(
         &self,
         starts: &[usize],
@@ -54,10 +53,10 @@ impl<'s, 'doc> PairPass<'s, 'doc> {
         let mut waiting = self.each_alone(starts)?;
         let mut looked = PairSet::new(self.alloc, self.sets.len())?;
         while let Some(joined) = self.next_unlooked(&looked, &mut waiting)? {
-            if let Some(conflict) = self.look_at(&mut waiting, joined.as_slice())? {
+            if let Some(conflict) = self.look_at(&mut waiting, &joined)? {
                 return Ok(Some(conflict));
             }
-            looked.add_all(&joined)?;
+            joined.add_to(&mut looked)?;
         }
         Ok(None)
     }
@@ -75,47 +74,86 @@ impl<'s, 'doc> PairPass<'s, 'doc> {
     }
 
     /// Takes lists until some sets of one, with those of its fragments, were not yet looked at together, and
-    /// answers these.
+    /// answers these sets.
     fn next_unlooked(
         &self,
         looked: &PairSet,
         waiting: &mut Waiting,
-    ) -> Result<Option<DistinctNumbers>, ValidationError>
+    ) -> Result<Option<JoinedSets>, ValidationError>
         requires linked { AreLinked self.now.sets.now }
         requires count { vec_len looked.now.rows ≡ length self.now.sets.now }
         requires within { All (λ l. All (λ number. number < length self.now.sets.now) l) (lists_at waiting.old.items) }
-        ensures exact { IfOk result (λ found. MatchOption found ⊤ AreExact) }
-        ensures within { IfOk result (λ found. MatchOption found ⊤ (λ joined. All (λ number. number < length self.now.sets.now) (numbers_of joined))) }
+        ensures all_exact { IfOk result (λ found. MatchOption found ⊤ (λ joined. AreExact joined.all)) }
+        ensures ends_exact { IfOk result (λ found. MatchOption found ⊤ (λ joined. AreExact joined.ends)) }
+        ensures all_within { IfOk result (λ found. MatchOption found ⊤ (λ joined. All (λ number. number < length self.now.sets.now) (numbers_of joined.all))) }
         ensures taken { IfOk result (λ found. MatchOption found
             (All (WereLookedAt looked.now) (lists_at waiting.old.items))
-            (λ joined. Takes self.now.sets.now looked.now (lists_at waiting.old.items) (lists_at waiting.new.items) (numbers_of joined))) }
+            (λ joined. Takes self.now.sets.now looked.now (lists_at waiting.old.items) (lists_at waiting.new.items) (numbers_of joined.all) (numbers_of joined.ends))) }
     {
         while let Some(first) = waiting.pop() {
-            let joined = with_fragments(self.alloc, self.sets, &first)?;
-            let unlooked = looked.lacking(self.alloc, &joined)?;
-            if !unlooked.as_slice().is_empty() {
-                return Ok(Some(unlooked));
+            let all = with_fragments(self.alloc, self.sets, &first)?;
+            let ends = looked.ends(self.alloc, &all)?;
+            if !ends.as_slice().is_empty() {
+                return Ok(Some(JoinedSets { all, ends }));
             }
         }
         Ok(None)
     }
 
-    /// Looks at each pair of these sets: compares their fields, and adds lists of the sets below those that come
-    /// together.
+    /// Looks at each of the ends with each of the sets: compares their fields, and adds lists of the sets below those that
+    /// come together.
     fn look_at(
         &self,
         waiting: &mut Waiting,
-        joined: &[usize],
+        joined: &JoinedSets,
     ) -> Result<Option<Conflict<'doc>>, ValidationError>
-        requires { All (λ number. number < length self.now.sets.now) joined.now }
+        requires all_within { All (λ number. number < length self.now.sets.now) (numbers_of joined.now.all) }
+        requires ends_within { All (λ number. number < length self.now.sets.now) (numbers_of joined.now.ends) }
+        requires among { (number : ℕ) → Contains (numbers_of joined.now.ends) number → Contains (numbers_of joined.now.all) number }
         ensures { IfOk result (λ found. MatchOption found
-            (LooksAt self.now.schema.now (pass_of self.now.pass) self.now.sets.now joined.now (lists_at waiting.old.items) (lists_at waiting.new.items))
-            (FindsIn self.now.schema.now (pass_of self.now.pass) self.now.sets.now joined.now)) }
+            (LooksAt self.now.schema.now (pass_of self.now.pass) self.now.sets.now (numbers_of joined.now.ends) (numbers_of joined.now.all) (lists_at waiting.old.items) (lists_at waiting.new.items))
+            (FindsIn self.now.schema.now (pass_of self.now.pass) self.now.sets.now (numbers_of joined.now.all))) }
     {
-        let fields = self.fields_of(joined)?;
+        let fields = self.fields_around(joined.ends.as_slice(), joined.all.as_slice())?;
         let groups = group_fields(self.alloc, self.hash_seed, &fields, GroupedBy::ResponseKey)?;
         let keys = names_of(self.alloc, &groups)?;
         self.look_by_keys(waiting, &groups, &keys)
+    }
+
+    /// The fields of some sets that may come together with one in an end.
+    fn fields_around(
+        &self,
+        ends: &[usize],
+        numbers: &[usize],
+    ) -> Result<Vec<NumberedField<'doc>>, ValidationError>
+        requires all_within { All (λ number. number < length self.now.sets.now) numbers.now }
+        requires ends_within { All (λ number. number < length self.now.sets.now) ends.now }
+        requires among { (number : ℕ) → Contains ends.now number → Contains numbers.now number }
+        ensures { IfOk result (λ fields. AreFieldsAround self.now.schema.now (pass_of self.now.pass) self.now.sets.now ends.now numbers.now fields.items) }
+    {
+        let own = self.fields_of(ends)?;
+        if ends == numbers {
+            return Ok(own);
+        }
+        let groups = group_fields(self.alloc, self.hash_seed, &own, GroupedBy::ResponseKey)?;
+        self.fields_named_in(numbers, &groups)
+    }
+
+    /// Those fields of these sets under whose response key there are fields in the groups.
+    fn fields_named_in(
+        &self,
+        numbers: &[usize],
+        groups: &FieldsByName<'doc>,
+    ) -> Result<Vec<NumberedField<'doc>>, ValidationError>
+        requires { All (λ number. number < length self.now.sets.now) numbers.now }
+        ensures { IfOk result (λ fields. AreNamedIn self.now.schema.now (pass_of self.now.pass) self.now.sets.now groups.now.entries numbers.now fields.items) }
+    {
+        let mut fields = Vec::new(self.alloc);
+        for number in numbers {
+            let others = &self.sets[*number].fields;
+            add_named_in(&mut fields, groups, GroupedBy::ResponseKey, others)?;
+        }
+        Ok(fields)
     }
 
     /// The fields of these sets.

@@ -9,7 +9,7 @@ use Rattle.graphql_number_sets.proofs.pair_sets.PairSet.add_all.Goals as goal
 pub loop-number-preserved : goal.loop-number-preserved
 loop-number-preserved c =
     let xs = c.deref-number-items.result.now in
-    let all = numbers_of c.args.numbers.now in
+    let all = numbers_of c.args.seconds.now in
     let rows = c.loop-number.self.rows in
     let i = c.loop-number.number-index in
     let number = get_or xs i 0 in
@@ -18,19 +18,19 @@ loop-number-preserved c =
     let within : number < length rows.items = omega (arith, below, c.loop-number.invariant.count, rows.ok.0) in
     record {
       count = c.loop-number.invariant.count;
-      added = rows_more c.args.self.now.rows.items rows.items c.index_mut.result.now c.add_all.new.self c.args.numbers.now.members all (take i xs) (take (i + 1) xs) number more
+      added = rows_more c.args.self.now.rows.items rows.items c.index_mut.result.now c.add_all.new.self c.args.seconds.now.members all (take i xs) (take (i + 1) xs) number more
           (row_has rows.items number c.index_mut.result.now within c.index_mut.ensures.value) c.in_ok-add_all.ensures.added c.requires.exact.members c.loop-number.invariant.added;
     }
 
 pub returns-clause-added : goal.returns-clause-added
 returns-clause-added c =
-    subst (λ l. (a b : ℕ) → (has_pair c.loop-number.self a b ≡ true) ↔ ((has_pair c.args.self.now a b ≡ true) ⊎ (Contains l a × Contains (numbers_of c.args.numbers.now) b)))
+    subst (λ l. (a b : ℕ) → (has_pair c.loop-number.self a b ≡ true) ↔ ((has_pair c.args.self.now a b ≡ true) ⊎ (Contains l a × Contains (numbers_of c.args.seconds.now) b)))
     (take_all c.loop-number.number-index c.deref-number-items.result.now c.loop-number-test.false ∙ c.deref-number-items.ensures.value) c.loop-number.invariant.added
 
 pub returns-in_err-add_all-clause-refused : goal.returns-in_err-add_all-clause-refused
 returns-in_err-add_all-clause-refused c =
     let xs = c.deref-number-items.result.now in
-    let all = numbers_of c.args.numbers.now in
+    let all = numbers_of c.args.seconds.now in
     let rows = c.loop-number.self.rows in
     let i = c.loop-number.number-index in
     let number = get_or xs i 0 in

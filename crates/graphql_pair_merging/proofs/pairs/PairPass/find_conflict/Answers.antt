@@ -1,10 +1,11 @@
 use Rattle.std.proofs.Common.{◌<◌, All, length, subst, sym, ◌∙◌}
 use Rattle.std.specs.Prelude.{⊤, MatchOption}
 use Rattle.graphql_merging.specs.Groups.{pass_of}
-use Rattle.graphql_number_sets.specs.NumberSets.{numbers_of}
-use Rattle.graphql_number_sets.specs.declared.distinct_numbers.DistinctNumbers.{DistinctNumbers}
+use Rattle.graphql_number_sets.specs.NumberSets.{AreExact, numbers_of}
 use Rattle.graphql_pair_merging.specs.JoinedSets.{Takes}
 use Rattle.graphql_pair_merging.specs.Pairs.{FindsIn, LooksAt, WereLookedAt, lists_at}
+use Rattle.graphql_pair_merging.specs.declared.joined_sets.JoinedSets.{JoinedSets}
+use Rattle.graphql_pair_merging.proofs.JoinLemmas.{ends_among, ends_within}
 use Rattle.graphql_pair_merging.proofs.WalkLemmas.{fewer_left, found_below, waiting_within, walks_begin, walks_end, walks_on}
 use Rattle.graphql_pair_merging.proofs.pairs.PairPass.find_conflict.Goals as goal
 
@@ -36,16 +37,59 @@ returns-in-Some-2 c =
     let mid = lists_at c.next_unlooked.new.waiting.items in
     let after = lists_at c.look_at.new.waiting.items in
     let joined = c.in-Some.joined in
-    let taken = subst (λ o. MatchOption o (All (WereLookedAt c.loop-looked.looked) old) (λ (j : DistinctNumbers). Takes sets c.loop-looked.looked old mid (numbers_of j))) c.in-Some.is c.in_ok-joined.ensures.taken in
-    let found = subst (λ o. MatchOption o (LooksAt schema pass sets c.as_slice.result.now mid after) (FindsIn schema pass sets c.as_slice.result.now)) c.in-Some-2.is c.in_ok-conflict.ensures in
-    found_below schema pass sets c.args.starts.now c.requires.linked c.requires.within c.loop-looked.looked old mid (numbers_of joined) c.in-Some-2.conflict taken
-    (subst (λ l. FindsIn schema pass sets l c.in-Some-2.conflict) c.as_slice.ensures found) c.loop-looked.invariant.walks
+    let taken = subst (λ o. MatchOption o (All (WereLookedAt c.loop-looked.looked) old) (λ (j : JoinedSets). Takes sets c.loop-looked.looked old mid (numbers_of j.all) (numbers_of j.ends))) c.in-Some.is c.in_ok-joined.ensures.taken in
+    let found = subst (λ o. MatchOption o (LooksAt schema pass sets (numbers_of joined.ends) (numbers_of joined.all) mid after) (FindsIn schema pass sets (numbers_of joined.all))) c.in-Some-2.is c.in_ok-conflict.ensures in
+    found_below schema pass sets c.args.starts.now c.requires.linked c.requires.within c.loop-looked.looked old mid (numbers_of joined.all) (numbers_of joined.ends) c.in-Some-2.conflict taken
+    found c.loop-looked.invariant.walks
 
-pub add_all-requires-clause-within : goal.add_all-requires-clause-within
-add_all-requires-clause-within c =
+pub look_at-requires-clause-all_within : goal.look_at-requires-clause-all_within
+look_at-requires-clause-all_within c =
     let count = length c.args.self.now.sets.now in
-    let within = subst (λ o. MatchOption o ⊤ (λ (j : DistinctNumbers). All (λ n. n < count) (numbers_of j))) c.in-Some.is c.in_ok-joined.ensures.within in
-    subst (λ m. All (λ n. n < m) (numbers_of c.in-Some.joined)) (sym c.loop-looked.invariant.count) within
+    subst (λ o. MatchOption o ⊤ (λ (j : JoinedSets). All (λ n. n < count) (numbers_of j.all))) c.in-Some.is c.in_ok-joined.ensures.all_within
+
+pub look_at-requires-clause-ends_within : goal.look_at-requires-clause-ends_within
+look_at-requires-clause-ends_within c =
+    let sets = c.args.self.now.sets.now in
+    let old = lists_at c.loop-looked.waiting.items in
+    let mid = lists_at c.next_unlooked.new.waiting.items in
+    let joined = c.in-Some.joined in
+    let taken = subst (λ o. MatchOption o (All (WereLookedAt c.loop-looked.looked) old) (λ (j : JoinedSets). Takes sets c.loop-looked.looked old mid (numbers_of j.all) (numbers_of j.ends))) c.in-Some.is c.in_ok-joined.ensures.taken in
+    let within = subst (λ o. MatchOption o ⊤ (λ (j : JoinedSets). All (λ n. n < length sets) (numbers_of j.all))) c.in-Some.is c.in_ok-joined.ensures.all_within in
+    ends_within sets c.loop-looked.looked old mid (numbers_of joined.all) (numbers_of joined.ends) (length sets) taken within
+
+pub look_at-requires-clause-among : goal.look_at-requires-clause-among
+look_at-requires-clause-among c =
+    let sets = c.args.self.now.sets.now in
+    let old = lists_at c.loop-looked.waiting.items in
+    let mid = lists_at c.next_unlooked.new.waiting.items in
+    let joined = c.in-Some.joined in
+    let taken = subst (λ o. MatchOption o (All (WereLookedAt c.loop-looked.looked) old) (λ (j : JoinedSets). Takes sets c.loop-looked.looked old mid (numbers_of j.all) (numbers_of j.ends))) c.in-Some.is c.in_ok-joined.ensures.taken in
+    ends_among sets c.loop-looked.looked old mid (numbers_of joined.all) (numbers_of joined.ends) taken
+
+pub add_to-requires-clause-all_exact : goal.add_to-requires-clause-all_exact
+add_to-requires-clause-all_exact c =
+    subst (λ o. MatchOption o ⊤ (λ (j : JoinedSets). AreExact j.all)) c.in-Some.is c.in_ok-joined.ensures.all_exact
+
+pub add_to-requires-clause-ends_exact : goal.add_to-requires-clause-ends_exact
+add_to-requires-clause-ends_exact c =
+    subst (λ o. MatchOption o ⊤ (λ (j : JoinedSets). AreExact j.ends)) c.in-Some.is c.in_ok-joined.ensures.ends_exact
+
+pub add_to-requires-clause-all_within : goal.add_to-requires-clause-all_within
+add_to-requires-clause-all_within c =
+    let count = length c.args.self.now.sets.now in
+    let within = subst (λ o. MatchOption o ⊤ (λ (j : JoinedSets). All (λ n. n < count) (numbers_of j.all))) c.in-Some.is c.in_ok-joined.ensures.all_within in
+    subst (λ m. All (λ n. n < m) (numbers_of c.in-Some.joined.all)) (sym c.loop-looked.invariant.count) within
+
+pub add_to-requires-clause-ends_within : goal.add_to-requires-clause-ends_within
+add_to-requires-clause-ends_within c =
+    let sets = c.args.self.now.sets.now in
+    let old = lists_at c.loop-looked.waiting.items in
+    let mid = lists_at c.next_unlooked.new.waiting.items in
+    let joined = c.in-Some.joined in
+    let taken = subst (λ o. MatchOption o (All (WereLookedAt c.loop-looked.looked) old) (λ (j : JoinedSets). Takes sets c.loop-looked.looked old mid (numbers_of j.all) (numbers_of j.ends))) c.in-Some.is c.in_ok-joined.ensures.taken in
+    let within = subst (λ o. MatchOption o ⊤ (λ (j : JoinedSets). All (λ n. n < length sets) (numbers_of j.all))) c.in-Some.is c.in_ok-joined.ensures.all_within in
+    subst (λ m. All (λ n. n < m) (numbers_of joined.ends)) (sym c.loop-looked.invariant.count)
+    (ends_within sets c.loop-looked.looked old mid (numbers_of joined.all) (numbers_of joined.ends) (length sets) taken within)
 
 pub loop-looked-smaller : goal.loop-looked-smaller
 loop-looked-smaller c =
@@ -57,10 +101,10 @@ loop-looked-smaller c =
     let mid = lists_at c.next_unlooked.new.waiting.items in
     let after = lists_at c.look_at.new.waiting.items in
     let joined = c.in-Some.joined in
-    let taken = subst (λ o. MatchOption o (All (WereLookedAt c.loop-looked.looked) old) (λ (j : DistinctNumbers). Takes sets c.loop-looked.looked old mid (numbers_of j))) c.in-Some.is c.in_ok-joined.ensures.taken in
-    let looks = subst (λ o. MatchOption o (LooksAt schema pass sets c.as_slice.result.now mid after) (FindsIn schema pass sets c.as_slice.result.now)) c.in_default-2.is c.in_ok-conflict.ensures in
-    fewer_left schema pass sets c.args.starts.now c.requires.linked c.requires.within c.loop-looked.looked c.add_all.new.self old mid after (numbers_of joined) taken
-    (subst (λ l. LooksAt schema pass sets l mid after) c.as_slice.ensures looks) c.in_ok-add_all.ensures.added c.loop-looked.invariant.walks
+    let taken = subst (λ o. MatchOption o (All (WereLookedAt c.loop-looked.looked) old) (λ (j : JoinedSets). Takes sets c.loop-looked.looked old mid (numbers_of j.all) (numbers_of j.ends))) c.in-Some.is c.in_ok-joined.ensures.taken in
+    let looks = subst (λ o. MatchOption o (LooksAt schema pass sets (numbers_of joined.ends) (numbers_of joined.all) mid after) (FindsIn schema pass sets (numbers_of joined.all))) c.in_default-2.is c.in_ok-conflict.ensures in
+    fewer_left schema pass sets c.args.starts.now c.requires.linked c.requires.within c.loop-looked.looked c.add_to.new.looked old mid after (numbers_of joined.all) (numbers_of joined.ends) taken
+    looks c.in_ok-add_to.ensures.added c.loop-looked.invariant.walks
 
 pub loop-looked-preserved : goal.loop-looked-preserved
 loop-looked-preserved c =
@@ -72,12 +116,12 @@ loop-looked-preserved c =
     let mid = lists_at c.next_unlooked.new.waiting.items in
     let after = lists_at c.look_at.new.waiting.items in
     let joined = c.in-Some.joined in
-    let taken = subst (λ o. MatchOption o (All (WereLookedAt c.loop-looked.looked) old) (λ (j : DistinctNumbers). Takes sets c.loop-looked.looked old mid (numbers_of j))) c.in-Some.is c.in_ok-joined.ensures.taken in
-    let looks = subst (λ o. MatchOption o (LooksAt schema pass sets c.as_slice.result.now mid after) (FindsIn schema pass sets c.as_slice.result.now)) c.in_default-2.is c.in_ok-conflict.ensures in
+    let taken = subst (λ o. MatchOption o (All (WereLookedAt c.loop-looked.looked) old) (λ (j : JoinedSets). Takes sets c.loop-looked.looked old mid (numbers_of j.all) (numbers_of j.ends))) c.in-Some.is c.in_ok-joined.ensures.taken in
+    let looks = subst (λ o. MatchOption o (LooksAt schema pass sets (numbers_of joined.ends) (numbers_of joined.all) mid after) (FindsIn schema pass sets (numbers_of joined.all))) c.in_default-2.is c.in_ok-conflict.ensures in
     record {
-      count = c.add_all.ensures.count ∙ c.loop-looked.invariant.count;
-      walks = walks_on schema pass sets c.args.starts.now c.requires.linked c.requires.within c.loop-looked.looked c.add_all.new.self old mid after (numbers_of joined) taken
-          (subst (λ l. LooksAt schema pass sets l mid after) c.as_slice.ensures looks) c.in_ok-add_all.ensures.added c.loop-looked.invariant.walks;
+      count = c.add_to.ensures.count ∙ c.loop-looked.invariant.count;
+      walks = walks_on schema pass sets c.args.starts.now c.requires.linked c.requires.within c.loop-looked.looked c.add_to.new.looked old mid after (numbers_of joined.all) (numbers_of joined.ends) taken
+          looks c.in_ok-add_to.ensures.added c.loop-looked.invariant.walks;
     }
 
 pub returns : goal.returns
@@ -86,5 +130,5 @@ returns c =
     let sets = self.sets.now in
     let old = lists_at c.loop-looked.waiting.items in
     let mid = lists_at c.next_unlooked.new.waiting.items in
-    let were = subst (λ o. MatchOption o (All (WereLookedAt c.loop-looked.looked) old) (λ (j : DistinctNumbers). Takes sets c.loop-looked.looked old mid (numbers_of j))) c.in_default.is c.in_ok-joined.ensures.taken in
+    let were = subst (λ o. MatchOption o (All (WereLookedAt c.loop-looked.looked) old) (λ (j : JoinedSets). Takes sets c.loop-looked.looked old mid (numbers_of j.all) (numbers_of j.ends))) c.in_default.is c.in_ok-joined.ensures.taken in
     walks_end self.schema.now (pass_of self.pass) sets c.args.starts.now c.requires.linked c.requires.within c.loop-looked.looked old were c.loop-looked.invariant.walks

@@ -1,6 +1,6 @@
 use Rattle.std.proofs.Common.{◌≡◌, ◌<◌, ◌++◌, ◌∷◌, [], ℕ, List, All, ap, eqb, length, subst, sym, ◌∙◌}
 use Rattle.std.proofs.lemmas.List.Elements.{All-contains}
-use Rattle.graphql_documents.proofs.ListLemmas.{each_standing, stands_first}
+use Rattle.graphql_documents.proofs.ListLemmas.{stands_first}
 use Rattle.graphql_number_sets.specs.NumberSets.{numbers_of}
 use Rattle.graphql_pair_merging.specs.JoinedSets.{AreJoined}
 use Rattle.graphql_pair_merging.specs.Pairs.{lists_at}
@@ -21,33 +21,27 @@ with_fragments-requires-clause-within c =
     subst within (sym c.deref.ensures.value)
     (All-contains within (lists_at c.args.waiting.now.items) v.items c.requires.within (c.loop-first.invariant.fewer v.items (in_second new (v.items ∷ []) old is v.items (stands_first v.items []))))
 
-pub returns-then-not-is_empty-clause-within : goal.returns-then-not-is_empty-clause-within
-returns-then-not-is_empty-clause-within c =
-    let below = λ (n : ℕ). n < length c.args.self.now.sets.now in
-    each_standing below (numbers_of c.in_ok-unlooked.unlooked)
-    (λ n in'. All-contains below (numbers_of c.in_ok-joined.joined) n c.in_ok-joined.ensures.within (c.in_ok-unlooked.ensures.lacking.each n in').0)
-
 pub returns-then-not-is_empty-clause-taken : goal.returns-then-not-is_empty-clause-taken
 returns-then-not-is_empty-clause-taken c =
     let sets = c.args.self.now.sets.now in
     let v = c.in-Some.first in
-    let joined = numbers_of c.in_ok-joined.joined in
-    let unlooked = numbers_of c.in_ok-unlooked.unlooked in
-    takes sets c.args.looked.now (lists_at c.args.waiting.now.items) (lists_at c.loop-first.waiting.items) (lists_at c.pop.new.self.items) v.items joined unlooked
+    let joined = numbers_of c.in_ok-all.all in
+    let ends = numbers_of c.in_ok-ends.ends in
+    takes sets c.args.looked.now (lists_at c.args.waiting.now.items) (lists_at c.loop-first.waiting.items) (lists_at c.pop.new.self.items) v.items joined ends
     (last_taken c.loop-first.waiting.items c.pop.new.self.items v c.in-Some.ensures.items)
-    (subst (λ l. AreJoined sets l joined) c.deref.ensures.value c.in_ok-joined.ensures.joined) c.in_ok-unlooked.ensures.lacking
-    (some_number unlooked (c.if-not-is_empty.ensures ∙ ap (λ l. eqb (length l) 0) c.as_slice.ensures)) c.loop-first.invariant
+    (subst (λ l. AreJoined sets l joined) c.deref.ensures.value c.in_ok-all.ensures.joined) c.in_ok-ends.ensures.ends
+    (some_number ends (c.if-not-is_empty.ensures ∙ ap (λ l. eqb (length l) 0) c.as_slice.ensures)) c.loop-first.invariant
 
 pub loop-first-preserved : goal.loop-first-preserved
 loop-first-preserved c =
     let sets = c.args.self.now.sets.now in
     let v = c.in-Some.first in
-    let joined = numbers_of c.in_ok-joined.joined in
-    let unlooked = numbers_of c.in_ok-unlooked.unlooked in
-    one_taken sets c.args.looked.now (lists_at c.args.waiting.now.items) (lists_at c.loop-first.waiting.items) (lists_at c.pop.new.self.items) v.items joined unlooked
+    let joined = numbers_of c.in_ok-all.all in
+    let ends = numbers_of c.in_ok-ends.ends in
+    one_taken sets c.args.looked.now (lists_at c.args.waiting.now.items) (lists_at c.loop-first.waiting.items) (lists_at c.pop.new.self.items) v.items joined ends
     (last_taken c.loop-first.waiting.items c.pop.new.self.items v c.in-Some.ensures.items)
-    (subst (λ l. AreJoined sets l joined) c.deref.ensures.value c.in_ok-joined.ensures.joined) c.in_ok-unlooked.ensures.lacking
-    (no_number unlooked (c.if-not-is_empty.ensures ∙ ap (λ l. eqb (length l) 0) c.as_slice.ensures)) c.loop-first.invariant
+    (subst (λ l. AreJoined sets l joined) c.deref.ensures.value c.in_ok-all.ensures.joined) c.in_ok-ends.ensures.ends
+    (no_number ends (c.if-not-is_empty.ensures ∙ ap (λ l. eqb (length l) 0) c.as_slice.ensures)) c.loop-first.invariant
 
 pub returns-clause-taken : goal.returns-clause-taken
 returns-clause-taken c =

@@ -1,0 +1,38 @@
+use Rattle.std.proofs.Common.{◌+◌, ◌<◌, ℕ, All, get_or, subst, sym, take, ◌∙◌}
+use Rattle.std.proofs.lemmas.List.{take_all, take_more}
+use Rattle.std.proofs.lemmas.List.Elements.{All-get_or}
+use Rattle.graphql_number_sets.specs.NumberSets.{numbers_of}
+use Rattle.graphql_number_sets.proofs.NumberLemmas.{Placing, placed, placing_begins, placing_more}
+use Rattle.graphql_number_sets.proofs.pair_sets.PairSet.ends.Goals as goal
+
+pub loop-number-init : goal.loop-number-init
+loop-number-init c = record {
+  paired = c.new-paired.ensures.exact;
+  ends = c.new-ends.ensures.exact;
+  placing = placing_begins c.args.self.now (numbers_of c.new-paired.result) (numbers_of c.new-ends.result) c.new-paired.ensures.numbers c.new-ends.ensures.numbers;
+}
+
+pub place-requires-clause-within : goal.place-requires-clause-within
+place-requires-clause-within c =
+    let below = λ (n : ℕ). n < c.args.self.now.rows.len in
+    All-get_or below c.deref-number-items.result.now c.loop-number.number-index 0 c.loop-number-test.true
+    (subst (All below) (sym c.deref-number-items.ensures.value) c.requires.within)
+
+pub loop-number-preserved : goal.loop-number-preserved
+loop-number-preserved c =
+    let xs = c.deref-number-items.result.now in
+    let i = c.loop-number.number-index in
+    let number = get_or xs i 0 in
+    record {
+      paired = c.place.ensures.paired;
+      ends = c.place.ensures.ends;
+      placing = placing_more c.args.self.now (take i xs) (take (i + 1) xs) number (take_more xs i 0 c.loop-number-test.true)
+          (numbers_of c.loop-number.paired) (numbers_of c.loop-number.ends) (numbers_of c.place.new.paired) (numbers_of c.place.new.ends)
+          c.loop-number.invariant.placing c.in_ok-place.ensures.placed;
+    }
+
+pub returns-clause-ends : goal.returns-clause-ends
+returns-clause-ends c =
+    placed c.args.self.now (numbers_of c.args.numbers.now) (numbers_of c.loop-number.paired) (numbers_of c.loop-number.ends)
+    (subst (λ l. Placing c.args.self.now l (numbers_of c.loop-number.paired) (numbers_of c.loop-number.ends))
+    (take_all c.loop-number.number-index c.deref-number-items.result.now c.loop-number-test.false ∙ c.deref-number-items.ensures.value) c.loop-number.invariant.placing)
