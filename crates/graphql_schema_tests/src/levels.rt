@@ -14,6 +14,13 @@ use std::process::Abort;
 const INPUT_OBJECTS: &str = "input A { b: B! a: [A!] } input B { c: C! } input C { d: Int! }
     input X { y: Y! } input Y { x: X! } input Z { x: X! }";
 
+/// Those from which no cycle leads, and those that are on one or lead to one.
+const WITHOUT_CYCLE: &[&str] = &["A", "B", "C"];
+
+const WITH_CYCLE: &[&str] = &["X", "Y", "Z"];
+
+const SEARCHED: &[&str] = &["A", "X", "Z", "Y"];
+
 /// The input object of this name.
 fn input_object<'a>(
     rt: &impl Abort,
@@ -32,11 +39,11 @@ fn input_objects_are_known_that_lead_to_no_cycle(rt: HostRuntime) {
     let alloc = rt.alloc();
     let schema = schema_of(&rt, alloc, INPUT_OBJECTS);
     let levels = InputObjectLevels::find(alloc, &schema.0).expect(&rt, "memory for levels");
-    for written in &["A", "B", "C"] {
+    for written in WITHOUT_CYCLE {
         let known = input_object(&rt, alloc, &schema.0, written);
         assert!(rt; levels.is_known_without_cycle(known));
     }
-    for written in &["X", "Y", "Z"] {
+    for written in WITH_CYCLE {
         let other = input_object(&rt, alloc, &schema.0, written);
         assert!(rt; !levels.is_known_without_cycle(other));
     }
@@ -50,7 +57,7 @@ fn the_same_input_objects_are_reported_with_levels(rt: HostRuntime) {
     let schema = schema_of(&rt, alloc, INPUT_OBJECTS);
     let levels = InputObjectLevels::find(alloc, &schema.0).expect(&rt, "memory for levels");
     let mut found = DiagnosticList::new(alloc);
-    for written in &["A", "X", "Z", "Y"] {
+    for written in SEARCHED {
         let input_object = input_object(&rt, alloc, &schema.0, written);
         let searched = validate_input_object_cycles_by_levels(&mut found, &levels, input_object);
         searched.expect(&rt, "memory for a report");
@@ -73,6 +80,13 @@ const DIRECTIVES: &str = "directive @a(x: Int @b) on ARGUMENT_DEFINITION
     directive @e(x: Int @d) on ARGUMENT_DEFINITION
     directive @f on FIELD directive @g on FIELD directive @h on FIELD directive @i on FIELD
     input I { x: Int @c } enum E { V @d }";
+
+/// Those from which no cycle leads, and those that are on one or lead to one.
+const DIRECTIVES_WITHOUT_CYCLE: &[&str] = &["a", "b", "c", "f"];
+
+const DIRECTIVES_WITH_CYCLE: &[&str] = &["d", "e"];
+
+const SEARCHED_DIRECTIVES: &[&str] = &["a", "d", "e"];
 
 /// The directive definition of this name.
 fn directive<'a>(
@@ -97,10 +111,10 @@ fn directives_are_known_that_lead_to_no_cycle(rt: HostRuntime) {
     let alloc = rt.alloc();
     let schema = schema_of(&rt, alloc, DIRECTIVES);
     let levels = DirectiveLevels::find(alloc, &schema.0).expect(&rt, "memory for levels");
-    for written in &["a", "b", "c", "f"] {
+    for written in DIRECTIVES_WITHOUT_CYCLE {
         assert!(rt; is_known(&rt, alloc, &levels, written));
     }
-    for written in &["d", "e"] {
+    for written in DIRECTIVES_WITH_CYCLE {
         assert!(rt; !is_known(&rt, alloc, &levels, written));
     }
     let unknown = DirectiveLevels::unknown(alloc, &schema.0);
@@ -113,7 +127,7 @@ fn the_same_directives_are_reported_with_levels(rt: HostRuntime) {
     let schema = schema_of(&rt, alloc, DIRECTIVES);
     let levels = DirectiveLevels::find(alloc, &schema.0).expect(&rt, "memory for levels");
     let mut found = DiagnosticList::new(alloc);
-    for written in &["a", "d", "e"] {
+    for written in SEARCHED_DIRECTIVES {
         let definition = directive(&rt, alloc, &schema.0, written);
         let searched = validate_directive_cycles_by_levels(&mut found, &levels, definition);
         searched.expect(&rt, "memory for a report");
