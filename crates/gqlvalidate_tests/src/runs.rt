@@ -53,7 +53,7 @@ fn shelf_of(alloc: Global) -> Shelf {
     }
 }
 
-fn words_of(rt: &impl Abort, alloc: Global, texts: &[&str]) -> Vec<String> {
+pub(crate) fn words_of(rt: &impl Abort, alloc: Global, texts: &[&str]) -> Vec<String> {
     let mut words = Vec::new(alloc);
     for text in texts {
         let word = String::from_str(alloc, text).expect(rt, "memory for a word");

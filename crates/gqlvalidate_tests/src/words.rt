@@ -1,6 +1,6 @@
 //! The command line: what words ask for, and what is wrong with them.
+use crate::runs::words_of;
 use gqlvalidate_words::{Refusal, parse};
-use std::alloc::Global;
 use std::process::Abort;
 
 /// Words, and what they ask for as its `Debug` shows it, or what is wrong with them.
@@ -66,15 +66,6 @@ fn asks<R: AllocGlobal + Abort>(rt: &R, texts: &[&str], wanted: &str) {
         ),
         Err(Refusal::OutOfMemory) => panic!(rt; "out of memory"),
     }
-}
-
-fn words_of(rt: &impl Abort, alloc: Global, texts: &[&str]) -> Vec<String> {
-    let mut words = Vec::new(alloc);
-    for text in texts {
-        let word = String::from_str(alloc, text).expect(rt, "memory for a word");
-        words.push(word).expect(rt, "memory for a word");
-    }
-    words
 }
 
 /// Help is asked for, and no fault.
