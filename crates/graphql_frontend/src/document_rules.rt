@@ -19,9 +19,9 @@ use graphql_validation::entry::{
 use std::alloc::Global;
 use std::collections::HashSet;
 
-/// How many fields the lists may have, all together, that merging makes of a document of so many bytes set by set, before it
-/// goes by pairs of sets. A text has at most a field for each two bytes, and each is in a list of each of two passes; fragments
-/// that are spread at several places count at each.
+/// How much work merging may do set by set of a document of so many bytes, before it goes by pairs of sets: fields that it lists,
+/// and arguments that it compares. A text has at most a field for each two bytes, and each is in a list of each of two passes;
+/// fragments that are spread at several places count at each.
 pub(crate) fn merging_work(bytes: usize) -> usize {
     bytes.saturating_mul(4).saturating_add(100_000)
 }

@@ -11,7 +11,8 @@ use std::alloc::Global;
 /// a response agree, as `FieldsInSetCanMerge` does, until a bound of work is passed.
 ///
 /// The work is the number of fields that are listed: those of each list of fields that come together, once for
-/// shapes and once for names and arguments, also where the same list was examined before.
+/// shapes and once for names and arguments, also where the same list was examined before. Where fields are put together
+/// whose arguments are compared, each four bytes of these count as a field, those of the first of a group at each comparison.
 ///
 /// Specification: 5.3.2 Field Selection Merging.
 #[derive(Drop)]
@@ -56,8 +57,8 @@ impl<'s, 'doc> BoundedMerging<'s, 'doc> {
     }
 
     /// Merges the fields of an operation as `FieldsInSetCanMerge::validate_operation` does, and answers whether the
-    /// operation was decided: that is so unless more fields were listed for the operations so far than the
-    /// bound allows. Without a bound each operation is decided.
+    /// operation was decided: that is so unless more was listed and compared for the operations so far than
+    /// the bound allows. Without a bound each operation is decided.
     ///
     /// Where it is not decided, what is reported is true of two chains of fields of the operation, and no limit is
     /// reported. No later operation is decided then, and nothing is reported of them.

@@ -111,8 +111,8 @@ impl<'s, 'doc> FieldsInSetCanMerge<'s, 'doc> {
         Ok(())
     }
 
-    /// As `validate_operation`, but answers whether the operation was decided: that is so unless more fields were
-    /// listed than the work allows. Where it was not decided, each report is true of two chains of fields of the
+    /// As `validate_operation`, but answers whether the operation was decided: that is so unless more was
+    /// listed or compared than the work allows. Where it was not decided, each report is true of two chains of fields of the
     /// operation, and the lists that were examined say nothing of further operations.
     pub(crate) fn validate_operation_within(
         &mut self,

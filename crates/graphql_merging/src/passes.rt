@@ -40,7 +40,7 @@ pub(crate) struct MergingPass<'s, 'doc> {
 
 impl<'s, 'doc> MergingPass<'s, 'doc> {
     /// Examines the fields of a set, and what is merged below them, unless the same fields were examined
-    /// before. It is interrupted where more fields are listed than the work allows.
+    /// before. It is interrupted where more is listed or compared than the work allows.
     pub(crate) fn examine_set(
         &self,
         diagnostics: &mut DiagnosticList,
@@ -102,6 +102,7 @@ impl<'s, 'doc> MergingPass<'s, 'doc> {
             &list.fields,
         )?;
         examined.add(list)?;
+        work.count_arguments(self.pass, &groups)?;
         compare_groups(diagnostics, examined, self.schema, self.pass, &groups)?;
         for group in &groups {
             self.examine_below(diagnostics, examined, depth, work, group)?;

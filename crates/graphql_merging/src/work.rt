@@ -1,6 +1,9 @@
 //! How much a merger may still examine, and why a walk over lists of fields is interrupted.
 
-use graphql_nodes::ValidationError;
+use super::groups::Pass;
+use super::numbered_fields::NumberedField;
+use graphql_documents::documents::Argument;
+use graphql_nodes::{Node, SourceSpan, ValidationError};
 use std::alloc::AllocFailed;
 
 /// Why a walk over lists of fields does not come to its end.
@@ -8,7 +11,7 @@ use std::alloc::AllocFailed;
 pub(crate) enum Interruption {
     /// An allocation failed.
     OutOfMemory,
-    /// More fields were listed than the work allows.
+    /// More was listed or compared than the work allows.
     OutOfWork,
 }
 
@@ -34,7 +37,8 @@ impl<T: Drop> From<AllocFailed<T>> for Interruption {
     }
 }
 
-/// How many fields may still be listed, if their number is bounded.
+/// How much may still be listed and compared, if it is bounded. A field that is listed is one unit of work, and so are four
+/// bytes of an argument that is compared: no entry of an object is written in fewer.
 #[derive(Clone, Copy, Debug)]
 pub(crate) struct Work {
     left: Option<usize>,
@@ -45,25 +49,68 @@ impl Work {
     ghost use Rattle.graphql_merging.specs.Works.{IsUnbounded};
     ghost use Rattle.graphql_merging.specs.declared.work.Interruption.TheVariants.{OutOfMemory};
 
-    /// So many fields may be listed, or any number of them.
+    /// So much may be listed and compared, or anything.
     pub(crate) fn new(bound: Option<usize>) -> Work
         ensures { bound ≡ None → IsUnbounded result }
     {
         Work { left: bound }
     }
 
-    /// Counts that so many fields more were listed. Where more were listed than are allowed, none is left.
-    pub(crate) fn count(&mut self, fields: usize) -> Result<(), Interruption>
+    /// Counts so many units more. Where they are more than are left, none is left.
+    pub(crate) fn count(&mut self, units: usize) -> Result<(), Interruption>
         ensures { IsUnbounded self.old → IsUnbounded self.new × IfErr result (λ e. e ≡ OutOfMemory) }
     {
         let Some(left) = self.left else {
             return Ok(());
         };
-        if left < fields {
+        if left < units {
             self.left = Some(0);
             return Err(Interruption::OutOfWork);
         }
-        self.left = Some(left - fields);
+        self.left = Some(left - units);
         Ok(())
+    }
+
+    /// Counts the arguments that are compared where fields are put together in these groups in this pass.
+    pub(crate) fn count_arguments(
+        &mut self,
+        pass: Pass,
+        groups: &[Vec<NumberedField<'_>>],
+    ) -> Result<(), Interruption>
+        ensures { IsUnbounded self.old → IsUnbounded self.new × IfErr result (λ e. e ≡ OutOfMemory) }
+    {
+        if pass == Pass::Shapes || self.left.is_none() {
+            return Ok(());
+        }
+        for group in groups {
+            self.count(compared_bytes(group) / 4)?;
+        }
+        Ok(())
+    }
+}
+
+/// How many bytes of arguments are read where the first of these fields is compared with each other one.
+fn compared_bytes(group: &[NumberedField<'_>]) -> usize {
+    let Some((first, rest)) = group.split_first() else {
+        return 0;
+    };
+    let of_first = written_bytes(&first.field.value.arguments);
+    let mut sum = 0_usize;
+    for field in rest {
+        sum = sum
+            .saturating_add(of_first)
+            .saturating_add(written_bytes(&field.field.value.arguments));
+    }
+    sum
+}
+
+/// In how many bytes arguments are written. Where they are in no file, each counts as four.
+fn written_bytes(arguments: &[Node<Argument>]) -> usize {
+    let (Some(first), Some(last)) = (arguments.first(), arguments.last()) else {
+        return 0;
+    };
+    match SourceSpan::recompose(first.location, last.location) {
+        Some(span) => span.end.saturating_sub(span.start) as usize,
+        None => arguments.len().saturating_mul(4),
     }
 }

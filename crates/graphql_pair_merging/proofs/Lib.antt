@@ -1,3 +1,4 @@
+pub mod ArgumentNumberLemmas
 pub mod ConflictLemmas
 pub mod DisagreementLemmas
 pub mod GroupLemmas

@@ -1,5 +1,5 @@
 -- The sets of a document by numbers.
-use Rattle.std.specs.Prelude.{◌≡◌, ◌++◌, ℕ, List, Option, None, Some, All, filter_map, map, slice_get}
+use Rattle.std.specs.Prelude.{◌≡◌, ◌++◌, ℕ, List, Option, None, Some, All, Contains, filter_map, map, slice_get}
 use Rattle.std.specs.Borrow.{Bor}
 use Rattle.std.specs.Option.{option_map}
 use Rattle.indexmap.specs.IndexMap.{IndexMap, values}
@@ -14,6 +14,8 @@ use Rattle.graphql_documents.specs.declared.documents.executables.SelectionSet.{
 use Rattle.graphql_specification.specs.MergedSets.{as_field}
 use Rattle.graphql_specification.specs.Merging.{FieldSelection, set_of}
 use Rattle.graphql_merging.specs.FieldSelections.{selection_of}
+use Rattle.graphql_value_numbers.specs.Arguments.{HaveNumber}
+use Rattle.graphql_value_numbers.specs.declared.shapes.Shape.{Shape}
 use Rattle.graphql_pair_merging.specs.declared.numbered_sets.NumberedField.{NumberedField}
 use Rattle.graphql_pair_merging.specs.declared.numbered_sets.NumberedSet.{NumberedSet}
 
@@ -67,3 +69,21 @@ sets_among fragments = map (λ d. d.value.value.selection_set) (values fragments
 -- these come first
 abbrev pub Begins : {S : Type 0} → IndexMap NameText (Node Fragment) S → List SelectionSet → Type 0
 Begins fragments sets = (more : List SelectionSet) × (sets ≡ sets_among fragments ++ more)
+
+-- the field has the number of its arguments
+abbrev pub HasArgumentNumber : List Shape → NumberedField → Type 0
+HasArgumentNumber shapes f = HaveNumber shapes f.field.field.now.value.value.arguments.items f.arguments
+
+-- each of the fields has
+abbrev pub AreArgumentsNumbered : List Shape → List NumberedField → Type 0
+AreArgumentsNumbered shapes fields = All (HasArgumentNumber shapes) fields
+
+-- each field of each set has, and all numbers are of one table
+pub record HaveArgumentNumbers (sets : List NumberedSet) : Type 0 where
+  pub shapes : List Shape
+  pub each : All (λ x. AreArgumentsNumbered shapes x.fields.items) sets
+
+-- the same of some fields
+pub record HaveNumbers (fields : List NumberedField) : Type 0 where
+  pub shapes : List Shape
+  pub each : (x : NumberedField) → Contains fields x → HasArgumentNumber shapes x

@@ -10,7 +10,7 @@ use Rattle.graphql_number_sets.specs.NumberSets.{ArePaired}
 use Rattle.graphql_number_sets.specs.declared.pair_sets.PairSet.{PairSet}
 use Rattle.graphql_pair_merging.specs.Disagreements.{Disagrees, HasDefinition}
 use Rattle.graphql_pair_merging.specs.FieldGroups.{Groups, group_under, name_by}
-use Rattle.graphql_pair_merging.specs.NumberedSets.{field_of}
+use Rattle.graphql_pair_merging.specs.NumberedSets.{HaveNumbers, field_of}
 use Rattle.graphql_pair_merging.specs.declared.disagreements.Conflict.{Conflict}
 use Rattle.graphql_pair_merging.specs.declared.field_groups.GroupedBy.TheVariants.{ResponseKey}
 use Rattle.graphql_pair_merging.specs.declared.numbered_sets.NumberedField.{NumberedField}
@@ -63,6 +63,11 @@ Both fields x y = Contains fields x × Contains fields y
 -- each two of the fields have one response key
 abbrev pub HaveOneKey : List NumberedField → Type 0
 HaveOneKey fields = (x y : NumberedField) → Contains fields x → Contains fields y → SameKey (field_of x) (field_of y)
+
+-- they have, and the numbers of their arguments are of one table
+pub record AreComparable (fields : List NumberedField) : Type 0 where
+  pub one_key : HaveOneKey fields
+  pub numbers : HaveNumbers fields
 
 -- what agrees with the field agrees with whatever else does: its type is defined, where types are compared
 abbrev pub DecidesAlone : Schema → Pass → FieldSelection → Type 0

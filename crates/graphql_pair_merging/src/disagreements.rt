@@ -1,15 +1,18 @@
 //! Two fields in sets that come together: whether they are put together, and what they do not agree on.
 
-ghost use Rattle.std.specs.Prelude.{◌↔◌, IfOk, IsTrue, MatchOption};
+ghost use Rattle.std.specs.Prelude.{◌↔◌, ◌∷◌, [], IfOk, IsTrue, MatchOption};
 ghost use Rattle.graphql_documents.specs.declared.documents.schemas.Schema.{Schema};
 ghost use Rattle.graphql_specification.specs.MergedSets.{Agree};
 ghost use Rattle.graphql_specification.specs.Merging as merging;
-ghost use Rattle.graphql_specification.specs.Merging.{MayOverlap, ParentsMayOverlap, type_of};
+ghost use Rattle.graphql_specification.specs.Merging.{MayOverlap, ParentsMayOverlap, SameNameAndArguments, type_of};
+ghost use Rattle.graphql_merging.specs.Comparisons.{Conflicts};
 ghost use Rattle.graphql_merging.specs.Conflicts.{ConflictEntryReport};
 ghost use Rattle.graphql_merging.specs.FieldSelections.{selection_of};
 ghost use Rattle.graphql_merging.specs.Groups.{pass_of};
 ghost use Rattle.graphql_pair_merging.specs.Disagreements.{Disagrees, HasDefinition};
+ghost use Rattle.graphql_pair_merging.specs.NumberedSets.{HaveNumbers, field_of};
 
+use super::numbered_sets::NumberedField;
 use graphql_diagnostics::DiagnosticList;
 use graphql_documents::documents::{ExtendedType, Schema, Type};
 use graphql_hash_seeds::HashSeed;
@@ -59,21 +62,41 @@ pub(crate) fn disagreement_of<'doc>(
     hash_seed: HashSeed,
     schema: &Schema,
     pass: Pass,
-    first: FieldSelection<'doc>,
-    second: FieldSelection<'doc>,
+    first: NumberedField<'doc>,
+    second: NumberedField<'doc>,
 ) -> Result<Option<Disagreement<'doc>>, ValidationError>
-    ensures { IfOk result (λ found. MatchOption found
-        (Agree schema.now (pass_of pass) (selection_of first.entry) (selection_of second.entry))
-        (Disagrees schema.now (pass_of pass) (selection_of first.entry) (selection_of second.entry))) }
+    ensures { HaveNumbers (first.entry ∷ second.entry ∷ []) → IfOk result (λ found. MatchOption found
+        (Agree schema.now (pass_of pass) (field_of first.entry) (field_of second.entry))
+        (Disagrees schema.now (pass_of pass) (field_of first.entry) (field_of second.entry))) }
 {
     match pass {
-        Pass::Shapes if same_output_type_shape(schema, first, second) => Ok(None),
+        Pass::Shapes if same_output_type_shape(schema, first.field, second.field) => Ok(None),
         Pass::Shapes => Ok(Some(Disagreement::Shapes)),
-        Pass::NamesAndArguments => match find_field_conflict(alloc, hash_seed, first, second)? {
+        Pass::NamesAndArguments => match find_conflict(alloc, hash_seed, first, second)? {
             None => Ok(None),
             Some(conflict) => Ok(Some(Disagreement::NamesOrArguments(conflict))),
         },
     }
+}
+
+/// What the names or arguments of two fields disagree on, if they do. Where the numbers of their arguments are equal,
+/// these are not looked at.
+fn find_conflict<'doc>(
+    alloc: Global,
+    hash_seed: HashSeed,
+    first: NumberedField<'doc>,
+    second: NumberedField<'doc>,
+) -> Result<Option<FieldConflict<'doc>>, ValidationError>
+    ensures { HaveNumbers (first.entry ∷ second.entry ∷ []) → IfOk result (λ found. MatchOption found
+        (SameNameAndArguments first.entry.field.field.now.value.value second.entry.field.field.now.value.value)
+        (Conflicts first.entry.field.field.now.value.value second.entry.field.field.now.value.value)) }
+{
+    if first.arguments == second.arguments
+        && first.field.field.value.name == second.field.field.value.name
+    {
+        return Ok(None);
+    }
+    Ok(find_field_conflict(alloc, hash_seed, first.field, second.field)?)
 }
 
 /// Whether one object can be of the types of both sets.

@@ -4,20 +4,25 @@ ghost use Rattle.std.specs.Prelude.{◌≡◌, ◌++◌, ◌∷◌, [], All, IfO
 ghost use Rattle.graphql_documents.specs.Selections.{selections_of};
 ghost use Rattle.graphql_documents.specs.declared.documents.executables.Selection.{Selection};
 ghost use Rattle.graphql_merging.specs.ExpansionSteps.{fragments_in};
-ghost use Rattle.graphql_pair_merging.specs.NumberedSets.{AreNumbered, Begins, Describes, operation_sets, sets_among, sets_at, written_set};
+ghost use Rattle.graphql_pair_merging.specs.NumberedSets.{AreArgumentsNumbered, AreNumbered, Begins, Describes, HaveArgumentNumbers, operation_sets, sets_among, sets_at, written_set};
+ghost use Rattle.graphql_value_numbers.specs.Numbers.{Grows};
+ghost use Rattle.graphql_value_numbers.specs.Tables.{shapes_of};
 
 use graphql_documents::documents::{Fragment, Operation, Selection, SelectionSet};
 use graphql_hash_seeds::HashSeed;
 use graphql_merging::field_selections::FieldSelection;
 use graphql_nodes::{Name, Node, ValidationError};
+use graphql_value_numbers::ValueNumbers;
 use indexmap::IndexMap;
 use std::alloc::Global;
 
-/// A field of a numbered set, and the number of its own set.
+/// A field of a numbered set, the number of its own set, and that of its arguments: fields of one document have the same arguments
+/// where these numbers are equal.
 #[derive(Clone, Copy, Debug)]
 pub(crate) struct NumberedField<'doc> {
     pub(crate) field: FieldSelection<'doc>,
     pub(crate) set: usize,
+    pub(crate) arguments: usize,
 }
 
 impl<'doc> NumberedField<'doc> {
@@ -55,7 +60,8 @@ pub(crate) fn number_sets<'doc>(
     fragments: &'doc IndexMap<Name, Node<Fragment>, HashSeed>,
     operations: &[&'doc Node<Operation>],
 ) -> Result<NumberedDocument<'doc>, ValidationError>
-    ensures { IfOk result (λ numbered. AreNumbered (fragments_in fragments.now) numbered.starts.items (operation_sets operations.now) numbered.sets.items) }
+    ensures sets { IfOk result (λ numbered. AreNumbered (fragments_in fragments.now) numbered.starts.items (operation_sets operations.now) numbered.sets.items) }
+    ensures arguments { IfOk result (λ numbered. HaveArgumentNumbers numbered.sets.items) }
 {
     let mut numbering = Numbering::begin(alloc, fragments)?;
     let starts = numbering.number_operations(alloc, operations)?;
@@ -71,11 +77,12 @@ pub(crate) fn number_sets<'doc>(
     })
 }
 
-/// The sets that have numbers: each is at its own.
+/// The sets that have numbers: each is at its own. Beside them the numbers of values.
 #[derive(Drop)]
 struct Numbering<'doc> {
     fragments: &'doc IndexMap<Name, Node<Fragment>, HashSeed>,
     sets: Vec<&'doc SelectionSet>,
+    values: ValueNumbers<'doc>,
 }
 
 impl<'doc> Numbering<'doc> {
@@ -91,7 +98,11 @@ impl<'doc> Numbering<'doc> {
         for fragment in fragments.values() {
             sets.push(&fragment.value.selection_set)?;
         }
-        Ok(Numbering { fragments, sets })
+        Ok(Numbering {
+            fragments,
+            sets,
+            values: ValueNumbers::new(alloc, *fragments.hasher()),
+        })
     }
 
     /// Gives the sets of these operations the next numbers, and lists the numbers.
@@ -103,6 +114,7 @@ impl<'doc> Numbering<'doc> {
         ensures fragments { self.new.fragments ≡ self.old.fragments }
         ensures sets { OnOk result (sets_at self.new.sets.items ≡ sets_at self.old.sets.items ++ operation_sets operations.now) }
         ensures numbers { IfOk result (λ numbers. map (slice_get (sets_at self.new.sets.items)) numbers.items ≡ map Some (operation_sets operations.now)) }
+        ensures values { self.new.values ≡ self.old.values }
     {
         let mut numbers = Vec::new(alloc);
         for operation in operations {
@@ -124,6 +136,8 @@ impl<'doc> Numbering<'doc> {
         ensures sets { OnOk result (sets_at self.new.sets.items ≡
             sets_at self.old.sets.items ++ filter_map written_set (selections_of set.now)) }
         ensures described { IfOk result (Describes (fragments_in self.old.fragments.now) (sets_at self.new.sets.items) set.now.ty (selections_of set.now)) }
+        ensures grows { Grows (shapes_of self.old.values) (shapes_of self.new.values) }
+        ensures arguments { IfOk result (λ described. AreArgumentsNumbered (shapes_of self.new.values) described.fields.items) }
     {
         let mut described = NumberedSet {
             set,
@@ -131,7 +145,7 @@ impl<'doc> Numbering<'doc> {
             fragments: Vec::new(alloc),
         };
         for selection in &set.selections {
-            self.add_selection(&mut described, selection)?;
+            self.add_selection(alloc, &mut described, selection)?;
         }
         Ok(described)
     }
@@ -139,6 +153,7 @@ impl<'doc> Numbering<'doc> {
     /// The same of one selection of a set.
     fn add_selection(
         &mut self,
+        alloc: Global,
         described: &mut NumberedSet<'doc>,
         selection: &'doc Selection,
     ) -> Result<(), ValidationError>
@@ -150,13 +165,21 @@ impl<'doc> Numbering<'doc> {
         ensures described { (done : List Selection) →
             Describes (fragments_in self.old.fragments.now) (sets_at self.old.sets.items) described.old.set.now.ty done described.old →
             OnOk result (Describes (fragments_in self.old.fragments.now) (sets_at self.new.sets.items) described.old.set.now.ty (done ++ selection.now ∷ []) described.new) }
+        ensures grows { Grows (shapes_of self.old.values) (shapes_of self.new.values) }
+        ensures arguments { AreArgumentsNumbered (shapes_of self.old.values) described.old.fields.items →
+            OnOk result (AreArgumentsNumbered (shapes_of self.new.values) described.new.fields.items) }
     {
         match selection {
             Selection::Field(field) => {
                 let parent_type = &described.set.ty;
                 let set = self.number(&field.value.selection_set)?;
+                let arguments = self.values.number_arguments(alloc, &field.value.arguments)?;
                 let field = FieldSelection { parent_type, field };
-                described.fields.push(NumberedField { field, set })?;
+                described.fields.push(NumberedField {
+                    field,
+                    set,
+                    arguments,
+                })?;
             }
             Selection::InlineFragment(inline) => {
                 let number = self.number(&inline.value.selection_set)?;
@@ -176,6 +199,7 @@ impl<'doc> Numbering<'doc> {
         ensures fragments { self.new.fragments ≡ self.old.fragments }
         ensures sets { OnOk result (sets_at self.new.sets.items ≡ sets_at self.old.sets.items ++ set.now ∷ []) }
         ensures number { IfOk result (λ number. number ≡ length (sets_at self.old.sets.items)) }
+        ensures values { self.new.values ≡ self.old.values }
     {
         let number = self.sets.len();
         self.sets.push(set)?;

@@ -5,8 +5,8 @@ ghost use Rattle.graphql_merging.specs.Groups.{pass_of};
 ghost use Rattle.graphql_number_sets.specs.NumberSets.{AreExact, numbers_of};
 ghost use Rattle.graphql_pair_merging.specs.FieldGroups.{IsGroupOf, IsGrouped, has_name, names_in};
 ghost use Rattle.graphql_pair_merging.specs.JoinedSets.{Takes};
-ghost use Rattle.graphql_pair_merging.specs.NumberedSets.{field_of};
-ghost use Rattle.graphql_pair_merging.specs.Pairs.{AllAgree, AreFieldsAround, AreFieldsOf, AreLinked, AreNamedIn, AreSetsBelow, AreTogether, Both, DecidesAlone, DisagreeAmong, Finds, FindsBelow, FindsIn, HasLooked, HaveOneKey, LooksAt, Settles, WereLookedAt, lists_at};
+ghost use Rattle.graphql_pair_merging.specs.NumberedSets.{HaveArgumentNumbers, HaveNumbers, field_of};
+ghost use Rattle.graphql_pair_merging.specs.Pairs.{AllAgree, AreFieldsAround, AreFieldsOf, AreLinked, AreNamedIn, AreSetsBelow, AreTogether, AreComparable, Both, DecidesAlone, DisagreeAmong, Finds, FindsBelow, FindsIn, HasLooked, LooksAt, Settles, WereLookedAt, lists_at};
 ghost use Rattle.graphql_pair_merging.specs.declared.field_groups.GroupedBy.TheVariants.{ParentType, ResponseKey};
 ghost use Rattle.graphql_pair_merging.specs.declared.numbered_sets.NumberedField.{NumberedField};
 ghost use Rattle.graphql_specification.specs.MergedSets.{Agree};
@@ -45,6 +45,7 @@ impl<'s, 'doc> PairPass<'s, 'doc> {
         starts: &[usize],
     ) -> Result<Option<Conflict<'doc>>, ValidationError>
         requires linked { AreLinked self.now.sets.now }
+        requires numbers { HaveArgumentNumbers self.now.sets.now }
         requires within { All (λ number. number < length self.now.sets.now) starts.now }
         ensures { IfOk result (λ found. MatchOption found
             (HasLooked self.now.schema.now (pass_of self.now.pass) self.now.sets.now starts.now)
@@ -107,6 +108,7 @@ impl<'s, 'doc> PairPass<'s, 'doc> {
         waiting: &mut Waiting,
         joined: &JoinedSets,
     ) -> Result<Option<Conflict<'doc>>, ValidationError>
+        requires numbers { HaveArgumentNumbers self.now.sets.now }
         requires all_within { All (λ number. number < length self.now.sets.now) (numbers_of joined.now.all) }
         requires ends_within { All (λ number. number < length self.now.sets.now) (numbers_of joined.now.ends) }
         requires among { (number : ℕ) → Contains (numbers_of joined.now.ends) number → Contains (numbers_of joined.now.all) number }
@@ -175,7 +177,7 @@ impl<'s, 'doc> PairPass<'s, 'doc> {
         groups: &FieldsByName<'doc>,
         keys: &[&'doc Name],
     ) -> Result<Option<Conflict<'doc>>, ValidationError>
-        ensures { (fields : List NumberedField) → IsGrouped ResponseKey fields groups.now.entries → keys.now ≡ names_in groups.now.entries → IfOk result (λ found. MatchOption found
+        ensures { (fields : List NumberedField) → HaveNumbers fields → IsGrouped ResponseKey fields groups.now.entries → keys.now ≡ names_in groups.now.entries → IfOk result (λ found. MatchOption found
             (Settles self.now.schema.now (pass_of self.now.pass) fields (Both fields) (lists_at waiting.old.items) (lists_at waiting.new.items))
             (Finds self.now.schema.now (pass_of self.now.pass) fields fields)) }
     {
@@ -194,7 +196,7 @@ impl<'s, 'doc> PairPass<'s, 'doc> {
         groups: &FieldsByName<'doc>,
         key: &'doc Name,
     ) -> Result<Option<Conflict<'doc>>, ValidationError>
-        ensures { (fields : List NumberedField) → IsGrouped ResponseKey fields groups.now.entries → IfOk result (λ found. MatchOption found
+        ensures { (fields : List NumberedField) → HaveNumbers fields → IsGrouped ResponseKey fields groups.now.entries → IfOk result (λ found. MatchOption found
             (Settles self.now.schema.now (pass_of self.now.pass) fields (λ x y. Both fields x y × (has_name ResponseKey key.now x ≡ true)) (lists_at waiting.old.items) (lists_at waiting.new.items))
             (Finds self.now.schema.now (pass_of self.now.pass) fields fields)) }
     {
@@ -210,7 +212,7 @@ impl<'s, 'doc> PairPass<'s, 'doc> {
         waiting: &mut Waiting,
         fields: &[NumberedField<'doc>],
     ) -> Result<Option<Conflict<'doc>>, ValidationError>
-        ensures { HaveOneKey fields.now → IfOk result (λ found. MatchOption found
+        ensures { AreComparable fields.now → IfOk result (λ found. MatchOption found
             (Settles self.now.schema.now (pass_of self.now.pass) fields.now (Both fields.now) (lists_at waiting.old.items) (lists_at waiting.new.items))
             (Finds self.now.schema.now (pass_of self.now.pass) fields.now fields.now)) }
     {
@@ -237,7 +239,7 @@ impl<'s, 'doc> PairPass<'s, 'doc> {
         parents: &[&'doc Name],
     ) -> Result<Option<Conflict<'doc>>, ValidationError>
         requires { pass_of self.now.pass ≡ field_pass }
-        ensures { (fields : List NumberedField) → HaveOneKey fields → IsGrouped ParentType fields groups.now.entries → parents.now ≡ names_in groups.now.entries → IfOk result (λ found. MatchOption found
+        ensures { (fields : List NumberedField) → AreComparable fields → IsGrouped ParentType fields groups.now.entries → parents.now ≡ names_in groups.now.entries → IfOk result (λ found. MatchOption found
             (Settles self.now.schema.now (pass_of self.now.pass) fields (Both fields) (lists_at waiting.old.items) (lists_at waiting.new.items))
             (Finds self.now.schema.now (pass_of self.now.pass) fields fields)) }
     {
@@ -258,7 +260,7 @@ impl<'s, 'doc> PairPass<'s, 'doc> {
         parent: &'doc Name,
     ) -> Result<Option<Conflict<'doc>>, ValidationError>
         requires { pass_of self.now.pass ≡ field_pass }
-        ensures { (fields : List NumberedField) → HaveOneKey fields → IsGrouped ParentType fields groups.now.entries → parents.now ≡ names_in groups.now.entries → IfOk result (λ found. MatchOption found
+        ensures { (fields : List NumberedField) → AreComparable fields → IsGrouped ParentType fields groups.now.entries → parents.now ≡ names_in groups.now.entries → IfOk result (λ found. MatchOption found
             (Settles self.now.schema.now (pass_of self.now.pass) fields (λ x y. Both fields x y × (has_name ParentType parent.now x ≡ true)) (lists_at waiting.old.items) (lists_at waiting.new.items))
             (Finds self.now.schema.now (pass_of self.now.pass) fields fields)) }
     {
@@ -277,7 +279,7 @@ impl<'s, 'doc> PairPass<'s, 'doc> {
         parents: &[&'doc Name],
     ) -> Result<Option<Conflict<'doc>>, ValidationError>
         requires { pass_of self.now.pass ≡ field_pass }
-        ensures { (fields : List NumberedField) → HaveOneKey fields → IsGrouped ParentType fields groups.now.entries → IsGroupOf ParentType fields first.now → parents.now ≡ names_in groups.now.entries → IfOk result (λ found. MatchOption found
+        ensures { (fields : List NumberedField) → AreComparable fields → IsGrouped ParentType fields groups.now.entries → IsGroupOf ParentType fields first.now → parents.now ≡ names_in groups.now.entries → IfOk result (λ found. MatchOption found
             (Settles self.now.schema.now (pass_of self.now.pass) fields (λ x y. Contains first.now x × Contains fields y) (lists_at waiting.old.items) (lists_at waiting.new.items))
             (Finds self.now.schema.now (pass_of self.now.pass) fields fields)) }
     {
@@ -298,7 +300,7 @@ impl<'s, 'doc> PairPass<'s, 'doc> {
         parent: &'doc Name,
     ) -> Result<Option<Conflict<'doc>>, ValidationError>
         requires { pass_of self.now.pass ≡ field_pass }
-        ensures { (fields : List NumberedField) → HaveOneKey fields → IsGrouped ParentType fields groups.now.entries → IsGroupOf ParentType fields first.now → IfOk result (λ found. MatchOption found
+        ensures { (fields : List NumberedField) → AreComparable fields → IsGrouped ParentType fields groups.now.entries → IsGroupOf ParentType fields first.now → IfOk result (λ found. MatchOption found
             (Settles self.now.schema.now (pass_of self.now.pass) fields (λ x y. Contains first.now x × (Contains fields y × (has_name ParentType parent.now y ≡ true))) (lists_at waiting.old.items) (lists_at waiting.new.items))
             (Finds self.now.schema.now (pass_of self.now.pass) fields fields)) }
     {
@@ -316,7 +318,7 @@ impl<'s, 'doc> PairPass<'s, 'doc> {
         second: &[NumberedField<'doc>],
     ) -> Result<Option<Conflict<'doc>>, ValidationError>
         requires { pass_of self.now.pass ≡ field_pass }
-        ensures { (fields : List NumberedField) → HaveOneKey fields → IsGroupOf ParentType fields first.now → IsGroupOf ParentType fields second.now → IfOk result (λ found. MatchOption found
+        ensures { (fields : List NumberedField) → AreComparable fields → IsGroupOf ParentType fields first.now → IsGroupOf ParentType fields second.now → IfOk result (λ found. MatchOption found
             (Settles self.now.schema.now (pass_of self.now.pass) fields (λ x y. Contains first.now x × Contains second.now y) (lists_at waiting.old.items) (lists_at waiting.new.items))
             (Finds self.now.schema.now (pass_of self.now.pass) fields fields)) }
     {
@@ -337,7 +339,7 @@ impl<'s, 'doc> PairPass<'s, 'doc> {
         waiting: &mut Waiting,
         fields: &[NumberedField<'doc>],
     ) -> Result<Option<Conflict<'doc>>, ValidationError>
-        ensures { AreTogether self.now.schema.now (pass_of self.now.pass) fields.now → IfOk result (λ found. MatchOption found
+        ensures { AreTogether self.now.schema.now (pass_of self.now.pass) fields.now → HaveNumbers fields.now → IfOk result (λ found. MatchOption found
             (Settles self.now.schema.now (pass_of self.now.pass) fields.now (Both fields.now) (lists_at waiting.old.items) (lists_at waiting.new.items))
             (Finds self.now.schema.now (pass_of self.now.pass) fields.now fields.now)) }
     {
@@ -367,7 +369,7 @@ impl<'s, 'doc> PairPass<'s, 'doc> {
         &self,
         fields: &[NumberedField<'doc>],
     ) -> Result<Option<Conflict<'doc>>, ValidationError>
-        ensures { IfOk result (λ found. MatchOption found
+        ensures { HaveNumbers fields.now → IfOk result (λ found. MatchOption found
             (AllAgree self.now.schema.now (pass_of self.now.pass) fields.now)
             (DisagreeAmong self.now.schema.now (pass_of self.now.pass) fields.now fields.now)) }
     {
@@ -385,7 +387,7 @@ impl<'s, 'doc> PairPass<'s, 'doc> {
         &self,
         fields: &[NumberedField<'doc>],
     ) -> Result<Option<Conflict<'doc>>, ValidationError>
-        ensures { IfOk result (λ found. MatchOption found
+        ensures { HaveNumbers fields.now → IfOk result (λ found. MatchOption found
             (AllAgree self.now.schema.now (pass_of self.now.pass) fields.now)
             (DisagreeAmong self.now.schema.now (pass_of self.now.pass) fields.now fields.now)) }
     {
@@ -413,7 +415,7 @@ impl<'s, 'doc> PairPass<'s, 'doc> {
         field: NumberedField<'doc>,
         others: &[NumberedField<'doc>],
     ) -> Result<Option<Conflict<'doc>>, ValidationError>
-        ensures { IfOk result (λ found. MatchOption found
+        ensures { HaveNumbers (field.entry ∷ others.now) → IfOk result (λ found. MatchOption found
             (All (λ other. Agree self.now.schema.now (pass_of self.now.pass) (field_of field.entry) (field_of other)) others.now)
             (DisagreeAmong self.now.schema.now (pass_of self.now.pass) (field.entry ∷ []) others.now)) }
     {
@@ -431,7 +433,7 @@ impl<'s, 'doc> PairPass<'s, 'doc> {
         first: NumberedField<'doc>,
         second: NumberedField<'doc>,
     ) -> Result<Option<Conflict<'doc>>, ValidationError>
-        ensures { IfOk result (λ found. MatchOption found
+        ensures { HaveNumbers (first.entry ∷ second.entry ∷ []) → IfOk result (λ found. MatchOption found
             (Agree self.now.schema.now (pass_of self.now.pass) (field_of first.entry) (field_of second.entry))
             (DisagreeAmong self.now.schema.now (pass_of self.now.pass) (first.entry ∷ []) (second.entry ∷ []))) }
     {
@@ -440,8 +442,8 @@ impl<'s, 'doc> PairPass<'s, 'doc> {
             self.hash_seed,
             self.schema,
             self.pass,
-            first.field,
-            second.field,
+            first,
+            second,
         )?;
         match found {
             Some(disagreement) => Ok(Some(Conflict {

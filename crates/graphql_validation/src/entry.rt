@@ -76,13 +76,13 @@ pub fn validate_executable_document(
 /// Validates a document against a schema as `validate_executable_document` does, with a bound on the work of merging:
 /// that is the number of fields in the lists of fields that come together, which are listed to be compared,
 /// once for shapes and once for names and arguments, of all operations together; a list that comes up again counts again.
-/// On ordinary documents it is a small multiple of the number of fields, and on documents made for it there are
-/// exponentially many.
+/// Where the arguments of fields are compared, each four bytes in which they are written count as a field, too. On ordinary
+/// documents it is a small multiple of what is written, and on documents made for it there are exponentially many fields.
 ///
 /// First it is asked whether any fields come together at all, for which at most `work` fields are listed, too. Where none do,
 /// as in most documents, nothing of merging is left to do.
 ///
-/// Where more fields were listed than `work`, merging by such lists stops. That operation and all later ones are
+/// Where more was listed and compared than `work`, merging by such lists stops. That operation and all later ones are
 /// decided by pairs of selection sets, all together, each pair looked at once in each pass: so no more pairs of fields
 /// are compared than the square of those that are written.
 ///

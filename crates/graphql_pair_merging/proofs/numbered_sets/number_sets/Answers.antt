@@ -1,10 +1,14 @@
-use Rattle.std.proofs.Common.{◌≡◌, ◌<◌, ◌≤◌, ◌++◌, ◌∷◌, [], arith, ap, drop, length, subst, sum_by, sym, ◌∙◌}
+use Rattle.std.proofs.Common.{◌≡◌, ◌<◌, ◌≤◌, ◌++◌, ◌∷◌, [], All, arith, ap, drop, length, subst, sum_by, sym, ◌∙◌}
 use Rattle.std.specs.Prelude.{Some, filter_map, slice_get}
 use Rattle.std.specs.Borrow.{Bor}
 use Rattle.graphql_documents.specs.Selections.{selections_of}
 use Rattle.graphql_documents.specs.declared.documents.executables.SelectionSet.{SelectionSet}
 use Rattle.graphql_merging.specs.ExpansionSteps.{fragments_in}
-use Rattle.graphql_pair_merging.specs.NumberedSets.{Describes, operation_sets, sets_among, sets_at, written_set}
+use Rattle.graphql_pair_merging.specs.NumberedSets.{AreArgumentsNumbered, Describes, operation_sets, sets_among, sets_at, written_set}
+use Rattle.graphql_pair_merging.specs.declared.numbered_sets.NumberedSet.{NumberedSet}
+use Rattle.graphql_value_numbers.specs.Tables.{shapes_of}
+use Rattle.std.proofs.lemmas.List.Elements.{All-nil}
+use Rattle.graphql_pair_merging.proofs.ArgumentNumberLemmas.{set_numbered}
 use Rattle.graphql_pair_merging.proofs.NumberingLemmas.{Describing, describing_begins, describing_ends, describing_on, length_of_sets, lighter, read_at}
 use Rattle.graphql_pair_merging.proofs.WeightLemmas.{weight_of_set}
 use Rattle.graphql_pair_merging.proofs.numbered_sets.number_sets.Goals as goal
@@ -18,6 +22,8 @@ loop-alloc-init c =
       describing = subst (λ l. Describing c.args.fragments.now c.in_ok-starts.starts.items first sets l) (sym c.new-numbered.ensures.items)
           (describing_begins c.args.fragments.now c.in_ok-starts.starts.items first sets first
           (c.in_ok-starts.ensures.sets ∙ ap (λ l. l ++ first) c.in_ok-numbering.ensures.sets) c.in_ok-starts.ensures.numbers);
+      arguments = subst (All (λ x. AreArgumentsNumbered (shapes_of c.number_operations.new.self.values) x.fields.items)) (sym c.new-numbered.ensures.items)
+          (All-nil (λ (x : NumberedSet). AreArgumentsNumbered (shapes_of c.number_operations.new.self.values) x.fields.items));
     }
 
 pub describe-requires : goal.describe-requires
@@ -62,10 +68,14 @@ loop-alloc-preserved c =
           (subst (λ (r : Bor SelectionSet). Describes F after r.now.ty (selections_of r.now) x) (sym e.set)
           (subst (λ f. Describes (fragments_in f) after set.now.ty (selections_of set.now) x) i.fragments e.described))
           i.describing);
+      arguments = set_numbered (shapes_of c.loop-alloc.numbering.values) (shapes_of c.describe.new.self.values) e.grows numbered c.push.new.self.items x pushed e.arguments i.arguments;
     }
 
-pub returns : goal.returns
-returns c =
+pub returns-clause-arguments : goal.returns-clause-arguments
+returns-clause-arguments c = record { shapes = shapes_of c.loop-alloc.numbering.values; each = c.loop-alloc.invariant.arguments }
+
+pub returns-clause-sets : goal.returns-clause-sets
+returns-clause-sets c =
     let items = c.loop-alloc.numbering.sets.items in
     let numbered = c.loop-alloc.numbered.items in
     let all : length (sets_at items) ≤ length numbered =

@@ -1,6 +1,7 @@
 -- The sets before were described, and what is written in the others weighs less and less.
-use Rattle.std.proofs.Common.{◌≡◌, drop, length, sum_by}
-use Rattle.graphql_pair_merging.specs.NumberedSets.{operation_sets, sets_at}
+use Rattle.std.proofs.Common.{◌≡◌, All, drop, length, sum_by}
+use Rattle.graphql_pair_merging.specs.NumberedSets.{AreArgumentsNumbered, operation_sets, sets_at}
+use Rattle.graphql_value_numbers.specs.Tables.{shapes_of}
 use Rattle.graphql_pair_merging.proofs.NumberingLemmas.{Describing}
 use Rattle.graphql_pair_merging.proofs.WeightLemmas.{weight_of_set}
 use Rattle.graphql_pair_merging.proofs.numbered_sets.number_sets.Given as goal
@@ -9,6 +10,7 @@ abbrev pub invariant-loop-alloc : goal.invariant-loop-alloc
 invariant-loop-alloc l = record {
   fragments : l.numbering.fragments.now ≡ l.fn.fragments;
   describing : Describing l.fn.fragments l.starts.items (operation_sets l.fn.operations) (sets_at l.numbering.sets.items) l.numbered.items;
+  arguments : All (λ x. AreArgumentsNumbered (shapes_of l.numbering.values) x.fields.items) l.numbered.items;
 }
 
 abbrev pub decreases-loop-alloc : goal.decreases-loop-alloc

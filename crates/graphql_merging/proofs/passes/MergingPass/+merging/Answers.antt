@@ -44,10 +44,10 @@ examine-returns-in_err-examine_below-clause-truth t c operations merged =
     let F = fragments_of (document_in self.numbered.now) in
     let pass = pass_of self.pass in
     let list = listed c.args.list.fields.items in
-    let are = ap lists_of c.deref-2.ensures.value ∙ c.in_ok-groups.ensures.groups ∙ ap (λ l. groups_of S pass (listed l)) c.deref.ensures.value in
+    let are = ap lists_of c.deref-3.ensures.value ∙ c.in_ok-groups.ensures.groups ∙ ap (λ l. groups_of S pass (listed l)) c.deref.ensures.value in
     let walked = ap lists_of c.deref-group-items.ensures.value ∙ c.in_ok-groups.ensures.groups ∙ ap (λ l. groups_of S pass (listed l)) c.deref.ensures.value in
     let all = each_group S pass list c.deref-group-items.result.now walked in
-    kept_then (conflicts_true S pass list c.deref-2.result.now are F operations merged c.in_ok-compare_groups.ensures.truth)
+    kept_then (conflicts_true S pass list c.deref-3.result.now are F operations merged c.in_ok-compare_groups.ensures.truth)
     (kept_then (c.loop-group.invariant.truth operations list merged all)
     (c.examine_below.ensures.truth operations list merged
     (subst (λ l. IsGroup S list pass (listed l)) (sym c.deref-in-loop-group.ensures.value)
@@ -90,7 +90,7 @@ examine-returns-clause-examines t c =
     let old = stage_of c.args.examined.now c.args.depth.now c.args.diagnostics.now in
     let mid = stage_of c.compare_groups.new.examined c.args.depth.now c.compare_groups.new.diagnostics in
     let new = stage_of c.loop-group.examined c.loop-group.depth c.loop-group.diagnostics in
-    let are = ap lists_of c.deref-2.ensures.value ∙ c.in_ok-groups.ensures.groups ∙ ap (λ l. groups_of S pass (listed l)) c.deref.ensures.value in
+    let are = ap lists_of c.deref-3.ensures.value ∙ c.in_ok-groups.ensures.groups ∙ ap (λ l. groups_of S pass (listed l)) c.deref.ensures.value in
     let walked = ap lists_of c.deref-group-items.ensures.value ∙ c.in_ok-groups.ensures.groups ∙ ap (λ l. groups_of S pass (listed l)) c.deref.ensures.value in
     list_examined S F pass (λ fields group. groups_listed S fields pass group) list old mid new c.requires.is_new
     (ap (λ (l : _). lists_of (map (λ list. list.fields) l.keys)) c.in_ok-compare_groups.ensures.lists ∙ c.in_ok-add.ensures.lists)
@@ -107,9 +107,9 @@ examine-returns-clause-truth t c operations merged =
     let F = fragments_of (document_in self.numbered.now) in
     let pass = pass_of self.pass in
     let list = listed c.args.list.fields.items in
-    let are = ap lists_of c.deref-2.ensures.value ∙ c.in_ok-groups.ensures.groups ∙ ap (λ l. groups_of S pass (listed l)) c.deref.ensures.value in
+    let are = ap lists_of c.deref-3.ensures.value ∙ c.in_ok-groups.ensures.groups ∙ ap (λ l. groups_of S pass (listed l)) c.deref.ensures.value in
     let walked = ap lists_of c.deref-group-items.ensures.value ∙ c.in_ok-groups.ensures.groups ∙ ap (λ l. groups_of S pass (listed l)) c.deref.ensures.value in
-    kept_then (conflicts_true S pass list c.deref-2.result.now are F operations merged c.in_ok-compare_groups.ensures.truth)
+    kept_then (conflicts_true S pass list c.deref-3.result.now are F operations merged c.in_ok-compare_groups.ensures.truth)
     (c.loop-group.invariant.truth operations list merged (each_group S pass list c.deref-group-items.result.now walked))
 
 pub examine_below-returns-then-is_empty-clause-examines :

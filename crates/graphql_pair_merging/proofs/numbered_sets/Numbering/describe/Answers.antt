@@ -5,6 +5,8 @@ use Rattle.std.proofs.lemmas.List.Elements.{filter_map-append}
 use Rattle.graphql_documents.proofs.ListLemmas.{more_is}
 use Rattle.graphql_merging.specs.ExpansionSteps.{fragments_in}
 use Rattle.graphql_pair_merging.specs.NumberedSets.{Describes, sets_among, sets_at, written_set}
+use Rattle.graphql_value_numbers.specs.Tables.{shapes_of}
+use Rattle.graphql_value_numbers.proofs.NumberLaws.{grows_then}
 use Rattle.graphql_pair_merging.proofs.numbered_sets.Numbering.describe.Goals as goal
 
 pub add_selection-requires : goal.add_selection-requires
@@ -42,6 +44,8 @@ loop-selection-preserved c =
       described = subst (λ l. Describes (fragments_in c.args.self.now.fragments.now) after c.args.set.now.ty l new) (sym more)
           (subst (λ r. Describes (fragments_in c.args.self.now.fragments.now) after r.now.ty (done ++ s ∷ []) new) i.set
           (subst (λ f. Describes (fragments_in f.now) after old.set.now.ty (done ++ s ∷ []) new) i.fragments described));
+      grows = grows_then (shapes_of c.args.self.now.values) (shapes_of c.loop-selection.self.values) (shapes_of c.add_selection.new.self.values) i.grows e.grows;
+      arguments = e.arguments i.arguments;
     }
 
 pub returns-clause-sets : goal.returns-clause-sets

@@ -11,6 +11,7 @@ use Rattle.graphql_pair_merging.proofs.numbered_sets.Numbering.number_operations
 pub loop-operation-init : goal.loop-operation-init
 loop-operation-init c = record {
   fragments = refl;
+  values = refl;
   sets = sym (append-nil (sets_at c.args.self.now.sets.items));
   numbers = ap (map (slice_get (sets_at c.args.self.now.sets.items))) c.new-numbers.ensures.items;
 }
@@ -31,6 +32,7 @@ loop-operation-preserved c =
     let grown : after ≡ known ++ set ∷ [] = e.sets ∙ ap (λ (o : Operation). known ++ o.selection_set ∷ []) c.deref.ensures in
     record {
       fragments = e.fragments ∙ i.fragments;
+      values = e.values ∙ i.values;
       sets = grown ∙ ap (λ l. l ++ set ∷ []) i.sets ∙ append_assoc (sets_at c.args.self.now.sets.items) done (set ∷ []) ∙ ap (λ l. sets_at c.args.self.now.sets.items ++ l) (sym more);
       numbers = numbers_next known after c.loop-operation.numbers.items c.push.new.self.items done (operation_sets (take (n + 1) xs)) set c.in_ok-number.number
           grown e.number c.in_ok-push.ensures.items more i.numbers;

@@ -6,6 +6,7 @@ use Rattle.graphql_pair_merging.proofs.numbered_sets.Numbering.number_operations
 abbrev pub invariant-loop-operation : goal.invariant-loop-operation
 invariant-loop-operation l = record {
   fragments : l.self.fragments ≡ l.initial.self.fragments;
+  values : l.self.values ≡ l.initial.self.values;
   sets : sets_at l.self.sets.items ≡ sets_at l.initial.self.sets.items ++ operation_sets (take l.operation-index l.operations);
   numbers : map (slice_get (sets_at l.self.sets.items)) l.numbers.items ≡ map (λ s. Some s) (operation_sets (take l.operation-index l.operations));
 }

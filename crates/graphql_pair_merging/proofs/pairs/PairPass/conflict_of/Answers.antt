@@ -8,7 +8,7 @@ use Rattle.graphql_pair_merging.specs.Disagreements.{Disagrees}
 use Rattle.graphql_pair_merging.proofs.pairs.PairPass.conflict_of.Goals as goal
 
 pub returns-in-Some : goal.returns-in-Some
-returns-in-Some c =
+returns-in-Some c numbers =
     let schema = c.args.self.now.schema.now in
     let pass = pass_of c.args.self.now.pass in
     let x = selection_of c.args.first.field in
@@ -20,5 +20,5 @@ returns-in-Some c =
       in_second = stands_first c.args.second [];
       first_is = refl;
       second_is = refl;
-      disagree = subst (λ o. MatchOption o (Agree schema pass x y) (Disagrees schema pass x y)) c.in-Some.is c.in_ok-found.ensures;
+      disagree = subst (λ o. MatchOption o (Agree schema pass x y) (Disagrees schema pass x y)) c.in-Some.is (c.in_ok-found.ensures numbers);
     }

@@ -7,19 +7,19 @@ use Rattle.graphql_pair_merging.proofs.SettleLemmas.{finds_together, settles_all
 use Rattle.graphql_pair_merging.proofs.pairs.PairPass.look_at_fields.Goals as goal
 
 pub returns-in-Some : goal.returns-in-Some
-returns-in-Some c together =
+returns-in-Some c together numbers =
     let schema = c.args.self.now.schema.now in
     let pass = pass_of c.args.self.now.pass in
     let fields = c.args.fields.now in
     finds_together schema pass fields c.in-Some.conflict together
-    (subst (λ o. MatchOption o (AllAgree schema pass fields) (DisagreeAmong schema pass fields fields)) c.in-Some.is c.in_ok-conflict.ensures)
+    (subst (λ o. MatchOption o (AllAgree schema pass fields) (DisagreeAmong schema pass fields fields)) c.in-Some.is (c.in_ok-conflict.ensures numbers))
 
 pub returns : goal.returns
-returns c together =
+returns c together numbers =
     let schema = c.args.self.now.schema.now in
     let pass = pass_of c.args.self.now.pass in
     let fields = c.args.fields.now in
     let below = c.in_ok-below.below in
     settles_all schema pass fields below.items (lists_at c.args.waiting.now.items) (lists_at c.push.new.self.items)
     (ap lists_at c.in_ok-push.ensures.items ∙ map-append (λ v. v.items) c.args.waiting.now.items (below ∷ [])) together
-    (subst (λ o. MatchOption o (AllAgree schema pass fields) (DisagreeAmong schema pass fields fields)) c.in_default.is c.in_ok-conflict.ensures) c.in_ok-below.ensures
+    (subst (λ o. MatchOption o (AllAgree schema pass fields) (DisagreeAmong schema pass fields fields)) c.in_default.is (c.in_ok-conflict.ensures numbers)) c.in_ok-below.ensures

@@ -11,20 +11,20 @@ use Rattle.graphql_pair_merging.proofs.SettleLemmas.{settles_next, settles_nothi
 use Rattle.graphql_pair_merging.proofs.pairs.PairPass.look_by_keys.Goals as goal
 
 pub loop-key-init : goal.loop-key-init
-loop-key-init c fields grouped named =
+loop-key-init c fields numbers grouped named =
     settles_nothing c.args.self.now.schema.now (pass_of c.args.self.now.pass) fields (λ x y. Both fields x y × (is_among ResponseKey (take 0 c.args.keys.now) x ≡ true)) (lists_at c.args.waiting.now.items)
     (λ x y p put. none_among ResponseKey x p.1)
 
 pub returns-in-Some : goal.returns-in-Some
-returns-in-Some c fields grouped named =
+returns-in-Some c fields numbers grouped named =
     let schema = c.args.self.now.schema.now in
     let pass = pass_of c.args.self.now.pass in
     subst (λ o. MatchOption o
     (Settles schema pass fields (λ x y. Both fields x y × (has_name ResponseKey c.key-item.result.now x ≡ true)) (lists_at c.loop-key.waiting.items) (lists_at c.look_under_name.new.waiting.items)) (Finds schema pass fields fields))
-    c.in-Some.is (c.in_ok-conflict.ensures fields grouped)
+    c.in-Some.is (c.in_ok-conflict.ensures fields numbers grouped)
 
 pub loop-key-preserved : goal.loop-key-preserved
-loop-key-preserved c fields grouped named =
+loop-key-preserved c fields numbers grouped named =
     let schema = c.args.self.now.schema.now in
     let pass = pass_of c.args.self.now.pass in
     let names = c.args.keys.now in
@@ -33,18 +33,18 @@ loop-key-preserved c fields grouped named =
     let mid = lists_at c.loop-key.waiting.items in
     let new = lists_at c.look_under_name.new.waiting.items in
     let step = subst (λ o. MatchOption o (Settles schema pass fields (λ x y. Both fields x y × (has_name ResponseKey name.now x ≡ true)) mid new) (Finds schema pass fields fields)) c.in_default.is
-    (c.in_ok-conflict.ensures fields grouped) in
+    (c.in_ok-conflict.ensures fields numbers grouped) in
     settles_next schema pass fields (λ x y. Both fields x y × (is_among ResponseKey (take i names) x ≡ true)) (λ x y. Both fields x y × (has_name ResponseKey name.now x ≡ true))
-    (λ x y. Both fields x y × (is_among ResponseKey (take (i + 1) names) x ≡ true)) (lists_at c.args.waiting.now.items) mid new (c.loop-key.invariant fields grouped named) step
+    (λ x y. Both fields x y × (is_among ResponseKey (take (i + 1) names) x ≡ true)) (lists_at c.args.waiting.now.items) mid new (c.loop-key.invariant fields numbers grouped named) step
     (λ x y p put. elim (among_more ResponseKey (take i names) (take (i + 1) names) name x (more_is names i name c.loop-key-test.true c.key-item.is) p.1) [
       | inl before ↦ inl (p.0, before)
       | inr here ↦ inr (p.0, here)
     ])
 
 pub returns : goal.returns
-returns c fields grouped named =
+returns c fields numbers grouped named =
     let names = c.args.keys.now in
     settles_words c.args.self.now.schema.now (pass_of c.args.self.now.pass) fields (λ x y. Both fields x y × (is_among ResponseKey (take c.loop-key.key-index names) x ≡ true)) (Both fields) (lists_at c.args.waiting.now.items)
     (lists_at c.loop-key.waiting.items)
     (λ x y both put. (both, ap (λ l. is_among ResponseKey l x) (take_all c.loop-key.key-index names c.loop-key-test.false ∙ named) ∙ all_among ResponseKey fields c.args.groups.now.entries grouped x both.0))
-    (c.loop-key.invariant fields grouped named)
+    (c.loop-key.invariant fields numbers grouped named)

@@ -2,6 +2,7 @@
 use Rattle.std.proofs.Common.{◌≡◌, List, take, true}
 use Rattle.graphql_merging.specs.Groups.{pass_of}
 use Rattle.graphql_pair_merging.specs.FieldGroups.{IsGrouped, names_in}
+use Rattle.graphql_pair_merging.specs.NumberedSets.{HaveNumbers}
 use Rattle.graphql_pair_merging.specs.Pairs.{Both, Settles, lists_at}
 use Rattle.graphql_pair_merging.specs.declared.field_groups.GroupedBy.TheVariants.{ResponseKey}
 use Rattle.graphql_pair_merging.specs.declared.numbered_sets.NumberedField.{NumberedField}
@@ -10,5 +11,5 @@ use Rattle.graphql_pair_merging.proofs.pairs.PairPass.look_by_keys.Given as goal
 
 abbrev pub invariant-loop-key : goal.invariant-loop-key
 invariant-loop-key l =
-    (fields : List NumberedField) → IsGrouped ResponseKey fields l.groups.entries → l.keys ≡ names_in l.groups.entries →
+    (fields : List NumberedField) → HaveNumbers fields → IsGrouped ResponseKey fields l.groups.entries → l.keys ≡ names_in l.groups.entries →
     Settles l.self.schema.now (pass_of l.self.pass) fields (λ x y. Both fields x y × (is_among ResponseKey (take l.key-index l.keys) x ≡ true)) (lists_at l.initial.waiting.items) (lists_at l.waiting.items)

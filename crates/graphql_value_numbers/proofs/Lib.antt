@@ -1,0 +1,3 @@
+pub mod NamedNumberLemmas
+pub mod NumberLaws
+pub mod NumberingLemmas

@@ -1,0 +1,4 @@
+pub mod Arguments
+pub mod NamedNumbers
+pub mod Numbers
+pub mod Tables
