@@ -10,7 +10,8 @@ use std::process::Abort;
 
 /// The schema of all documents.
 const SCHEMA: &str = "
-    type Query { a(n: Int): Int b: Int c: String q: Query node: Node }
+    type Query { a(n: Int, o: In): Int b: Int c: String q: Query node: Node }
+    input In { x: Int y: In }
     interface Node { x: Int }
     type A implements Node { x: Int y: Int z: Int }
     type B implements Node { x: Int y: Int z: String }";
@@ -22,6 +23,17 @@ const DOCUMENTS: &[(&str, bool)] = &[
     ("{ node { ... on A { k: x } ... on B { k: y } } }", false),
     ("{ k: a k: b }", true),
     ("{ a(n: 1) a(n: 2) }", true),
+    ("{ a(n: 1) a }", true),
+    ("{ a(n: 1) a(n: 1, o: {}) }", true),
+    // one value in another order, and different ones inside equal lists of names
+    (
+        "{ a(n: 1, o: { x: 1, y: {} }) a(o: { y: {}, x: 1 }, n: 1) }",
+        false,
+    ),
+    (
+        "{ a(n: 1, o: { x: 1, y: { x: 1 } }) a(n: 1, o: { x: 1, y: { x: 2 } }) }",
+        true,
+    ),
     ("{ k: a k: c }", true),
     ("{ node { ... on A { z } ... on B { z } } }", true),
     // in a fragment, and below two fields of one key

@@ -3,8 +3,11 @@
 #![tactic(auto)]
 
 mod arguments;
+pub mod laws;
 mod named_numbers;
 mod shapes;
+#[cfg(test)]
+mod tests;
 mod values;
 
 pub use values::ValueNumbers;
