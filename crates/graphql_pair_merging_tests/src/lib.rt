@@ -1,5 +1,5 @@
-//! Tests of merging by pairs: documents whose fields merge, and others that have one report; and of validation that goes
-//! by pairs where its work is bounded.
+//! Tests of merging by pairs: documents whose fields merge, and others that have one report; of validation that goes by
+//! pairs where its work is bounded; and of the numbers of values.
 #![tactic(auto)]
 
 #[cfg(test)]
@@ -8,5 +8,7 @@ mod bounds;
 mod hostile;
 #[cfg(test)]
 mod lone;
+#[cfg(test)]
+mod numbers;
 #[cfg(test)]
 mod pairs;

@@ -6,8 +6,6 @@ mod arguments;
 pub mod laws;
 mod named_numbers;
 mod shapes;
-#[cfg(test)]
-mod tests;
 mod values;
 
 pub use values::ValueNumbers;

@@ -23,11 +23,12 @@ pub struct ValueNumbers<'doc> {
 impl<'doc> ValueNumbers<'doc> {
     ghost use Rattle.std.specs.Prelude.{◌≡◌, [], IfOk};
     ghost use Rattle.graphql_value_numbers.specs.Numbers.{AreEntriesNumbered, AreItemsNumbered, Grows, HasNumber, IsAt};
-    ghost use Rattle.graphql_value_numbers.specs.Tables.{shapes_of};
+    ghost use Rattle.graphql_value_numbers.specs.Tables.{hash_seed_of, shapes_of};
 
     /// No value has a number yet. Shapes of values are hashed by this seed. It takes no memory.
     pub fn new(alloc: Global, hash_seed: HashSeed) -> ValueNumbers<'doc>
-        ensures { shapes_of result ≡ [] }
+        ensures shapes { shapes_of result ≡ [] }
+        ensures seed { hash_seed_of result ≡ hash_seed }
     {
         ValueNumbers {
             shapes: IndexSet::with_hasher(alloc, hash_seed),

@@ -1,7 +1,7 @@
-use super::ValueNumbers;
 use graphql_documents::documents::{Argument, Value};
 use graphql_hash_seeds::HashSeed;
 use graphql_nodes::{Name, Node};
+use graphql_value_numbers::ValueNumbers;
 use std::alloc::Global;
 use std::process::Abort;
 
