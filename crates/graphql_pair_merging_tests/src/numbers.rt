@@ -40,6 +40,16 @@ fn object(rt: &impl Abort, alloc: Global, written: &[(&str, bool)]) -> Value {
     Value::Object(entries)
 }
 
+fn objects(rt: &impl Abort, alloc: Global, written: &[&[(&str, bool)]]) -> Vec<Value> {
+    let mut values = Vec::new(alloc);
+    for entries in written {
+        values
+            .push(object(rt, alloc, entries))
+            .expect(rt, "memory for a value");
+    }
+    values
+}
+
 fn arguments(rt: &impl Abort, alloc: Global, written: &[(&str, bool)]) -> Vec<Node<Argument>> {
     let mut given = Vec::new(alloc);
     for (key, value) in written {
@@ -56,12 +66,7 @@ fn arguments(rt: &impl Abort, alloc: Global, written: &[(&str, bool)]) -> Vec<No
 #[test]
 fn the_same_values_have_one_number(rt: HostRuntime) {
     let alloc = rt.alloc();
-    let mut values = Vec::new(alloc);
-    for written in SAME {
-        values
-            .push(object(&rt, alloc, written))
-            .expect(&rt, "memory for a value");
-    }
+    let values = objects(&rt, alloc, SAME);
     let mut numbers = ValueNumbers::new(alloc, HashSeed::default());
     for value in &values {
         let number = numbers
@@ -75,12 +80,7 @@ fn the_same_values_have_one_number(rt: HostRuntime) {
 #[test]
 fn different_values_have_different_numbers(rt: HostRuntime) {
     let alloc = rt.alloc();
-    let mut values = Vec::new(alloc);
-    for written in OTHERS {
-        values
-            .push(object(&rt, alloc, written))
-            .expect(&rt, "memory for a value");
-    }
+    let values = objects(&rt, alloc, OTHERS);
     let mut numbers = ValueNumbers::new(alloc, HashSeed::default());
     let mut found: Vec<usize> = Vec::new(alloc);
     for value in &values {
