@@ -1,5 +1,8 @@
-//! Tests of the bound on the nesting of a document through its fragments: texts with what is reported of them.
+//! Tests of the bounds on the nesting of a document through its fragments, and on what its operations reach: texts with what is
+//! reported of them.
 #![tactic(auto)]
 
 #[cfg(test)]
 mod nesting;
+#[cfg(test)]
+mod reach;

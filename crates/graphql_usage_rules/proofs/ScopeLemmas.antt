@@ -14,9 +14,9 @@ use Rattle.graphql_documents.specs.declared.documents.executables.Selection.TheV
 use Rattle.graphql_documents.specs.declared.documents.schemas.Schema.{Schema}
 use Rattle.graphql_variables.proofs.UseLemmas.{any_has, has_any}
 use Rattle.graphql_usage_rules.specs.Parts.{FragmentUses, UsedInFragment, UsedInFragments, UsedInParts}
-use Rattle.graphql_usage_rules.specs.Reached.{IsSpreadFrom, ReachesNames}
+use Rattle.graphql_reach.specs.Reached.{IsSpreadFrom, ReachesNames}
 use Rattle.graphql_usage_rules.specs.Usages.{Usage, UsedInScope, at_selection, in_fragment_definition, in_operation}
-use Rattle.graphql_usage_rules.proofs.ReachedLemmas.{reach_spread, reach_written, split_reached, stands_for}
+use Rattle.graphql_reach.proofs.ReachedLemmas.{reach_spread, reach_written, split_reached, stands_for}
 
 module _ (schema : Schema) (document : ExecutableDocument) (o : Operation) (names : List NameText) where
   module _ (reaches : ReachesNames (fragments_of document) o.selection_set names) where

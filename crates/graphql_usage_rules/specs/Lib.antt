@@ -1,4 +1,3 @@
 pub mod Parts
-pub mod Reached
 pub mod Usages
 pub mod VariableMisuses

@@ -5,7 +5,7 @@ use Rattle.graphql_nodes.specs.Names.{NameText, same_name}
 use Rattle.graphql_nodes.specs.declared.nodes.Node.{Node}
 use Rattle.graphql_documents.specs.Definitions.{definition_named}
 use Rattle.graphql_documents.specs.Directives.{directive_definition}
-use Rattle.graphql_documents.specs.Selections.{Fragments, Written}
+use Rattle.graphql_documents.specs.Selections.{Fragments}
 use Rattle.graphql_documents.specs.Schemas.{input_object_named}
 use Rattle.graphql_documents.specs.TypeReferences.{inner_named_type, is_list}
 use Rattle.graphql_documents.specs.declared.documents.components.Component.{Component}
@@ -17,11 +17,11 @@ use Rattle.graphql_documents.specs.declared.documents.executables.Fragment.{Frag
 use Rattle.graphql_documents.specs.declared.documents.executables.InlineFragment.{InlineFragment}
 use Rattle.graphql_documents.specs.declared.documents.executables.Operation.{Operation}
 use Rattle.graphql_documents.specs.declared.documents.executables.Selection.{Selection}
-use Rattle.graphql_documents.specs.declared.documents.executables.Selection.TheVariants as kind
 use Rattle.graphql_documents.specs.declared.documents.executables.SelectionSet.{SelectionSet}
 use Rattle.graphql_documents.specs.declared.documents.schemas.InputObjectType.{InputObjectType}
 use Rattle.graphql_documents.specs.declared.documents.schemas.Schema.{Schema}
 use Rattle.graphql_documents.specs.declared.documents.values.Value.{Value}
+use Rattle.graphql_reach.specs.Written.{SelectionHas, SetHas}
 use Rattle.graphql_usage_rules.specs.Usages.{Location, Usage, UsedIn, UsedInArguments, UsedInDirectives, UsedAtSelection, item_location, location_of}
 use Rattle.graphql_usage_rules.specs.declared.locations.UsageLocation.{UsageLocation}
 
@@ -63,17 +63,6 @@ UsedInArgument schema definitions a usage =
 abbrev pub UsedInDirective : Schema → Directive → Usage → Type 0
 UsedInDirective schema applied usage =
     InFound (directive_definition schema applied.name) (λ d. UsedInArguments schema d.value.value.arguments.items applied.arguments.items) usage
-
--- something holds of a selection that is in the set or at any depth below it, spreads not followed
-abbrev pub SetHas : {X : Type 0} → (Selection → X → Type 0) → SelectionSet → X → Type 0
-SetHas Itself set x = (s : Selection) × Written set s × Itself s x
-
--- it holds of the selection itself, or of one below it
-pub data SelectionHas {X : Type 0} (Itself : Selection → X → Type 0) (s : Selection) (x : X) : Type 0 where
-  has_itself : Itself s x → SelectionHas Itself s x
-  has_below_field : (f : Node Field) → s ≡ kind.Field f → SetHas Itself f.value.value.selection_set x → SelectionHas Itself s x
-  has_below_inline_fragment : (i : Node InlineFragment) →
-      s ≡ kind.InlineFragment i → SetHas Itself i.value.value.selection_set x → SelectionHas Itself s x
 
 -- the selections of a set use the variable
 abbrev pub SetUses : Schema → SelectionSet → Usage → Type 0

@@ -4,7 +4,6 @@
 
 mod allowed;
 mod locations;
-mod reached;
 pub mod reports;
 mod selections;
 mod values;

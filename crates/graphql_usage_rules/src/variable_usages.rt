@@ -4,16 +4,16 @@ ghost use Rattle.std.specs.Prelude.{All, Any, option_to_list};
 ghost use Rattle.indexmap.specs.IndexMap.{values};
 ghost use Rattle.graphql_documents.specs.Selections.{fragments_of};
 ghost use Rattle.graphql_usage_rules.specs.Parts.{UsedInFragment, UsedInFragments, UsedInParts};
-ghost use Rattle.graphql_usage_rules.specs.Reached.{names_at};
+ghost use Rattle.graphql_reach.specs.Reached.{names_at};
 ghost use Rattle.graphql_usage_rules.specs.VariableMisuses.{Checks, ChecksUsages, DocumentMisuseReport, OperationMisuseReport, OperationUsagesAreAllowed, VariableUsagesAreAllowed};
 
-use crate::reached::reached_fragments;
 use crate::reports::VariableMisuse;
 use crate::selections::{check_fragment, check_selection_set};
 use crate::values::check_directives;
 use graphql_documents::documents::{ExecutableDocument, Operation, Schema};
 use graphql_hash_seeds::HashSeed;
 use graphql_nodes::{Name, ValidationError};
+use graphql_reach::reached_fragments;
 use graphql_variables::VariablesByName;
 use indexmap::IndexSet;
 

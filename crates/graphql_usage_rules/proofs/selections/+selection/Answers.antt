@@ -8,7 +8,8 @@ use Rattle.graphql_documents.specs.declared.documents.executables.Selection.TheV
 use Rattle.graphql_usage_rules.specs.Parts.{FieldUses, InlineFragmentUses, SelectionUses, SetUses}
 use Rattle.graphql_usage_rules.specs.Usages.{UsedAtSelection, UsedInArguments, UsedInDirectives}
 use Rattle.graphql_usage_rules.proofs.PlaceLemmas.{Among, Checked, Kept, Reported, first_refused, in_places, moved, place_refused, places_all, places_more, reported_in, second_refused, then_checked}
-use Rattle.graphql_usage_rules.proofs.SelectionLemmas.{field_words, inline_words, set_words, spread_words}
+use Rattle.graphql_reach.proofs.SelectionLemmas.{set_words}
+use Rattle.graphql_usage_rules.proofs.SelectionLemmas.{field_words, inline_words, spread_words}
 use Rattle.graphql_usage_rules.proofs.selections.+selection.Goals as goal
 
 -- a field

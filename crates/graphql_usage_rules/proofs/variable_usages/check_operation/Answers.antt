@@ -1,7 +1,7 @@
 use Rattle.std.proofs.Common.{◌≡◌, ◌∙◌, subst}
 use Rattle.graphql_documents.specs.Selections.{fragments_of}
 use Rattle.graphql_usage_rules.specs.Parts.{UsedInParts}
-use Rattle.graphql_usage_rules.specs.Reached.{names_at}
+use Rattle.graphql_reach.specs.Reached.{names_at}
 use Rattle.graphql_usage_rules.specs.Usages.{UsedInScope}
 use Rattle.graphql_usage_rules.proofs.PlaceLemmas.{Checked, in_places}
 use Rattle.graphql_usage_rules.proofs.ScopeLemmas.{scope_words}

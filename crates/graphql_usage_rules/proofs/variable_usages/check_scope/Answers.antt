@@ -4,7 +4,7 @@ use mathlib.Core.Logic.{inl}
 use Rattle.graphql_diagnostics.proofs.ReportLemmas.{kept_wider}
 use Rattle.graphql_documents.specs.Selections.{fragments_of}
 use Rattle.graphql_usage_rules.specs.Parts.{SetUses, UsedInFragments}
-use Rattle.graphql_usage_rules.specs.Reached.{names_at}
+use Rattle.graphql_reach.specs.Reached.{names_at}
 use Rattle.graphql_usage_rules.specs.Usages.{Usage, UsedInDirectives}
 use Rattle.graphql_usage_rules.proofs.PlaceLemmas.{Kept, Reported, first_refused, moved, second_refused, then_checked}
 use Rattle.graphql_usage_rules.proofs.variable_usages.check_scope.Goals as goal

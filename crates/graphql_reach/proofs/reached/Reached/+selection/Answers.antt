@@ -9,11 +9,11 @@ use Rattle.graphql_documents.specs.declared.documents.executables.InlineFragment
 use Rattle.graphql_documents.specs.declared.documents.executables.Selection.TheVariants as kind
 use Rattle.graphql_documents.specs.declared.documents.executables.Selection.{Selection}
 use Rattle.graphql_variables.proofs.UseLemmas.{any_more}
-use Rattle.graphql_usage_rules.specs.Parts.{SelectionHas, SetHas}
-use Rattle.graphql_usage_rules.specs.Reached.{AddsSpreads, SpreadsName}
-use Rattle.graphql_usage_rules.proofs.SelectionLemmas.{field_spreads, inline_spreads, set_words, spread_spreads}
-use Rattle.graphql_usage_rules.proofs.SpreadLemmas.{adds_then, adds_words, adds_words_ok}
-use Rattle.graphql_usage_rules.proofs.reached.Reached.+selection.Goals as goal
+use Rattle.graphql_reach.specs.Written.{SelectionHas, SetHas}
+use Rattle.graphql_reach.specs.Reached.{AddsSpreads, SpreadsName}
+use Rattle.graphql_reach.proofs.SelectionLemmas.{field_spreads, inline_spreads, set_words, spread_spreads}
+use Rattle.graphql_reach.proofs.SpreadLemmas.{adds_then, adds_words, adds_words_ok}
+use Rattle.graphql_reach.proofs.reached.Reached.+selection.Goals as goal
 
 -- what the first selections spread
 abbrev Among : List Selection → NameText → Type 0

@@ -10,8 +10,8 @@ use Rattle.graphql_documents.specs.declared.documents.executables.FragmentSpread
 use Rattle.graphql_documents.specs.declared.documents.executables.Selection.{Selection}
 use Rattle.graphql_documents.specs.declared.documents.executables.Selection.TheVariants as kind
 use Rattle.graphql_documents.specs.declared.documents.executables.SelectionSet.{SelectionSet}
-use Rattle.graphql_usage_rules.specs.Parts.{SetHas}
-use Rattle.graphql_usage_rules.specs.declared.reached.Reached.{Reached}
+use Rattle.graphql_reach.specs.Written.{SetHas}
+use Rattle.graphql_reach.specs.declared.reached.Reached.{Reached}
 
 -- the selection spreads the fragment of this name
 abbrev pub SpreadsName : Selection → NameText → Type 0

@@ -2,10 +2,10 @@ use Rattle.std.proofs.Common.{◌≡◌, ◌∙◌, ◌+◌, ◌<◌, ◌∷◌,
 use Rattle.std.proofs.lemmas.List.{map-append, nil_from_length}
 use Rattle.graphql_nodes.specs.Names.{NameText}
 use Rattle.graphql_documents.specs.Selections.{fragments_of}
-use Rattle.graphql_usage_rules.specs.Reached.{SpreadsInFragment, reached_names, unreached}
-use Rattle.graphql_usage_rules.specs.declared.reached.Reached.{Reached}
-use Rattle.graphql_usage_rules.proofs.SearchLemmas.{left, less_left, searches_begin, searches_end, searches_step}
-use Rattle.graphql_usage_rules.proofs.reached.reached_fragments.Goals as goal
+use Rattle.graphql_reach.specs.Reached.{SpreadsInFragment, reached_names, unreached}
+use Rattle.graphql_reach.specs.declared.reached.Reached.{Reached}
+use Rattle.graphql_reach.proofs.SearchLemmas.{left, less_left, searches_begin, searches_end, searches_step}
+use Rattle.graphql_reach.proofs.reached.reached_fragments.Goals as goal
 
 abbrev text : Bor NameText → NameText
 text reference = reference.now

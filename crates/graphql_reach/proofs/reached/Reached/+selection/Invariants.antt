@@ -1,8 +1,8 @@
 use Rattle.std.proofs.Common.{take}
 use Rattle.std.specs.Prelude.{Any}
-use Rattle.graphql_usage_rules.specs.Parts.{SelectionHas}
-use Rattle.graphql_usage_rules.specs.Reached.{AddsSpreads, SpreadsName}
-use Rattle.graphql_usage_rules.proofs.reached.Reached.+selection.Given as goal
+use Rattle.graphql_reach.specs.Written.{SelectionHas}
+use Rattle.graphql_reach.specs.Reached.{AddsSpreads, SpreadsName}
+use Rattle.graphql_reach.proofs.reached.Reached.+selection.Given as goal
 
 abbrev pub invariant-add_in_set-loop-selection : goal.invariant-add_in_set-loop-selection
 invariant-add_in_set-loop-selection l =

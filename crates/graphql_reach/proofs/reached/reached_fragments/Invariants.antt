@@ -1,5 +1,5 @@
-use Rattle.graphql_usage_rules.proofs.SearchLemmas.{Searches, left}
-use Rattle.graphql_usage_rules.proofs.reached.reached_fragments.Given as goal
+use Rattle.graphql_reach.proofs.SearchLemmas.{Searches, left}
+use Rattle.graphql_reach.proofs.reached.reached_fragments.Given as goal
 
 abbrev pub invariant-loop-name : goal.invariant-loop-name
 invariant-loop-name l = Searches l.document l.set l.reached

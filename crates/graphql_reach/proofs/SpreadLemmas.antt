@@ -15,8 +15,8 @@ use Rattle.graphql_documents.specs.Selections.{fragments_of}
 use Rattle.graphql_documents.specs.declared.documents.executables.ExecutableDocument.{ExecutableDocument}
 use Rattle.graphql_documents.specs.declared.documents.executables.Fragment.{Fragment}
 use Rattle.graphql_variables.proofs.SelectionWalkLemmas.{stands_before, stands_last}
-use Rattle.graphql_usage_rules.specs.Reached.{AddsSpreads, pending_names, reached_names, unreached}
-use Rattle.graphql_usage_rules.specs.declared.reached.Reached.{Reached}
+use Rattle.graphql_reach.specs.Reached.{AddsSpreads, pending_names, reached_names, unreached}
+use Rattle.graphql_reach.specs.declared.reached.Reached.{Reached}
 
 -- a name that is on a list is on a longer one
 or_still : (a b : Bool) → IsTrue a → IsTrue (a || b)

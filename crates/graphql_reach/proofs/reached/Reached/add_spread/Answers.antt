@@ -4,9 +4,9 @@ use Rattle.std.proofs.lemmas.List.{map-append}
 use Rattle.graphql_nodes.specs.Names.{NameText, stands_on}
 use Rattle.graphql_documents.specs.Selections.{fragments_of}
 use Rattle.graphql_variables.proofs.SelectionWalkLemmas.{refs_any, refs_with}
-use Rattle.graphql_usage_rules.specs.Reached.{reached_names}
-use Rattle.graphql_usage_rules.proofs.SpreadLemmas.{adds_known, adds_new, is_defined, not_false, not_true}
-use Rattle.graphql_usage_rules.proofs.reached.Reached.add_spread.Goals as goal
+use Rattle.graphql_reach.specs.Reached.{reached_names}
+use Rattle.graphql_reach.proofs.SpreadLemmas.{adds_known, adds_new, is_defined, not_false, not_true}
+use Rattle.graphql_reach.proofs.reached.Reached.add_spread.Goals as goal
 
 abbrev text : Bor NameText → NameText
 text reference = reference.now

@@ -15,8 +15,8 @@ use Rattle.graphql_documents.specs.declared.documents.executables.Selection.{Sel
 use Rattle.graphql_documents.specs.declared.documents.executables.Selection.TheVariants as kind
 use Rattle.graphql_documents.specs.declared.documents.executables.SelectionSet.{SelectionSet}
 use Rattle.graphql_variables.proofs.UseLemmas.{any_has}
-use Rattle.graphql_usage_rules.specs.Parts.{SetHas}
-use Rattle.graphql_usage_rules.specs.Reached.{SpreadsName}
+use Rattle.graphql_reach.specs.Written.{SetHas}
+use Rattle.graphql_reach.specs.Reached.{SpreadsName}
 
 -- what is written in a set that is written in another is so in that
 written_then : {a b c : SelectionSet} → SetWritten a b → SetWritten b c → SetWritten a c

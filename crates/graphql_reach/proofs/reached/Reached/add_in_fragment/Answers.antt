@@ -4,10 +4,10 @@ use Rattle.std.proofs.lemmas.Option.{same_Some}
 use Rattle.graphql_nodes.specs.declared.nodes.Node.{Node}
 use Rattle.graphql_documents.specs.Selections.{fragments_of}
 use Rattle.graphql_documents.specs.declared.documents.executables.Fragment.{Fragment}
-use Rattle.graphql_usage_rules.specs.Parts.{SetHas}
-use Rattle.graphql_usage_rules.specs.Reached.{AddsSpreads, SpreadsInFragment, SpreadsName}
-use Rattle.graphql_usage_rules.proofs.SpreadLemmas.{adds_none, adds_words_ok}
-use Rattle.graphql_usage_rules.proofs.reached.Reached.add_in_fragment.Goals as goal
+use Rattle.graphql_reach.specs.Written.{SetHas}
+use Rattle.graphql_reach.specs.Reached.{AddsSpreads, SpreadsInFragment, SpreadsName}
+use Rattle.graphql_reach.proofs.SpreadLemmas.{adds_none, adds_words_ok}
+use Rattle.graphql_reach.proofs.reached.Reached.add_in_fragment.Goals as goal
 
 pub returns-in-Some : goal.returns-in-Some
 returns-in-Some c =

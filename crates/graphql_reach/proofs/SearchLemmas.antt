@@ -13,11 +13,11 @@ use Rattle.graphql_documents.specs.declared.documents.executables.ExecutableDocu
 use Rattle.graphql_documents.specs.declared.documents.executables.Fragment.{Fragment}
 use Rattle.graphql_documents.specs.declared.documents.executables.Selection.TheVariants as kind
 use Rattle.graphql_documents.specs.declared.documents.executables.SelectionSet.{SelectionSet}
-use Rattle.graphql_usage_rules.specs.Parts.{SetHas}
-use Rattle.graphql_usage_rules.specs.Reached.{AddsSpreads, IsSpreadFrom, ReachesNames, SpreadsInFragment, SpreadsName, pending_names, reached_names, unreached}
-use Rattle.graphql_usage_rules.specs.declared.reached.Reached.{Reached}
-use Rattle.graphql_usage_rules.proofs.ReachedLemmas.{Covers, covers_reached, reach_spread, reach_written}
-use Rattle.graphql_usage_rules.proofs.SpreadLemmas.{still_stands}
+use Rattle.graphql_reach.specs.Written.{SetHas}
+use Rattle.graphql_reach.specs.Reached.{AddsSpreads, IsSpreadFrom, ReachesNames, SpreadsInFragment, SpreadsName, pending_names, reached_names, unreached}
+use Rattle.graphql_reach.specs.declared.reached.Reached.{Reached}
+use Rattle.graphql_reach.proofs.ReachedLemmas.{Covers, covers_reached, reach_spread, reach_written}
+use Rattle.graphql_reach.proofs.SpreadLemmas.{still_stands}
 
 -- how much the search has before it: the fragments that were not reached, and those that wait
 abbrev pub left : ExecutableDocument → Reached → ℕ

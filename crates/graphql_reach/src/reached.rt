@@ -1,9 +1,9 @@
-//! The fragments that an operation reaches by spreads.
+//! The fragments that a selection set reaches by spreads.
 
 ghost use Rattle.std.specs.Prelude.{◌≡◌, IfOk, OnOk};
 ghost use Rattle.graphql_documents.specs.Selections.{fragments_of};
-ghost use Rattle.graphql_usage_rules.specs.Parts.{SelectionHas, SetHas};
-ghost use Rattle.graphql_usage_rules.specs.Reached.{AddsSpreads, ReachesNames, SpreadsInFragment, SpreadsName, names_at};
+ghost use Rattle.graphql_reach.specs.Written.{SelectionHas, SetHas};
+ghost use Rattle.graphql_reach.specs.Reached.{AddsSpreads, ReachesNames, SpreadsInFragment, SpreadsName, names_at};
 
 use graphql_documents::documents::{ExecutableDocument, Selection, SelectionSet};
 use graphql_hash_seeds::HashSeed;
@@ -12,8 +12,10 @@ use indexmap::IndexSet;
 use std::alloc::Global;
 
 /// The names of the defined fragments that a set reaches by spreads, in its own selections or in those of a fragment that it
-/// reaches, at any depth: each once. The only error is a failed allocation.
-pub(crate) fn reached_fragments<'doc>(
+/// reaches, at any depth: each once, in the order in which they are found. The only error is a failed allocation.
+///
+/// Specification: 2.8 Fragments.
+pub fn reached_fragments<'doc>(
     alloc: Global,
     document: &'doc ExecutableDocument,
     set: &'doc SelectionSet,

@@ -1,0 +1,4 @@
+pub mod Messages
+pub mod Reach
+pub mod Reached
+pub mod Written
