@@ -28,6 +28,7 @@ pub enum Places {
 const BOUNDS: Bounds = Bounds {
     tokens: usize::MAX,
     depth: 1_000,
+    reach: usize::MAX,
 };
 
 /// The file that places name.
@@ -104,6 +105,7 @@ fn print_reports(reports: &Reports, places: Places, lines: &mut Vec<u8>) -> Resu
         Reports::Syntax(_) => Ok(writeln!(lines, "no GraphQL document")?),
         Reports::Building(list) => print_building_rules(list, lines),
         Reports::Nesting(report) => Ok(writeln!(lines, "- {report}")?),
+        Reports::Reach(report) => Ok(writeln!(lines, "- {report}")?),
         Reports::SchemaRules(reports) => {
             print_entries(&reports.rules, places, lines)?;
             print_repetitions(reports.input_fields.as_slice(), lines)

@@ -5,6 +5,7 @@ ghost use Rattle.graphql_frontend.specs.Documents.{ValidatesDocument};
 ghost use Rattle.graphql_frontend.specs.Schemas.{IsUsable};
 
 use crate::accounts::{Account, Whole};
+use crate::bounds::DOCUMENT_BOUNDS;
 use crate::faults::Fault;
 use crate::one_document::check_together;
 use crate::presentations::Presentation;
@@ -142,10 +143,10 @@ fn check_text<O: Write>(
     output: &mut O,
 ) -> Result<Status, Fault>
     requires { IsUsable schema.now }
-    ensures accepted { result ≡ Ok Status.Accepted → ValidatesDocument Bounds.DEFAULT (Some schema.now) document.entry.source None }
-    ensures reported { result ≡ Ok Status.Reported → (reports : Reports) × ValidatesDocument Bounds.DEFAULT (Some schema.now) document.entry.source (Some reports) }
+    ensures accepted { result ≡ Ok Status.Accepted → ValidatesDocument DOCUMENT_BOUNDS (Some schema.now) document.entry.source None }
+    ensures reported { result ≡ Ok Status.Reported → (reports : Reports) × ValidatesDocument DOCUMENT_BOUNDS (Some schema.now) document.entry.source (Some reports) }
 {
-    match validate_document(alloc, schema, document.source, Bounds::DEFAULT)? {
+    match validate_document(alloc, schema, document.source, DOCUMENT_BOUNDS)? {
         None => Ok(Status::Accepted),
         Some(reports) => {
             report_document(alloc, &reports, document, account, output)?;

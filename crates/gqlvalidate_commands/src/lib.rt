@@ -2,6 +2,7 @@
 #![tactic(auto)]
 
 mod accounts;
+mod bounds;
 mod check;
 pub mod command;
 mod excerpts;

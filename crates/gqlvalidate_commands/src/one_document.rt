@@ -5,13 +5,13 @@ ghost use Rattle.graphql_frontend.specs.Documents.{ValidatesDocuments};
 ghost use Rattle.graphql_frontend.specs.Schemas.{IsUsable};
 
 use crate::accounts::Account;
+use crate::bounds::DOCUMENT_BOUNDS;
 use crate::check::Paths;
 use crate::faults::Fault;
 use crate::schema_files::{named_text, texts_of};
 use crate::statuses::Status;
 use graphql_documents::documents::Schema;
 use graphql_frontend::{Reports, SourceText, validate_documents};
-use graphql_parser::Bounds;
 use graphql_report_formats::named_texts::{NamedText, Subject};
 use graphql_report_formats::schema_texts::sources_of;
 use std::alloc::{AllocError, Global};
@@ -52,9 +52,9 @@ fn reports_of(
     sources: &[SourceText<'_>],
 ) -> Result<Option<Reports>, Fault>
     requires { IsUsable schema.now }
-    ensures { (reports : Option Reports) → result ≡ Ok reports → ValidatesDocuments Bounds.DEFAULT (Some schema.now) sources.now reports }
+    ensures { (reports : Option Reports) → result ≡ Ok reports → ValidatesDocuments DOCUMENT_BOUNDS (Some schema.now) sources.now reports }
 {
-    Ok(validate_documents(alloc, schema, sources, Bounds::DEFAULT)?)
+    Ok(validate_documents(alloc, schema, sources, DOCUMENT_BOUNDS)?)
 }
 
 /// The texts with their paths, numbered behind those of the schema.

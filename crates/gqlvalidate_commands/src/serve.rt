@@ -2,6 +2,7 @@
 
 ghost use Rattle.graphql_frontend.specs.Schemas.{IsUsable};
 
+use crate::bounds::DOCUMENT_BOUNDS;
 use crate::faults::{Fault, fault_of_output};
 use crate::questions::{Question, QuestionError};
 use crate::schema_files::{named_schema, texts_of};
@@ -148,7 +149,7 @@ fn answer_question(
         file_id: QUESTION,
         text: question.document,
     };
-    let reports = validate_document(alloc, schema, source, Bounds::DEFAULT)?;
+    let reports = validate_document(alloc, schema, source, DOCUMENT_BOUNDS)?;
     let texts = [NamedText { path: None, source }];
     let sources = [source];
     let subject = Subject {

@@ -1,5 +1,5 @@
 -- What a text comes to as an executable document, against a schema or without one. Specification: 5 Validation.
-use Rattle.std.specs.Prelude.{◌≡◌, ◌≢◌, ◌↔◌, ℕ, List, [], ◌∷◌, Option, None, Some, All, Vec, flat_map}
+use Rattle.std.specs.Prelude.{◌≡◌, ◌≢◌, ◌↔◌, ◌*◌, ℕ, List, [], ◌∷◌, Option, None, Some, All, Vec, flat_map, length, max, min, sum_by}
 use Rattle.std.specs.List.{AllZip}
 use Rattle.std.specs.declared.alloc.Global.{Global}
 use Rattle.graphql_diagnostics.specs.Diagnostics.{IsLimitEntry, entries}
@@ -17,11 +17,13 @@ use Rattle.graphql_document_building.specs.Documents.{DocumentSays}
 use Rattle.graphql_document_checking.specs.DocumentReports.{DocumentBuildingReport}
 use Rattle.graphql_input_rules.specs.InputFields.{InputFieldReport, InputFieldsAreUnique}
 use Rattle.graphql_nesting.specs.Nesting.{IsNestingReportOf, NestsWithin}
+use Rattle.graphql_reach.specs.Reach.{IsReachReportOf, ReachesWithin}
+use Rattle.graphql_reach.specs.declared.reports.ReachReport.{ReachReport}
 use Rattle.graphql_usage_rules.specs.VariableMisuses.{DocumentMisuseReport, VariableUsagesAreAllowed}
 use Rattle.graphql_usage_rules.specs.declared.reports.VariableMisuse.{VariableMisuse}
 use Rattle.graphql_frontend.specs.Texts.{IsDocumentOf, IsSyntaxReport}
 use Rattle.graphql_frontend.specs.declared.reports.Reports.{Reports}
-use Rattle.graphql_frontend.specs.declared.reports.Reports.TheVariants.{Syntax, Building, Nesting, DocumentRules}
+use Rattle.graphql_frontend.specs.declared.reports.Reports.TheVariants.{Syntax, Building, Nesting, Reach, DocumentRules}
 use Rattle.graphql_frontend.specs.declared.reports.DocumentReports.{DocumentReports}
 use Rattle.graphql_frontend.specs.declared.texts.SourceText.{SourceText}
 use Rattle.graphql_frontend.specs.declared.texts.SyntaxReport.{SyntaxReport}
@@ -74,36 +76,63 @@ pub record AreReportsOf (schema : Option Schema) (document : ExecutableDocument)
   pub each_usage : All (IsMisuseReport schema document) reports.usages.items
   pub decides : IsBuiltFor schema document → All (λ e. ¬ IsLimitEntry e) (entries reports.rules) → ReportsNothing reports ↔ EveryRuleHolds schema document
 
--- what a document that was built comes to: it nests deeper than the bound, and is not validated; else nothing is reported only
--- where every rule holds, and what is reported is true of it
-abbrev pub JudgesDocument : ℕ → Option Schema → ExecutableDocument → Option Reports → Type 0
-JudgesDocument most schema document None = NestsWithin most document × (IsBuiltFor schema document → EveryRuleHolds schema document)
-JudgesDocument most schema document (Some (Nesting report)) = IsNestingReportOf most document report
-JudgesDocument most schema document (Some (DocumentRules reports)) =
-    NestsWithin most document × ¬ ReportsNothing reports × AreReportsOf schema document reports
-JudgesDocument most schema document (Some _) = ⊥
+-- how many bytes of the texts of a document count: 65,536 at least
+abbrev pub counted_bytes : ℕ → ℕ
+counted_bytes bytes = max bytes 65536
 
--- what the tree of a document comes to
-pub data JudgesTree (bounds : Bounds) (schema : Option Schema) (tree : Document) : Option Reports → Type 0 where
+-- how many bytes the operations of a document may reach that nests less than 100 levels: for each that counts the reach of the
+-- bounds, as far as a number of 64 bits goes
+abbrev pub most_reached : Bounds → ℕ → ℕ
+most_reached bounds bytes = min (bounds.reach * counted_bytes bytes) 18446744073709551615
+
+-- the operations of a document reach no more than the bytes of its texts, or than the bounds allow where it nests less than 100
+-- levels: in a deeper one cycles are searched from each fragment through all others
+pub data ReachesWithinBounds (bounds : Bounds) (bytes : ℕ) (document : ExecutableDocument) : Type 0 where
+  reaches_its_bytes : ReachesWithin (counted_bytes bytes) document → ReachesWithinBounds bounds bytes document
+  reaches_more : NestsWithin 99 document → ReachesWithin (most_reached bounds bytes) document → ReachesWithinBounds bounds bytes document
+
+-- the report is of the operations of a document that reach more
+pub data IsReachReport (bounds : Bounds) (bytes : ℕ) (document : ExecutableDocument) (report : ReachReport) : Type 0 where
+  passes_its_bytes : ¬ NestsWithin 99 document → IsReachReportOf (counted_bytes bytes) document report → IsReachReport bounds bytes document report
+  passes_the_bounds : NestsWithin 99 document → IsReachReportOf (most_reached bounds bytes) document report → IsReachReport bounds bytes document report
+
+-- what a document that was built comes to: it nests deeper than the bound, or reaches more, and is not validated; else nothing is
+-- reported only where every rule holds, and what is reported is true of it
+abbrev pub JudgesDocument : Bounds → ℕ → Option Schema → ExecutableDocument → Option Reports → Type 0
+JudgesDocument bounds bytes schema document None =
+    NestsWithin bounds.depth document × ReachesWithinBounds bounds bytes document × (IsBuiltFor schema document → EveryRuleHolds schema document)
+JudgesDocument bounds bytes schema document (Some (Nesting report)) = IsNestingReportOf bounds.depth document report
+JudgesDocument bounds bytes schema document (Some (Reach report)) = NestsWithin bounds.depth document × IsReachReport bounds bytes document report
+JudgesDocument bounds bytes schema document (Some (DocumentRules reports)) =
+    NestsWithin bounds.depth document × ReachesWithinBounds bounds bytes document × ¬ ReportsNothing reports × AreReportsOf schema document reports
+JudgesDocument bounds bytes schema document (Some _) = ⊥
+
+-- what the tree of a document comes to of whose texts there are so many bytes
+pub data JudgesTree (bounds : Bounds) (bytes : ℕ) (schema : Option Schema) (tree : Document) : Option Reports → Type 0 where
   does_not_build : {list : BuildingReportList} → ¬ DocumentBuilds schema tree → reports_of list ≢ [] → All (DocumentBuildingReport schema tree) (reports_of list) →
-      JudgesTree bounds schema tree (Some (Building list))
+      JudgesTree bounds bytes schema tree (Some (Building list))
   is_built : {reports : Option Reports} (document : ExecutableDocument) → DocumentBuilds schema tree → DocumentSays schema tree document →
-      IsBuiltFor schema document → JudgesDocument bounds.depth schema document reports → JudgesTree bounds schema tree reports
+      IsBuiltFor schema document → JudgesDocument bounds bytes schema document reports →
+      JudgesTree bounds bytes schema tree reports
 
 -- what a text comes to as a document
 pub data ValidatesDocument (bounds : Bounds) (schema : Option Schema) (source : SourceText) : Option Reports → Type 0 where
   is_no_document : {errors : Vec SyntaxReport Global} → errors.items ≢ [] → All (IsSyntaxReport bounds (source ∷ [])) errors.items →
       ValidatesDocument bounds schema source (Some (Syntax errors))
-  is_document : {reports : Option Reports} (tree : Document) → IsDocumentOf bounds source tree → JudgesTree bounds schema tree reports →
-      ValidatesDocument bounds schema source reports
+  is_document : {reports : Option Reports} (tree : Document) → IsDocumentOf bounds source tree →
+      JudgesTree bounds (length source.text.now) schema tree reports → ValidatesDocument bounds schema source reports
 
 -- the document has the definitions of these, in their order
 abbrev pub HasDefinitionsOf : List Document → Document → Type 0
 HasDefinitionsOf trees tree = tree.definitions ≡ flat_map (λ (t : Document). t.definitions) trees
+
+-- how many bytes texts have together
+abbrev pub bytes_of : List SourceText → ℕ
+bytes_of sources = sum_by (λ (source : SourceText). length source.text.now) sources
 
 -- what texts come to as one document
 pub data ValidatesDocuments (bounds : Bounds) (schema : Option Schema) (sources : List SourceText) : Option Reports → Type 0 where
   are_not_all_documents : {errors : Vec SyntaxReport Global} → errors.items ≢ [] → All (IsSyntaxReport bounds sources) errors.items →
       ValidatesDocuments bounds schema sources (Some (Syntax errors))
   are_documents : {reports : Option Reports} (trees : List Document) (tree : Document) → AllZip (IsDocumentOf bounds) sources trees →
-      HasDefinitionsOf trees tree → JudgesTree bounds schema tree reports → ValidatesDocuments bounds schema sources reports
+      HasDefinitionsOf trees tree → JudgesTree bounds (bytes_of sources) schema tree reports → ValidatesDocuments bounds schema sources reports

@@ -1,6 +1,6 @@
 //! Executable documents, from their texts.
 
-ghost use Rattle.std.specs.Prelude.{◌≡◌, ℕ, IfOk, None, Option, Some};
+ghost use Rattle.std.specs.Prelude.{◌≡◌, ℕ, IfOk, MatchOption, None, Option, Some};
 ghost use Rattle.std.specs.Option.{option_copied};
 ghost use Rattle.graphql_documents.specs.declared.documents.schemas.Schema as schema_type;
 ghost use Rattle.graphql_nesting.specs.Nesting.{NestsWithin};
@@ -9,7 +9,7 @@ ghost use Rattle.graphql_parser.specs.declared.bounds.Bounds as source_bounds;
 ghost use Rattle.graphql_trees.specs.declared.documents.Document as document_tree;
 ghost use Rattle.graphql_frontend.specs.Texts.{IsDocumentOf};
 ghost use Rattle.graphql_frontend.specs.declared.texts.SourceText as source_text;
-ghost use Rattle.graphql_frontend.specs.Documents.{HasDefinitionsOf, JudgesDocument, JudgesTree, ValidatesDocument, ValidatesDocuments};
+ghost use Rattle.graphql_frontend.specs.Documents.{HasDefinitionsOf, IsReachReport, JudgesDocument, JudgesTree, ReachesWithinBounds, ValidatesDocument, ValidatesDocuments, bytes_of};
 ghost use Rattle.graphql_frontend.specs.Schemas.{IsUsable};
 
 use crate::document_rules::{document_reports, merging_work};
@@ -23,10 +23,19 @@ use graphql_hash_seeds::HashSeed;
 use graphql_nesting::check_nesting;
 use graphql_nodes::{FileId, SourceSpan, ValidationError};
 use graphql_parser::{Bounds, SyntaxError, parse_document};
+use graphql_reach::{ReachReport, check_reach};
 use graphql_trees::Document;
 use sqlite_items::Items;
 use std::alloc::Global;
 use std::hash::{DefaultHasher, Hasher};
+
+/// How many bytes count at least, where those that operations may reach go by the bytes of the texts: what a short document
+/// reaches is soon validated.
+const LEAST_BYTES: usize = 65_536;
+
+/// A document of at most so many levels has few fragments from which cycles are searched for: those that lead to one. In a
+/// deeper document a search from each fragment may go through all others, so its operations may reach its bytes only once.
+const SHALLOW: usize = 99;
 
 /// The place of a document of several texts, which no report names.
 const NOWHERE: SourceSpan = SourceSpan {
@@ -37,7 +46,11 @@ const NOWHERE: SourceSpan = SourceSpan {
 
 /// Validates the document that a text is against a schema that was read, and answers what is reported, if anything is: its
 /// first error, where it is no document; or the rules that keep it from being built; or that it nests too deep through its
-/// fragments, by the depth of the bounds; or the rules that it breaks. The only error is a failed allocation.
+/// fragments, by the depth of the bounds; or that its operations reach too much; or the rules that it breaks. The only error
+/// is a failed allocation.
+///
+/// Operations may reach as many bytes as the text has, of which 65,536 count at least; and as often as the reach of the bounds
+/// says in a document that nests less than 100 levels.
 ///
 /// Where no limit is reported, nothing is exactly where the text is a GraphQL document, it can be built against the schema
 /// and every rule of documents holds.
@@ -55,8 +68,7 @@ pub fn validate_document(
     match parse_document(alloc, source.file_id, source.text, bounds) {
         Ok(tree) => {
             let hash_seed = HashSeed::of_text(source.text);
-            let work = merging_work(source.text.len());
-            validate_tree(alloc, hash_seed, schema, &tree, bounds, work)
+            validate_tree(alloc, hash_seed, schema, &tree, bounds, source.text.len())
         }
         Err(error) => report_syntax(alloc, source.file_id, error),
     }
@@ -76,7 +88,7 @@ pub fn validate_standalone_document(
     match parse_document(alloc, source.file_id, source.text, bounds) {
         Ok(tree) => {
             let hash_seed = HashSeed::of_text(source.text);
-            validate_standalone_tree(alloc, hash_seed, &tree, bounds)
+            validate_standalone_tree(alloc, hash_seed, &tree, bounds, source.text.len())
         }
         Err(error) => report_syntax(alloc, source.file_id, error),
     }
@@ -117,27 +129,31 @@ pub fn validate_documents(
     let Parsed { documents, errors } = parse_texts(alloc, sources, bounds)?;
     if errors.is_empty() {
         let document = joined(alloc, documents)?;
-        let work = merging_work(length_of(sources));
         validate_tree(
             alloc,
             hash_seed_of(sources),
             schema,
             &document,
             bounds,
-            work,
+            bytes_of(sources)?,
         )
     } else {
         Ok(Some(Reports::Syntax(errors)))
     }
 }
 
-/// How many bytes the texts have, all together.
-fn length_of(sources: &[SourceText<'_>]) -> usize {
-    let mut length = 0_usize;
+/// How many bytes the texts have, all together. Fails where the number does not fit: no memory holds such texts.
+fn bytes_of(sources: &[SourceText<'_>]) -> Result<usize, ValidationError>
+    ensures { IfOk result (λ bytes. bytes ≡ bytes_of sources.now) }
+{
+    let mut bytes = 0_usize;
     for source in sources {
-        length = length.saturating_add(source.text.len());
+        bytes = match bytes.checked_add(source.text.len()) {
+            Some(sum) => sum,
+            None => return Err(ValidationError::OutOfMemory),
+        };
     }
-    length
+    Ok(bytes)
 }
 
 /// The seed that is drawn from the texts, one behind another.
@@ -163,71 +179,95 @@ fn joined(alloc: Global, documents: Vec<Document>) -> Result<Document, Validatio
     })
 }
 
-/// Validates the document of a tree, its names hashed by this seed.
+/// Validates the document of a tree, its names hashed by this seed. Its texts have so many bytes.
 fn validate_tree(
     alloc: Global,
     hash_seed: HashSeed,
     schema: &Schema,
     tree: &Document,
     bounds: Bounds,
-    work: usize,
+    bytes: usize,
 ) -> Result<Option<Reports>, ValidationError>
     requires { IsUsable schema.now }
-    ensures { IfOk result (JudgesTree bounds (Some schema.now) tree.now) }
+    ensures { IfOk result (JudgesTree bounds bytes (Some schema.now) tree.now) }
 {
     let mut reports = BuildingReportList::with_hash_seed(alloc, hash_seed);
     check_document(&mut reports, schema, tree)?;
     if reports.is_empty() {
         let document = build_document(alloc, hash_seed, schema, tree)?;
-        validate_built(alloc, Some(schema), &document, bounds.depth, work)
+        validate_built(alloc, Some(schema), &document, bounds, bytes)
     } else {
         Ok(Some(Reports::Building(reports)))
     }
 }
 
-/// Validates the document of a tree without a schema, its names hashed by this seed.
+/// Validates the document of a tree without a schema, its names hashed by this seed. Its text has so many bytes.
 fn validate_standalone_tree(
     alloc: Global,
     hash_seed: HashSeed,
     tree: &Document,
     bounds: Bounds,
+    bytes: usize,
 ) -> Result<Option<Reports>, ValidationError>
-    ensures { IfOk result (JudgesTree bounds None tree.now) }
+    ensures { IfOk result (JudgesTree bounds bytes None tree.now) }
 {
     let mut reports = BuildingReportList::with_hash_seed(alloc, hash_seed);
     check_standalone_document(&mut reports, tree)?;
     if reports.is_empty() {
         let document = build_standalone_document(alloc, hash_seed, tree)?;
-        validate_built(alloc, None, &document, bounds.depth, 0)
+        validate_built(alloc, None, &document, bounds, bytes)
     } else {
         Ok(Some(Reports::Building(reports)))
     }
 }
 
-/// Validates a document that was built, unless it nests deeper than so many levels. So much work may be done on merging by sets.
+/// Validates a document that was built, unless it nests or reaches more than the bounds say. Its texts have so many bytes.
 fn validate_built(
     alloc: Global,
     schema: Option<&Schema>,
     document: &ExecutableDocument,
-    most: usize,
-    work: usize,
+    bounds: Bounds,
+    bytes: usize,
 ) -> Result<Option<Reports>, ValidationError>
-    ensures { IfOk result (JudgesDocument most (option_copied schema.entry) document.now) }
+    ensures { IfOk result (JudgesDocument bounds bytes (option_copied schema.entry) document.now) }
 {
-    match check_nesting(alloc, document, most)? {
-        None => validate_nested(alloc, schema, document, work),
-        Some(report) => Ok(Some(Reports::Nesting(report))),
+    if let Some(report) = check_nesting(alloc, document, bounds.depth)? {
+        return Ok(Some(Reports::Nesting(report)));
+    }
+    match check_bytes_reached(alloc, document, bounds, bytes)? {
+        None => validate_within(alloc, schema, document, merging_work(bytes)),
+        Some(report) => Ok(Some(Reports::Reach(report))),
     }
 }
 
-/// Validates a document that nests within a bound.
-fn validate_nested(
+/// Reports a document whose operations reach too much, by the bounds and the bytes of its texts.
+fn check_bytes_reached(
+    alloc: Global,
+    document: &ExecutableDocument,
+    bounds: Bounds,
+    bytes: usize,
+) -> Result<Option<ReachReport>, ValidationError>
+    ensures { IfOk result (λ found. MatchOption found (ReachesWithinBounds bounds bytes document.now) (IsReachReport bounds bytes document.now)) }
+{
+    let counted = bytes.max(LEAST_BYTES);
+    let Some(report) = check_reach(alloc, document, counted)? else {
+        return Ok(None);
+    };
+    match check_nesting(alloc, document, SHALLOW)? {
+        None => check_reach(alloc, document, bounds.reach.saturating_mul(counted)),
+        Some(_) => Ok(Some(report)),
+    }
+}
+
+/// Validates a document that nests and reaches within the bounds. So much work may be done on merging by sets.
+fn validate_within(
     alloc: Global,
     schema: Option<&Schema>,
     document: &ExecutableDocument,
     work: usize,
 ) -> Result<Option<Reports>, ValidationError>
-    ensures { (most : ℕ) → NestsWithin most document.now → IfOk result (JudgesDocument most (option_copied schema.entry) document.now) }
+    ensures { (bounds : source_bounds.Bounds) (bytes : ℕ) → NestsWithin bounds.depth document.now → ReachesWithinBounds bounds bytes document.now →
+        IfOk result (JudgesDocument bounds bytes (option_copied schema.entry) document.now) }
 {
     let reports = document_reports(alloc, schema, document, work)?;
     if reports.is_empty() {

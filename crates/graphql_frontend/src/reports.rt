@@ -9,6 +9,7 @@ use graphql_building_reports::BuildingReportList;
 use graphql_diagnostics::DiagnosticList;
 use graphql_input_rules::InputFieldRepetition;
 use graphql_nesting::NestingReport;
+use graphql_reach::ReachReport;
 use graphql_usage_rules::VariableMisuse;
 
 /// What is reported of texts, by the first stage that reports something.
@@ -20,6 +21,8 @@ pub enum Reports {
     Building(BuildingReportList),
     /// A document that nests too deep to be validated.
     Nesting(NestingReport),
+    /// A document whose operations reach too much to be validated.
+    Reach(ReachReport),
     /// Rules that the schema breaks.
     SchemaRules(SchemaReports),
     /// Rules that the document breaks.
@@ -52,7 +55,7 @@ impl Reports {
         match self {
             Reports::Syntax(errors) => errors.len(),
             Reports::Building(list) => list.iter().len(),
-            Reports::Nesting(_) => 1,
+            Reports::Nesting(_) | Reports::Reach(_) => 1,
             Reports::SchemaRules(reports) => {
                 reports
                     .rules

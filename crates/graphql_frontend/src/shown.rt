@@ -10,6 +10,7 @@ use graphql_input_rules::InputFieldRepetition;
 use graphql_nesting::NestingReport;
 use graphql_nodes::{SourceSpan, ValidationError};
 use graphql_parser::{Bounds, SyntaxError};
+use graphql_reach::ReachReport;
 use graphql_syntax_messages::refused::refused;
 use graphql_usage_rules::VariableMisuse;
 use std::alloc::Global;
@@ -50,6 +51,11 @@ pub fn shown_reports(
         Reports::Nesting(report) => {
             if most > 0 {
                 shown.push(shown_nesting(alloc, report)?)?;
+            }
+        }
+        Reports::Reach(report) => {
+            if most > 0 {
+                shown.push(shown_reach(alloc, report)?)?;
             }
         }
         Reports::SchemaRules(reports) => push_schema(alloc, reports, most, &mut shown)?,
@@ -115,6 +121,15 @@ fn shown_nesting(alloc: Global, report: &NestingReport) -> Result<ShownReport, V
     Ok(ShownReport {
         location: report.location,
         rule: "NestsTooDeep",
+        message: report.to_string(alloc)?,
+        original: None,
+    })
+}
+
+fn shown_reach(alloc: Global, report: &ReachReport) -> Result<ShownReport, ValidationError> {
+    Ok(ShownReport {
+        location: report.location,
+        rule: "ReachesTooMuch",
         message: report.to_string(alloc)?,
         original: None,
     })

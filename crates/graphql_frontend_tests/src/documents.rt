@@ -132,7 +132,7 @@ const TEXTS: &[(&str, &str, &str, &str)] = &[
 ];
 
 /// The texts as sources: the second is none where it is empty.
-fn sources<'a>(
+pub(crate) fn sources<'a>(
     rt: &impl Abort,
     alloc: Global,
     first: &'a str,
@@ -157,7 +157,13 @@ fn sources<'a>(
 }
 
 /// What is reported of the texts of the schema, or else of those of the document.
-fn reported(rt: &impl Abort, alloc: Global, schema: &str, sources: &[SourceText<'_>]) -> String {
+pub(crate) fn reported(
+    rt: &impl Abort,
+    alloc: Global,
+    schema: &str,
+    sources: &[SourceText<'_>],
+    bounds: Bounds,
+) -> String {
     let schema = [
         SourceText {
             file_id: FileId::BUILT_IN,
@@ -168,8 +174,8 @@ fn reported(rt: &impl Abort, alloc: Global, schema: &str, sources: &[SourceText<
             text: schema,
         },
     ];
-    match read_schema(alloc, &schema, Bounds::DEFAULT).expect(rt, "memory for a schema") {
-        SchemaReading::Accepted(schema) => reported_against(rt, alloc, &schema, sources),
+    match read_schema(alloc, &schema, bounds).expect(rt, "memory for a schema") {
+        SchemaReading::Accepted(schema) => reported_against(rt, alloc, &schema, sources, bounds),
         SchemaReading::Rejected(reports) => lines(rt, alloc, &reports, &schema),
         SchemaReading::LacksIntrospection => panic!(rt; "no introspection"),
     }
@@ -180,13 +186,11 @@ fn reported_against(
     alloc: Global,
     schema: &Schema,
     sources: &[SourceText<'_>],
+    bounds: Bounds,
 ) -> String
     requires { IsUsable schema.now }
 {
-    match validate_documents(alloc, schema, sources, Bounds::DEFAULT).expect(
-        rt,
-        "memory for reports",
-    ) {
+    match validate_documents(alloc, schema, sources, bounds).expect(rt, "memory for reports") {
         Some(reports) => lines(rt, alloc, &reports, sources),
         None => String::new(alloc),
     }
@@ -223,7 +227,7 @@ fn each_stage_reports_what_it_finds(rt: HostRuntime) {
     let alloc = rt.alloc();
     for (schema, first, second, expected) in TEXTS {
         let sources = sources(&rt, alloc, first, second);
-        let found = reported(&rt, alloc, schema, &sources);
+        let found = reported(&rt, alloc, schema, &sources, Bounds::DEFAULT);
         assert_eq!(rt; found.as_str(), *expected, "{first} {second}");
     }
 }

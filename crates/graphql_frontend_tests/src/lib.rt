@@ -6,6 +6,8 @@ mod documents;
 #[cfg(test)]
 mod nesting;
 #[cfg(test)]
+mod reach;
+#[cfg(test)]
 mod standalone;
 #[cfg(test)]
 mod verdicts;

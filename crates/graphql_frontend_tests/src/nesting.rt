@@ -10,6 +10,7 @@ const SCHEMA: &str = "type Query { a: Query s: Int }";
 const THREE_LEVELS: Bounds = Bounds {
     tokens: usize::MAX,
     depth: 3,
+    reach: usize::MAX,
 };
 
 /// Documents, with what is reported where three levels are allowed.

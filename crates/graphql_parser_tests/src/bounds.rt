@@ -3,10 +3,11 @@ use graphql_parser::{Bounds, SyntaxError};
 use std::alloc::Global;
 use std::process::Abort;
 
-/// Two brackets or braces may be open, and twelve tokens come.
+/// Two brackets or braces may be open, and twelve tokens come. The parser does not ask what is reached.
 const BOUNDS: Bounds = Bounds {
     tokens: 12,
     depth: 2,
+    reach: 0,
 };
 
 /// Texts of twelve tokens at most, in which a third bracket or brace opens at this byte.

@@ -1,11 +1,11 @@
-use Rattle.std.proofs.Common.{None, refl, rules}
+use Rattle.std.proofs.Common.{None, length, refl, rules}
 use Rattle.graphql_frontend.specs.Documents.{JudgesTree, ValidatesDocument, is_document}
 use Rattle.graphql_frontend.proofs.ReportLemmas.{if_ok}
 use Rattle.graphql_frontend.proofs.documents.validate_standalone_document.Goals as goal
 
 pub returns-in-Ok : goal.returns-in-Ok
 returns-in-Ok c =
-    if_ok (JudgesTree c.args.bounds None c.in-Ok.tree) (ValidatesDocument c.args.bounds None c.args.source)
+    if_ok (JudgesTree c.args.bounds (length c.args.source.text.now) None c.in-Ok.tree) (ValidatesDocument c.args.bounds None c.args.source)
     (λ reports judged. is_document c.in-Ok.tree (search rules) judged) c.validate_standalone_tree.result c.validate_standalone_tree.ensures
 
 pub returns-in-Err : goal.returns-in-Err

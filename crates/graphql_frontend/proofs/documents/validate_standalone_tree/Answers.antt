@@ -13,7 +13,7 @@ pub returns-in_ok-document : goal.returns-in_ok-document
 returns-in_ok-document c =
     let none : reports_of c.check_standalone_document.new.reports ≡ [] = search rules in
     let document = c.in_ok-document.document in
-    if_ok (JudgesDocument c.args.bounds.depth None document) (JudgesTree c.args.bounds None c.args.tree.now)
+    if_ok (JudgesDocument c.args.bounds c.args.bytes None document) (JudgesTree c.args.bounds c.args.bytes None c.args.tree.now)
     (λ reports judged. is_built document (silent _ _ _ _ c.in_ok-check_standalone_document.ensures c.with_hash_seed-reports.ensures.empty none)
     c.in_ok-document.ensures tt judged)
     c.validate_built.result c.validate_built.ensures

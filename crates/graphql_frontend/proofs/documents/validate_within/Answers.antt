@@ -2,11 +2,12 @@ use Rattle.std.proofs.Common.{◌∙◌, All, subst, sym, true≢false}
 use Rattle.std.proofs.lemmas.List.Elements.{All-nil}
 use Rattle.graphql_diagnostics.specs.Diagnostics.{IsLimitEntry}
 use Rattle.graphql_diagnostics.specs.declared.lists.DiagnosticEntry.{DiagnosticEntry}
-use Rattle.graphql_frontend.proofs.documents.validate_nested.Goals as goal
+use Rattle.graphql_frontend.proofs.documents.validate_within.Goals as goal
 
 pub returns-then-is_empty : goal.returns-then-is_empty
-returns-then-is_empty c = λ most within. (
-  within,
+returns-then-is_empty c = λ bounds bytes nests reaches. (
+  nests,
+  reaches,
   λ built.
       let nothing = c.is_empty.ensures.0 c.if-is_empty.true in
       let no_limit =
@@ -15,5 +16,5 @@ returns-then-is_empty c = λ most within. (
 )
 
 pub returns-else-is_empty : goal.returns-else-is_empty
-returns-else-is_empty c = λ most within.
-    (within, λ nothing. true≢false (sym (c.is_empty.ensures.1 nothing) ∙ c.if-is_empty.false), c.in_ok-reports.ensures)
+returns-else-is_empty c = λ bounds bytes nests reaches.
+    (nests, reaches, λ nothing. true≢false (sym (c.is_empty.ensures.1 nothing) ∙ c.if-is_empty.false), c.in_ok-reports.ensures)
