@@ -58,7 +58,9 @@ typedef struct {
   size_t length;
 } graphql_outcome;
 
-/* Validates a document against a schema.
+/* Validates a document against a schema. Its operations may reach 4 bytes for each byte of the document, of which 65536
+   count at least, or one for each if it nests 100 levels or more: an operation is validated with every fragment that it
+   reaches, so a fragment counts for each of them. A document with operations that reach more is reported, and not validated.
 
    The answer is a JSON object, {"errors":[..]}, in the form of the errors of a GraphQL response. An error has
    - "message": what is wrong;
