@@ -6,3 +6,5 @@
 mod nesting;
 #[cfg(test)]
 mod reach;
+#[cfg(test)]
+mod texts;

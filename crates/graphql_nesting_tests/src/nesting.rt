@@ -1,12 +1,10 @@
+use crate::texts::{SCHEMA, document, line};
 use graphql_documents::documents::Schema;
-use graphql_examples::build::{document_in_file, schema};
-use graphql_nesting::{DocumentLevels, NestingReport, check_nesting};
-use graphql_nodes::{FileId, Name};
+use graphql_examples::build::schema;
+use graphql_nesting::{DocumentLevels, check_nesting};
+use graphql_nodes::Name;
 use std::alloc::Global;
 use std::process::Abort;
-
-/// The schema of all documents.
-const SCHEMA: &str = "type Query { f: Int q: Query }";
 
 /// Documents and bounds, and the report of each: where it is, and its message.
 const DOCUMENTS: &[(&str, usize, &str)] = &[
@@ -111,22 +109,15 @@ const DOCUMENTS: &[(&str, usize, &str)] = &[
     ),
 ];
 
-/// The report: the byte where it is, and its message; nothing where there is none.
-fn shown(rt: &impl Abort, alloc: Global, report: Option<NestingReport>) -> String {
-    let Some(report) = report else {
-        return String::new(alloc);
-    };
-    let start = report.location.expect(rt, "a place").start;
-    format!(in alloc; "{start} {report}").expect(rt, "memory for a line")
-}
-
 /// Reports where the document of the text nests deeper than the bound.
 fn reported(rt: &impl Abort, alloc: Global, schema: &Schema, text: &str, most: usize) -> String {
-    let Ok(document) = document_in_file(alloc, schema, text, FileId(1)) else {
-        panic!(rt; "no document: {text}")
+    let document = document(rt, alloc, schema, text);
+    let Some(report) = check_nesting(alloc, &document, most).expect(rt, "memory for the check")
+    else {
+        return String::new(alloc);
     };
-    let report = check_nesting(alloc, &document, most).expect(rt, "memory for the check");
-    shown(rt, alloc, report)
+    let message = report.to_string(alloc).expect(rt, "memory for a message");
+    line(rt, alloc, report.location, message.as_str())
 }
 
 #[test]
@@ -184,9 +175,7 @@ fn levels_are_known_by_the_names_of_fragments(rt: HostRuntime) {
     let Ok(schema) = schema(alloc, SCHEMA) else {
         panic!(rt; "no schema")
     };
-    let Ok(document) = document_in_file(alloc, &schema.0, FRAGMENTS, FileId(1)) else {
-        panic!(rt; "no document")
-    };
+    let document = document(&rt, alloc, &schema.0, FRAGMENTS);
     let unknown = DocumentLevels::unknown(&document);
     let found = DocumentLevels::find(alloc, &document).expect(&rt, "memory for levels");
     let expected = [

@@ -1,12 +1,9 @@
+use crate::texts::{SCHEMA, document, line};
 use graphql_documents::documents::Schema;
-use graphql_examples::build::{document_in_file, schema};
-use graphql_nodes::FileId;
-use graphql_reach::{ReachReport, check_reach};
+use graphql_examples::build::schema;
+use graphql_reach::check_reach;
 use std::alloc::Global;
 use std::process::Abort;
-
-/// The schema of all documents.
-const SCHEMA: &str = "type Query { f: Int q: Query }";
 
 /// Documents and bounds, and the report of each: where it is, and its message.
 const DOCUMENTS: &[(&str, usize, &str)] = &[
@@ -119,22 +116,14 @@ const DOCUMENTS: &[(&str, usize, &str)] = &[
     ("fragment A on Query { f }", 0, ""),
 ];
 
-/// The report: the byte where it is, and its message; nothing where there is none.
-fn shown(rt: &impl Abort, alloc: Global, report: Option<ReachReport>) -> String {
-    let Some(report) = report else {
-        return String::new(alloc);
-    };
-    let start = report.location.expect(rt, "a place").start;
-    format!(in alloc; "{start} {report}").expect(rt, "memory for a line")
-}
-
 /// Reports where the document of the text reaches more than the bound.
 fn reported(rt: &impl Abort, alloc: Global, schema: &Schema, text: &str, most: usize) -> String {
-    let Ok(document) = document_in_file(alloc, schema, text, FileId(1)) else {
-        panic!(rt; "no document: {text}")
+    let document = document(rt, alloc, schema, text);
+    let Some(report) = check_reach(alloc, &document, most).expect(rt, "memory for the check") else {
+        return String::new(alloc);
     };
-    let report = check_reach(alloc, &document, most).expect(rt, "memory for the check");
-    shown(rt, alloc, report)
+    let message = report.to_string(alloc).expect(rt, "memory for a message");
+    line(rt, alloc, report.location, message.as_str())
 }
 
 #[test]
