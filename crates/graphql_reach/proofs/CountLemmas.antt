@@ -21,7 +21,7 @@ use Rattle.graphql_documents.specs.declared.documents.executables.ExecutableDocu
 use Rattle.graphql_documents.specs.declared.documents.executables.Fragment.{Fragment}
 use Rattle.graphql_documents.specs.declared.documents.executables.SelectionSet.{SelectionSet}
 use Rattle.graphql_reach.specs.Reach.{FragmentsReached, bytes_at, left_out, no_more, reached_one}
-use Rattle.graphql_reach.specs.Reached.{IsSpreadFrom, ReachesNames, names_at}
+use Rattle.graphql_reach.specs.Reached.{IsReachedFrom, IsSpreadFrom, ReachesNames, names_at}
 
 -- the bytes of the definition of an entry
 abbrev pub entry_bytes : NameText × Node Fragment → ℕ
@@ -55,7 +55,7 @@ module _ {fragments : Fragments} {set : SelectionSet} where
   none_reached (e ∷ es) = left_out (none_reached es)
 
   -- the entries whose names are among those that the set reaches are reached
-  pub reaches_named : (names : List NameText) → All (IsSpreadFrom fragments set) names → (es : List (NameText × Node Fragment)) →
+  pub reaches_named : (names : List NameText) → All (IsReachedFrom fragments set) names → (es : List (NameText × Node Fragment)) →
       FragmentsReached fragments set es (named_bytes names es)
   reaches_named names each [] = no_more
   reaches_named names each (e ∷ es) = at_first (stands_on names e.0) refl (reaches_named names each es) where
@@ -63,7 +63,7 @@ module _ {fragments : Fragments} {set : SelectionSet} where
         FragmentsReached fragments set (e ∷ es) (named_bytes names (e ∷ es))
     at_first true is more =
         let h = Any-from_list_any (same_name e.0) names is in
-        let spread : IsSpreadFrom fragments set h.1 = All-contains (IsSpreadFrom fragments set) names h.1 each (h.0, h.2, h.3) in
+        let spread : IsSpreadFrom fragments set h.1 = (All-contains (IsReachedFrom fragments set) names h.1 each (h.0, h.2, h.3)).0 in
         rw is (reached_one {e = e} {rest = es} h.1 spread (same_name_back e.0 h.1 h.4) more)
     at_first false is more =
         let zero_more : named_bytes names es ≡ 0 + named_bytes names es = omega arith in

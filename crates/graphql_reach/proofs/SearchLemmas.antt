@@ -1,6 +1,6 @@
 -- The search for the fragments that a set reaches: what it keeps, and what it has found at its end.
 use Rattle.std.proofs.Common.{◌≡◌, ℕ, ◌+◌, ◌<◌, List, [], ◌∷◌, ◌++◌, Bor, Some, arith, length, refl, sym, ap, ◌∙◌, subst, All, Contains, IsTrue}
-use Rattle.std.specs.Prelude.{◌⊎◌}
+use Rattle.std.specs.Prelude.{◌⊎◌, IsSome}
 use Rattle.std.proofs.lemmas.List.{length-append, length-map}
 use Rattle.std.proofs.lemmas.List.Elements.{All-append, All-weaker, Contains-append_cases, Contains-append_left, Contains-append_right}
 use mathlib.Core.Logic.{inl, inr}
@@ -14,7 +14,7 @@ use Rattle.graphql_documents.specs.declared.documents.executables.Fragment.{Frag
 use Rattle.graphql_documents.specs.declared.documents.executables.Selection.TheVariants as kind
 use Rattle.graphql_documents.specs.declared.documents.executables.SelectionSet.{SelectionSet}
 use Rattle.graphql_reach.specs.Written.{SetHas}
-use Rattle.graphql_reach.specs.Reached.{AddsSpreads, IsSpreadFrom, ReachesNames, SpreadsInFragment, SpreadsName, pending_names, reached_names, unreached}
+use Rattle.graphql_reach.specs.Reached.{AddsSpreads, IsReachedFrom, IsSpreadFrom, ReachesNames, SpreadsInFragment, SpreadsName, pending_names, reached_names, unreached}
 use Rattle.graphql_reach.specs.declared.reached.Reached.{Reached}
 use Rattle.graphql_reach.proofs.ReachedLemmas.{Covers, covers_reached, reach_spread, reach_written}
 use Rattle.graphql_reach.proofs.SpreadLemmas.{still_stands}
@@ -41,8 +41,8 @@ less_left document P popped new x a =
 module _ (document : ExecutableDocument) (set : SelectionSet) where
   -- each name that was reached is spread; what the set spreads was reached, and what the fragment of a name that was reached does, unless it waits
   pub record Searches (reached : Reached) : Type 0 where
-    pub each : All (IsSpreadFrom (fragments_of document) set) (reached_names reached)
-    pub waiting : All (IsSpreadFrom (fragments_of document) set) (pending_names reached)
+    pub each : All (IsReachedFrom (fragments_of document) set) (reached_names reached)
+    pub waiting : All (IsReachedFrom (fragments_of document) set) (pending_names reached)
     pub begun : Covers document (reached_names reached) set
     pub followed : (known : NameText) → Contains (reached_names reached) known →
         Contains (pending_names reached) known ⊎ ((d : Node Fragment) → fragments_of document known ≡ Some d → Covers document (reached_names reached) d.value.value.selection_set)
@@ -68,10 +68,11 @@ module _ (document : ExecutableDocument) (set : SelectionSet) where
   searches_begin empty reached no_names no_pending a =
       let names : reached_names reached ≡ a.added = a.names ∙ ap (λ l. l ++ a.added) no_names in
       let pending : pending_names reached ≡ a.added = a.waiting ∙ ap (λ l. l ++ a.added) no_pending in
-      let each = All-weaker (SetHas SpreadsName set) (IsSpreadFrom (fragments_of document) set) written_spread a.added a.each in
+      let each = All-weaker (λ name. SetHas SpreadsName set name × IsSome (fragments_of document name)) (IsReachedFrom (fragments_of document) set)
+      (λ name its. (written_spread name its.0, its.1)) a.added a.each in
       record {
-        each = subst (All (IsSpreadFrom (fragments_of document) set)) (sym names) each;
-        waiting = subst (All (IsSpreadFrom (fragments_of document) set)) (sym pending) each;
+        each = subst (All (IsReachedFrom (fragments_of document) set)) (sym names) each;
+        waiting = subst (All (IsReachedFrom (fragments_of document) set)) (sym pending) each;
         begun = a.there;
         followed = λ known stands. inl (subst (λ l. Contains l known) (names ∙ sym pending) stands);
       }
@@ -80,11 +81,12 @@ module _ (document : ExecutableDocument) (set : SelectionSet) where
       pending_names before ≡ pending_names popped ++ name ∷ [] → AddsSpreads document (SpreadsInFragment (fragments_of document) name) popped after →
       Searches before → Searches after
   searches_step before popped after name same rest a h =
-      let Spread : NameText → Type 0 = IsSpreadFrom (fragments_of document) set in
+      let Spread : NameText → Type 0 = IsReachedFrom (fragments_of document) set in
       let grown : reached_names after ≡ reached_names before ++ a.added = a.names ∙ ap (λ l. l ++ a.added) same in
       let waited : All Spread (pending_names popped ++ name ∷ []) = subst (All Spread) rest h.waiting in
       let own : Spread name = All-head Spread name [] (All-append_right Spread (pending_names popped) (name ∷ []) waited) in
-      let added : All Spread a.added = All-weaker (SpreadsInFragment (fragments_of document) name) Spread (λ spread its. spread_from name spread own its) a.added a.each in
+      let added : All Spread a.added = All-weaker (λ spread. SpreadsInFragment (fragments_of document) name spread × IsSome (fragments_of document spread)) Spread
+      (λ spread its. (spread_from name spread own.0 its.0, its.1)) a.added a.each in
       record {
         each = subst (All Spread) (sym grown) (All-append Spread (reached_names before) a.added h.each added);
         waiting = subst (All Spread) (sym a.waiting) (All-append Spread (pending_names popped) a.added (All-append_left Spread (pending_names popped) (name ∷ []) waited) added);

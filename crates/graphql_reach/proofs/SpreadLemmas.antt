@@ -68,6 +68,10 @@ is_defined None e = absurd (let no : ⊥ = cc in no)
 is_defined (Some x) e = (x, refl)
 
 module _ (document : ExecutableDocument) where
+  -- this holds of the name, and its fragment is defined
+  abbrev Both : (NameText → Type 0) → NameText → Type 0
+  Both P name = P name × IsSome (fragments_of document name)
+
   -- nothing is added: what is spread was reached, or is not defined
   pub adds_none : (P : NameText → Type 0) (reached : Reached) →
       ((name : NameText) → P name → IsSome (fragments_of document name) → IsTrue (stands_on (reached_names reached) name)) → AddsSpreads document P reached reached
@@ -75,7 +79,7 @@ module _ (document : ExecutableDocument) where
     added = [];
     names = sym (append-nil (reached_names reached));
     waiting = sym (append-nil (pending_names reached));
-    each = All-nil P;
+    each = All-nil (λ name. P name × IsSome (fragments_of document name));
     there = there;
     counted = omega arith;
   }
@@ -89,7 +93,8 @@ module _ (document : ExecutableDocument) where
         added = name ∷ [];
         names = grown;
         waiting = waiting;
-        each = All-cons (λ spread. spread ≡ name) name [] refl (All-nil (λ spread. spread ≡ name));
+        each = All-cons (λ spread. (spread ≡ name) × IsSome (fragments_of document spread)) name [] (refl, rw defined refl)
+            (All-nil (λ spread. (spread ≡ name) × IsSome (fragments_of document spread)));
         there = λ spread is _. subst (λ l. IsTrue (stands_on l spread)) (sym grown) (stands_last (reached_names old) name spread (subst (λ n. SameName n name) (sym is) (same_name_itself name)));
         counted = subst (λ l. unreached l document.fragments.entries + 1 ≤ unreached (reached_names old) document.fragments.entries) (sym grown)
             (unreached_falls (reached_names old) name d fresh document.fragments.entries defined);
@@ -103,7 +108,7 @@ module _ (document : ExecutableDocument) where
         added = [];
         names = same ∙ sym (append-nil (reached_names old));
         waiting = waiting ∙ sym (append-nil (pending_names old));
-        each = All-nil (λ spread. spread ≡ name);
+        each = All-nil (λ spread. (spread ≡ name) × IsSome (fragments_of document spread));
         there = λ spread is _. subst (λ l. IsTrue (stands_on l spread)) (sym same) (subst (λ n. IsTrue (stands_on (reached_names old) n)) (sym is) there);
         counted = subst (λ l. unreached l document.fragments.entries + 0 ≤ unreached (reached_names old) document.fragments.entries) (sym same) (omega arith);
       }
@@ -118,8 +123,8 @@ module _ (document : ExecutableDocument) where
         added = a.added ++ b.added;
         names = grown;
         waiting = b.waiting ∙ ap (λ l. l ++ b.added) a.waiting ∙ append_assoc (pending_names old) a.added b.added;
-        each = All-append (λ name. P name ⊎ Q name) a.added b.added (All-weaker P (λ name. P name ⊎ Q name) (λ name p. inl p) a.added a.each)
-            (All-weaker Q (λ name. P name ⊎ Q name) (λ name q. inr q) b.added b.each);
+        each = All-append (Both (λ name. P name ⊎ Q name)) a.added b.added (All-weaker (Both P) (Both (λ name. P name ⊎ Q name)) (λ name p. (inl p.0, p.1)) a.added a.each)
+            (All-weaker (Both Q) (Both (λ name. P name ⊎ Q name)) (λ name q. (inr q.0, q.1)) b.added b.each);
         there = λ name spread defined. elim spread [
           | inl p ↦ subst (λ l. IsTrue (stands_on l name)) (sym b.names) (still_stands (reached_names mid) b.added name (a.there name p defined))
           | inr q ↦ b.there name q defined
@@ -133,7 +138,7 @@ module _ (document : ExecutableDocument) where
     added = a.added;
     names = a.names;
     waiting = a.waiting;
-    each = All-weaker P Q (λ name p. (w name).0 p) a.added a.each;
+    each = All-weaker (Both P) (Both Q) (λ name p. ((w name).0 p.0, p.1)) a.added a.each;
     there = λ name q defined. a.there name ((w name).1 q) defined;
     counted = a.counted;
   }

@@ -22,9 +22,13 @@ abbrev pub IsSpreadFrom : Fragments → SelectionSet → NameText → Type 0
 IsSpreadFrom fragments set name =
     (p : Node FragmentSpread) × Reachable fragments set (kind.FragmentSpread p) × (name ≡ p.value.value.fragment_name)
 
--- the names are those of the fragments that the set reaches: each is spread, and each that is spread and defined is among them
+-- and the fragment of this name is defined
+abbrev pub IsReachedFrom : Fragments → SelectionSet → NameText → Type 0
+IsReachedFrom fragments set name = IsSpreadFrom fragments set name × IsSome (fragments name)
+
+-- the names are those of the fragments that the set reaches: each is spread and defined, and each that is spread and defined is among them
 pub record ReachesNames (fragments : Fragments) (set : SelectionSet) (names : List NameText) : Type 0 where
-  pub each : All (IsSpreadFrom fragments set) names
+  pub each : All (IsReachedFrom fragments set) names
   pub all : (name : NameText) → IsSpreadFrom fragments set name → IsSome (fragments name) → IsTrue (stands_on names name)
 
 -- the names that references stand for
@@ -53,6 +57,6 @@ pub record AddsSpreads (document : ExecutableDocument) (IsSpread : NameText → 
   pub added : List NameText
   pub names : reached_names new ≡ reached_names old ++ added
   pub waiting : pending_names new ≡ pending_names old ++ added
-  pub each : All IsSpread added
+  pub each : All (λ name. IsSpread name × IsSome (fragments_of document name)) added
   pub there : (name : NameText) → IsSpread name → IsSome (fragments_of document name) → IsTrue (stands_on (reached_names new) name)
   pub counted : unreached (reached_names new) document.fragments.entries + length added ≤ unreached (reached_names old) document.fragments.entries

@@ -1,3 +1,4 @@
+pub mod AddLemmas
 pub mod DocumentLemmas
 pub mod LocationLaws
 pub mod PlaceLemmas
@@ -5,4 +6,5 @@ pub mod ScopeLemmas
 pub mod SelectionLemmas
 pub mod UsageLemmas
 pub mod ValueLemmas
+pub mod VariableLemmas
 pub mod WalkLemmas

@@ -14,7 +14,7 @@ use Rattle.graphql_documents.specs.declared.documents.executables.Selection.TheV
 use Rattle.graphql_documents.specs.declared.documents.schemas.Schema.{Schema}
 use Rattle.graphql_variables.proofs.UseLemmas.{any_has, has_any}
 use Rattle.graphql_usage_rules.specs.Parts.{FragmentUses, UsedInFragment, UsedInFragments, UsedInParts}
-use Rattle.graphql_reach.specs.Reached.{IsSpreadFrom, ReachesNames}
+use Rattle.graphql_reach.specs.Reached.{IsReachedFrom, IsSpreadFrom, ReachesNames}
 use Rattle.graphql_usage_rules.specs.Usages.{Usage, UsedInScope, at_selection, in_fragment_definition, in_operation}
 use Rattle.graphql_reach.proofs.ReachedLemmas.{reach_spread, reach_written, split_reached, stands_for}
 
@@ -49,7 +49,7 @@ module _ (schema : Schema) (document : ExecutableDocument) (o : Operation) (name
     from_parts u (inr (inl (s, (inner, written, stands), uses))) = at_selection s (reach_written (fragments_of document) s written stands) uses
     from_parts u (inr (inr any)) =
         let h = any_has (λ name. UsedInFragment schema (fragments_of document) name u) names any in
-        from_fragment h.0 h.2.0 u (All-contains (IsSpreadFrom (fragments_of document) o.selection_set) names h.0 reaches.each h.1) h.2.1 h.2.2
+        from_fragment h.0 h.2.0 u (All-contains (IsReachedFrom (fragments_of document) o.selection_set) names h.0 reaches.each h.1).0 h.2.1 h.2.2
 
     pub scope_words : (u : Usage) → UsedInParts schema (fragments_of document) o names u ↔ UsedInScope schema (fragments_of document) o u
     scope_words u = (from_parts u, to_parts u)

@@ -18,32 +18,32 @@ use Rattle.graphql_usage_rules.specs.Parts.{UsedInEntry, UsedInItem, UsedInList,
 use Rattle.graphql_usage_rules.specs.Usages.{Location, Usage, UsedIn, input_field_at, item_location, used_in_entry, used_in_item, used_itself}
 
 -- a value is of one kind
-variable_no_list : (name : NameText) (items : Vec (Node Value) Global) → ¬ (literal.Variable name ≡ literal.List items)
+pub variable_no_list : (name : NameText) (items : Vec (Node Value) Global) → ¬ (literal.Variable name ≡ literal.List items)
 variable_no_list name items e =
     let opens : Open.Variable name ≡ Open.List items = sym (literal.outs-Variable name) ∙ ap out-Value e ∙ literal.outs-List items in
     let h : ⊥ = cc in h
 
-variable_no_object : (name : NameText) (entries : Vec (NameText × Node Value) Global) → ¬ (literal.Variable name ≡ literal.Object entries)
+pub variable_no_object : (name : NameText) (entries : Vec (NameText × Node Value) Global) → ¬ (literal.Variable name ≡ literal.Object entries)
 variable_no_object name entries e =
     let opens : Open.Variable name ≡ Open.Object entries = sym (literal.outs-Variable name) ∙ ap out-Value e ∙ literal.outs-Object entries in
     let h : ⊥ = cc in h
 
-object_no_list : (entries : Vec (NameText × Node Value) Global) (items : Vec (Node Value) Global) → ¬ (literal.Object entries ≡ literal.List items)
+pub object_no_list : (entries : Vec (NameText × Node Value) Global) (items : Vec (Node Value) Global) → ¬ (literal.Object entries ≡ literal.List items)
 object_no_list entries items e =
     let opens : Open.Object entries ≡ Open.List items = sym (literal.outs-Object entries) ∙ ap out-Value e ∙ literal.outs-List items in
     let h : ⊥ = cc in h
 
-same_variable : (a b : NameText) → literal.Variable a ≡ literal.Variable b → a ≡ b
+pub same_variable : (a b : NameText) → literal.Variable a ≡ literal.Variable b → a ≡ b
 same_variable a b e =
     let opens : Open.Variable a ≡ Open.Variable b = sym (literal.outs-Variable a) ∙ ap out-Value e ∙ literal.outs-Variable b in
     cc
 
-same_items : (xs ys : Vec (Node Value) Global) → literal.List xs ≡ literal.List ys → xs ≡ ys
+pub same_items : (xs ys : Vec (Node Value) Global) → literal.List xs ≡ literal.List ys → xs ≡ ys
 same_items xs ys e =
     let opens : Open.List xs ≡ Open.List ys = sym (literal.outs-List xs) ∙ ap out-Value e ∙ literal.outs-List ys in
     cc
 
-same_entries : (xs ys : Vec (NameText × Node Value) Global) → literal.Object xs ≡ literal.Object ys → xs ≡ ys
+pub same_entries : (xs ys : Vec (NameText × Node Value) Global) → literal.Object xs ≡ literal.Object ys → xs ≡ ys
 same_entries xs ys e =
     let opens : Open.Object xs ≡ Open.Object ys = sym (literal.outs-Object xs) ∙ ap out-Value e ∙ literal.outs-Object ys in
     cc

@@ -1,3 +1,6 @@
+pub mod Checks
 pub mod Parts
+pub mod Scopes
+pub mod UndefinedVariables
 pub mod Usages
 pub mod VariableMisuses

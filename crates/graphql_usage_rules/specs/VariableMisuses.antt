@@ -1,5 +1,5 @@
 -- Usages of variables that are allowed, and what is reported of the others. Specification: 5.8.5 All Variable Usages Are Allowed.
-use Rattle.std.specs.Prelude.{◌≡◌, ◌⊎◌, ◌&&◌, ◌++◌, All, Any, IsTrue, List, MatchBool, MatchResult, Result, Some, Vec, codes, not, ℕ}
+use Rattle.std.specs.Prelude.{◌≡◌, ◌⊎◌, ◌&&◌, ◌++◌, All, Any, IsTrue, List, MatchBool, Result, Some, Vec, codes, not, ℕ}
 use Rattle.std.specs.declared.alloc.Global.{Global}
 use Rattle.graphql_nodes.specs.Names.{NameText}
 use Rattle.graphql_nodes.specs.declared.nodes.Node.{Node}
@@ -12,7 +12,7 @@ use Rattle.graphql_documents.specs.declared.documents.executables.ExecutableDocu
 use Rattle.graphql_documents.specs.declared.documents.executables.Operation.{Operation}
 use Rattle.graphql_documents.specs.declared.documents.schemas.Schema.{Schema}
 use Rattle.graphql_documents.specs.declared.documents.type_references.Type.{«Type»}
-use Rattle.graphql_diagnostics.specs.Reports.{KeepsReports, Reports}
+use Rattle.graphql_usage_rules.specs.Checks.{Checks}
 use Rattle.graphql_specification.specs.VariableUsages.{HasNonNullDefault}
 use Rattle.graphql_usage_rules.specs.Usages.{Location, Usage, UsedInScope}
 use Rattle.graphql_usage_rules.specs.declared.reports.VariableMisuse.{VariableMisuse}
@@ -57,14 +57,6 @@ OperationMisuseReport schema document o report = MisuseReport o.variables.items 
 -- and of one of the operations of the document
 abbrev pub DocumentMisuseReport : Schema → ExecutableDocument → VariableMisuse → Type 0
 DocumentMisuseReport schema document report = Any (λ o. OperationMisuseReport schema document o.value.value report) (operations_of document)
-
--- a call that checks a rule: where it answers, it reports nothing exactly where the rule holds; in any case the old reports
--- stay, and each further one is true
-abbrev pub Checks : {T E : Type 0} → Result T E → Type 0 → (VariableMisuse → Type 0) → Vec VariableMisuse Global → Vec VariableMisuse Global → Type 0
-Checks result Holds IsTrueReport old new =
-    MatchResult result
-    (λ _. Reports Holds IsTrueReport old.items new.items)
-    (λ _. KeepsReports IsTrueReport old.items new.items)
 
 -- a call that checks these usages
 abbrev pub ChecksUsages : {T E : Type 0} → Result T E → List (Node VariableDefinition) → (Usage → Type 0) → Vec VariableMisuse Global → Vec VariableMisuse Global → Type 0

@@ -8,7 +8,8 @@ ghost use Rattle.graphql_documents.specs.Definitions.{variable_named};
 ghost use Rattle.graphql_documents.specs.declared.documents.definitions.VariableDefinition.{VariableDefinition};
 ghost use Rattle.graphql_usage_rules.specs.Parts.{InFound, UsedInArgument, UsedInDirective, UsedInEntry, UsedInField, UsedInItem, UsedInList, UsedInObject, location_at};
 ghost use Rattle.graphql_usage_rules.specs.Usages.{UsedIn, UsedInArguments, UsedInDirectives};
-ghost use Rattle.graphql_usage_rules.specs.VariableMisuses.{Checks, ChecksUsages, IsAllowedAt, MisuseReport};
+ghost use Rattle.graphql_usage_rules.specs.Checks.{Checks};
+ghost use Rattle.graphql_usage_rules.specs.VariableMisuses.{ChecksUsages, IsAllowedAt, MisuseReport};
 
 use crate::allowed::is_allowed_at;
 use crate::locations::UsageLocation;

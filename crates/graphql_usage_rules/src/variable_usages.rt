@@ -5,7 +5,8 @@ ghost use Rattle.indexmap.specs.IndexMap.{values};
 ghost use Rattle.graphql_documents.specs.Selections.{fragments_of};
 ghost use Rattle.graphql_usage_rules.specs.Parts.{UsedInFragment, UsedInFragments, UsedInParts};
 ghost use Rattle.graphql_reach.specs.Reached.{names_at};
-ghost use Rattle.graphql_usage_rules.specs.VariableMisuses.{Checks, ChecksUsages, DocumentMisuseReport, OperationMisuseReport, OperationUsagesAreAllowed, VariableUsagesAreAllowed};
+ghost use Rattle.graphql_usage_rules.specs.Checks.{Checks};
+ghost use Rattle.graphql_usage_rules.specs.VariableMisuses.{ChecksUsages, DocumentMisuseReport, OperationMisuseReport, OperationUsagesAreAllowed, VariableUsagesAreAllowed};
 
 use crate::reports::VariableMisuse;
 use crate::selections::{check_fragment, check_selection_set};

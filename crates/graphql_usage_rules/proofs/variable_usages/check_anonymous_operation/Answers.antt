@@ -1,4 +1,5 @@
 use Rattle.std.proofs.Common.{subst}
+use Rattle.graphql_usage_rules.specs.VariableMisuses.{OperationMisuseReport, OperationUsagesAreAllowed}
 use Rattle.graphql_usage_rules.proofs.DocumentLemmas.{CheckedOne, no_operation, one_operation}
 use Rattle.graphql_usage_rules.proofs.variable_usages.check_anonymous_operation.Goals as goal
 
@@ -9,8 +10,11 @@ returns-in-Some c =
     let r = c.check_operation.result in
     let old = c.args.reports.now.items in
     let new = c.check_operation.new.reports.items in
-    one_operation s d r d.operations.anonymous c.in-Some.operation old new c.in-Some.is
-    (subst (λ o. CheckedOne s d r o old new) c.deref.ensures c.check_operation.ensures)
+    one_operation (OperationUsagesAreAllowed s d) (OperationMisuseReport s d) r d.operations.anonymous c.in-Some.operation old new c.in-Some.is
+    (subst (λ o. CheckedOne (OperationUsagesAreAllowed s d) (OperationMisuseReport s d) r o old new) c.deref.ensures c.check_operation.ensures)
 
 pub returns-in-None : goal.returns-in-None
-returns-in-None c = no_operation c.args.schema.now c.args.document.now c.args.document.now.operations.anonymous c.args.reports.now.items c.in-None.is
+returns-in-None c =
+    let s = c.args.schema.now in
+    let d = c.args.document.now in
+    no_operation (OperationUsagesAreAllowed s d) (OperationMisuseReport s d) c.args.document.now.operations.anonymous c.args.reports.now.items c.in-None.is
