@@ -1,6 +1,7 @@
 pub mod Comparisons
 pub mod Conflicts
 pub mod ExpansionSteps
+pub mod FieldEquality
 pub mod FieldSelections
 pub mod FirstFields
 pub mod FirstPlaces

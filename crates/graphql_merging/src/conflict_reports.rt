@@ -19,8 +19,8 @@ use graphql_documents::documents::{Argument, Type, Value};
 use graphql_nodes::{Name, Node, ValidationError};
 use std::alloc::Global;
 
-/// Reports that the types of two fields have different shapes. The only error is a failed allocation; the list is
-/// then as it was.
+/// Reports that the types of two fields have different shapes, which they have. The only error is a failed allocation; the list
+/// is then as it was.
 ///
 /// Specification: 5.3.2 Field Selection Merging, SameResponseShape.
 pub fn report_types(
@@ -28,6 +28,7 @@ pub fn report_types(
     first: FieldSelection,
     field: FieldSelection,
 ) -> Result<(), ValidationError>
+    requires { (schema : Schema) × ¬ SameResponseShape schema (type_of (selection_of first)) (type_of (selection_of field)) }
     ensures { (schema : Schema) → ¬ SameResponseShape schema (type_of (selection_of first.entry)) (type_of (selection_of field.entry)) →
         ConflictEntryReport result schema shape_pass (selection_of first.entry) (selection_of field.entry) diagnostics.old diagnostics.new }
 {
@@ -62,8 +63,8 @@ fn typed_coordinate(
     Ok((coordinate, ty))
 }
 
-/// Reports what two fields disagree on: their names, or an argument. The only error is a failed allocation; the list
-/// is then as it was.
+/// Reports what two fields disagree on: their names, or an argument. The conflict is one of theirs. The only error is a failed
+/// allocation; the list is then as it was.
 ///
 /// Specification: 5.3.2 Field Selection Merging, FieldsInSetCanMerge.
 pub fn report_conflict(
@@ -72,7 +73,8 @@ pub fn report_conflict(
     field: FieldSelection,
     conflict: FieldConflict,
 ) -> Result<(), ValidationError>
-    ensures { (schema : Schema) → Conflicts first.entry.field.now.value.value field.entry.field.now.value.value conflict.entry →
+    requires { Conflicts first.field.now.value.value field.field.now.value.value conflict }
+    ensures { (schema : Schema) →
         ConflictEntryReport result schema field_pass (selection_of first.entry) (selection_of field.entry) diagnostics.old diagnostics.new }
 {
     match conflict {

@@ -43,6 +43,7 @@ pub(crate) struct Conflict<'doc> {
 impl<'doc> Conflict<'doc> {
     /// Reports at the second field what the two do not agree on.
     pub(crate) fn report(self, diagnostics: &mut DiagnosticList) -> Result<(), ValidationError>
+        requires { (schema : Schema) × (pass : merging.Pass) × Disagrees schema pass (selection_of self.first) (selection_of self.second) self.disagreement }
         ensures { (schema : Schema) (pass : merging.Pass) →
             Disagrees schema pass (selection_of self.entry.first) (selection_of self.entry.second) self.entry.disagreement →
             ConflictEntryReport result schema pass (selection_of self.entry.first) (selection_of self.entry.second) diagnostics.old diagnostics.new }

@@ -4,5 +4,7 @@ pub use graphql_merging::bounded::BoundedMerging;
 pub use graphql_merging::comparisons::{
     FieldConflict, same_name_and_arguments, same_output_type_shape, same_value,
 };
+pub use graphql_merging::expansion::expand_selections;
+pub use graphql_merging::field_selections::FieldSelection;
 pub use graphql_merging::merging::FieldsInSetCanMerge;
 pub use graphql_pair_merging::merging::merge_by_pairs;

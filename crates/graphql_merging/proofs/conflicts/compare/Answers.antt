@@ -12,6 +12,20 @@ use Rattle.graphql_merging.specs.Groups.{pass_of}
 use Rattle.graphql_merging.specs.declared.field_selections.FieldSelection.{FieldSelection}
 use Rattle.graphql_merging.proofs.conflicts.compare.Goals as goal
 
+pub report_types-requires : goal.report_types-requires
+report_types-requires c = (
+  c.args.schema.now,
+  λ same. let no = sym (c.have_one_shape.ensures.answer.1 same) ∙ c.if-have_one_shape.false in let no : ⊥ = cc in no,
+)
+
+pub report_conflict-requires : goal.report_conflict-requires
+report_conflict-requires c =
+    let x = selection_of c.args.first.now.selection in
+    let y = selection_of c.args.field in
+    let conflicts = subst (λ o. MatchOption o (SameNameAndArguments x.field.value.value y.field.value.value) (Conflicts x.field.value.value y.field.value.value)) c.in-Some.is
+    c.in_ok-find_conflict-in-NamesAndArguments.ensures.conflict in
+    subst (λ (s : FieldSelection). Conflicts s.field.now.value.value y.field.value.value c.in-Some.conflict) (sym c.find_conflict.ensures.selection) conflicts
+
 pub returns-then-have_one_shape-clause-reports : goal.returns-then-have_one_shape-clause-reports
 returns-then-have_one_shape-clause-reports c =
     let schema = c.args.schema.now in
@@ -47,9 +61,6 @@ returns-in-Some-clause-reports c =
     let x = selection_of c.args.first.now.selection in
     let y = selection_of c.args.field in
     let same = c.find_conflict.ensures.selection in
-    let conflicts = subst (λ o. MatchOption o (SameNameAndArguments x.field.value.value y.field.value.value) (Conflicts x.field.value.value y.field.value.value)) c.in-Some.is
-    c.in_ok-find_conflict-in-NamesAndArguments.ensures.conflict in
     subst (λ (s : FieldSelection). ComparesField c.report_conflict.result schema (pass_of c.args.pass) (selection_of s) y c.args.diagnostics.now c.report_conflict.new.diagnostics) same
     (subst (λ pass. ComparesField c.report_conflict.result schema (pass_of pass) (selection_of c.find_conflict.new.self.selection) y c.args.diagnostics.now c.report_conflict.new.diagnostics) (sym c.in-NamesAndArguments.is)
-    (compared_apart schema field_pass c.report_conflict.result (selection_of c.find_conflict.new.self.selection) y _ _ (c.report_conflict.ensures schema
-    (subst (λ (s : FieldSelection). Conflicts s.field.now.value.value y.field.value.value c.in-Some.conflict) (sym same) conflicts))))
+    (compared_apart schema field_pass c.report_conflict.result (selection_of c.find_conflict.new.self.selection) y _ _ (c.report_conflict.ensures schema)))

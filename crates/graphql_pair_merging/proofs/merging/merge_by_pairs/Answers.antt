@@ -8,6 +8,14 @@ use Rattle.graphql_pair_merging.specs.NumberedSets.{operation_sets}
 use Rattle.graphql_pair_merging.proofs.ReportedLemmas.{reported_decides, reported_truth, silent_decides}
 use Rattle.graphql_pair_merging.proofs.merging.merge_by_pairs.Goals as goal
 
+pub report-requires : goal.report-requires
+report-requires c =
+    let schema = c.args.schema.now in
+    let F = fragments_of c.args.document.now in
+    let sets = operation_sets c.args.operations.now in
+    let m = subst (λ o. MatchOption o (All (MeetingFieldsAgree schema F) sets) (IsMetConflict schema F sets)) c.in-Some.is c.in_ok-conflict.ensures in
+    (schema, m.pass, m.disagree)
+
 pub returns-in-Some-clause-decides : goal.returns-in-Some-clause-decides
 returns-in-Some-clause-decides c =
     let schema = c.args.schema.now in
