@@ -1,0 +1,5 @@
+mod KeyLaws
+mod KeyLemmas
+mod OperationStepLemmas
+mod RootLemmas
+pub mod RuleReportLemmas

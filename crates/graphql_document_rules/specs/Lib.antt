@@ -1,0 +1,3 @@
+pub mod DocumentRules
+pub mod RootSteps
+pub mod SingleRootField

@@ -1,0 +1,105 @@
+//! The rules of operations that need a schema.
+
+ghost use Rattle.std.specs.Prelude.{◌≡◌, ◌⊎◌, [], All, OnOk, Some, map};
+ghost use Rattle.graphql_diagnostics.specs.Diagnostics.{IsLimitEntry, entries};
+ghost use Rattle.graphql_diagnostics.specs.Reports.{Appends, ChecksWithin, KeepsReports, ReportsWithin};
+ghost use Rattle.graphql_document_rules.specs.DocumentRules.{DocumentRuleReport};
+ghost use Rattle.graphql_document_rules.specs.SingleRootField.{OperationRootHolds};
+ghost use Rattle.graphql_documents.specs.Built.{IsBuilt};
+ghost use Rattle.graphql_documents.specs.Executables.{operations_of};
+ghost use Rattle.graphql_documents.specs.Selections.{fragments_of};
+ghost use Rattle.graphql_specification.specs.Documents.{DocumentLimit};
+ghost use Rattle.graphql_specification.specs.Merging.{FieldsCanMerge};
+
+use crate::subscriptions::validate_subscription_root;
+use graphql_diagnostics::DiagnosticList;
+use graphql_documents::documents::{ExecutableDocument, Operation, Schema};
+use graphql_lone_fields::lone_fields::have_lone_fields;
+use graphql_merging::bounded::BoundedMerging;
+use graphql_nodes::{Node, ValidationError};
+use graphql_operations::operations_of;
+use graphql_pair_merging::merging::merge_by_pairs;
+
+/// Validates the operations of a document by the rules that need a schema, one after another: those of subscriptions, and that
+/// all fields that come together in a response agree: if some do, by sets as far as the work allows, and then by pairs.
+pub(crate) fn validate_operations(
+    diagnostics: &mut DiagnosticList,
+    schema: &Schema,
+    document: &ExecutableDocument,
+    work: usize,
+) -> Result<(), ValidationError>
+    ensures holds { IsBuilt schema.now document.now →
+        OnOk result (ReportsWithin IsLimitEntry
+        (All (λ o. OperationRootHolds schema.now document.now o.value.value) (operations_of document.now) ×
+        All (λ o. FieldsCanMerge schema.now (fragments_of document.now) o.value.value.selection_set) (operations_of document.now))
+        (λ e. DocumentRuleReport (Some schema.now) document.now e.details e.location ⊎ DocumentLimit (Some schema.now) document.now e.details e.location)
+        (entries diagnostics.old) (entries diagnostics.new)) }
+    ensures truth { KeepsReports
+        (λ e. DocumentRuleReport (Some schema.now) document.now e.details e.location ⊎ DocumentLimit (Some schema.now) document.now e.details e.location)
+        (entries diagnostics.old) (entries diagnostics.new) }
+    ensures subscriptions { OnOk result (Appends (λ added. added ≡ [] → All (λ o. OperationRootHolds schema.now document.now o.value.value) (operations_of document.now))
+        (entries diagnostics.old) (entries diagnostics.new)) }
+{
+    let alloc = diagnostics.allocator();
+    let operations = operations_of(alloc, document)?;
+    if have_lone_fields(alloc, document, &operations, work)? {
+        return validate_subscriptions(diagnostics, schema, document, &operations);
+    }
+    validate_and_merge(diagnostics, schema, document, &operations, work)
+}
+
+/// Validates operations by the rules of subscriptions, one after another.
+fn validate_subscriptions(
+    diagnostics: &mut DiagnosticList,
+    schema: &Schema,
+    document: &ExecutableDocument,
+    operations: &[&Node<Operation>],
+) -> Result<(), ValidationError>
+    requires { map (λ o. o.now) operations.now ≡ operations_of document.now }
+    ensures { ChecksWithin result (All (λ o. OperationRootHolds schema.now document.now o.value.value) (operations_of document.now))
+        (λ e. DocumentRuleReport (Some schema.now) document.now e.details e.location)
+        (λ e. DocumentLimit (Some schema.now) document.now e.details e.location)
+        diagnostics.old diagnostics.new }
+{
+    for operation in operations {
+        validate_subscription_root(schema, document, operation, diagnostics)?;
+    }
+    Ok(())
+}
+
+/// Validates operations by the rules that need a schema, one after another.
+fn validate_and_merge(
+    diagnostics: &mut DiagnosticList,
+    schema: &Schema,
+    document: &ExecutableDocument,
+    operations: &[&Node<Operation>],
+    work: usize,
+) -> Result<(), ValidationError>
+    requires { map (λ o. o.now) operations.now ≡ operations_of document.now }
+    ensures holds { IsBuilt schema.now document.now →
+        OnOk result (ReportsWithin IsLimitEntry
+        (All (λ o. OperationRootHolds schema.now document.now o.value.value) (operations_of document.now) ×
+        All (λ o. FieldsCanMerge schema.now (fragments_of document.now) o.value.value.selection_set) (operations_of document.now))
+        (λ e. DocumentRuleReport (Some schema.now) document.now e.details e.location ⊎ DocumentLimit (Some schema.now) document.now e.details e.location)
+        (entries diagnostics.old) (entries diagnostics.new)) }
+    ensures truth { KeepsReports
+        (λ e. DocumentRuleReport (Some schema.now) document.now e.details e.location ⊎ DocumentLimit (Some schema.now) document.now e.details e.location)
+        (entries diagnostics.old) (entries diagnostics.new) }
+    ensures subscriptions { OnOk result (Appends (λ added. added ≡ [] → All (λ o. OperationRootHolds schema.now document.now o.value.value) (operations_of document.now))
+        (entries diagnostics.old) (entries diagnostics.new)) }
+{
+    let alloc = diagnostics.allocator();
+    let mut merging = BoundedMerging::new(alloc, schema, document, Some(work));
+    let mut undecided = Vec::new(alloc);
+    for operation in operations {
+        validate_subscription_root(schema, document, operation, diagnostics)?;
+        let decided = merging.validate_operation(operation, diagnostics)?;
+        if !decided {
+            undecided.push(*operation)?;
+        }
+    }
+    if undecided.is_empty() {
+        return Ok(());
+    }
+    merge_by_pairs(diagnostics, schema, document, &undecided)
+}
