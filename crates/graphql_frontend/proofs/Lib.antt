@@ -1,5 +1,9 @@
+mod BesideLemmas
 mod DocumentLemmas
 mod MetaFieldLemmas
+mod PlaceLemmas
 mod ReportLemmas
 mod SchemaLemmas
+mod ShownLemmas
 mod TextLemmas
+mod VerdictLemmas

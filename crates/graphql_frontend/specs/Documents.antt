@@ -1,14 +1,20 @@
 -- What a text comes to as an executable document, against a schema or without one. Specification: 5 Validation.
-use Rattle.std.specs.Prelude.{◌≡◌, ◌≢◌, ◌↔◌, ◌*◌, ℕ, List, [], ◌∷◌, Option, None, Some, All, Vec, flat_map, length, max, min, sum_by}
+use Rattle.std.specs.Prelude.{◌≡◌, ◌≢◌, ◌↔◌, ◌*◌, ℕ, List, [], ◌∷◌, Option, None, Some, All, Contains, IsSome, Vec, flat_map, length, max, min, sum_by}
 use Rattle.std.specs.List.{AllZip}
 use Rattle.std.specs.declared.alloc.Global.{Global}
 use Rattle.graphql_diagnostics.specs.Diagnostics.{IsLimitEntry, entries}
+use Rattle.graphql_diagnostics.specs.Reports.{Reports as Reporting}
+use Rattle.graphql_diagnostics.specs.declared.data.DiagnosticData.TheVariants as report
+use Rattle.graphql_diagnostics.specs.declared.details.Details.TheVariants as details
 use Rattle.graphql_diagnostics.specs.declared.lists.DiagnosticEntry.{DiagnosticEntry}
+use Rattle.graphql_nodes.specs.Names.{NameText}
+use Rattle.graphql_nodes.specs.declared.spans.SourceSpan.{SourceSpan}
 use Rattle.graphql_documents.specs.Built.{IsBuilt}
 use Rattle.graphql_documents.specs.declared.documents.executables.ExecutableDocument.{ExecutableDocument}
 use Rattle.graphql_documents.specs.declared.documents.schemas.Schema.{Schema}
 use Rattle.graphql_parser.specs.declared.bounds.Bounds.{Bounds}
-use Rattle.graphql_specification.specs.Documents.{DocumentHolds, DocumentLimit, DocumentReport}
+use Rattle.graphql_document_rules.specs.DocumentRules.{DocumentRuleReport, DocumentRulesHold}
+use Rattle.graphql_specification.specs.Documents.{DocumentLimit}
 use Rattle.graphql_trees.specs.declared.documents.Document.{Document}
 use Rattle.graphql_building_reports.specs.Checks.{reports_of}
 use Rattle.graphql_building_reports.specs.declared.lists.BuildingReportList.{BuildingReportList}
@@ -19,9 +25,10 @@ use Rattle.graphql_input_rules.specs.InputFields.{InputFieldReport, InputFieldsA
 use Rattle.graphql_nesting.specs.Nesting.{IsNestingReportOf, NestsWithin}
 use Rattle.graphql_reach.specs.Reach.{IsReachReportOf, ReachesWithin}
 use Rattle.graphql_reach.specs.declared.reports.ReachReport.{ReachReport}
+use Rattle.graphql_usage_rules.specs.UndefinedVariables.{DocumentUndefinedReport, VariableUsesAreDefined}
 use Rattle.graphql_usage_rules.specs.VariableMisuses.{DocumentMisuseReport, VariableUsagesAreAllowed}
 use Rattle.graphql_usage_rules.specs.declared.reports.VariableMisuse.{VariableMisuse}
-use Rattle.graphql_frontend.specs.Texts.{IsDocumentOf, IsSyntaxReport}
+use Rattle.graphql_frontend.specs.Texts.{IsDocumentOf, IsErrorOf, ParsesTexts}
 use Rattle.graphql_frontend.specs.declared.reports.Reports.{Reports}
 use Rattle.graphql_frontend.specs.declared.reports.Reports.TheVariants.{Syntax, Building, Nesting, Reach, DocumentRules}
 use Rattle.graphql_frontend.specs.declared.reports.DocumentReports.{DocumentReports}
@@ -35,7 +42,7 @@ IsBuiltFor None document = Unit {0}
 
 -- the diagnostic names a rule that the document breaks; or it is of a limit that is passed
 pub record IsDocumentEntry (schema : Option Schema) (document : ExecutableDocument) (e : DiagnosticEntry) : Type 0 where
-  pub report : ¬ IsLimitEntry e → DocumentReport schema document e.details e.location
+  pub report : ¬ IsLimitEntry e → DocumentRuleReport schema document e.details e.location
   pub limit : IsLimitEntry e → DocumentLimit schema document e.details e.location
 
 -- all usages of variables are allowed, as far as a schema tells: without one none is known not to be
@@ -43,37 +50,66 @@ abbrev pub UsagesAreAllowed : Option Schema → ExecutableDocument → Type 0
 UsagesAreAllowed (Some schema) document = VariableUsagesAreAllowed schema document
 UsagesAreAllowed None document = Unit {0}
 
--- every rule of documents holds that can be asked: those of validation, that object values give each input field once, and
--- that all usages of variables are allowed
+-- every rule of documents holds that can be asked: those of validation; that each variable that an operation uses is defined, at any depth of a value;
+-- that object values give each input field once; and that all usages of variables are allowed
 pub record EveryRuleHolds (schema : Option Schema) (document : ExecutableDocument) : Type 0 where
-  pub rules : DocumentHolds schema document
+  pub rules : DocumentRulesHold schema document
+  pub variables : VariableUsesAreDefined document
   pub input_fields : InputFieldsAreUnique document
   pub usages : UsagesAreAllowed schema document
 
 -- nothing is among the reports
 abbrev pub ReportsNothing : DocumentReports → Type 0
-ReportsNothing reports = (entries reports.rules ≡ []) × (reports.input_fields.items ≡ []) × (reports.usages.items ≡ [])
+ReportsNothing reports =
+    (entries reports.rules ≡ []) × (reports.undefined_variables.items ≡ []) × (reports.input_fields.items ≡ []) × (reports.usages.items ≡ [])
 
 -- the usage is not allowed, which only a schema tells
 abbrev pub IsMisuseReport : Option Schema → ExecutableDocument → VariableMisuse → Type 0
 IsMisuseReport (Some schema) document misuse = DocumentMisuseReport schema document misuse
 IsMisuseReport None document misuse = ⊥
 
+-- the second list is the first without the elements of which this holds
+pub data Without {X : Type 0} (P : X → Type 0) : List X → List X → Type 0 where
+  of_nothing : Without P [] []
+  leaves_out : {x : X} {xs ys : List X} → P x → Without P xs ys → Without P (x ∷ xs) ys
+  keeps : {x : X} {xs ys : List X} → ¬ P x → Without P xs ys → Without P (x ∷ xs) (x ∷ ys)
+
+-- one of these diagnostics is of this place, and says of a variable that it is not defined
+abbrev pub IsReportedUndefined : List DiagnosticEntry → Option SourceSpan → Type 0
+IsReportedUndefined rules place =
+    (e : DiagnosticEntry) × Contains rules e × IsSome place × (e.location ≡ place) × (name : NameText) × (e.details ≡ details.Diagnostic (report.UndefinedVariable name))
+
+-- the places end at the same byte of one file
+abbrev pub EndTogether : Option SourceSpan → Option SourceSpan → Type 0
+EndTogether a b = (x : SourceSpan) × (y : SourceSpan) × (a ≡ Some x) × (b ≡ Some y) × (x.file_id ≡ y.file_id) × (x.end ≡ y.end)
+
+-- the place of one of these diagnostics ends where this one does
+abbrev pub EndsWithOne : List DiagnosticEntry → Option SourceSpan → Type 0
+EndsWithOne rules place = (e : DiagnosticEntry) × Contains rules e × EndTogether e.location place
+
 -- each is a report of validation; and where no limit is passed, there is none exactly where its rules hold
 pub record AreRuleReports (schema : Option Schema) (document : ExecutableDocument) (rules : List DiagnosticEntry) : Type 0 where
   pub each : All (IsDocumentEntry schema document) rules
-  pub decides : IsBuiltFor schema document → All (λ e. ¬ IsLimitEntry e) rules → (rules ≡ []) ↔ DocumentHolds schema document
+  pub decides : IsBuiltFor schema document → All (λ e. ¬ IsLimitEntry e) rules → (rules ≡ []) ↔ DocumentRulesHold schema document
 
--- each is a usage that is not allowed; and where validation reports nothing, there is none exactly where all are
-pub record AreFurtherMisuses (schema : Option Schema) (document : ExecutableDocument) (rules : List DiagnosticEntry) (usages : Vec VariableMisuse Global) : Type 0 where
-  pub each : All (IsMisuseReport schema document) usages.items
-  pub decides : rules ≡ [] → (usages.items ≡ []) ↔ UsagesAreAllowed schema document
+-- the reports of the variables that are used and not defined, which are none exactly if all are defined, without those that validation reports
+pub record AreFurtherUndefined (document : ExecutableDocument) (rules further : List DiagnosticEntry) : Type 0 where
+  pub all : List DiagnosticEntry
+  pub all_are : Reporting (VariableUsesAreDefined document) (DocumentUndefinedReport document) [] all
+  pub beside : Without (λ e. IsReportedUndefined rules e.location) all further
 
--- each report is true of the document; and where no limit is passed, there is none exactly where every rule holds
+-- the reports of the usages that are not allowed, which are none exactly if all are allowed, without those that end where a report of validation does
+pub record AreFurtherMisuses (schema : Option Schema) (document : ExecutableDocument) (rules : List DiagnosticEntry) (further : List VariableMisuse) : Type 0 where
+  pub all : List VariableMisuse
+  pub all_are : Reporting (UsagesAreAllowed schema document) (IsMisuseReport schema document) [] all
+  pub beside : Without (λ u. EndsWithOne rules u.location) all further
+
+-- each list decides its own rule; and if no limit is passed, nothing is reported exactly if every rule holds
 pub record AreReportsOf (schema : Option Schema) (document : ExecutableDocument) (reports : DocumentReports) : Type 0 where
-  pub each_rule : All (IsDocumentEntry schema document) (entries reports.rules)
-  pub each_input_field : All (InputFieldReport document) reports.input_fields.items
-  pub each_usage : All (IsMisuseReport schema document) reports.usages.items
+  pub rules : AreRuleReports schema document (entries reports.rules)
+  pub undefined_variables : AreFurtherUndefined document (entries reports.rules) reports.undefined_variables.items
+  pub input_fields : Reporting (InputFieldsAreUnique document) (InputFieldReport document) [] reports.input_fields.items
+  pub usages : AreFurtherMisuses schema document (entries reports.rules) reports.usages.items
   pub decides : IsBuiltFor schema document → All (λ e. ¬ IsLimitEntry e) (entries reports.rules) → ReportsNothing reports ↔ EveryRuleHolds schema document
 
 -- how many bytes of the texts of a document count: 65,536 at least
@@ -117,7 +153,7 @@ pub data JudgesTree (bounds : Bounds) (bytes : ℕ) (schema : Option Schema) (tr
 
 -- what a text comes to as a document
 pub data ValidatesDocument (bounds : Bounds) (schema : Option Schema) (source : SourceText) : Option Reports → Type 0 where
-  is_no_document : {errors : Vec SyntaxReport Global} → errors.items ≢ [] → All (IsSyntaxReport bounds (source ∷ [])) errors.items →
+  is_no_document : {errors : Vec SyntaxReport Global} (report : SyntaxReport) → IsErrorOf bounds source report → errors.items ≡ report ∷ [] →
       ValidatesDocument bounds schema source (Some (Syntax errors))
   is_document : {reports : Option Reports} (tree : Document) → IsDocumentOf bounds source tree →
       JudgesTree bounds (length source.text.now) schema tree reports → ValidatesDocument bounds schema source reports
@@ -132,7 +168,7 @@ bytes_of sources = sum_by (λ (source : SourceText). length source.text.now) sou
 
 -- what texts come to as one document
 pub data ValidatesDocuments (bounds : Bounds) (schema : Option Schema) (sources : List SourceText) : Option Reports → Type 0 where
-  are_not_all_documents : {errors : Vec SyntaxReport Global} → errors.items ≢ [] → All (IsSyntaxReport bounds sources) errors.items →
+  are_not_all_documents : {errors : Vec SyntaxReport Global} (trees : List Document) → ParsesTexts bounds sources trees errors.items → errors.items ≢ [] →
       ValidatesDocuments bounds schema sources (Some (Syntax errors))
   are_documents : {reports : Option Reports} (trees : List Document) (tree : Document) → AllZip (IsDocumentOf bounds) sources trees →
       HasDefinitionsOf trees tree → JudgesTree bounds (bytes_of sources) schema tree reports → ValidatesDocuments bounds schema sources reports

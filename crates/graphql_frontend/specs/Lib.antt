@@ -1,5 +1,8 @@
 pub mod BuildErrorMessages
 pub mod Documents
+pub mod Places
+pub mod RuleNames
 pub mod Schemas
+pub mod Shown
 pub mod Texts
 pub mod Verdicts

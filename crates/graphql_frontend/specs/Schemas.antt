@@ -20,7 +20,7 @@ use Rattle.graphql_document_building.specs.Documents.{HasOutputFields}
 use Rattle.graphql_schema_building.specs.SchemaSays.{SchemaSays}
 use Rattle.graphql_schema_checking.specs.SchemaBuilds.{SchemaBuilds}
 use Rattle.graphql_schema_checking.specs.SchemaReports.{SchemaBuildingReport}
-use Rattle.graphql_frontend.specs.Texts.{IsDocumentOf, IsSyntaxReport}
+use Rattle.graphql_frontend.specs.Texts.{IsDocumentOf, ParsesTexts}
 use Rattle.graphql_frontend.specs.declared.reports.Reports.TheVariants.{Syntax, Building, SchemaRules}
 use Rattle.graphql_frontend.specs.declared.reports.SchemaReports.{SchemaReports}
 use Rattle.graphql_frontend.specs.declared.schemas.SchemaReading.{SchemaReading}
@@ -63,7 +63,7 @@ pub data JudgesTrees (trees : List Document) : SchemaReading → Type 0 where
 
 -- what texts come to as a schema
 pub data ReadsSchema (bounds : Bounds) (sources : List SourceText) : SchemaReading → Type 0 where
-  not_all_are_documents : {errors : Vec SyntaxReport Global} → errors.items ≢ [] → All (IsSyntaxReport bounds sources) errors.items →
+  not_all_are_documents : {errors : Vec SyntaxReport Global} (trees : List Document) → ParsesTexts bounds sources trees errors.items → errors.items ≢ [] →
       ReadsSchema bounds sources (Rejected (Syntax errors))
   are_documents : {reading : SchemaReading} (trees : List Document) → AllZip (IsDocumentOf bounds) sources trees → JudgesTrees trees reading →
       ReadsSchema bounds sources reading

@@ -1,21 +1,27 @@
-//! The rules of documents, together: those of validation, and those of input fields and of usages of variables, which
-//! validation does not ask.
+//! The rules of documents, together: those of validation, and those that validation asks in part or not at all: that variables
+//! are defined at any depth, that input fields are unique, and that usages of variables are allowed at any depth.
 
-ghost use Rattle.std.specs.Prelude.{All, Contains, IfOk, None, Some};
+ghost use Rattle.std.specs.Prelude.{◌≡◌, ◌∷◌, ◌++◌, [], IfOk, List, None, OnOk, Some, filter, filter_map, not, option_to_list};
 ghost use Rattle.std.specs.Option.{option_copied};
 ghost use Rattle.graphql_diagnostics.specs.Diagnostics.{entries};
-ghost use Rattle.graphql_frontend.specs.Documents.{AreFurtherMisuses, AreReportsOf, AreRuleReports};
+ghost use Rattle.graphql_diagnostics.specs.Reports.{Reports};
+ghost use Rattle.graphql_diagnostics.specs.declared.lists.DiagnosticEntry as entry_type;
+ghost use Rattle.graphql_documents.specs.declared.documents.executables.ExecutableDocument as document_type;
+ghost use Rattle.graphql_nodes.specs.declared.spans.SourceSpan as span_type;
+ghost use Rattle.graphql_input_rules.specs.InputFields.{InputFieldReport, InputFieldsAreUnique};
+ghost use Rattle.graphql_frontend.specs.Documents.{AreFurtherMisuses, AreFurtherUndefined, AreReportsOf, AreRuleReports};
+ghost use Rattle.graphql_frontend.specs.Places.{HasThese, end_of, is_place_among, undefined_place};
 
 use crate::reports::DocumentReports;
-use graphql_diagnostics::DiagnosticList;
+use graphql_diagnostics::{Details, DiagnosticData, DiagnosticEntry, DiagnosticList};
+use graphql_document_rules::documents::{
+    validate_document_rules, validate_standalone_document_rules,
+};
 use graphql_documents::documents::{ExecutableDocument, Schema};
 use graphql_hash_seeds::HashSeed;
-use graphql_input_rules::check_input_fields;
+use graphql_input_rules::{InputFieldRepetition, check_input_fields};
 use graphql_nodes::{SourceSpan, ValidationError};
-use graphql_usage_rules::{VariableMisuse, check_variable_usages};
-use graphql_validation::entry::{
-    validate_executable_document_within, validate_standalone_executable,
-};
+use graphql_usage_rules::{VariableMisuse, check_undefined_variables, check_variable_usages};
 use std::alloc::Global;
 use std::collections::HashSet;
 
@@ -36,14 +42,27 @@ pub(crate) fn document_reports(
     ensures { IfOk result (AreReportsOf (option_copied schema.entry) document.now) }
 {
     let rules = rule_reports(alloc, schema, document, work)?;
-    let mut input_fields = Vec::new(alloc);
-    check_input_fields(&mut input_fields, document)?;
+    let undefined_variables = further_undefined_variables(alloc, document, &rules)?;
+    let input_fields = repeated_input_fields(alloc, document)?;
     let usages = further_misuses(alloc, schema, document, &rules)?;
     Ok(DocumentReports {
         rules,
+        undefined_variables,
         input_fields,
         usages,
     })
+}
+
+/// The input fields that object values give again.
+fn repeated_input_fields(
+    alloc: Global,
+    document: &ExecutableDocument,
+) -> Result<Vec<InputFieldRepetition>, ValidationError>
+    ensures { IfOk result (λ fields. Reports (InputFieldsAreUnique document.now) (InputFieldReport document.now) [] fields.items) }
+{
+    let mut input_fields = Vec::new(alloc);
+    check_input_fields(&mut input_fields, document)?;
+    Ok(input_fields)
 }
 
 /// What validation reports of a document.
@@ -70,7 +89,7 @@ fn rule_reports_against(
     ensures { IfOk result (λ rules. AreRuleReports (Some schema.now) document.now (entries rules)) }
 {
     let mut rules = DiagnosticList::with_hash_seed(alloc, document.hash_seed());
-    validate_executable_document_within(&mut rules, schema, document, work)?;
+    validate_document_rules(&mut rules, schema, document, work)?;
     Ok(rules)
 }
 
@@ -81,24 +100,114 @@ fn standalone_rule_reports(
     ensures { IfOk result (λ rules. AreRuleReports None document.now (entries rules)) }
 {
     let mut rules = DiagnosticList::with_hash_seed(alloc, document.hash_seed());
-    validate_standalone_executable(&mut rules, document)?;
+    validate_standalone_document_rules(&mut rules, document)?;
     Ok(rules)
 }
 
-/// The usages of variables that are not allowed, but for those that a report of validation ends with: validation asks it of
-/// variables that are whole arguments, and of types inside lists. Without a schema none is known.
+/// The variables that operations use and do not define, without those that validation reports as undefined: it does not look
+/// into the object values of custom scalars.
+fn further_undefined_variables(
+    alloc: Global,
+    document: &ExecutableDocument,
+    rules: &DiagnosticList,
+) -> Result<Vec<DiagnosticEntry>, ValidationError>
+    ensures { IfOk result (λ variables. AreFurtherUndefined document.now (entries rules.now) variables.items) }
+{
+    let mut variables = Vec::new(alloc);
+    check_undefined_variables(&mut variables, document)?;
+    let reported = undefined_places(alloc, rules)?;
+    keep_at_other_places(&mut variables, &reported);
+    Ok(variables)
+}
+
+/// The places of the variables that these diagnostics report as undefined.
+fn undefined_places(
+    alloc: Global,
+    rules: &DiagnosticList,
+) -> Result<HashSet<SourceSpan, HashSeed>, ValidationError>
+    ensures { IfOk result (λ places. HasThese (filter_map undefined_place (entries rules.now)) places) }
+{
+    let mut places = HashSet::with_hasher(alloc, rules.hash_seed());
+    for entry in rules.iter().as_slice() {
+        add_place(&mut places, undefined_place(entry))?;
+    }
+    Ok(places)
+}
+
+/// Adds a place, if there is one.
+fn add_place(
+    places: &mut HashSet<SourceSpan, HashSeed>,
+    place: Option<SourceSpan>,
+) -> Result<(), ValidationError>
+    ensures { (these : List span_type.SourceSpan) → HasThese these places.old → OnOk result (HasThese (these ++ option_to_list place) places.new) }
+{
+    match place {
+        Some(place) => insert_place(places, place),
+        None => Ok(()),
+    }
+}
+
+fn insert_place(
+    places: &mut HashSet<SourceSpan, HashSeed>,
+    place: SourceSpan,
+) -> Result<(), ValidationError>
+    ensures { (these : List span_type.SourceSpan) → HasThese these places.old → OnOk result (HasThese (these ++ place ∷ []) places.new) }
+{
+    places.insert(place)?;
+    Ok(())
+}
+
+/// The place of the variable that the diagnostic reports as undefined, if it reports one.
+fn undefined_place(entry: &DiagnosticEntry) -> Option<SourceSpan>
+    ensures { result ≡ undefined_place entry.now }
+{
+    match &entry.details {
+        Details::Diagnostic(DiagnosticData::UndefinedVariable { .. }) => entry.location,
+        _ => None,
+    }
+}
+
+/// Leaves the diagnostics that are at none of these places.
+fn keep_at_other_places(
+    variables: &mut Vec<DiagnosticEntry>,
+    places: &HashSet<SourceSpan, HashSeed>,
+)
+    ensures { variables.new.items ≡ filter (λ e. not (is_place_among e.location places.now)) variables.old.items }
+{
+    variables.retain(|entry| !is_among(entry.location, places));
+}
+
+/// Whether the place is one of these.
+fn is_among(place: Option<SourceSpan>, places: &HashSet<SourceSpan, HashSeed>) -> bool
+    ensures { result ≡ is_place_among place places.now }
+{
+    match place {
+        Some(place) => places.contains(&place),
+        None => false,
+    }
+}
+
+/// The usages of variables that are not allowed, without those that end where a report of validation does: validation asks it
+/// of variables that are whole arguments, and of types inside lists. Without a schema none is known.
 fn further_misuses(
     alloc: Global,
     schema: Option<&Schema>,
     document: &ExecutableDocument,
     rules: &DiagnosticList,
 ) -> Result<Vec<VariableMisuse>, ValidationError>
-    ensures { IfOk result (AreFurtherMisuses (option_copied schema.entry) document.now (entries rules.now)) }
+    ensures { IfOk result (λ usages. AreFurtherMisuses (option_copied schema.entry) document.now (entries rules.now) usages.items) }
 {
     match schema {
         Some(schema) => misuses_beside(alloc, schema, document, rules),
-        None => Ok(Vec::new(alloc)),
+        None => no_misuses(alloc),
     }
+}
+
+/// No usage, as none is known without a schema.
+fn no_misuses(alloc: Global) -> Result<Vec<VariableMisuse>, ValidationError>
+    ensures { (document : document_type.ExecutableDocument) (rules : List entry_type.DiagnosticEntry) → IfOk result (λ usages. AreFurtherMisuses None document rules usages.items) }
+{
+    Ok(Vec::new(alloc))
 }
 
 fn misuses_beside(
@@ -107,52 +216,44 @@ fn misuses_beside(
     document: &ExecutableDocument,
     rules: &DiagnosticList,
 ) -> Result<Vec<VariableMisuse>, ValidationError>
-    ensures { IfOk result (AreFurtherMisuses (Some schema.now) document.now (entries rules.now)) }
+    ensures { IfOk result (λ usages. AreFurtherMisuses (Some schema.now) document.now (entries rules.now) usages.items) }
 {
     let mut usages = Vec::new(alloc);
     check_variable_usages(&mut usages, schema, document)?;
-    if rules.is_empty() {
-        Ok(usages)
-    } else {
-        let ends = reported_ends(alloc, rules)?;
-        keep_ending_elsewhere(&mut usages, &ends);
-        Ok(usages)
-    }
+    let ends = reported_ends(alloc, rules)?;
+    keep_ending_elsewhere(&mut usages, &ends);
+    Ok(usages)
 }
 
-/// The ends of the places that are reported.
+/// The ends of the places of these diagnostics.
 fn reported_ends(
     alloc: Global,
     rules: &DiagnosticList,
-) -> Result<HashSet<SourceSpan, HashSeed>, ValidationError> {
+) -> Result<HashSet<SourceSpan, HashSeed>, ValidationError>
+    ensures { IfOk result (λ ends. HasThese (filter_map (λ e. end_of e.location) (entries rules.now)) ends) }
+{
     let mut ends = HashSet::with_hasher(alloc, rules.hash_seed());
-    for entry in rules.iter() {
-        if let Some(place) = entry.location {
-            ends.insert(end_of(place))?;
-        }
+    for entry in rules.iter().as_slice() {
+        add_place(&mut ends, end_of(entry.location))?;
     }
     Ok(ends)
 }
 
 /// Leaves the misuses whose places do not end at one of these.
 fn keep_ending_elsewhere(usages: &mut Vec<VariableMisuse>, ends: &HashSet<SourceSpan, HashSeed>)
-    ensures { All (Contains usages.old.items) usages.new.items }
+    ensures { usages.new.items ≡ filter (λ u. not (is_place_among (end_of u.location) ends.now)) usages.old.items }
 {
-    usages.retain(|usage| !ends_at_one(usage, ends));
-}
-
-fn ends_at_one(usage: &VariableMisuse, ends: &HashSet<SourceSpan, HashSeed>) -> bool {
-    match usage.location {
-        Some(place) => ends.contains(&end_of(place)),
-        None => false,
-    }
+    usages.retain(|usage| !is_among(end_of(usage.location), ends));
 }
 
 /// The end of a place, as a place.
-fn end_of(place: SourceSpan) -> SourceSpan {
-    SourceSpan {
+fn end_of(place: Option<SourceSpan>) -> Option<SourceSpan>
+    ensures { result ≡ end_of place }
+{
+    let place = place?;
+    Some(SourceSpan {
         file_id: place.file_id,
         start: place.end,
         end: place.end,
-    }
+    })
 }

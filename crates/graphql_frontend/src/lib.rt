@@ -15,8 +15,11 @@ pub mod texts;
 pub mod verdicts;
 
 pub use documents::{validate_document, validate_documents, validate_standalone_document};
+pub use graphql_nodes::{FileId, SourceSpan, ValidationError};
+pub use graphql_parser::Bounds;
+pub use graphql_schema_building::BUILT_IN_DEFINITIONS;
 pub use reports::{DocumentReports, Reports, SchemaReports};
 pub use schemas::{SchemaReading, read_schema};
 pub use shown::{ShownReport, shown_reports};
 pub use texts::{SourceText, SyntaxReport};
-pub use verdicts::{Verdict, validate};
+pub use verdicts::{Verdict, document_source, schema_sources, validate, validate_texts};

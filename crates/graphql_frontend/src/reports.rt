@@ -6,7 +6,7 @@ ghost use Rattle.graphql_frontend.specs.Schemas.{ReportsNothingOfSchema};
 
 use crate::texts::SyntaxReport;
 use graphql_building_reports::BuildingReportList;
-use graphql_diagnostics::DiagnosticList;
+use graphql_diagnostics::{DiagnosticEntry, DiagnosticList};
 use graphql_input_rules::InputFieldRepetition;
 use graphql_nesting::NestingReport;
 use graphql_reach::ReachReport;
@@ -43,9 +43,11 @@ pub struct SchemaReports {
 pub struct DocumentReports {
     /// Rules of validation.
     pub rules: DiagnosticList,
+    /// Variables that an operation uses and does not define, without those that validation reports as undefined.
+    pub undefined_variables: Vec<DiagnosticEntry>,
     /// Input fields that object values give again.
     pub input_fields: Vec<InputFieldRepetition>,
-    /// Usages of variables that are not allowed, without those that a report of validation ends with.
+    /// Usages of variables that are not allowed, without those that end where a report of validation ends.
     pub usages: Vec<VariableMisuse>,
 }
 
@@ -65,6 +67,7 @@ impl Reports {
             Reports::DocumentRules(reports) => reports
                 .rules
                 .len()
+                .saturating_add(reports.undefined_variables.len())
                 .saturating_add(reports.input_fields.len())
                 .saturating_add(reports.usages.len()),
         }
@@ -85,6 +88,9 @@ impl DocumentReports {
     pub fn is_empty(&self) -> bool
         ensures { IsTrue result ↔ ReportsNothing self.now }
     {
-        self.rules.is_empty() && self.input_fields.is_empty() && self.usages.is_empty()
+        self.rules.is_empty()
+            && self.undefined_variables.is_empty()
+            && self.input_fields.is_empty()
+            && self.usages.is_empty()
     }
 }

@@ -1,10 +1,15 @@
 //! The names of rules, as machines read them.
 
+ghost use Rattle.std.specs.Prelude.{◌≡◌};
+ghost use Rattle.graphql_frontend.specs.RuleNames.{building_name, details_name, diagnostic_name};
+
 use graphql_building_reports::BuildingRule;
 use graphql_diagnostics::{Details, DiagnosticData};
 
 /// The name of the rule that a diagnostic is about.
-pub fn details_rule(details: &Details) -> &'static str {
+pub fn details_rule(details: &Details) -> &'static str
+    ensures { result.now ≡ details_name details.now }
+{
     match details {
         Details::Diagnostic(data) => diagnostic_rule(data),
         Details::Build(error) => error.name(),
@@ -13,8 +18,10 @@ pub fn details_rule(details: &Details) -> &'static str {
 }
 
 /// The name of a rule of validation.
-fn diagnostic_rule(data: &DiagnosticData) -> &'static str {
-    match data {
+fn diagnostic_rule(broken: &DiagnosticData) -> &'static str
+    ensures { result.now ≡ diagnostic_name broken.now }
+{
+    match broken {
         DiagnosticData::UniqueVariable { .. } => "UniqueVariable",
         DiagnosticData::UniqueArgument { .. } => "UniqueArgument",
         DiagnosticData::UniqueInputValue { .. } => "UniqueInputValue",
@@ -67,7 +74,9 @@ fn diagnostic_rule(data: &DiagnosticData) -> &'static str {
 }
 
 /// The name of a rule of building.
-pub fn building_rule(rule: &BuildingRule) -> &'static str {
+pub fn building_rule(rule: &BuildingRule) -> &'static str
+    ensures { result.now ≡ building_name rule.now }
+{
     match rule {
         BuildingRule::TypeSystemDefinition => "TypeSystemDefinition",
         BuildingRule::AmbiguousAnonymousOperation => "AmbiguousAnonymousOperation",

@@ -27,8 +27,8 @@ pub enum SchemaReading {
     LacksIntrospection,
 }
 
-/// Reads a schema from its texts: the text of the definitions that every schema has, `BUILT_IN_DEFINITIONS`, as file
-/// `FileId::BUILT_IN`, and then those of a user.
+/// Reads a schema from its texts. The first is `BUILT_IN_DEFINITIONS`, the text of the definitions that every schema has, as
+/// file `FileId::BUILT_IN`. The others are those of a user, each as another file: what that file defines counts as built in.
 ///
 /// Texts that are no documents are reported first, each with its first error; then rules that keep the texts from
 /// making a schema; then rules that the schema breaks. The only error is a failed allocation.

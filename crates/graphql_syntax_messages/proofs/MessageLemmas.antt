@@ -1,6 +1,5 @@
--- What messages show: the numbers of control characters, and the beginnings of texts.
-use Rattle.std.proofs.Common.{ℕ, ◌≡◌, ◌<◌, ◌^◌, ◌-◌, ◌++◌, sym, true, false, List, take, drop, [], codes, arith, refl}
-use Rattle.std.proofs.lemmas.List.{take-append-drop}
+-- What messages show of control characters.
+use Rattle.std.proofs.Common.{ℕ, ◌≡◌, ◌<◌, ◌^◌, ◌-◌, ◌++◌, true, false, [], codes, arith, refl}
 use Rattle.std.proofs.lemmas.Fmt.{hex_byte}
 use Rattle.std.specs.Char.{is_control}
 use Rattle.std.specs.Fmt.{digits, format_spec, padded_integral}
@@ -12,6 +11,3 @@ control_is_small c control = grind arith
 pub control_words : (c : ℕ) → is_control c ≡ true
     → character_words c ≡ codes "U+00" ++ padded_integral (format_spec 32 0 4 2 (2 ^ 64 - 1)) false [] (digits 16 true c)
 control_words c control = rw (control, hex_byte true c (control_is_small c control)) refl
-
-pub goes_on : (text shown : List ℕ) (at : ℕ) → shown ≡ take at text → (left : List ℕ) × (text ≡ shown ++ left)
-goes_on text shown at is = (drop at text, rw is (sym (take-append-drop at text)))

@@ -1,5 +1,6 @@
 -- The texts that say why a GraphQL text is refused.
-use Rattle.std.specs.Prelude.{ℕ, List, ◌≡◌, ◌==◌, ◌||◌, ◌++◌, ◌/◌, ◌%◌, ◌∷◌, [], Option, None, Some, codes, decimal, true, if◌then◌else◌}
+use Rattle.std.specs.Prelude.{ℕ, List, ◌≡◌, ◌≤◌, ◌==◌, ◌||◌, ◌++◌, ◌-◌, ◌/◌, ◌%◌, ◌∷◌, [], Bool, Option, None, Some, chars, codes, decimal, length, nat_le, nat_lt, slice_range, true, if◌then◌else◌}
+use Rattle.std.specs.Str.{IsCharBoundary}
 use Rattle.std.specs.Char.{is_control, encode_utf8}
 use Rattle.std.specs.Fmt.{digit_glyph}
 use Rattle.std.specs.Int.{is_in_range}
@@ -11,6 +12,7 @@ use Rattle.graphql_syntax.specs.declared.refusals.Expected.{Expected}
 use Rattle.graphql_syntax.specs.declared.refusals.Expected.TheVariants as expected
 use Rattle.graphql_syntax_messages.specs.declared.messages.SyntaxMessage.{SyntaxMessage}
 use Rattle.graphql_syntax_messages.specs.declared.messages.SyntaxMessage.TheVariants as message
+use Rattle.graphql_tokens.specs.declared.token.Token.{Token}
 use Rattle.graphql_tokens.specs.declared.token.TokenKind.{TokenKind}
 use Rattle.graphql_tokens.specs.declared.token.TokenKind.TheVariants as kind
 
@@ -62,6 +64,26 @@ character_words character =
     if is_control character then codes "U+00" ++ (digit_glyph true (character / 16) ∷ digit_glyph true (character % 16) ∷ [])
     else quoted (encode_utf8 character)
 
+-- a line ends with this byte: a line feed or a carriage return
+abbrev pub ends_line : ℕ → Bool
+ends_line byte = byte == 10 || byte == 13
+
+-- a character begins with this byte of UTF-8
+abbrev pub begins_character : ℕ → Bool
+begins_character byte = nat_lt byte 128 || nat_le 192 byte
+
+-- the first line of a text, up to so many characters
+abbrev pub excerpt_within : ℕ → List ℕ → List ℕ
+excerpt_within left [] = []
+excerpt_within left (byte ∷ rest) =
+    if ends_line byte then []
+    else if begins_character byte then (if left == 0 then [] else byte ∷ excerpt_within (left - 1) rest)
+    else byte ∷ excerpt_within left rest
+
+-- what is shown of a text: of its first line, 40 characters at most
+abbrev pub excerpt : List ℕ → List ℕ
+excerpt = excerpt_within 40
+
 -- the text of a message
 abbrev pub message_text : SyntaxMessage → List ℕ
 message_text message.OutOfMemory = codes "out of memory"
@@ -82,16 +104,22 @@ no_token_message (character ∷ rest) =
     else if character == 45 || is_in_range 48 57 character then message.InvalidNumber
     else message.UnexpectedCharacter character
 
--- that something was expected in place of a token
-abbrev pub IsUnexpected : Expected → SyntaxMessage → Type 0
-IsUnexpected e (message.Unexpected wanted found) = wanted ≡ e
-IsUnexpected e _ = ⊥
+-- the text between two bytes, if characters begin or the text ends at both, and else none
+abbrev pub IsPart : List ℕ → ℕ → ℕ → List ℕ → Type 0
+IsPart text start end part =
+    (start ≤ end → IsCharBoundary text start → IsCharBoundary text end → part ≡ slice_range text start end)
 
--- the message of an error: what was expected, and the bound that was passed
-abbrev pub IsMessageOf : Bounds → SyntaxError → SyntaxMessage → Type 0
-IsMessageOf bounds errors.OutOfMemory m = m ≡ message.OutOfMemory
-IsMessageOf bounds (errors.NoToken at) m = (characters : List ℕ) × (m ≡ no_token_message characters)
-IsMessageOf bounds (errors.TooManyTokens at) m = m ≡ message.TooManyTokens bounds.tokens
-IsMessageOf bounds (errors.Unexpected None e) m = m ≡ message.UnexpectedEnd e
-IsMessageOf bounds (errors.Unexpected (Some token) e) m = IsUnexpected e m
-IsMessageOf bounds (errors.TooDeep token) m = m ≡ message.TooDeep bounds.depth
+-- that something was expected in place of a token, of which the message shows the beginning
+abbrev pub IsUnexpected : List ℕ → Token → Expected → SyntaxMessage → Type 0
+IsUnexpected text token e (message.Unexpected wanted found) = (wanted ≡ e) ×
+    ((part : List ℕ) × IsPart text token.start token.end part × (found.now ≡ excerpt part))
+IsUnexpected text token e _ = ⊥
+
+-- the message of an error of a text: what was expected, what was found there, and the bound that was passed
+abbrev pub IsMessageOf : Bounds → List ℕ → SyntaxError → SyntaxMessage → Type 0
+IsMessageOf bounds text errors.OutOfMemory m = m ≡ message.OutOfMemory
+IsMessageOf bounds text (errors.NoToken at) m = (part : List ℕ) × IsPart text at (length text) part × (m ≡ no_token_message (chars part))
+IsMessageOf bounds text (errors.TooManyTokens at) m = m ≡ message.TooManyTokens bounds.tokens
+IsMessageOf bounds text (errors.Unexpected None e) m = m ≡ message.UnexpectedEnd e
+IsMessageOf bounds text (errors.Unexpected (Some token) e) m = IsUnexpected text token e m
+IsMessageOf bounds text (errors.TooDeep token) m = m ≡ message.TooDeep bounds.depth

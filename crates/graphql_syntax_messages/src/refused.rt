@@ -1,7 +1,7 @@
 //! The messages of texts that are no documents.
 
-ghost use Rattle.std.specs.Prelude.{◌≡◌, IsNone, IsSome};
-ghost use Rattle.graphql_syntax_messages.specs.SyntaxMessages.{IsMessageOf, IsUnexpected};
+ghost use Rattle.std.specs.Prelude.{◌≡◌, MatchOption};
+ghost use Rattle.graphql_syntax_messages.specs.SyntaxMessages.{IsMessageOf, IsPart, IsUnexpected};
 
 use crate::excerpts::{excerpt, no_token};
 use crate::messages::SyntaxMessage;
@@ -11,7 +11,7 @@ use graphql_tokens::Token;
 
 /// Why the text is no document within the bounds, where this is its error.
 pub fn refused(error: SyntaxError, text: &str, bounds: Bounds) -> SyntaxMessage<'_>
-    ensures { IsMessageOf bounds error result }
+    ensures { IsMessageOf bounds text.now error result }
 {
     match error {
         SyntaxError::OutOfMemory => SyntaxMessage::OutOfMemory,
@@ -23,8 +23,7 @@ pub fn refused(error: SyntaxError, text: &str, bounds: Bounds) -> SyntaxMessage<
 }
 
 fn unexpected(token: Option<Token>, expected: Expected, text: &str) -> SyntaxMessage<'_>
-    ensures none { IsNone token → result ≡ SyntaxMessage.UnexpectedEnd expected }
-    ensures some { IsSome token → IsUnexpected expected result }
+    ensures { MatchOption token (result ≡ SyntaxMessage.UnexpectedEnd expected) (λ found. IsUnexpected text.now found expected result) }
 {
     match token {
         Some(token) => {
@@ -35,7 +34,9 @@ fn unexpected(token: Option<Token>, expected: Expected, text: &str) -> SyntaxMes
     }
 }
 
-/// The text between two bytes.
-fn part(text: &str, start: usize, end: usize) -> &str {
+/// The text between two bytes, if characters begin or the text ends at both.
+fn part(text: &str, start: usize, end: usize) -> &str
+    ensures { IsPart text.now start end result.now }
+{
     text.get(start..end).unwrap_or("")
 }

@@ -1,10 +1,12 @@
-use Rattle.std.proofs.Common.{◌≡◌, true}
-use Rattle.graphql_uses.proofs.SilenceLemmas.{holds_where_silent}
+use Rattle.std.proofs.Common.{◌≡◌, Ok, rules}
+use Rattle.graphql_frontend.specs.declared.verdicts.Verdict.TheVariants.{Valid}
 use Rattle.graphql_uses.proofs.is_valid.Goals as goal
+use Rattle.graphql_uses.proofs.is_valid.Goals.{in-Valid, in_default}
 
 pub returns : goal.returns
-returns c = λ e.
-    let built = c.built_against.ensures.0 c.if-not-built_against.false in
-    let yes : c.is_empty.result ≡ true = cc in
-    let empty = c.is_empty.ensures.0 yes in
-    (built, holds_where_silent _ _ _ empty (c.in_ok-validate_executable_document.ensures.silence built))
+returns c = λ e. elim c.match-branch-2.branch [
+  | in-Valid w ↦
+      let same : c.validate_texts.result ≡ Ok Valid = search rules in
+      c.validate_texts.ensures.valid same
+  | in_default w ↦ absurd (let no : ⊥ = search rules in no)
+]

@@ -1,19 +1,18 @@
 use Rattle.std.specs.Option.{option_copied}
 use Rattle.graphql_frontend.proofs.DocumentLemmas.{all_decide}
-use Rattle.graphql_frontend.proofs.ReportLemmas.{decides, each_true}
 use Rattle.graphql_frontend.proofs.document_rules.document_reports.Goals as goal
 
 pub returns : goal.returns
 returns c =
     let schema = option_copied c.args.schema in
     let document = c.args.document.now in
-    let checked = c.in_ok-check_input_fields.ensures in
-    let none = c.new-input_fields.ensures.items in
     record {
-      each_rule = c.in_ok-rules.ensures.each;
-      each_input_field = each_true _ _ _ _ checked none;
-      each_usage = c.in_ok-usages.ensures.each;
+      rules = c.in_ok-rules.ensures;
+      undefined_variables = c.in_ok-undefined_variables.ensures;
+      input_fields = c.in_ok-input_fields.ensures;
+      usages = c.in_ok-usages.ensures;
       decides = λ built no_limit.
-          all_decide schema document (record { rules = c.in_ok-rules.rules; input_fields = c.check_input_fields.new.reports; usages = c.in_ok-usages.usages })
-          (c.in_ok-rules.ensures.decides built no_limit) (decides _ _ _ _ checked none) c.in_ok-usages.ensures.decides;
+          all_decide schema document
+          (record { rules = c.in_ok-rules.rules; undefined_variables = c.in_ok-undefined_variables.undefined_variables; input_fields = c.in_ok-input_fields.input_fields; usages = c.in_ok-usages.usages })
+          (c.in_ok-rules.ensures.decides built no_limit) c.in_ok-undefined_variables.ensures c.in_ok-input_fields.ensures c.in_ok-usages.ensures;
     }

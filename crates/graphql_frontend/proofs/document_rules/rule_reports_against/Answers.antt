@@ -1,6 +1,7 @@
 use Rattle.std.proofs.Common.{Some}
 use Rattle.graphql_diagnostics.specs.Diagnostics.{IsLimitEntry, entries}
-use Rattle.graphql_specification.specs.Documents.{DocumentLimit, DocumentReport}
+use Rattle.graphql_document_rules.specs.DocumentRules.{DocumentRuleReport}
+use Rattle.graphql_specification.specs.Documents.{DocumentLimit}
 use Rattle.graphql_frontend.specs.Documents.{IsDocumentEntry}
 use Rattle.graphql_frontend.proofs.DocumentLemmas.{both_of_each}
 use Rattle.graphql_frontend.proofs.ReportLemmas.{appended, kept}
@@ -10,13 +11,13 @@ pub returns : goal.returns
 returns c =
     let schema = Some c.args.schema.now in
     let document = c.args.document.now in
-    let validated = c.in_ok-validate_executable_document_within.ensures in
+    let validated = c.in_ok-validate_document_rules.ensures in
     let empty = c.with_hash_seed-rules.ensures.empty in
     record {
       each =
-          both_of_each (λ e. ¬ IsLimitEntry e → DocumentReport schema document e.details e.location)
+          both_of_each (λ e. ¬ IsLimitEntry e → DocumentRuleReport schema document e.details e.location)
           (λ e. IsLimitEntry e → DocumentLimit schema document e.details e.location) (IsDocumentEntry schema document)
-          (λ e p q. record { report = p; limit = q }) (entries c.validate_executable_document_within.new.diagnostics)
+          (λ e p q. record { report = p; limit = q }) (entries c.validate_document_rules.new.diagnostics)
           (kept _ _ _ validated.reports empty) (kept _ _ _ validated.limits empty);
       decides = λ built no_limit. appended _ _ _ (validated.silence built) empty no_limit;
     }

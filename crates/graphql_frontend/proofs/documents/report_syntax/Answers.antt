@@ -10,6 +10,6 @@ pub returns : goal.returns
 returns c = λ bounds schema source same only refused.
     let items : c.push.new.self.items ≡ record { file_id = c.args.file_id; error = c.args.error } ∷ [] =
     c.in_ok-push.ensures.items ∙ ap (λ l. l ++ record { file_id = c.args.file_id; error = c.args.error } ∷ []) c.new-errors.ensures.items in
-    let e = one_error bounds source c.args.error c.push.new.self.items (rw same items)
-    (λ tree is. true≢false (sym (c.is_out_of_memory.ensures.1 (only tree is)) ∙ c.if-is_out_of_memory.false)) (rw same refused) in
-    is_no_document e.0 e.1
+    is_no_document (record { file_id = source.file_id; error = c.args.error })
+    (one_error bounds source c.args.error (λ tree is. true≢false (sym (c.is_out_of_memory.ensures.1 (only tree is)) ∙ c.if-is_out_of_memory.false)) (rw same refused))
+    (rw same items)
