@@ -1,15 +1,21 @@
--- What is answered of bytes. Specification: 2.2 Document; 3 Type System; 5 Validation.
-use Rattle.std.specs.Prelude.{◌≡◌, IsUtf8, ℕ, List, [], ◌∷◌, Bool, true, false, Contains, None, Some}
+-- What is answered of bytes. Specification: 2.2 Document; 3 Type System; 5 Validation; 7.1.2 Errors.
+use Rattle.std.specs.Prelude.{◌≡◌, ◌-◌, ◌^◌, IsUtf8, ℕ, List, [], ◌∷◌, Bool, true, false, Contains, None, Option, Some, codes, map, take}
+use Rattle.std.specs.List.{AllZip}
+use Rattle.json.specs.Print.{print}
+use Rattle.json.specs.Token.{Token}
 use Rattle.graphql_documents.specs.declared.documents.schemas.Schema.{Schema}
-use Rattle.graphql_nodes.specs.declared.spans.TheConstants as spans
 use Rattle.graphql_parser.specs.declared.bounds.TheConstants as bounds
-use Rattle.graphql_schema_building.specs.declared.built_in.TheConstants as built_in
+use Rattle.graphql_report_formats.specs.JsonReports.{errors_object}
+use Rattle.graphql_report_formats.specs.NamedTexts.{Text}
 use Rattle.graphql_frontend.specs.Documents.{ValidatesDocument}
 use Rattle.graphql_frontend.specs.Schemas.{ReadsSchema}
+use Rattle.graphql_frontend.specs.Shown.{IsShownAs, Shows, listed}
+use Rattle.graphql_frontend.specs.Texts.{AreTextsOf}
 use Rattle.graphql_frontend.specs.Verdicts.{Validates}
 use Rattle.graphql_frontend.specs.declared.reports.Reports.{Reports}
 use Rattle.graphql_frontend.specs.declared.schemas.SchemaReading.{SchemaReading}
 use Rattle.graphql_frontend.specs.declared.schemas.SchemaReading.TheVariants.{Accepted, Rejected, LacksIntrospection}
+use Rattle.graphql_frontend.specs.declared.shown.ShownReport.{ShownReport}
 use Rattle.graphql_frontend.specs.declared.texts.SourceText.{SourceText}
 use Rattle.graphql_frontend.specs.declared.verdicts.Verdict.{Verdict}
 use Rattle.graphql_frontend.specs.declared.verdicts.Verdict.TheVariants as verdict
@@ -18,14 +24,34 @@ use Rattle.graphql_answers.specs.declared.answers.Found.TheVariants.{Nothing, In
 use Rattle.graphql_answers.specs.declared.answers.Refusal.{Refusal}
 use Rattle.graphql_answers.specs.declared.answers.Refusal.TheVariants.{OutOfMemory, NotUtf8}
 
--- the texts of a schema: the definitions that every schema has, as their file, and the text of these bytes
-pub record AreTextsOf (schema : List ℕ) (sources : List SourceText) : Type 0 where
-  pub first : SourceText
-  pub own : SourceText
-  pub sources_are : sources ≡ first ∷ own ∷ []
-  pub first_file_is : first.file_id ≡ spans.FileId.BUILT_IN
-  pub first_is : first.text.now ≡ (built_in.BUILT_IN_DEFINITIONS).now
-  pub own_is : own.text.now ≡ schema
+-- a text that is of no file
+abbrev pub unnamed : SourceText → Text
+unnamed source = record { path = None; file_id = source.file_id; text = source.text.now }
+
+-- the path that reports give the definitions that every schema has
+abbrev pub built_in_path : Option (List ℕ)
+built_in_path = Some (codes "<built-in>")
+
+-- the texts that reports of a schema are about
+abbrev pub schema_texts : List SourceText → List Text
+schema_texts (first ∷ own) = record { path = built_in_path; file_id = first.file_id; text = first.text.now } ∷ map unnamed own
+schema_texts [] = []
+
+-- the object of all reports on these texts, and of this file, if they have no place. No memory holds more reports than are taken
+pub record AreErrorsOf (texts : List Text) (path : Option (List ℕ)) (sources : List SourceText) (reports : Reports) (object : List Token) : Type 0 where
+  pub shown : List ShownReport
+  pub shows : AllZip (Shows sources bounds.Bounds.DEFAULT) (take (2 ^ 64 - 1) (listed reports)) shown
+  pub object_is : object ≡ errors_object texts path shown
+
+-- the object that says that the definitions are missing which every schema has
+pub record IsErrorOfLack (object : List Token) : Type 0 where
+  pub shown : ShownReport
+  pub shows : IsShownAs None (codes "LacksIntrospection") (codes "the definitions that every schema has are missing") None shown
+  pub object_is : object ≡ errors_object [] built_in_path (shown ∷ [])
+
+-- the object without reports
+abbrev pub no_errors : List Token
+no_errors = errors_object [] None []
 
 -- where a verdict finds what it reports
 abbrev pub found_by : Verdict → Found
@@ -34,10 +60,17 @@ found_by (verdict.SchemaRejected _) = InSchema
 found_by verdict.LacksIntrospection = InSchema
 found_by (verdict.DocumentRejected _) = InDocuments
 
--- what is found in the bytes of a schema and of a document: what the verdict on their texts says
-pub data Finds (schema document : List ℕ) : Found → Type 0 where
-  by_verdict : {verdict : Verdict} (sources : List SourceText) (source : SourceText) → AreTextsOf schema sources → source.text.now ≡ document →
-      Validates bounds.Bounds.DEFAULT sources source verdict → Finds schema document (found_by verdict)
+-- the object of a verdict
+abbrev pub IsObjectOf : List SourceText → SourceText → Verdict → List Token → Type 0
+IsObjectOf sources source verdict.Valid object = object ≡ no_errors
+IsObjectOf sources source (verdict.SchemaRejected reports) object = AreErrorsOf (schema_texts sources) None sources reports object
+IsObjectOf sources source verdict.LacksIntrospection object = IsErrorOfLack object
+IsObjectOf sources source (verdict.DocumentRejected reports) object = AreErrorsOf (unnamed source ∷ []) None (source ∷ []) reports object
+
+-- what is found in the bytes of a schema and of a document, and its JSON: what the verdict on their texts says
+pub data Finds (schema document : List ℕ) : Found → List ℕ → Type 0 where
+  by_verdict : {verdict : Verdict} (object : List Token) (sources : List SourceText) (source : SourceText) → AreTextsOf schema sources → source.text.now ≡ document →
+      Validates bounds.Bounds.DEFAULT sources source verdict → IsObjectOf sources source verdict object → Finds schema document (found_by verdict) (print object)
 
 -- whether a reading finds something to report
 abbrev pub found_by_reading : SchemaReading → Found
@@ -45,17 +78,24 @@ found_by_reading (Accepted _) = Nothing
 found_by_reading (Rejected _) = InSchema
 found_by_reading LacksIntrospection = InSchema
 
--- what is found in the bytes of a schema
-pub data FindsInSchema (schema : List ℕ) : Found → Type 0 where
-  by_reading : {reading : SchemaReading} (sources : List SourceText) → AreTextsOf schema sources →
-      ReadsSchema bounds.Bounds.DEFAULT sources reading → FindsInSchema schema (found_by_reading reading)
+-- the object of a reading
+abbrev pub IsObjectOfReading : List SourceText → SchemaReading → List Token → Type 0
+IsObjectOfReading sources (Accepted _) object = object ≡ no_errors
+IsObjectOfReading sources (Rejected reports) object = AreErrorsOf (schema_texts sources) None sources reports object
+IsObjectOfReading sources LacksIntrospection object = IsErrorOfLack object
 
--- whether something is reported of the text of these bytes, as a document
-pub data Checks (schema : Schema) (document : List ℕ) : Bool → Type 0 where
+-- what is found in the bytes of a schema, and its JSON
+pub data FindsInSchema (schema : List ℕ) : Found → List ℕ → Type 0 where
+  by_reading : {reading : SchemaReading} (object : List Token) (sources : List SourceText) → AreTextsOf schema sources →
+      ReadsSchema bounds.Bounds.DEFAULT sources reading → IsObjectOfReading sources reading object → FindsInSchema schema (found_by_reading reading) (print object)
+
+-- whether something is reported of the text of these bytes, as a document, and the object of it
+pub data Checks (schema : Schema) (document : List ℕ) : Bool → List Token → Type 0 where
   reports_nothing : (source : SourceText) → source.text.now ≡ document →
-      ValidatesDocument bounds.Bounds.DEFAULT (Some schema) source None → Checks schema document false
-  reports_some : {reports : Reports} (source : SourceText) → source.text.now ≡ document →
-      ValidatesDocument bounds.Bounds.DEFAULT (Some schema) source (Some reports) → Checks schema document true
+      ValidatesDocument bounds.Bounds.DEFAULT (Some schema) source None → Checks schema document false no_errors
+  reports_some : {reports : Reports} {object : List Token} (source : SourceText) → source.text.now ≡ document →
+      ValidatesDocument bounds.Bounds.DEFAULT (Some schema) source (Some reports) → AreErrorsOf (unnamed source ∷ []) None (source ∷ []) reports object →
+      Checks schema document true object
 
 -- why there is no answer
 pub data IsRefusalOf (texts : List (List ℕ)) : Refusal → Type 0 where

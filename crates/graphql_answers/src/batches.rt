@@ -1,13 +1,14 @@
 //! Several documents against one schema, which is read once.
 
-ghost use Rattle.std.specs.Prelude.{◌≡◌, ◌<◌, Bool, length, IfErr, IfOk, IsOkUnless, MatchResult};
+ghost use Rattle.std.specs.Prelude.{◌≡◌, ◌<◌, ◌++◌, length, IfErr, IfOk, IsOkUnless, List, MatchResult};
 ghost use Rattle.graphql_answers.specs.Answers.{Checks};
-ghost use Rattle.graphql_answers.specs.Batches.{ChecksFirst, document_at, FindsInEach, found_in_documents, IsNoText, IsRefusalOfDocuments, IsRefusalOfEach, start_of};
+ghost use Rattle.graphql_answers.specs.Batches.{AppendsChecked, document_at, FindsInEach, found_in_documents, IsAnswerOnEach, IsNoText, IsRefusalOfDocuments, IsRefusalOfEach, start_of};
+ghost use Rattle.json.specs.Token.{Token};
 ghost use Rattle.graphql_frontend.specs.Schemas.{IsUsable};
 
 use crate::answers::{Answer, Found, Refusal};
 use crate::objects::{add_document, add_nothing, lack_of_introspection, reports_of_schema};
-use crate::texts::{document_text, schema_sources, schema_text, text_of};
+use crate::texts::{document_source, schema_sources, text_of};
 use graphql_documents::documents::Schema;
 use graphql_frontend::{SchemaReading, read_schema, validate_document};
 use graphql_parser::Bounds;
@@ -27,7 +28,7 @@ pub struct Batch<'a> {
 /// The answer's JSON is an array of objects `{"errors":[..]}`, one for each document; or one such object, where it is
 /// the schema that is reported.
 pub fn validate_each(alloc: Global, schema: &[u8], documents: Batch<'_>) -> Result<Answer, Refusal>
-    ensures found { IfOk result (λ answer. FindsInEach schema.now documents.entry.bytes.now documents.entry.ends.now answer.found) }
+    ensures found { IfOk result (λ answer. FindsInEach schema.now documents.entry.bytes.now documents.entry.ends.now answer.found answer.json.items) }
     ensures refused { IfErr result (IsRefusalOfEach schema.now documents.entry.bytes.now documents.entry.ends.now) }
 {
     let schema = text_of(schema)?;
@@ -36,14 +37,13 @@ pub fn validate_each(alloc: Global, schema: &[u8], documents: Batch<'_>) -> Resu
 
 /// The answer on the documents, against a schema with this text.
 fn answer(alloc: Global, schema: &str, documents: Batch<'_>) -> Result<Answer, Refusal>
-    ensures found { IfOk result (λ answer. FindsInEach schema.now documents.entry.bytes.now documents.entry.ends.now answer.found) }
+    ensures found { IfOk result (λ answer. FindsInEach schema.now documents.entry.bytes.now documents.entry.ends.now answer.found answer.json.items) }
     ensures refused { IfErr result (IsRefusalOfDocuments documents.entry.bytes.now documents.entry.ends.now) }
 {
-    let text = schema_text(schema);
-    let sources = schema_sources(text.source);
+    let sources = schema_sources(schema);
     match read_schema(alloc, sources.as_slice(), Bounds::DEFAULT)? {
         SchemaReading::Accepted(schema) => answer_each(alloc, &schema, documents),
-        SchemaReading::Rejected(reports) => reports_of_schema(alloc, &reports, text),
+        SchemaReading::Rejected(reports) => reports_of_schema(alloc, &reports, sources),
         SchemaReading::LacksIntrospection => lack_of_introspection(alloc),
     }
 }
@@ -51,7 +51,7 @@ fn answer(alloc: Global, schema: &str, documents: Batch<'_>) -> Result<Answer, R
 /// The answer on the documents.
 fn answer_each(alloc: Global, schema: &Schema, documents: Batch<'_>) -> Result<Answer, Refusal>
     requires { IsUsable schema.now }
-    ensures found { IfOk result (λ answer. (reported : Bool) × (answer.found ≡ found_in_documents reported) × ChecksFirst schema.now documents.entry.bytes.now documents.entry.ends.now (length documents.entry.ends.now) reported) }
+    ensures found { IfOk result (IsAnswerOnEach schema.now documents.entry.bytes.now documents.entry.ends.now) }
     ensures refused { IfErr result (IsRefusalOfDocuments documents.entry.bytes.now documents.entry.ends.now) }
 {
     let mut json = Writer::new(Vec::new(alloc));
@@ -82,7 +82,8 @@ fn add_each(
     documents: Batch<'_>,
 ) -> Result<bool, Refusal>
     requires { IsUsable schema.now }
-    ensures checks { IfOk result (ChecksFirst schema.now documents.entry.bytes.now documents.entry.ends.now (length documents.entry.ends.now)) }
+    ensures before { json.new.before ≡ json.old.before }
+    ensures checks { IfOk result (λ reported. AppendsChecked schema.now documents.entry.bytes.now documents.entry.ends.now (length documents.entry.ends.now) reported json.old json.new) }
     ensures refused { IfErr result (IsRefusalOfDocuments documents.entry.bytes.now documents.entry.ends.now) }
 {
     let mut is_reported = false;
@@ -98,11 +99,12 @@ fn add_each(
 /// Adds the object for a document. Whether something is reported of it.
 fn add_one(json: &mut Writer, alloc: Global, schema: &Schema, text: &str) -> Result<bool, Refusal>
     requires { IsUsable schema.now }
-    ensures checks { IfOk result (Checks schema.now text.now) }
+    ensures before { json.new.before ≡ json.old.before }
+    ensures checks { IfOk result (λ reported. (object : List Token) × Checks schema.now text.now reported object × (json.new.tokens ≡ json.old.tokens ++ object)) }
     ensures refused { IsOkUnless result Refusal.OutOfMemory }
 {
-    let document = document_text(text);
-    match validate_document(alloc, schema, document.source, Bounds::DEFAULT)? {
+    let document = document_source(text);
+    match validate_document(alloc, schema, document, Bounds::DEFAULT)? {
         None => {
             add_nothing(json)?;
             Ok(false)

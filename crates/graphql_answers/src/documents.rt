@@ -5,7 +5,7 @@ ghost use Rattle.graphql_answers.specs.Answers.{Finds, IsRefusalOf};
 
 use crate::answers::{Answer, Refusal};
 use crate::objects::{lack_of_introspection, nothing, reports_of_document, reports_of_schema};
-use crate::texts::{document_text, schema_sources, schema_text, text_of};
+use crate::texts::{document_source, schema_sources, text_of};
 use graphql_frontend::Verdict;
 use graphql_parser::Bounds;
 use std::alloc::Global;
@@ -15,7 +15,7 @@ use std::alloc::Global;
 ///
 /// The answer's JSON is an object, `{"errors":[..]}`.
 pub fn validate(alloc: Global, schema: &[u8], document: &[u8]) -> Result<Answer, Refusal>
-    ensures found { IfOk result (λ answer. Finds schema.now document.now answer.found) }
+    ensures found { IfOk result (λ answer. Finds schema.now document.now answer.found answer.json.items) }
     ensures refused { IfErr result (IsRefusalOf (schema.now ∷ document.now ∷ [])) }
 {
     let schema = text_of(schema)?;
@@ -25,15 +25,14 @@ pub fn validate(alloc: Global, schema: &[u8], document: &[u8]) -> Result<Answer,
 
 /// The answer on a document with this text, against a schema with this text.
 fn answer(alloc: Global, schema: &str, document: &str) -> Result<Answer, Refusal>
-    ensures found { IfOk result (λ answer. Finds schema.now document.now answer.found) }
+    ensures found { IfOk result (λ answer. Finds schema.now document.now answer.found answer.json.items) }
     ensures refused { IsOkUnless result Refusal.OutOfMemory }
 {
-    let schema = schema_text(schema);
-    let document = document_text(document);
-    let sources = schema_sources(schema.source);
-    match graphql_frontend::validate(alloc, sources.as_slice(), document.source, Bounds::DEFAULT)? {
+    let sources = schema_sources(schema);
+    let document = document_source(document);
+    match graphql_frontend::validate(alloc, sources.as_slice(), document, Bounds::DEFAULT)? {
         Verdict::Valid => nothing(alloc),
-        Verdict::SchemaRejected(reports) => reports_of_schema(alloc, &reports, schema),
+        Verdict::SchemaRejected(reports) => reports_of_schema(alloc, &reports, sources),
         Verdict::LacksIntrospection => lack_of_introspection(alloc),
         Verdict::DocumentRejected(reports) => reports_of_document(alloc, &reports, document),
     }

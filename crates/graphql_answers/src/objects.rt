@@ -1,19 +1,26 @@
 //! Reports as JSON objects.
 
-ghost use Rattle.std.specs.Prelude.{◌≡◌, IfOk, IsOkUnless};
+ghost use Rattle.std.specs.Prelude.{◌≡◌, ◌++◌, [], ◌∷◌, IfOk, IsOkUnless, None, codes, map};
+ghost use Rattle.graphql_answers.specs.Answers.{AreErrorsOf, IsErrorOfLack, no_errors, schema_texts, unnamed};
+ghost use Rattle.graphql_answers.specs.Objects.{AppendsOne, IsAnswer};
+ghost use Rattle.graphql_frontend.specs.Shown.{IsShownAs};
+ghost use Rattle.graphql_report_formats.specs.JsonReports.{Appends, errors_object};
+ghost use Rattle.graphql_report_formats.specs.NamedTexts.{named_text, path_of};
+ghost use Rattle.json.specs.Print.{print};
 
 use crate::answers::{Answer, Found, Refusal};
-use graphql_frontend::{Reports, ShownReport, shown_reports};
+use crate::texts::{schema_texts, unnamed};
+use graphql_frontend::{Reports, ShownReport, SourceText, shown_reports};
 use graphql_parser::Bounds;
 use graphql_report_formats::json_format;
-use graphql_report_formats::named_texts::{CountedSubject, NamedText, Subject};
-use graphql_report_formats::schema_texts::{BUILT_IN_TEXT, schema_subject};
+use graphql_report_formats::named_texts::{CountedSubject, Subject};
+use graphql_report_formats::schema_texts::BUILT_IN_TEXT;
 use json::Writer;
-use std::alloc::Global;
+use std::alloc::{AllocError, Global};
 
 /// The answer that nothing is reported of a schema, or of one document.
 pub(crate) fn nothing(alloc: Global) -> Result<Answer, Refusal>
-    ensures found { IfOk result (λ answer. answer.found ≡ Found.Nothing) }
+    ensures found { IfOk result (IsAnswer Found.Nothing (λ object. object ≡ no_errors)) }
     ensures refused { IsOkUnless result Refusal.OutOfMemory }
 {
     let mut json = Writer::new(Vec::new(alloc));
@@ -23,54 +30,68 @@ pub(crate) fn nothing(alloc: Global) -> Result<Answer, Refusal>
 
 /// Adds an object without reports.
 pub(crate) fn add_nothing(json: &mut Writer) -> Result<(), Refusal>
-    ensures { IsOkUnless result Refusal.OutOfMemory }
+    ensures added { Appends result json.old json.new no_errors }
+    ensures refused { IsOkUnless result Refusal.OutOfMemory }
 {
     json_format::begin(json)?;
     json_format::end(json)?;
     Ok(())
 }
 
-/// The answer that these are reported of a schema with this text.
+/// The answer that these are reported of a schema with these texts.
 pub(crate) fn reports_of_schema(
     alloc: Global,
     reports: &Reports,
-    schema: NamedText<'_>,
+    sources: [SourceText<'_>; 2],
 ) -> Result<Answer, Refusal>
-    ensures found { IfOk result (λ answer. answer.found ≡ Found.InSchema) }
+    ensures found { IfOk result (IsAnswer Found.InSchema (AreErrorsOf (schema_texts sources.entry) None sources.entry reports.now)) }
     ensures refused { IsOkUnless result Refusal.OutOfMemory }
 {
     let mut json = Writer::new(Vec::new(alloc));
-    let texts = [BUILT_IN_TEXT, schema];
-    let sources = [BUILT_IN_TEXT.source, schema.source];
-    let subject = schema_subject(texts.as_slice(), sources.as_slice());
+    let texts = schema_texts(sources);
+    let subject = Subject {
+        path: None,
+        texts: texts.as_slice(),
+        sources: sources.as_slice(),
+    };
     add_reports(&mut json, alloc, reports, subject)?;
     Ok(answer(Found::InSchema, json))
 }
 
 /// The answer that the definitions which every schema has are missing.
 pub(crate) fn lack_of_introspection(alloc: Global) -> Result<Answer, Refusal>
-    ensures found { IfOk result (λ answer. answer.found ≡ Found.InSchema) }
+    ensures found { IfOk result (IsAnswer Found.InSchema IsErrorOfLack) }
     ensures refused { IsOkUnless result Refusal.OutOfMemory }
 {
-    let lack = ShownReport {
+    let lack = lack(alloc)?;
+    let mut json = Writer::new(Vec::new(alloc));
+    let subject = Subject {
+        path: BUILT_IN_TEXT.path,
+        texts: &[],
+        sources: &[],
+    };
+    add_shown(&mut json, alloc, &[lack], subject)?;
+    Ok(answer(Found::InSchema, json))
+}
+
+fn lack(alloc: Global) -> Result<ShownReport, AllocError>
+    ensures { IfOk result (IsShownAs None (codes "LacksIntrospection") (codes "the definitions that every schema has are missing") None) }
+{
+    Ok(ShownReport {
         location: None,
         rule: "LacksIntrospection",
         message: String::from_str(alloc, "the definitions that every schema has are missing")?,
         original: None,
-    };
-    let mut json = Writer::new(Vec::new(alloc));
-    let subject = schema_subject(&[], &[]);
-    add_shown(&mut json, alloc, &[lack], subject)?;
-    Ok(answer(Found::InSchema, json))
+    })
 }
 
 /// The answer that these are reported of a document with this text.
 pub(crate) fn reports_of_document(
     alloc: Global,
     reports: &Reports,
-    document: NamedText<'_>,
+    document: SourceText<'_>,
 ) -> Result<Answer, Refusal>
-    ensures found { IfOk result (λ answer. answer.found ≡ Found.InDocuments) }
+    ensures found { IfOk result (IsAnswer Found.InDocuments (AreErrorsOf (unnamed document.entry ∷ []) None (document.entry ∷ []) reports.now)) }
     ensures refused { IsOkUnless result Refusal.OutOfMemory }
 {
     let mut json = Writer::new(Vec::new(alloc));
@@ -83,12 +104,13 @@ pub(crate) fn add_document(
     json: &mut Writer,
     alloc: Global,
     reports: &Reports,
-    document: NamedText<'_>,
+    document: SourceText<'_>,
 ) -> Result<(), Refusal>
-    ensures { IsOkUnless result Refusal.OutOfMemory }
+    ensures added { AppendsOne result json.old json.new (AreErrorsOf (unnamed document.entry ∷ []) None (document.entry ∷ []) reports.now) }
+    ensures refused { IsOkUnless result Refusal.OutOfMemory }
 {
-    let texts = [document];
-    let sources = [document.source];
+    let texts = [unnamed(document)];
+    let sources = [document];
     let subject = Subject {
         path: None,
         texts: texts.as_slice(),
@@ -104,7 +126,8 @@ fn add_reports(
     reports: &Reports,
     subject: Subject<'_>,
 ) -> Result<(), Refusal>
-    ensures { IsOkUnless result Refusal.OutOfMemory }
+    ensures added { AppendsOne result json.old json.new (AreErrorsOf (map named_text subject.entry.texts.now) (path_of subject.entry.path) subject.entry.sources.now reports.now) }
+    ensures refused { IsOkUnless result Refusal.OutOfMemory }
 {
     let shown = shown_reports(alloc, reports, subject.sources, Bounds::DEFAULT, usize::MAX)?;
     add_shown(json, alloc, &shown, subject)
@@ -116,7 +139,8 @@ fn add_shown(
     shown: &[ShownReport],
     subject: Subject<'_>,
 ) -> Result<(), Refusal>
-    ensures { IsOkUnless result Refusal.OutOfMemory }
+    ensures added { Appends result json.old json.new (errors_object (map named_text subject.entry.texts.now) (path_of subject.entry.path) shown.now) }
+    ensures refused { IsOkUnless result Refusal.OutOfMemory }
 {
     let counted = CountedSubject::new(alloc, subject)?;
     json_format::begin(json)?;
@@ -126,7 +150,8 @@ fn add_shown(
 }
 
 fn answer(found: Found, json: Writer) -> Answer
-    ensures { result.found ≡ found }
+    ensures found { result.found ≡ found }
+    ensures json { result.json.items ≡ json.before ++ print json.tokens }
 {
     Answer {
         found,

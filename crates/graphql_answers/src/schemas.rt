@@ -5,7 +5,7 @@ ghost use Rattle.graphql_answers.specs.Answers.{FindsInSchema, IsRefusalOf};
 
 use crate::answers::{Answer, Refusal};
 use crate::objects::{lack_of_introspection, nothing, reports_of_schema};
-use crate::texts::{schema_sources, schema_text, text_of};
+use crate::texts::{schema_sources, text_of};
 use graphql_frontend::{SchemaReading, read_schema};
 use graphql_parser::Bounds;
 use std::alloc::Global;
@@ -14,7 +14,7 @@ use std::alloc::Global;
 ///
 /// The answer's JSON is an object, `{"errors":[..]}`.
 pub fn validate_schema(alloc: Global, schema: &[u8]) -> Result<Answer, Refusal>
-    ensures found { IfOk result (λ answer. FindsInSchema schema.now answer.found) }
+    ensures found { IfOk result (λ answer. FindsInSchema schema.now answer.found answer.json.items) }
     ensures refused { IfErr result (IsRefusalOf (schema.now ∷ [])) }
 {
     let schema = text_of(schema)?;
@@ -23,14 +23,13 @@ pub fn validate_schema(alloc: Global, schema: &[u8]) -> Result<Answer, Refusal>
 
 /// The answer on a schema with this text.
 fn answer(alloc: Global, schema: &str) -> Result<Answer, Refusal>
-    ensures found { IfOk result (λ answer. FindsInSchema schema.now answer.found) }
+    ensures found { IfOk result (λ answer. FindsInSchema schema.now answer.found answer.json.items) }
     ensures refused { IsOkUnless result Refusal.OutOfMemory }
 {
-    let text = schema_text(schema);
-    let sources = schema_sources(text.source);
+    let sources = schema_sources(schema);
     match read_schema(alloc, sources.as_slice(), Bounds::DEFAULT)? {
         SchemaReading::Accepted(_schema) => nothing(alloc),
-        SchemaReading::Rejected(reports) => reports_of_schema(alloc, &reports, text),
+        SchemaReading::Rejected(reports) => reports_of_schema(alloc, &reports, sources),
         SchemaReading::LacksIntrospection => lack_of_introspection(alloc),
     }
 }

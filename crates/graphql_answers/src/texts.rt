@@ -1,12 +1,15 @@
 //! The texts of bytes.
 
-ghost use Rattle.std.specs.Prelude.{◌≡◌, IsUtf8, MatchResult};
-ghost use Rattle.graphql_answers.specs.Answers.{AreTextsOf};
+ghost use Rattle.std.specs.Prelude.{◌≡◌, [], ◌∷◌, IsUtf8, MatchResult, map};
+ghost use Rattle.graphql_frontend.specs.Texts.{AreTextsOf};
+ghost use Rattle.graphql_answers.specs.Answers.{schema_texts, unnamed};
+ghost use Rattle.graphql_report_formats.specs.NamedTexts.{named_text};
 
 use crate::answers::Refusal;
 use graphql_frontend::SourceText;
 use graphql_nodes::FileId;
 use graphql_report_formats::named_texts::NamedText;
+use graphql_report_formats::schema_texts::BUILT_IN_TEXT;
 use graphql_schema_building::BUILT_IN_DEFINITIONS;
 
 /// The text of these bytes.
@@ -19,41 +22,49 @@ pub(crate) fn text_of(bytes: &[u8]) -> Result<&str, Refusal>
     }
 }
 
-/// The text of a schema, which is of no file.
-pub(crate) fn schema_text<'a>(text: &'a str) -> NamedText<'a>
-    ensures { result.source.text ≡ text.entry }
-{
-    NamedText {
-        path: None,
-        source: SourceText {
-            file_id: FileId(1),
-            text,
-        },
-    }
-}
-
-/// The texts of a schema: the definitions that every schema has, and this one.
-pub(crate) fn schema_sources<'a>(schema: SourceText<'a>) -> [SourceText<'a>; 2]
-    ensures { AreTextsOf schema.entry.text.now result }
+/// The texts of a schema: the definitions that every schema has, and this one, which is of another file.
+pub(crate) fn schema_sources<'a>(text: &'a str) -> [SourceText<'a>; 2]
+    ensures { AreTextsOf text.now result }
 {
     [
         SourceText {
             file_id: FileId::BUILT_IN,
             text: BUILT_IN_DEFINITIONS,
         },
-        schema,
+        SourceText {
+            file_id: FileId(1),
+            text,
+        },
     ]
 }
 
-/// The text of a document, which is of no file.
-pub(crate) fn document_text<'a>(text: &'a str) -> NamedText<'a>
-    ensures { result.source.text ≡ text.entry }
+/// The texts of a schema, as reports name them: the one of a user is of no file that they name.
+pub(crate) fn schema_texts<'a>(sources: [SourceText<'a>; 2]) -> [NamedText<'a>; 2]
+    ensures { map named_text result ≡ schema_texts sources.entry }
 {
-    NamedText {
-        path: None,
-        source: SourceText {
-            file_id: FileId(2),
-            text,
+    let [built_in, own] = sources;
+    [
+        NamedText {
+            path: BUILT_IN_TEXT.path,
+            source: built_in,
         },
+        unnamed(own),
+    ]
+}
+
+/// The text of a document.
+pub(crate) fn document_source<'a>(text: &'a str) -> SourceText<'a>
+    ensures { result.text ≡ text.entry }
+{
+    SourceText {
+        file_id: FileId(2),
+        text,
     }
+}
+
+/// A text that is of no file that reports name.
+pub(crate) fn unnamed<'a>(source: SourceText<'a>) -> NamedText<'a>
+    ensures { named_text result ≡ unnamed source.entry }
+{
+    NamedText { path: None, source }
 }

@@ -1,5 +1,5 @@
 -- Answers in numbers.
-use Rattle.std.specs.Prelude.{◌≡◌, ℕ}
+use Rattle.std.specs.Prelude.{◌≡◌, ◌++◌, ℕ, List, drop, length, min, take}
 use Rattle.graphql_answers.specs.declared.answers.Found.{Found}
 use Rattle.graphql_answers.specs.declared.answers.Found.TheVariants.{Nothing, InSchema, InDocuments}
 use Rattle.graphql_answers.specs.declared.answers.Refusal.{Refusal}
@@ -21,7 +21,13 @@ status_of_refusal BadEnds = 2
 status_of_refusal OutOfMemory = 3
 status_of_refusal NotUtf8 = 5
 
--- the outcome tells what was found, or why there is no answer
-pub data Tells (finds : Found → Type 0) (refuses : Refusal → Type 0) (outcome : Outcome) : Type 0 where
-  has_answer : (found : Found) → finds found → outcome.status ≡ status_of_found found → outcome.reported ≡ number_of_found found → Tells finds refuses outcome
-  has_no_answer : (refusal : Refusal) → refuses refusal → outcome.status ≡ status_of_refusal refusal → Tells finds refuses outcome
+-- as much of the JSON as there is room for is written to the beginning, and the rest stays
+abbrev pub written : List ℕ → List ℕ → List ℕ
+written json old = let room = min (length old) (length json) in take room json ++ drop room old
+
+-- the outcome tells what was found and how long its JSON is, of which the beginning was written; or why there is no answer, and nothing was written
+pub data Tells (finds : Found → List ℕ → Type 0) (refuses : Refusal → Type 0) (outcome : Outcome) (old new : List ℕ) : Type 0 where
+  has_answer : (found : Found) (json : List ℕ) → finds found json → outcome.status ≡ status_of_found found → outcome.reported ≡ number_of_found found →
+      outcome.length ≡ length json → new ≡ written json old → Tells finds refuses outcome old new
+  has_no_answer : (refusal : Refusal) → refuses refusal → outcome.status ≡ status_of_refusal refusal → outcome.length ≡ 0 → new ≡ old →
+      Tells finds refuses outcome old new

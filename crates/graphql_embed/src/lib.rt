@@ -23,7 +23,7 @@ pub extern "C" fn graphql_validate(
     document: &[u8],
     out: &mut [u8],
 ) -> Outcome
-    ensures { Tells (Finds schema.now document.now) (IsRefusalOf (schema.now ∷ document.now ∷ [])) result }
+    ensures { Tells (Finds schema.now document.now) (IsRefusalOf (schema.now ∷ document.now ∷ [])) result out.old out.new }
 {
     hand_over(validate(alloc, schema, document), out)
 }
@@ -31,7 +31,7 @@ pub extern "C" fn graphql_validate(
 /// Validates a schema.
 #[unsafe(no_mangle)]
 pub extern "C" fn graphql_validate_schema(alloc: Global, schema: &[u8], out: &mut [u8]) -> Outcome
-    ensures { Tells (FindsInSchema schema.now) (IsRefusalOf (schema.now ∷ [])) result }
+    ensures { Tells (FindsInSchema schema.now) (IsRefusalOf (schema.now ∷ [])) result out.old out.new }
 {
     hand_over(validate_schema(alloc, schema), out)
 }
@@ -45,7 +45,7 @@ pub extern "C" fn graphql_validate_all(
     ends: &[usize],
     out: &mut [u8],
 ) -> Outcome
-    ensures { Tells (FindsInEach schema.now documents.now ends.now) (IsRefusalOfEach schema.now documents.now ends.now) result }
+    ensures { Tells (FindsInEach schema.now documents.now ends.now) (IsRefusalOfEach schema.now documents.now ends.now) result out.old out.new }
 {
     let batch = Batch {
         bytes: documents,

@@ -1,7 +1,7 @@
 //! What a call answers in numbers, and its JSON in the caller's memory.
 
-ghost use Rattle.std.specs.Prelude.{◌≡◌, ◌≤◌, ◌++◌, Bool, drop, IfErr, IfOk, length, min, take};
-ghost use Rattle.graphql_embed.specs.Outcomes.{number_of_found, status_of_found, status_of_refusal};
+ghost use Rattle.std.specs.Prelude.{◌≡◌, IfErr, IfOk, length};
+ghost use Rattle.graphql_embed.specs.Outcomes.{number_of_found, status_of_found, status_of_refusal, written};
 
 use graphql_answers::{Answer, Found, Refusal};
 
@@ -20,7 +20,7 @@ pub struct Outcome {
 /// Writes as much of the answer as there is room for.
 pub fn hand_over(answered: Result<Answer, Refusal>, out: &mut [u8]) -> Outcome
     ensures answered { IfOk answered (λ answer. (result.status ≡ status_of_found answer.found) × (result.reported ≡ number_of_found answer.found) × (result.length ≡ length answer.json.items)) }
-    ensures written { IfOk answered (λ answer. let room = min (length out.old) (length answer.json.items) in out.new ≡ take room answer.json.items ++ drop room out.old) }
+    ensures written { IfOk answered (λ answer. out.new ≡ written answer.json.items out.old) }
     ensures refused { IfErr answered (λ refusal. (result.status ≡ status_of_refusal refusal) × (result.reported ≡ 0) × (result.length ≡ 0)) }
     ensures kept { IfErr answered (λ _. out.new ≡ out.old) }
 {

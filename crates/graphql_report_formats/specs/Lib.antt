@@ -1,0 +1,2 @@
+pub mod JsonReports
+pub mod NamedTexts

@@ -1,7 +1,8 @@
 //! The texts that reports are about, with the paths of their files.
 
-ghost use Rattle.std.specs.Prelude.{◌≤◌, IfSome, length};
-ghost use Rattle.graphql_places.specs.Places.{IsPlaceOf};
+ghost use Rattle.std.specs.Prelude.{◌≡◌, IfOk, codes, map, unwrap_or};
+ghost use Rattle.std.specs.Option.{option_map};
+ghost use Rattle.graphql_report_formats.specs.NamedTexts.{counted_text, named_text, part, part_at, part_of, path_of, place_in, texts_of};
 
 use graphql_frontend::SourceText;
 use graphql_nodes::{FileId, SourceSpan};
@@ -54,7 +55,10 @@ pub struct Located<'a> {
 
 impl<'a> CountedSubject<'a> {
     /// Counts the lines of the texts.
-    pub fn new(alloc: Global, subject: Subject<'a>) -> Result<CountedSubject<'a>, AllocError> {
+    pub fn new(alloc: Global, subject: Subject<'a>) -> Result<CountedSubject<'a>, AllocError>
+        ensures path { IfOk result (λ counted. counted.path ≡ subject.entry.path) }
+        ensures texts { IfOk result (λ counted. texts_of counted ≡ map named_text subject.entry.texts.now) }
+    {
         let mut texts = Vec::new(alloc);
         for named in subject.texts {
             texts.push(CountedText {
@@ -69,38 +73,47 @@ impl<'a> CountedSubject<'a> {
         })
     }
 
-    /// The part of one of the texts that this span is.
+    /// The part that this span is of the text of its file: the first text that is of it. None, if there is no span, or if no
+    /// text is of its file.
     pub fn locate(&self, span: Option<SourceSpan>) -> Option<Located<'a>>
-        ensures start { IfSome result (λ part. part.span.start ≤ length part.text.now → IsPlaceOf part.text.now part.span.start part.start) }
-        ensures end { IfSome result (λ part. part.span.end ≤ length part.text.now → IsPlaceOf part.text.now part.span.end part.end) }
+        ensures { option_map part result ≡ part_at (texts_of self.now) span }
     {
         let span = span?;
-        let counted = self
-            .texts
-            .iter()
-            .find(|counted| counted.file_id == span.file_id)?;
-        Some(counted.part(span))
+        for counted in &self.texts {
+            if counted.file_id.0 == span.file_id.0 {
+                return Some(counted.part(span));
+            }
+        }
+        None
     }
 }
 
 impl<'a> CountedText<'a> {
     /// The part of this text that a span of its file is.
     fn part(&self, span: SourceSpan) -> Located<'a>
-        ensures start { result.span.start ≤ length result.text.now → IsPlaceOf result.text.now result.span.start result.start }
-        ensures end { result.span.end ≤ length result.text.now → IsPlaceOf result.text.now result.span.end result.end }
+        ensures { part result ≡ part_of span (counted_text self.now) }
     {
         let text = self.lines.text();
         Located {
             path: self.path,
             text,
             span,
-            start: self.lines.place((span.start as usize).min(text.len())),
-            end: self.lines.place((span.end as usize).min(text.len())),
+            start: self.place(span.start as usize),
+            end: self.place(span.end as usize),
         }
+    }
+
+    /// The place of a byte of the text; behind the text, the place of its end.
+    fn place(&self, at: usize) -> Place
+        ensures { result ≡ place_in (counted_text self.now).text at }
+    {
+        self.lines.place(at.min(self.lines.text().len()))
     }
 }
 
 /// What a line calls a text: its path, if it is of a file.
-pub fn shown_name(path: Option<&str>) -> &str {
+pub fn shown_name(path: Option<&str>) -> &str
+    ensures { result.now ≡ unwrap_or (path_of path.entry) (codes "<text>") }
+{
     path.unwrap_or("<text>")
 }

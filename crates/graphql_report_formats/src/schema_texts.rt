@@ -1,5 +1,9 @@
 //! The texts of a schema.
 
+ghost use Rattle.std.specs.Prelude.{◌≡◌, IfOk, map};
+ghost use Rattle.graphql_report_formats.specs.NamedTexts.{named_text, path_of, schema_path};
+ghost use Rattle.graphql_report_formats.specs.declared.named_texts.NamedText as named_type;
+
 use crate::named_texts::{NamedText, Subject};
 use graphql_frontend::SourceText;
 use graphql_nodes::FileId;
@@ -19,7 +23,9 @@ pub const BUILT_IN_TEXT: NamedText<'static> = NamedText {
 pub fn sources_of<'a>(
     alloc: Global,
     named: &[NamedText<'a>],
-) -> Result<Vec<SourceText<'a>>, AllocError> {
+) -> Result<Vec<SourceText<'a>>, AllocError>
+    ensures { IfOk result (λ sources. sources.items ≡ map (λ (text : named_type.NamedText). text.source) named.now) }
+{
     let mut sources = Vec::new(alloc);
     for text in named {
         sources.push(text.source)?;
@@ -29,17 +35,24 @@ pub fn sources_of<'a>(
 
 /// What reports of a schema are about. One without a place is about its first file, which comes behind the
 /// definitions that every schema has.
-pub fn schema_subject<'a>(
-    texts: &'a [NamedText<'a>],
-    sources: &'a [SourceText<'a>],
-) -> Subject<'a> {
-    let path = match texts.get(1) {
-        Some(named) => named.path,
-        None => BUILT_IN_TEXT.path,
-    };
+pub fn schema_subject<'a>(texts: &'a [NamedText<'a>], sources: &'a [SourceText<'a>]) -> Subject<'a>
+    ensures texts { result.texts ≡ texts.entry }
+    ensures sources { result.sources ≡ sources.entry }
+    ensures path { path_of result.path ≡ schema_path (map named_text texts.now) }
+{
     Subject {
-        path,
+        path: schema_path(texts),
         texts,
         sources,
+    }
+}
+
+/// The path of the first file of a user.
+fn schema_path<'a>(texts: &[NamedText<'a>]) -> Option<&'a str>
+    ensures { path_of result ≡ schema_path (map named_text texts.now) }
+{
+    match texts.get(1) {
+        Some(named) => named.path,
+        None => BUILT_IN_TEXT.path,
     }
 }

@@ -1,28 +1,33 @@
-use Rattle.std.proofs.Common.{ap, sym, subst}
+use Rattle.std.proofs.Common.{◌≡◌, None, subst}
 use Rattle.graphql_parser.specs.declared.bounds.TheConstants as bounds
 use Rattle.graphql_frontend.specs.Schemas.{ReadsSchema}
+use Rattle.graphql_frontend.specs.declared.schemas.SchemaReading.TheVariants as reading
 use Rattle.graphql_answers.specs.declared.answers.Found.TheVariants.{Nothing, InSchema}
-use Rattle.graphql_answers.specs.Answers.{FindsInSchema, by_reading}
-use Rattle.graphql_answers.proofs.AnswerLemmas.{texts_are, told}
+use Rattle.graphql_answers.specs.Answers.{AreErrorsOf, FindsInSchema, IsErrorOfLack, by_reading, no_errors, schema_texts}
+use Rattle.graphql_answers.proofs.AnswerLemmas.{told}
 use Rattle.graphql_answers.proofs.schemas.answer.Goals as goal
 
 pub returns-in-Accepted-clause-found : goal.returns-in-Accepted-clause-found
 returns-in-Accepted-clause-found c =
-    told (FindsInSchema c.args.schema.now) c.nothing.result Nothing c.nothing.ensures.found
-    (by_reading c.as_slice.result.now
-    (texts_are (ap (λ t. t.now) c.schema_text-text.ensures) (sym c.as_slice.ensures) c.schema_sources-sources.ensures)
-    (subst (ReadsSchema bounds.Bounds.DEFAULT c.as_slice.result.now) c.in-Accepted.is c.in_ok-_schema.ensures.reads))
+    let sources = c.schema_sources-sources.result in
+    let reads = subst (ReadsSchema bounds.Bounds.DEFAULT c.as_slice.result.now) c.in-Accepted.is c.in_ok-_schema.ensures.reads in
+    told (FindsInSchema c.args.schema.now) c.nothing.result Nothing (λ object. object ≡ no_errors) c.nothing.ensures.found
+    (λ object is. by_reading object sources c.schema_sources-sources.ensures
+    (subst (λ l. ReadsSchema bounds.Bounds.DEFAULT l (reading.Accepted c.in-Accepted._schema)) c.as_slice.ensures reads) is)
 
 pub returns-in-Rejected-clause-found : goal.returns-in-Rejected-clause-found
 returns-in-Rejected-clause-found c =
-    told (FindsInSchema c.args.schema.now) c.reports_of_schema.result InSchema c.reports_of_schema.ensures.found
-    (by_reading c.as_slice.result.now
-    (texts_are (ap (λ t. t.now) c.schema_text-text.ensures) (sym c.as_slice.ensures) c.schema_sources-sources.ensures)
-    (subst (ReadsSchema bounds.Bounds.DEFAULT c.as_slice.result.now) c.in-Rejected.is c.in_ok-_schema.ensures.reads))
+    let sources = c.schema_sources-sources.result in
+    let reads = subst (ReadsSchema bounds.Bounds.DEFAULT c.as_slice.result.now) c.in-Rejected.is c.in_ok-_schema.ensures.reads in
+    told (FindsInSchema c.args.schema.now) c.reports_of_schema.result InSchema (AreErrorsOf (schema_texts sources) None sources c.in-Rejected.reports)
+    c.reports_of_schema.ensures.found
+    (λ object is. by_reading object sources c.schema_sources-sources.ensures
+    (subst (λ l. ReadsSchema bounds.Bounds.DEFAULT l (reading.Rejected c.in-Rejected.reports)) c.as_slice.ensures reads) is)
 
 pub returns-in-LacksIntrospection-clause-found : goal.returns-in-LacksIntrospection-clause-found
 returns-in-LacksIntrospection-clause-found c =
-    told (FindsInSchema c.args.schema.now) c.lack_of_introspection.result InSchema c.lack_of_introspection.ensures.found
-    (by_reading c.as_slice.result.now
-    (texts_are (ap (λ t. t.now) c.schema_text-text.ensures) (sym c.as_slice.ensures) c.schema_sources-sources.ensures)
-    (subst (ReadsSchema bounds.Bounds.DEFAULT c.as_slice.result.now) c.in-LacksIntrospection.is c.in_ok-_schema.ensures.reads))
+    let sources = c.schema_sources-sources.result in
+    let reads = subst (ReadsSchema bounds.Bounds.DEFAULT c.as_slice.result.now) c.in-LacksIntrospection.is c.in_ok-_schema.ensures.reads in
+    told (FindsInSchema c.args.schema.now) c.lack_of_introspection.result InSchema IsErrorOfLack c.lack_of_introspection.ensures.found
+    (λ object is. by_reading object sources c.schema_sources-sources.ensures
+    (subst (λ l. ReadsSchema bounds.Bounds.DEFAULT l reading.LacksIntrospection) c.as_slice.ensures reads) is)
