@@ -30,7 +30,7 @@ pub fn push_report(
         }
     }
     match subject.locate(report.original) {
-        Some(original) => push_note(out, original, palette),
+        Some(original) => push_note(out, original, note_of(report.rule), palette),
         None => Ok(()),
     }
 }
@@ -46,10 +46,26 @@ fn push_error(out: &mut String, message: &str, palette: Palette) -> Result<(), A
     writeln!(out, " {error}error:{end} {strong}{message}{end}")
 }
 
-fn push_note(out: &mut String, original: Located<'_>, palette: Palette) -> Result<(), AllocError> {
+/// Adds the other place, and what is there.
+fn push_note(
+    out: &mut String,
+    original: Located<'_>,
+    words: &str,
+    palette: Palette,
+) -> Result<(), AllocError> {
     push_place(out, original, palette)?;
     let Palette { note, end, .. } = palette;
-    writeln!(out, " {note}note:{end} first here")
+    writeln!(out, " {note}note:{end} {words}")
+}
+
+/// What is at the other place of a report of this rule: the declaration of the variable of a usage, and else the first of a
+/// repetition or of two fields in conflict.
+fn note_of(rule: &str) -> &'static str {
+    if rule == "DisallowedVariableUsage" {
+        "the variable is declared here"
+    } else {
+        "first here"
+    }
 }
 
 fn push_place(out: &mut String, located: Located<'_>, palette: Palette) -> Result<(), AllocError> {

@@ -43,6 +43,8 @@ const FILES: &[(&str, &[u8])] = &[
     ),
     ("twice", b"type Query { a: Int }\ntype Query { b: Int }\n"),
     ("rootless", b"type Pet { name: String }\n"),
+    ("lists", b"type Query { sum(of: [Int!]): Int }\n"),
+    ("misused", b"query($a: Int) { sum(of: [$a]) }\n"),
     ("binary", b"{ a\n \xC3\xA9\xFF }"),
 ];
 
@@ -211,6 +213,26 @@ fn several_files_are_one_document(rt: HostRuntime) {
 1 | fragment Named on Pet { name }
   |          ^^^^^
 both:2:10: note: first here
+";
+    run_ends(
+        &rt,
+        texts.as_slice(),
+        1,
+        printed,
+        "1 report in 1 of 1 document\n",
+    );
+}
+
+/// The other place of a usage of a variable is where the variable is declared.
+#[test]
+fn a_note_names_the_declaration_of_a_variable(rt: HostRuntime) {
+    let texts = ["check", "--schema", "lists", "misused"];
+    let printed =
+        "misused:1:27: error: variable `$a` of type `Int` used in position expecting type `Int!`
+  |
+1 | query($a: Int) { sum(of: [$a]) }
+  |                           ^^
+misused:1:7: note: the variable is declared here
 ";
     run_ends(
         &rt,

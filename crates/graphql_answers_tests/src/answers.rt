@@ -55,6 +55,19 @@ fn schemas_are_answered(rt: HostRuntime) {
     is_answer(&rt, validate_schema(alloc, b""), Found::InSchema, syntax);
 }
 
+/// The first definition of the type is in the file of the definitions that every schema has: locations name no file.
+#[test]
+fn a_place_in_another_file_is_no_location(rt: HostRuntime) {
+    let json =
+        "{\"errors\":[{\"message\":\"the type `__Type` is defined multiple times in the schema\",\"locations\":[{\"line\":1,\"column\":28}],\"extensions\":{\"rule\":\"TypeDefinitionCollision\",\"span\":{\"start\":27,\"end\":33}}}]}";
+    is_answer(
+        &rt,
+        validate_schema(rt.alloc(), b"type Query { a: Int } type __Type { b: Int }"),
+        Found::InSchema,
+        json,
+    );
+}
+
 /// The documents lie one behind another.
 #[test]
 fn each_document_is_answered(rt: HostRuntime) {

@@ -4,10 +4,20 @@
 #[cfg(test)]
 mod documents;
 #[cfg(test)]
+mod introspection;
+#[cfg(test)]
+mod limits;
+#[cfg(test)]
 mod nesting;
 #[cfg(test)]
 mod reach;
 #[cfg(test)]
+mod rules;
+#[cfg(test)]
 mod standalone;
+#[cfg(test)]
+mod subscriptions;
+#[cfg(test)]
+mod undefined_variables;
 #[cfg(test)]
 mod verdicts;
