@@ -1,6 +1,6 @@
 -- A text that is a document is read as it, and an error says what it is to say.
-use Rattle.std.proofs.Common.{◌≡◌, ℕ, zero, suc, List, [], ◌∷◌, ◌++◌, length, None, Some, Result, Ok, Err, refl, sym, subst, ◌∙◌, ap, arith}
-use Rattle.std.proofs.lemmas.List.{append_assoc, length-append}
+use Rattle.std.proofs.Common.{◌≡◌, ℕ, zero, suc, ◌-◌, ◌≤◌, List, [], ◌∷◌, ◌++◌, length, take, drop, None, Some, Result, Ok, Err, refl, sym, subst, ◌∙◌, ap, arith}
+use Rattle.std.proofs.lemmas.List.{append_assoc, append-nil, length-append, take-append-drop}
 use Rattle.graphql_nodes.specs.declared.spans.FileId.{FileId}
 use Rattle.graphql_tokens.specs.Ahead.{first_tokens}
 use Rattle.graphql_tokens.specs.Lexical.{AreTokens, Lexes, Scans}
@@ -14,15 +14,19 @@ use Rattle.graphql_syntax.specs.declared.refusals.Refusal.{Refusal}
 use Rattle.graphql_syntax.specs.declared.refusals.Refusal.TheVariants as refusal
 use Rattle.graphql_syntax.specs.Inputs.{Input}
 use Rattle.graphql_syntax.specs.Reading.{Fails}
-use Rattle.graphql_syntax.proofs.Locality.{changed}
+use Rattle.graphql_syntax.proofs.Locality.{Reaches, RefusedAt}
+use Rattle.graphql_completions.proofs.Likeness.{Alike}
+use Rattle.graphql_completions.proofs.WrittenTexts.{EndBy, alike_kept}
 use Rattle.graphql_parser.specs.declared.bounds.Bounds.{Bounds}
 use Rattle.graphql_parser.specs.declared.errors.SyntaxError.{SyntaxError}
 use Rattle.graphql_parser.specs.declared.errors.SyntaxError.TheVariants as errors
 use Rattle.graphql_parser.specs.Documents.{IsDocument}
 use Rattle.graphql_parser.specs.DocumentReaders.{whole_document_at}
 use Rattle.graphql_parser.specs.Parses.{whole_input, ParsesDocument}
-use Rattle.graphql_parser.specs.Refusals.{IsUnexpected, IsTooDeep, IsRefusal, stop_error, refusal_error}
-use Rattle.graphql_parser.proofs.WholeLemmas.{whole_sound, whole_read, whole_lost, whole_unfinished, whole_deep, lexes_first, token_there, no_token_there, changed_there, same_split, one_tree}
+use Rattle.graphql_parser.specs.Refusals.{AreBefore, IsUnexpected, IsTooDeep, IsRefusal, stop_error, refusal_error}
+use Rattle.graphql_parser.proofs.CompletionLemmas.{Completed, are_before, read_completed, read_reaches, whole_completed, whole_reaches, whole_unlike, whole_within}
+use Rattle.graphql_parser.proofs.PlaceLemmas.{placed}
+use Rattle.graphql_parser.proofs.WholeLemmas.{whole_sound, whole_read, whole_unfinished, whole_deep, lexes_first, token_there, no_token_there, same_split, one_tree}
 
 -- the tokens of a scan are those that the text begins with
 pub scanned : (bound : ℕ) (text : List ℕ) (tokens : List Token) (stop : Stop) → Scans bound text tokens stop → (rest : List ℕ) × Lexes (length text) text tokens rest
@@ -50,35 +54,78 @@ one_document bounds others file_id text a b x y =
     one_tree (whole_input file_id text x.tokens) bounds.depth others.depth a b x.end y.end x.is_document x.whole
     (subst (λ ts. IsDocument others.depth (whole_input file_id text ts) b y.end) same y.is_document) y.whole
 
+-- the tokens before one from which on so many are left
+before_refused : (bounds : Bounds) (file_id : FileId) (text : List ℕ) (tokens : List Token) (r : Refusal) (left : ℕ) → whole_document_at bounds.depth (whole_input file_id text tokens) ≡ Err r →
+    RefusedAt left r → (before after : List Token) (rest : List ℕ) (at : ℕ) → tokens ≡ before ++ after → length after ≡ left → Lexes (length text) text before rest →
+    at ≡ length text - length rest → AreBefore bounds file_id text at before
+before_refused bounds file_id text tokens r left e refused before after rest at split size lexes place =
+    let i = whole_input file_id text tokens in
+    are_before bounds file_id text before after rest at lexes place
+    (subst (λ n. Completed bounds.depth (whole_input file_id text (before ++ after)) n) (sym size)
+    (subst (λ ts. Completed bounds.depth (whole_input file_id text ts) left) split (whole_completed bounds.depth i r left e refused)))
+    (subst (λ n. Reaches bounds.depth (before ++ after) n) (sym size) (subst (λ ts. Reaches bounds.depth ts left) split (whole_reaches bounds.depth i r left e refused)))
+
+-- as many as may be at most
+scanned_few : (bound : ℕ) (text : List ℕ) (tokens : List Token) (stop : Stop) → Scans bound text tokens stop → length tokens ≤ bound
+scanned_few bound text tokens End s = s.1
+scanned_few bound text tokens (NoToken at) s = s.1
+scanned_few bound text tokens (TooMany at) s = omega (arith, s.1)
+
 -- the refused token
 unexpected_there : (bounds : Bounds) (file_id : FileId) (text : List ℕ) (tokens : List Token) (stop : Stop) (last : ℕ) (wanted : Expected) → Scans bounds.tokens text tokens stop →
     whole_document_at bounds.depth (whole_input file_id text tokens) ≡ Err (refusal.Unexpected (suc last) wanted) →
     IsRefusal bounds file_id text (refusal_error (refusal.Unexpected (suc last) wanted) tokens stop)
 unexpected_there bounds file_id text tokens stop last wanted s e =
     let i = whole_input file_id text tokens in
-    let (within, lost) = whole_lost bounds.depth i last wanted e in
-    let (before, t, after, split, found, size) = token_there (suc last) tokens (omega arith) (omega arith) in
+    let within = whole_within bounds.depth i (refusal.Unexpected (suc last) wanted) (suc last) e refl in
+    let (before, t, after, split, found, size) = token_there (suc last) tokens (omega arith) within in
     let (rest, lexes) = scanned bounds.tokens text tokens stop s in
     let (middle, first) = lexes_first (length text) text tokens rest lexes (before ++ t ∷ []) after (split ∙ sym (append_assoc before (t ∷ []) after)) in
-    let is : IsUnexpected file_id text t = record {
+    let p = placed text before t middle first in
+    let is : IsUnexpected bounds file_id text t = record {
       before = before;
       rest = middle;
       lexes = first;
-      none = λ others any tree end document whole.
-          let same : changed last others i ≡ whole_input file_id text (before ++ t ∷ others) =
-          ap (λ ts. changed last others (whole_input file_id text ts)) split ∙
-          ap (λ ts. whole_input file_id text ts) (changed_there last others before t after (omega arith)) in
-          lost others any tree end (subst (λ k. IsDocument any k tree end) (sym same) document) whole;
+      few = omega (arith, scanned_few bounds.tokens text tokens stop s, ap length split, length-append before (t ∷ after));
+      are_before = before_refused bounds file_id text tokens (refusal.Unexpected (suc last) wanted) (suc last) e refl before (t ∷ after) p.begins t.start split (omega (arith, size)) p.lexes p.start;
+      none = λ other same others any tree end document whole.
+          whole_unlike bounds.depth i last wanted e (whole_input file_id other (before ++ t ∷ others)) after others
+          (record { file_id = refl; ended = refl; tokens = alike text other before t after others tokens split p.ends p.within same }) (omega (arith, size)) any tree end document whole;
     } in
-    rw (found, IsRefusal) is
+    rw (found, IsRefusal) is where
+      alike : (text other : List ℕ) (before : List Token) (t : Token) (after others tokens : List Token) → tokens ≡ before ++ t ∷ after → EndBy t.end (before ++ t ∷ []) → t.end ≤ length text →
+          take t.end other ≡ take t.end text → Alike text other after others tokens (before ++ t ∷ others)
+      alike text other before t after others tokens split ends within same =
+          subst (λ ts. Alike text other after others ts (before ++ t ∷ others)) (append_assoc before (t ∷ []) after ∙ sym split)
+          (subst (λ ts. Alike text other after others ((before ++ t ∷ []) ++ after) ts) (append_assoc before (t ∷ []) others)
+          (subst (λ o. Alike text o after others ((before ++ t ∷ []) ++ after) ((before ++ t ∷ []) ++ others)) (ap (λ l. l ++ drop t.end other) (sym same) ∙ take-append-drop t.end other)
+          (alike_kept text (drop t.end other) t.end (before ++ t ∷ []) after others within ends)))
+
+-- where all tokens are read and more are to come, or none is refused
+at_stop : (bounds : Bounds) (file_id : FileId) (text : List ℕ) (tokens : List Token) (rest : List ℕ) (at : ℕ) → Completed bounds.depth (whole_input file_id text tokens) 0 →
+    Reaches bounds.depth tokens 0 → Lexes (length text) text tokens rest → at ≡ length text - length rest → AreBefore bounds file_id text at tokens
+at_stop bounds file_id text tokens rest at c reaches lexes place =
+    are_before bounds file_id text tokens [] rest at lexes place (subst (λ ts. Completed bounds.depth (whole_input file_id text ts) 0) (sym (append-nil tokens)) c)
+    (subst (λ ts. Reaches bounds.depth ts 0) (sym (append-nil tokens)) reaches)
 
 unexpected_end : (bounds : Bounds) (file_id : FileId) (text : List ℕ) (tokens : List Token) (stop : Stop) (wanted : Expected) → Scans bounds.tokens text tokens stop →
     whole_document_at bounds.depth (whole_input file_id text tokens) ≡ Err (refusal.Unexpected 0 wanted) →
     IsRefusal bounds file_id text (refusal_error (refusal.Unexpected 0 wanted) tokens stop)
-unexpected_end bounds file_id text tokens End wanted s e =
-    rw (no_token_there tokens, IsRefusal) (tokens, s.0, λ any tree end is whole. whole_unfinished bounds.depth (whole_input file_id text tokens) 0 wanted e any tree end is whole)
-unexpected_end bounds file_id text tokens (NoToken at) wanted s e = rw (no_token_there tokens, IsRefusal) (tokens, s.0, s.1)
-unexpected_end bounds file_id text tokens (TooMany at) wanted s e = rw (no_token_there tokens, IsRefusal) (tokens, s.0, s.1)
+unexpected_end bounds file_id text tokens stop wanted s e =
+    by stop s (whole_completed bounds.depth (whole_input file_id text tokens) (refusal.Unexpected 0 wanted) 0 e refl)
+    (whole_reaches bounds.depth (whole_input file_id text tokens) (refusal.Unexpected 0 wanted) 0 e refl) where
+      by : (stop : Stop) → Scans bounds.tokens text tokens stop → Completed bounds.depth (whole_input file_id text tokens) 0 → Reaches bounds.depth tokens 0 →
+          IsRefusal bounds file_id text (refusal_error (refusal.Unexpected 0 wanted) tokens stop)
+      by End s c reaches =
+          rw (no_token_there tokens, IsRefusal) (
+            tokens,
+            s.0,
+            s.1,
+            λ any tree end is whole. whole_unfinished bounds.depth (whole_input file_id text tokens) 0 wanted e any tree end is whole,
+            at_stop bounds file_id text tokens [] (length text) c reaches s.0 (omega arith),
+          )
+      by (NoToken at) s c reaches = rw (no_token_there tokens, IsRefusal) (tokens, s.0, s.1, at_stop bounds file_id text tokens s.0.rest at c reaches s.0.lexes s.0.place)
+      by (TooMany at) s c reaches = rw (no_token_there tokens, IsRefusal) (tokens, s.0, s.1, at_stop bounds file_id text tokens s.0.rest at c reaches s.0.lexes s.0.place)
 
 too_deep_there : (bounds : Bounds) (file_id : FileId) (text : List ℕ) (tokens : List Token) (stop : Stop) (left : ℕ) → Scans bounds.tokens text tokens stop →
     whole_document_at bounds.depth (whole_input file_id text tokens) ≡ Err (refusal.TooDeep left) →
@@ -93,10 +140,13 @@ too_deep_there bounds file_id text tokens stop left s e =
     let (same_before, same_token) = same_split before deep.before t deep.opening after deep.after (sym split ∙ all) (omega arith) in
     let opens = deep.opens in
     let as_many = deep.as_many in
-    let is : IsTooDeep bounds.depth text t = record {
+    let p = placed text before t middle first in
+    let is : IsTooDeep bounds file_id text t = record {
       before = before;
       rest = middle;
       lexes = first;
+      few = omega (arith, scanned_few bounds.tokens text tokens stop s, ap length split, length-append before (t ∷ after));
+      are_before = before_refused bounds file_id text tokens (refusal.TooDeep left) left e refl before (t ∷ after) p.begins t.start split (omega (arith, count)) p.lexes p.start;
       opens = record {
         before = before;
         opening = t;
@@ -143,11 +193,19 @@ end_no_error End error s e = let b : ⊥ = cc in b
 end_no_error (NoToken at) error s e = let b : ⊥ = cc in b
 end_no_error (TooMany at) error s e = let b : ⊥ = cc in b
 
-pub stopped : (bounds : Bounds) (file_id : FileId) (text : List ℕ) (tokens : List Token) (stop : Stop) (error : SyntaxError) → Scans bounds.tokens text tokens stop →
-    stop_error stop ≡ Some error → IsRefusal bounds file_id text error
-stopped bounds file_id text tokens End error s e = absurd (let b : ⊥ = cc in b)
-stopped bounds file_id text tokens (NoToken at) error s e = let same : errors.NoToken at ≡ error = cc in subst (IsRefusal bounds file_id text) same (tokens, s.0, s.1)
-stopped bounds file_id text tokens (TooMany at) error s e = let same : errors.TooManyTokens at ≡ error = cc in subst (IsRefusal bounds file_id text) same (tokens, s.0, s.1)
+pub stopped : (bounds : Bounds) (file_id : FileId) (text : List ℕ) (tokens : List Token) (stop : Stop) (error : SyntaxError) (tree : Document) → Scans bounds.tokens text tokens stop →
+    stop_error stop ≡ Some error → whole_document_at bounds.depth (whole_input file_id text tokens) ≡ Ok tree → IsRefusal bounds file_id text error
+stopped bounds file_id text tokens stop error tree s e read =
+    by stop s e (read_completed bounds.depth (whole_input file_id text tokens) tree read) (read_reaches bounds.depth (whole_input file_id text tokens) tree read) where
+      by : (stop : Stop) → Scans bounds.tokens text tokens stop → stop_error stop ≡ Some error → Completed bounds.depth (whole_input file_id text tokens) 0 → Reaches bounds.depth tokens 0 →
+          IsRefusal bounds file_id text error
+      by End s e c reaches = absurd (let b : ⊥ = cc in b)
+      by (NoToken at) s e c reaches =
+          let same : errors.NoToken at ≡ error = cc in
+          subst (IsRefusal bounds file_id text) same (tokens, s.0, s.1, at_stop bounds file_id text tokens s.0.rest at c reaches s.0.lexes s.0.place)
+      by (TooMany at) s e c reaches =
+          let same : errors.TooManyTokens at ≡ error = cc in
+          subst (IsRefusal bounds file_id text) same (tokens, s.0, s.1, at_stop bounds file_id text tokens s.0.rest at c reaches s.0.lexes s.0.place)
 
 -- a cursor before all tokens
 same_input : (i : Input) (file_id : FileId) (text : List ℕ) (tokens : List Token) → i.file_id ≡ file_id → i.source ≡ text → i.tokens ≡ tokens → i.ended ≡ 0 →

@@ -2,7 +2,7 @@
 use Rattle.std.proofs.Common.{◌≡◌, ℕ, suc, ◌+◌, ◌-◌, ◌<◌, ◌≤◌, false, cond, nat_lt, ◌⊎◌, inl, inr, List, [], ◌∷◌, ◌++◌, length, take, drop, None, Some, Result, Ok, Err, refl, sym, subst, ◌∙◌, ap, arith}
 use Rattle.std.proofs.lemmas.Bool.Decides.{nat_tests}
 use Rattle.std.proofs.Math.Seq.{drop-length}
-use Rattle.std.proofs.lemmas.List.{append_assoc, length-append, length-drop, take-append-drop, take_at}
+use Rattle.std.proofs.lemmas.List.{length-append, length-drop, take-append-drop}
 use Rattle.graphql_tokens.specs.declared.token.Token.{Token}
 use Rattle.graphql_tokens.specs.Lexical.{Lexes, nothing, ignored, token, token_between}
 use Rattle.graphql_trees.specs.declared.documents.Document.{Document}
@@ -12,22 +12,21 @@ use Rattle.graphql_syntax.specs.declared.refusals.Refusal.{Refusal}
 use Rattle.graphql_syntax.specs.declared.refusals.Refusal.TheVariants.{Unexpected, TooDeep}
 use Rattle.graphql_syntax.specs.Inputs.{Input}
 use Rattle.graphql_syntax.specs.Reading.{and_then}
-use Rattle.graphql_syntax.proofs.Locality.{changed, with_others}
 use Rattle.graphql_parser.specs.Documents.{IsDocument}
 use Rattle.graphql_parser.specs.DocumentReaders.{document_at, no_more, whole_document_at}
 use Rattle.graphql_parser.specs.Refusals.{first_token, refused_token}
 use Rattle.graphql_parser.proofs.DocumentLemmas.{document_sound, document_read, document_local, document_grows_by}
 
 -- a part of a chain
-and_then_ok : {A B : Type 0} (r : Result A Refusal) (f : A → Result B Refusal) (y : B) → and_then r f ≡ Ok y → (x : A) × (r ≡ Ok x) × (f x ≡ Ok y)
+pub and_then_ok : {A B : Type 0} (r : Result A Refusal) (f : A → Result B Refusal) (y : B) → and_then r f ≡ Ok y → (x : A) × (r ≡ Ok x) × (f x ≡ Ok y)
 and_then_ok (Ok x) f y e = (x, refl, e)
 and_then_ok (Err g) f y e = absurd (let b : ⊥ = cc in b)
 
-and_then_err : {A B : Type 0} (r : Result A Refusal) (f : A → Result B Refusal) (g : Refusal) → and_then r f ≡ Err g → (r ≡ Err g) ⊎ ((x : A) × (r ≡ Ok x) × (f x ≡ Err g))
+pub and_then_err : {A B : Type 0} (r : Result A Refusal) (f : A → Result B Refusal) (g : Refusal) → and_then r f ≡ Err g → (r ≡ Err g) ⊎ ((x : A) × (r ≡ Ok x) × (f x ≡ Err g))
 and_then_err (Ok x) f g e = inr (x, refl, e)
 and_then_err (Err h) f g e = let same : h ≡ g = cc in inl (ap Err same)
 
-no_more_is : (x y : Document) (end : Input) (tokens : List Token) → no_more x end tokens ≡ Ok y → (tokens ≡ []) × (x ≡ y)
+pub no_more_is : (x y : Document) (end : Input) (tokens : List Token) → no_more x end tokens ≡ Ok y → (tokens ≡ []) × (x ≡ y)
 no_more_is x y end [] e = (refl, let same : x ≡ y = cc in same)
 no_more_is x y end (t ∷ rest) e = absurd (let b : ⊥ = cc in b)
 
@@ -42,21 +41,14 @@ pub whole_read : (depth : ℕ) (i : Input) (tree : Document) (end : Input) → I
 unfolding whole_document_at
 whole_read depth i tree end is whole = rw (document_read depth i tree end is whole, whole) refl
 
-not_empty : (last : ℕ) (others tokens : List Token) → length tokens ≡ suc last → with_others last others tokens ≡ [] → ⊥
-not_empty last others [] n e = omega arith
-not_empty last others (t ∷ rest) n e =
-    let one : suc (length rest) - last ≡ suc (length rest - last) = omega arith in
-    let same : with_others last others (t ∷ rest) ≡ t ∷ with_others last others rest = rw one refl in
-    let b : ⊥ = cc in b
-
 -- what is read or refused, but for its depth, is so where more levels may be
-read_further : (more depth : ℕ) (i : Input) (found : Document × Input) → document_at depth i ≡ Ok found → document_at (more + depth) i ≡ Ok found
+pub read_further : (more depth : ℕ) (i : Input) (found : Document × Input) → document_at depth i ≡ Ok found → document_at (more + depth) i ≡ Ok found
 read_further more depth i found e = by ((document_grows_by more depth).same i) where
   by : (document_at depth i ≡ document_at (more + depth) i) ⊎ ((left : ℕ) × (document_at depth i ≡ Err (TooDeep left))) → document_at (more + depth) i ≡ Ok found
   by (inl same) = sym same ∙ e
   by (inr h) = absurd (let f = h.1 in let b : ⊥ = cc in b)
 
-refused_further : (more depth : ℕ) (i : Input) (left : ℕ) (wanted : Expected) → whole_document_at depth i ≡ Err (Unexpected left wanted) →
+pub refused_further : (more depth : ℕ) (i : Input) (left : ℕ) (wanted : Expected) → whole_document_at depth i ≡ Err (Unexpected left wanted) →
     whole_document_at (more + depth) i ≡ Err (Unexpected left wanted)
 unfolding whole_document_at
 refused_further more depth i left wanted e = by ((document_grows_by more depth).same i) where
@@ -65,51 +57,7 @@ refused_further more depth i left wanted e = by ((document_grows_by more depth).
   by (inl same) = rw (← same) e
   by (inr h) = absurd (let deep = h.1 in let f = rw deep at e in let b : ⊥ = cc in b)
 
--- with the token from which on so many are left no document is read on, whatever follows it
-lost_at : (depth : ℕ) (i : Input) (last : ℕ) (wanted : Expected) → whole_document_at depth i ≡ Err (Unexpected (suc last) wanted) →
-    (last < length i.tokens) × ((others : List Token) (tree : Document) (end : Input) → document_at depth (changed last others i) ≡ Ok (tree, end) → end.tokens ≡ [] → ⊥)
-unfolding whole_document_at
-lost_at depth i last wanted e = elim (and_then_err (document_at depth i) (λ found. no_more found.0 found.1 found.1.tokens) (Unexpected (suc last) wanted) e) [
-  | inl h ↦
-      let near = (document_local depth).near in
-      let (there, _) = near.lost last [] i wanted h in (
-        there,
-        λ others tree end read whole.
-            let (again, failed) = near.lost last others i wanted h in
-            let (x, f) = failed in
-            let b : ⊥ = cc in b,
-      )
-  | inr h ↦ left h.0 h.1 h.0.1.tokens refl h.2
-] where
-  left : (found : Document × Input) → document_at depth i ≡ Ok found → (tokens : List Token) → found.1.tokens ≡ tokens →
-      no_more found.0 found.1 tokens ≡ Err (Unexpected (suc last) wanted) →
-      (last < length i.tokens) × ((others : List Token) (tree : Document) (end : Input) → document_at depth (changed last others i) ≡ Ok (tree, end) → end.tokens ≡ [] → ⊥)
-  left found is [] s f = absurd (let b : ⊥ = cc in b)
-  left found is (t ∷ rest) s f =
-      let size : length found.1.tokens ≡ suc last = cc in
-      let near = (document_local depth).near in
-      let less = near.less i found is in (
-        omega arith,
-        λ others tree end read whole.
-            let again = near.kept last others i found is (omega arith) in
-            let both : (found.0, changed last others found.1) ≡ (tree, end) = cc in
-            let none : with_others last others found.1.tokens ≡ [] = ap (λ (q : Document × Input). q.1.tokens) both ∙ whole in
-            not_empty last others found.1.tokens size none,
-      )
-
--- nor is there any, however deep
-pub whole_lost : (depth : ℕ) (i : Input) (last : ℕ) (wanted : Expected) → whole_document_at depth i ≡ Err (Unexpected (suc last) wanted) →
-    (last < length i.tokens) ×
-    ((others : List Token) (any : ℕ) (tree : Document) (end : Input) → IsDocument any (changed last others i) tree end → end.tokens ≡ [] → ⊥)
-whole_lost depth i last wanted e = (
-  (lost_at depth i last wanted e).0,
-  λ others any tree end is whole.
-      let same : depth + any ≡ any + depth = omega arith in
-      let read = read_further depth any (changed last others i) (tree, end) (document_read any (changed last others i) tree end is whole) in
-      let there : document_at (any + depth) (changed last others i) ≡ Ok (tree, end) = rw (← same) read in
-      (lost_at (any + depth) i last wanted (refused_further any depth i (suc last) wanted e)).1 others tree end there whole,
-)
-
+-- what is refused at any token, or at the end, is no document, however deep
 pub whole_unfinished : (depth : ℕ) (i : Input) (left : ℕ) (wanted : Expected) → whole_document_at depth i ≡ Err (Unexpected left wanted) →
     (any : ℕ) (tree : Document) (end : Input) → IsDocument any i tree end → end.tokens ≡ [] → ⊥
 unfolding whole_document_at
@@ -182,16 +130,6 @@ no_token_there tokens =
     let all : length tokens - 0 ≡ length tokens = omega arith in
     let within : nat_lt (length tokens) 0 ≡ false = grind (arith, nat_tests) in
     rw (within, all, drop-length tokens) refl
-
--- the changed tokens are those up to the refused one, and others
-pub changed_there : (last : ℕ) (others before : List Token) (t : Token) (after : List Token) → length after ≡ last →
-    with_others last others (before ++ t ∷ after) ≡ before ++ t ∷ others
-changed_there last others before t after n =
-    let size : length (before ++ t ∷ after) - last ≡ length (before ++ t ∷ []) =
-    omega (arith, length-append before (t ∷ after), length-append before (t ∷ [])) in
-    let front : before ++ t ∷ after ≡ (before ++ t ∷ []) ++ after = sym (append_assoc before (t ∷ []) after) in
-    ap (λ n. take n (before ++ t ∷ after) ++ others) size ∙ ap (λ l. take (length (before ++ t ∷ [])) l ++ others) front ∙
-    ap (λ l. l ++ others) (take_at (before ++ t ∷ []) after (length (before ++ t ∷ [])) refl) ∙ append_assoc before (t ∷ []) others
 
 -- a list is split in one way where what is behind has one length
 pub same_split : (a b : List Token) (t u : Token) (r s : List Token) → a ++ t ∷ r ≡ b ++ u ∷ s → length r ≡ length s → (a ≡ b) × (t ≡ u)

@@ -1,5 +1,5 @@
 -- What an error says. Specification: 2.2 Document, and Appendix B Grammar Summary.
-use Rattle.std.specs.Prelude.{◌≡◌, ℕ, ◌-◌, ◌≤◌, nat_lt, List, [], ◌∷◌, ◌++◌, length, drop, Option, None, Some, if◌then◌else◌}
+use Rattle.std.specs.Prelude.{◌≡◌, ℕ, ◌-◌, ◌<◌, ◌≤◌, nat_lt, List, [], ◌∷◌, ◌++◌, length, take, drop, Option, None, Some, if◌then◌else◌}
 use Rattle.graphql_nodes.specs.declared.spans.FileId.{FileId}
 use Rattle.graphql_tokens.specs.Lexical.{AreTokens, BreaksOff, GoesOn, Lexes}
 use Rattle.graphql_tokens.specs.declared.lexer.Stop.{Stop}
@@ -25,33 +25,64 @@ error_at text (errors.Unexpected None expected) = length text
 error_at text (errors.Unexpected (Some token) expected) = token.start
 error_at text (errors.TooDeep token) = token.start
 
+-- the token that an error names, if any
+abbrev pub error_token : SyntaxError → Option Token
+error_token errors.OutOfMemory = None
+error_token (errors.NoToken at) = None
+error_token (errors.TooManyTokens at) = None
+error_token (errors.Unexpected token expected) = token
+error_token (errors.TooDeep token) = Some token
+
 -- these tokens are no document, however deep it may be
 abbrev pub IsNoDocument : FileId → List ℕ → List Token → Type 0
 IsNoDocument file_id text tokens =
     (depth : ℕ) (tree : Document) (end : Input) → IsDocument depth (whole_input file_id text tokens) tree end → end.tokens ≡ [] → ⊥
 
--- the text begins with tokens up to this one, and with it, with which no document begins, whatever tokens follow
-pub record IsUnexpected (file_id : FileId) (text : List ℕ) (token : Token) : Type 0 where
+-- some document begins with these tokens, in a text that begins with the bytes before this place
+pub record BeginsDocument (file_id : FileId) (text : List ℕ) (at : ℕ) (tokens : List Token) : Type 0 where
+  pub more : List ℕ
+  pub others : List Token
+  pub depth : ℕ
+  pub tree : Document
+  pub end : Input
+  pub are_tokens : AreTokens (take at text ++ more) (tokens ++ others)
+  pub is_document : IsDocument depth (whole_input file_id (take at text ++ more) (tokens ++ others)) tree end
+  pub whole : end.tokens ≡ []
+
+-- the tokens before an error at this place: some document begins with them, and no more brackets and braces open in them than may be open
+pub record AreBefore (bounds : Bounds) (file_id : FileId) (text : List ℕ) (at : ℕ) (tokens : List Token) : Type 0 where
+  pub begins : BeginsDocument file_id text at tokens
+  pub shallow : (left : ℕ) → OpensTooDeep bounds.depth tokens left → ⊥
+
+-- the text begins with tokens up to this one, and with it, with which no document begins, whatever follows the bytes and the tokens up to its end
+pub record IsUnexpected (bounds : Bounds) (file_id : FileId) (text : List ℕ) (token : Token) : Type 0 where
   pub before : List Token
   pub rest : List ℕ
   pub lexes : Lexes (length text) text (before ++ token ∷ []) rest
-  pub none : (others : List Token) → IsNoDocument file_id text (before ++ token ∷ others)
+  pub few : length before < bounds.tokens
+  pub are_before : AreBefore bounds file_id text token.start before
+  pub none : (other : List ℕ) → take token.end other ≡ take token.end text → (others : List Token) → IsNoDocument file_id other (before ++ token ∷ others)
 
 -- the text begins with tokens up to this one, with which one more bracket or brace opens than may be open
-pub record IsTooDeep (depth : ℕ) (text : List ℕ) (token : Token) : Type 0 where
+pub record IsTooDeep (bounds : Bounds) (file_id : FileId) (text : List ℕ) (token : Token) : Type 0 where
   pub before : List Token
   pub rest : List ℕ
   pub lexes : Lexes (length text) text (before ++ token ∷ []) rest
-  pub opens : OpensTooDeep depth (before ++ token ∷ []) 1
+  pub few : length before < bounds.tokens
+  pub are_before : AreBefore bounds file_id text token.start before
+  pub opens : OpensTooDeep bounds.depth (before ++ token ∷ []) 1
 
 -- of refused memory nothing is said
 abbrev pub IsRefusal : Bounds → FileId → List ℕ → SyntaxError → Type 0
 IsRefusal bounds file_id text errors.OutOfMemory = Unit {0}
-IsRefusal bounds file_id text (errors.NoToken at) = (tokens : List Token) × BreaksOff text tokens at × (length tokens ≤ bounds.tokens)
-IsRefusal bounds file_id text (errors.TooManyTokens at) = (tokens : List Token) × GoesOn text tokens at × (length tokens ≡ bounds.tokens)
-IsRefusal bounds file_id text (errors.Unexpected None expected) = (tokens : List Token) × AreTokens text tokens × IsNoDocument file_id text tokens
-IsRefusal bounds file_id text (errors.Unexpected (Some token) expected) = IsUnexpected file_id text token
-IsRefusal bounds file_id text (errors.TooDeep token) = IsTooDeep bounds.depth text token
+IsRefusal bounds file_id text (errors.NoToken at) =
+    (tokens : List Token) × BreaksOff text tokens at × (length tokens ≤ bounds.tokens) × AreBefore bounds file_id text at tokens
+IsRefusal bounds file_id text (errors.TooManyTokens at) =
+    (tokens : List Token) × GoesOn text tokens at × (length tokens ≡ bounds.tokens) × AreBefore bounds file_id text at tokens
+IsRefusal bounds file_id text (errors.Unexpected None expected) =
+    (tokens : List Token) × AreTokens text tokens × (length tokens ≤ bounds.tokens) × IsNoDocument file_id text tokens × AreBefore bounds file_id text (length text) tokens
+IsRefusal bounds file_id text (errors.Unexpected (Some token) expected) = IsUnexpected bounds file_id text token
+IsRefusal bounds file_id text (errors.TooDeep token) = IsTooDeep bounds file_id text token
 
 -- the token from which on so many are left
 abbrev pub first_token : List Token → Option Token

@@ -21,7 +21,8 @@ use std::alloc::Global;
 /// The document that the text is, with the places of its parts in this file. Where the text is no
 /// document within the bounds, the error is where no token begins, at the first token above the bound,
 /// at a token with which no document begins after those before it, at a bracket or brace that opens too
-/// deep, or at the end. Fails too where an allocation fails, and of a text of 4 GiB or more.
+/// deep, or at the end; and some document begins with the tokens before that place. Fails too where an
+/// allocation fails, and of a text of 4 GiB or more.
 ///
 /// Specification: 2.2 Document, and Appendix B Grammar Summary.
 pub fn parse_document(

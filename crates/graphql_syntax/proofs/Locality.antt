@@ -1,6 +1,6 @@
 -- A reader answers by the tokens that it reads and the one behind them; between them brackets are
 -- balanced, and it refuses as too deep only where more are open than may be.
-use Rattle.std.proofs.Common.{◌≡◌, ℕ, suc, ◌+◌, ◌-◌, ◌<◌, ◌≤◌, Bool, true, false, ◌⊎◌, inl, inr, List, [], ◌∷◌, ◌++◌, length, take, Result, Ok, Err, refl, sym, subst, ◌∙◌, ap, arith}
+use Rattle.std.proofs.Common.{◌≡◌, ℕ, zero, suc, ◌+◌, ◌-◌, ◌<◌, ◌≤◌, Bool, true, false, ◌⊎◌, inl, inr, List, [], ◌∷◌, ◌++◌, length, take, if◌then◌else◌, Option, None, Some, Result, Ok, Err, refl, sym, subst, ◌∙◌, ap, arith}
 use Rattle.std.proofs.lemmas.List.{append_assoc, length-append}
 use Rattle.graphql_nodes.specs.declared.spans.SourceSpan.{SourceSpan}
 use Rattle.graphql_tokens.specs.declared.token.Token.{Token}
@@ -12,7 +12,7 @@ use Rattle.graphql_syntax.specs.Keywords.{keyword_text}
 use Rattle.graphql_syntax.specs.declared.keywords.Keyword.{Keyword}
 use Rattle.graphql_syntax.specs.declared.refusals.Expected.{Expected}
 use Rattle.graphql_syntax.specs.declared.refusals.Refusal.{Refusal}
-use Rattle.graphql_syntax.specs.declared.refusals.Refusal.TheVariants.{Unexpected, TooDeep}
+use Rattle.graphql_syntax.specs.declared.refusals.Refusal.TheVariants.{OutOfMemory, Unexpected, TooDeep}
 use Rattle.graphql_syntax.specs.Depths.{is_opening, is_closing, how_many, OpensTooDeep}
 use Rattle.graphql_syntax.specs.Inputs.{same_kind, Input, TokenTest, is_kind, is_keyword, is_string, first_passes, next_passes, behind_first, behind, first_start, start_of, first_text, next_text, text_of, span_from, TakesOne}
 use Rattle.graphql_syntax.specs.Reading.{Reader, answer, refuse, sequence, choose, starting, place}
@@ -26,14 +26,42 @@ with_others last others tokens = take (length tokens - last) tokens ++ others
 abbrev pub changed : ℕ → List Token → Input → Input
 changed last others i = record { file_id = i.file_id; source = i.source; tokens = with_others last others i.tokens; ended = i.ended }
 
+-- so many tokens are left where it refuses
+abbrev pub RefusedAt : ℕ → Refusal → Type 0
+RefusedAt left OutOfMemory = ⊥
+RefusedAt left (Unexpected n wanted) = n ≡ left
+RefusedAt left (TooDeep n) = n ≡ left
+
+abbrev pub one_level_less : ℕ → Option ℕ
+one_level_less zero = None
+one_level_less (suc room) = Some room
+
+-- how many brackets and braces more may open behind a token, and behind tokens, where no more opened than may
+abbrev pub level_behind : ℕ → TokenKind → Option ℕ
+level_behind room kind = if is_opening kind then one_level_less room else Some (if is_closing kind then suc room else room)
+
+abbrev pub levels_left : ℕ → List Token → Option ℕ
+levels_left room [] = Some room
+levels_left room (t ∷ rest) = elim (level_behind room t.kind) [ None ↦ None | Some behind ↦ levels_left behind rest ]
+
 abbrev pub Refuses : {A : Type 0} → Result A Refusal → Type 0
 Refuses r = (f : Refusal) × (r ≡ Err f)
 
--- j is behind i, and brackets are balanced between them
-pub record Steps (i j : Input) : Type 0 where
+-- j is behind i, and between them brackets are balanced and no more opens than may
+pub record Steps (depth : ℕ) (i j : Input) : Type 0 where
   pub front : List Token
   pub split : i.tokens ≡ front ++ j.tokens
   pub balanced : how_many is_opening front ≡ how_many is_closing front
+  pub levels : levels_left depth front ≡ Some depth
+
+-- no more opens than may before the last so many tokens
+pub record Reaches (depth : ℕ) (tokens : List Token) (left : ℕ) : Type 0 where
+  pub front : List Token
+  pub rest : List Token
+  pub split : tokens ≡ front ++ rest
+  pub place : length rest ≡ left
+  pub room : ℕ
+  pub levels : levels_left depth front ≡ Some room
 
 -- it answers by what it reads and the token behind that
 pub record Near {A : Type 0} (p : Reader A) : Type 0 where
@@ -45,25 +73,55 @@ pub record Near {A : Type 0} (p : Reader A) : Type 0 where
 
 pub record Local {A : Type 0} (depth : ℕ) (p : Reader A) : Type 0 where
   pub near : Near p
-  pub steps : (i : Input) (r : A × Input) → p i ≡ Ok r → Steps i r.1
+  pub steps : (i : Input) (r : A × Input) → p i ≡ Ok r → Steps depth i r.1
   pub deep : (i : Input) (left : ℕ) → p i ≡ Err (TooDeep left) → OpensTooDeep depth i.tokens left
+  pub reaches : (i : Input) (f : Refusal) (left : ℕ) → p i ≡ Err f → RefusedAt left f → Reaches depth i.tokens left
 
 -- fewer tokens are left behind it
 abbrev pub Moves : {A : Type 0} → Reader A → Type 0
 Moves {A} p = (i : Input) (r : A × Input) → p i ≡ Ok r → length r.1.tokens < length i.tokens
 
-pub steps_length : (i j : Input) → Steps i j → length j.tokens ≤ length i.tokens
-steps_length i j s = omega (arith, ap length s.split, length-append s.front j.tokens)
+pub steps_length : (depth : ℕ) (i j : Input) → Steps depth i j → length j.tokens ≤ length i.tokens
+steps_length depth i j s = omega (arith, ap length s.split, length-append s.front j.tokens)
 
 pub how_many_append : (test : TokenKind → Bool) (a b : List Token) → how_many test (a ++ b) ≡ how_many test a + how_many test b
 how_many_append test [] b = omega arith
 how_many_append test (t ∷ rest) b = omega (arith, how_many_append test rest b)
 
-steps_none : (i : Input) → Steps i i
-steps_none i = record { front = []; split = refl; balanced = refl }
+-- behind tokens that are together
+pub levels_append : (room : ℕ) (a b : List Token) (behind : ℕ) → levels_left room a ≡ Some behind → levels_left room (a ++ b) ≡ levels_left behind b
+levels_append room [] b behind e = let same : room ≡ behind = cc in ap (λ n. levels_left n b) same
+levels_append room (t ∷ a) b behind e = by (level_behind room t.kind) (λ n h. levels_append n a b behind h) e where
+  by : (o : Option ℕ) → ((n : ℕ) → levels_left n a ≡ Some behind → levels_left n (a ++ b) ≡ levels_left behind b) →
+      elim o [ None ↦ None | Some n ↦ levels_left n a ] ≡ Some behind → elim o [ None ↦ None | Some n ↦ levels_left n (a ++ b) ] ≡ levels_left behind b
+  by None again e = absurd (let h : ⊥ = cc in h)
+  by (Some n) again e = again n e
 
-pub steps_both : (i m j : Input) → Steps i m → Steps m j → Steps i j
-steps_both i m j s t = record {
+-- behind one token
+level_first : (room : ℕ) (t : Token) (rest : List Token) (behind : ℕ) → level_behind room t.kind ≡ Some behind → levels_left room (t ∷ rest) ≡ levels_left behind rest
+level_first room t rest behind e = ap (λ o. elim o [ None ↦ None | Some n ↦ levels_left n rest ]) e
+
+pub levels_plain : (room : ℕ) (t : Token) (rest : List Token) → is_opening t.kind ≡ false → is_closing t.kind ≡ false → levels_left room (t ∷ rest) ≡ levels_left room rest
+levels_plain room t rest a b = level_first room t rest room (by t.kind a b) where
+  by : (kind : TokenKind) → is_opening kind ≡ false → is_closing kind ≡ false → level_behind room kind ≡ Some room
+  by kind a b = rw (a, b) refl
+
+pub levels_opening : (room : ℕ) (t : Token) (rest : List Token) → is_opening t.kind ≡ true → levels_left (suc room) (t ∷ rest) ≡ levels_left room rest
+levels_opening room t rest a = level_first (suc room) t rest room (by t.kind a) where
+  by : (kind : TokenKind) → is_opening kind ≡ true → level_behind (suc room) kind ≡ Some room
+  by kind a = rw a refl
+
+pub levels_closing : (room : ℕ) (t : Token) (rest : List Token) → is_opening t.kind ≡ false → is_closing t.kind ≡ true → levels_left room (t ∷ rest) ≡ levels_left (suc room) rest
+levels_closing room t rest a b = level_first room t rest (suc room) (by t.kind a b) where
+  by : (kind : TokenKind) → is_opening kind ≡ false → is_closing kind ≡ true → level_behind room kind ≡ Some (suc room)
+  by kind a b = rw (a, b) refl
+
+steps_none : (depth : ℕ) (i : Input) → Steps depth i i
+steps_none depth i = record { front = []; split = refl; balanced = refl; levels = refl }
+
+pub steps_both : (depth : ℕ) (i m j : Input) → Steps depth i m → Steps depth m j → Steps depth i j
+steps_both depth i m j s t = record {
+  levels = levels_append depth s.front t.front depth s.levels ∙ t.levels;
   front = s.front ++ t.front;
   split = s.split ∙ ap (λ l. s.front ++ l) t.split ∙ sym (append_assoc s.front t.front j.tokens);
   balanced =
@@ -76,7 +134,25 @@ steps_both i m j s t = record {
       );
 }
 
-pub deep_behind : (depth : ℕ) (i m : Input) (left : ℕ) → Steps i m → OpensTooDeep depth m.tokens left → OpensTooDeep depth i.tokens left
+-- where the first token is refused
+pub reaches_here : (depth : ℕ) (i : Input) (left : ℕ) → length i.tokens ≡ left → Reaches depth i.tokens left
+reaches_here depth i left n = record { front = []; rest = i.tokens; split = refl; place = n; room = depth; levels = refl }
+
+pub reaches_unexpected : (depth : ℕ) (i : Input) (wanted : Expected) (f : Refusal) (left : ℕ) → f ≡ Unexpected (length i.tokens) wanted → RefusedAt left f → Reaches depth i.tokens left
+reaches_unexpected depth i wanted f left e at = reaches_here depth i left (subst (RefusedAt left) e at)
+
+-- and where one behind is
+pub reaches_behind : (depth : ℕ) (i m : Input) (left : ℕ) → Steps depth i m → Reaches depth m.tokens left → Reaches depth i.tokens left
+reaches_behind depth i m left s d = record {
+  front = s.front ++ d.front;
+  rest = d.rest;
+  split = s.split ∙ ap (λ l. s.front ++ l) d.split ∙ sym (append_assoc s.front d.front d.rest);
+  place = d.place;
+  room = d.room;
+  levels = levels_append depth s.front d.front depth s.levels ∙ d.levels;
+}
+
+pub deep_behind : (depth : ℕ) (i m : Input) (left : ℕ) → Steps depth i m → OpensTooDeep depth m.tokens left → OpensTooDeep depth i.tokens left
 deep_behind depth i m left s d = record {
   before = s.front ++ d.before;
   opening = d.opening;
@@ -143,14 +219,14 @@ takes_less test i j is = let same = is.then_behind in let seen = is.comes in rw 
 abbrev pub IsPlain : TokenTest → Type 0
 IsPlain test = (source : List ℕ) (t : Token) → test source t ≡ true → (is_opening t.kind ≡ false) × (is_closing t.kind ≡ false)
 
-pub steps_one : (test : TokenTest) → IsPlain test → (i : Input) → next_passes test i ≡ true → Steps i (behind i)
+pub steps_one : (depth : ℕ) (test : TokenTest) → IsPlain test → (i : Input) → next_passes test i ≡ true → Steps depth i (behind i)
 unfolding next_passes behind
-steps_one test plain i e = by i.tokens refl e where
-  by : (tokens : List Token) → i.tokens ≡ tokens → first_passes test i.source tokens ≡ true → Steps i (behind_first i tokens)
+steps_one depth test plain i e = by i.tokens refl e where
+  by : (tokens : List Token) → i.tokens ≡ tokens → first_passes test i.source tokens ≡ true → Steps depth i (behind_first i tokens)
   by [] s e = absurd (let b : ⊥ = cc in b)
   by (t ∷ rest) s e =
       let p = plain i.source t e in
-      record { front = t ∷ []; split = s; balanced = rw (p.0, p.1) refl }
+      record { front = t ∷ []; split = s; balanced = rw (p.0, p.1) refl; levels = levels_plain depth t [] p.0 p.1 }
 
 same_plain : (found kind : TokenKind) → is_opening kind ≡ false → is_closing kind ≡ false → same_kind found kind ≡ true → (is_opening found ≡ false) × (is_closing found ≡ false)
 unfolding same_kind
@@ -188,8 +264,9 @@ local_answer {A} depth x = record {
     kept = λ last others i r e h. let same : (x, i) ≡ r = cc in ap (λ (p : A × Input). let q : Result (A × Input) Refusal = Ok (p.0, changed last others p.1) in q) same;
     lost = λ last others i wanted e. absurd (let b : ⊥ = cc in b);
   };
-  steps = λ i r e. subst (λ j. Steps i j) (answer_ok x i r e).1 (steps_none i);
+  steps = λ i r e. subst (λ j. Steps depth i j) (answer_ok x i r e).1 (steps_none depth i);
   deep = λ i left e. absurd (let b : ⊥ = cc in b);
+  reaches = λ i f left e at. absurd (let b : ⊥ = cc in b);
 }
 
 pub local_place : (depth : ℕ) (start : ℕ) → Local depth (place start)
@@ -200,8 +277,9 @@ local_place depth start = record {
     kept = λ last others i r e h. let same : (span_from start i, i) ≡ r = cc in ap (λ (p : SourceSpan × Input). let q : Result (SourceSpan × Input) Refusal = Ok (p.0, changed last others p.1) in q) same;
     lost = λ last others i wanted e. absurd (let b : ⊥ = cc in b);
   };
-  steps = λ i r e. let same : (span_from start i, i) ≡ r = cc in subst (λ (p : SourceSpan × Input). Steps i p.1) same (steps_none i);
+  steps = λ i r e. let same : (span_from start i, i) ≡ r = cc in subst (λ (p : SourceSpan × Input). Steps depth i p.1) same (steps_none depth i);
   deep = λ i left e. absurd (let b : ⊥ = cc in b);
+  reaches = λ i f left e at. absurd (let b : ⊥ = cc in b);
 }
 
 pub local_refuse : {A : Type 0} (depth : ℕ) (wanted : Expected) → Local {A = A} depth (refuse wanted)
@@ -214,6 +292,7 @@ local_refuse {A} depth wanted = record {
   };
   steps = λ i r e. absurd (let b : ⊥ = cc in b);
   deep = λ i left e. absurd (let b : ⊥ = cc in b);
+  reaches = λ i f left e at. let same : f ≡ Unexpected (length i.tokens) wanted = cc in reaches_unexpected depth i wanted f left same at;
 }
 
 -- one reader, and then the other
@@ -240,8 +319,12 @@ near_sequence {A} {B} p q f g = record {
 pub local_sequence : {A B : Type 0} (depth : ℕ) (p : Reader A) (q : A → Reader B) → Local depth p → ((x : A) → Local depth (q x)) → Local depth (sequence p q)
 local_sequence {A} {B} depth p q f g = record {
   near = near_sequence p q f.near (λ x. (g x).near);
-  steps = λ i r e. let (m, em, e1) = sequence_ok p q i r e in steps_both i m.1 r.1 (f.steps i m em) ((g m.0).steps m.1 r e1);
+  steps = λ i r e. let (m, em, e1) = sequence_ok p q i r e in steps_both depth i m.1 r.1 (f.steps i m em) ((g m.0).steps m.1 r e1);
   deep = λ i left e. deep i left (sequence_err p q i (TooDeep left) e);
+  reaches = λ i r left e at. elim (sequence_err p q i r e) [
+    | inl h ↦ f.reaches i r left h at
+    | inr h ↦ reaches_behind depth i h.0.1 left (f.steps i h.0 h.1) ((g h.0.0).reaches h.0.1 r left h.2 at)
+  ];
 } where
   deep : (i : Input) (left : ℕ) →
       (p i ≡ Err (TooDeep left)) ⊎ ((found : A × Input) × (p i ≡ Ok found) × (q found.0 found.1 ≡ Err (TooDeep left))) → OpensTooDeep depth i.tokens left
@@ -280,6 +363,7 @@ local_choose {A} depth test p q f g = record {
   near = near_choose test p q f.near g.near;
   steps = λ i r e. elim (choose_ok test p q i r e) [ inl h ↦ f.steps i r h.1 | inr h ↦ g.steps i r h.1 ];
   deep = λ i left e. elim (choose_err test p q i (TooDeep left) e) [ inl h ↦ f.deep i left h.1 | inr h ↦ g.deep i left h.1 ];
+  reaches = λ i r left e at. elim (choose_err test p q i r e) [ inl h ↦ f.reaches i r left h.1 at | inr h ↦ g.reaches i r left h.1 at ];
 }
 
 -- a reader that knows where it began
@@ -301,4 +385,5 @@ local_starting {A} depth f g = record {
   near = near_starting f (λ start. (g start).near);
   steps = λ i r e. (g (start_of i)).steps i r e;
   deep = λ i left e. (g (start_of i)).deep i left e;
+  reaches = λ i r left e at. (g (start_of i)).reaches i r left e at;
 }

@@ -212,6 +212,7 @@ local_many depth test item found one moves = record {
   near = near_many test item found one.near moves;
   steps = λ i r e. (local_many_from depth test item one (length i.tokens) found).steps i r e;
   deep = λ i left e. (local_many_from depth test item one (length i.tokens) found).deep i left e;
+  reaches = λ i f left e at. (local_many_from depth test item one (length i.tokens) found).reaches i f left e at;
 }
 
 pub local_some : {A : Type 0} (depth : ℕ) (test : TokenTest) (item : Reader A) → Local depth item → Moves item → Local depth (some_of test item)

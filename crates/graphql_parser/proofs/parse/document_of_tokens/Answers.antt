@@ -5,7 +5,7 @@ use Rattle.graphql_syntax.specs.Reading.{Fails, input}
 use Rattle.graphql_parser.specs.DocumentReaders.{whole_document_at}
 use Rattle.graphql_parser.specs.Parses.{whole_input}
 use Rattle.graphql_parser.specs.Refusals.{IsRefusal, refusal_error}
-use Rattle.graphql_parser.proofs.ParseLemmas.{parsed, only, refused, failed_only, no_stop, end_no_error, before_all}
+use Rattle.graphql_parser.proofs.ParseLemmas.{parsed, only, refused, failed_only, no_stop, end_no_error, before_all, stopped}
 use Rattle.graphql_parser.proofs.parse.document_of_tokens.Goals as goal
 
 pub returns-in-Err-clause-only : goal.returns-in-Err-clause-only
@@ -31,6 +31,14 @@ pub returns-in-Some-clause-only : goal.returns-in-Some-clause-only
 returns-in-Some-clause-only c = λ tree is.
     let (end, read) = only c.args.bounds c.args.file_id c.args.text.now (first_tokens (length c.args.text.now) c.args.extent.tokens c.args.text.now) c.args.extent.stop tree c.requires.scanned is in
     absurd (end_no_error c.args.extent.stop c.in-Some.error end (sym c.stop_error.ensures ∙ c.in-Some.is))
+
+pub returns-in-Some-clause-refused : goal.returns-in-Some-clause-refused
+returns-in-Some-clause-refused c =
+    let e = c.new-cursor.ensures in
+    let same = before_all (input c.new-cursor.result) c.args.file_id c.args.text.now c.as_bytes.result.now c.args.extent.tokens c.as_bytes.ensures.value e.file_id e.source e.tokens e.ended in
+    let read = subst (λ (i : Input). whole_document_at c.args.bounds.depth i ≡ Ok c.in-Ok.document) same c.in-Ok.ensures in
+    stopped c.args.bounds c.args.file_id c.args.text.now (first_tokens (length c.args.text.now) c.args.extent.tokens c.args.text.now) c.args.extent.stop c.in-Some.error c.in-Ok.document
+    c.requires.scanned (sym c.stop_error.ensures ∙ c.in-Some.is) read
 
 pub returns-in-None-clause-found : goal.returns-in-None-clause-found
 returns-in-None-clause-found c =

@@ -1,0 +1,13 @@
+pub mod Likeness
+pub mod Completions
+pub mod Choices
+pub mod Repetitions
+pub mod TokenReaders
+pub mod SyntaxReaders
+pub mod ExecutableReaders
+pub mod PartReaders
+pub mod TypeSystemReaders
+pub mod DefinitionReaders
+pub mod ExtensionReaders
+pub mod ChangedTexts
+pub mod WrittenTexts
