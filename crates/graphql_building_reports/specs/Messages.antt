@@ -1,5 +1,5 @@
 -- The texts of the messages of building rules.
-use Rattle.std.specs.Prelude.{ℕ, List, ◌++◌, codes}
+use Rattle.std.specs.Prelude.{ℕ, List, ◌++◌, None, Some, codes}
 use Rattle.graphql_nodes.specs.OperationTypes.{operation_type_text}
 use Rattle.graphql_building_reports.specs.declared.kinds.ExecutableKind.{ExecutableKind}
 use Rattle.graphql_building_reports.specs.declared.kinds.ExecutableKind.TheVariants as executable
@@ -55,6 +55,9 @@ building_message (rule.UndefinedTypeInNamedFragmentTypeCondition type_name fragm
     codes "type condition `" ++ (type_name.text ++ (codes "` of fragment `" ++ (fragment_name.text ++ codes "` is not a type defined in the schema")))
 building_message (rule.UndefinedTypeInInlineFragmentTypeCondition type_name) =
     codes "type condition `" ++ (type_name.text ++ codes "` of inline fragment is not a type defined in the schema")
+building_message (rule.InvalidFragmentTarget (Some name)) =
+    codes "fragment `" ++ (name.text ++ codes "` must have a composite type in its type condition")
+building_message (rule.InvalidFragmentTarget None) = codes "inline fragment must have a composite type in its type condition"
 building_message (rule.UndefinedField type_name field_name) =
     codes "type `" ++ (type_name.text ++ (codes "` does not have a field `" ++ (field_name.text ++ codes "`")))
 building_message (rule.SubselectionOnLeafType k type_name) =
@@ -70,6 +73,9 @@ building_message (rule.DirectiveDefinitionCollision name original) =
 building_message (rule.OrphanTypeExtension name) = codes "type extension for undefined type `" ++ (name.text ++ codes "`")
 building_message (rule.TypeExtensionKindMismatch name extension definition original) =
     codes "adding " ++ (type_words extension ++ (codes " extension, but `" ++ (name.text ++ (codes "` is " ++ type_words definition))))
+building_message (rule.BuiltInTypeExtension name) = codes "the built-in type `" ++ (name.text ++ codes "` must not be extended")
+building_message (rule.ImplementedNonInterface name definition original) =
+    codes "only interfaces can be implemented, but `" ++ (name.text ++ (codes "` is " ++ type_words definition))
 building_message rule.OrphanSchemaExtension = codes "schema extension without a schema definition"
 building_message (rule.MemberNameCollision k type_name name original) =
     codes "duplicate definitions for the `" ++ (name.text ++ (codes "` " ++ (member_words k ++ (codes " of " ++ (type_kind_words k ++ (codes " `" ++ (type_name.text ++ codes "`")))))))

@@ -39,6 +39,10 @@ pub enum BuildingRule {
     UndefinedTypeInInlineFragmentTypeCondition {
         type_name: Name,
     },
+    /// The type condition of a fragment, or of an inline fragment, which has no name, is no composite type.
+    InvalidFragmentTarget {
+        fragment_name: Option<Name>,
+    },
     /// The type lacks the field.
     UndefinedField {
         type_name: Name,
@@ -82,6 +86,16 @@ pub enum BuildingRule {
     TypeExtensionKindMismatch {
         name: Name,
         extension: TypeKind,
+        definition: TypeKind,
+        original: Option<SourceSpan>,
+    },
+    /// A type is extended that every schema has.
+    BuiltInTypeExtension {
+        name: Name,
+    },
+    /// A type is implemented that is no interface.
+    ImplementedNonInterface {
+        name: Name,
         definition: TypeKind,
         original: Option<SourceSpan>,
     },
@@ -143,6 +157,15 @@ impl fmt::Display for BuildingRule {
                 f,
                 "type condition `{type_name}` of inline fragment is not a type defined in the schema"
             ),
+            BuildingRule::InvalidFragmentTarget {
+                fragment_name: Some(name),
+            } => write!(
+                f,
+                "fragment `{name}` must have a composite type in its type condition"
+            ),
+            BuildingRule::InvalidFragmentTarget {
+                fragment_name: None,
+            } => { f.write_str("inline fragment must have a composite type in its type condition") }
             BuildingRule::UndefinedField {
                 type_name,
                 field_name,
@@ -186,6 +209,20 @@ impl fmt::Display for BuildingRule {
                 let adding = extension.with_article();
                 let defined = definition.with_article();
                 write!(f, "adding {adding} extension, but `{name}` is {defined}")
+            }
+            BuildingRule::BuiltInTypeExtension { name } => {
+                write!(f, "the built-in type `{name}` must not be extended")
+            }
+            BuildingRule::ImplementedNonInterface {
+                name,
+                definition,
+                ..
+            } => {
+                let defined = definition.with_article();
+                write!(
+                    f,
+                    "only interfaces can be implemented, but `{name}` is {defined}"
+                )
             }
             BuildingRule::OrphanSchemaExtension => {
                 f.write_str("schema extension without a schema definition")

@@ -88,12 +88,12 @@ fn fields_of_extensions_come_last_with_their_numbers(rt: HostRuntime) {
 }
 
 #[test]
-fn object_types_of_the_default_names_are_roots(rt: HostRuntime) {
+fn types_of_the_default_names_are_roots(rt: HostRuntime) {
     let schema = built(&rt, rt.alloc(), TEXT);
     let definition = &schema.schema_definition.value;
     assert_eq!(rt; root(&definition.query), "Query");
     assert_eq!(rt; root(&definition.mutation), "Mutation");
-    assert_eq!(rt; root(&definition.subscription), "-");
+    assert_eq!(rt; root(&definition.subscription), "Subscription");
 }
 
 #[test]

@@ -1,5 +1,5 @@
 -- When a document can be built, against a schema or without one, and selections on their types. Specification: 5.3.1 Field
--- Selections, 5.3.3 Leaf Field Selections, 5.5.1.2 Fragment Spread Type Existence.
+-- Selections, 5.3.3 Leaf Field Selections, 5.5.1.2 Fragment Spread Type Existence, 5.5.1.3 Fragments On Composite Types.
 use Rattle.std.specs.Prelude.{◌≡◌, IsTrue, List, [], ◌∷◌, Option, None, Some, Ok, All, map}
 use Rattle.graphql_nodes.specs.Names.{AreDistinct, NameText}
 use Rattle.graphql_documents.specs.Schemas.{type_field}
@@ -15,7 +15,7 @@ use Rattle.graphql_trees.specs.declared.documents.Definition.TheVariants as defi
 use Rattle.graphql_trees.specs.declared.documents.Document.{Document}
 use Rattle.graphql_trees.specs.declared.executable.OperationDefinition.{OperationDefinition}
 use Rattle.graphql_trees.specs.declared.executable.FragmentDefinition.{FragmentDefinition}
-use Rattle.graphql_document_building.specs.Trees.{StandsOn, anonymous_operations_in, fragments_in, is_type_defined, named_operations_in, operations_in, root_name, is_condition_defined, names_leaf_type, type_below}
+use Rattle.graphql_document_building.specs.Trees.{StandsOn, anonymous_operations_in, fragments_in, is_type_composite, named_operations_in, operations_in, root_name, is_condition_composite, names_leaf_type, type_below}
 
 -- the type has the field, and this selects nothing from a scalar or an enum
 pub record FieldBuilds (schema : Schema) (here : NameText) (f : Field) : Type 0 where
@@ -27,7 +27,7 @@ pub record FieldBuilds (schema : Schema) (here : NameText) (f : Field) : Type 0 
 pub record SelectionsBuild (schema : Schema) (parent : NameText) (trees : List Selection) : Type 0 where
   pub fields : (f : Field) (here : NameText) → StandsOn schema parent trees (tree.Field f) here → FieldBuilds schema here f
   pub inline_fragments : (i : InlineFragment) (here : NameText) → StandsOn schema parent trees (tree.InlineFragment i) here →
-      IsTrue (is_condition_defined schema i.type_condition)
+      IsTrue (is_condition_composite schema i.type_condition)
 
 -- so can one selection
 abbrev pub SelectionBuilds : Schema → NameText → Selection → Type 0
@@ -45,10 +45,10 @@ pub record OperationBuilds (schema : Schema) (x : OperationDefinition) : Type 0 
   pub defined : root_name schema x.operation_type ≡ Some root
   pub selections : SelectionsBuild schema root x.selection_set.selections
 
--- the type condition of the fragment is a defined type, on which its selections can be built. Specification: 5.5.1.2
--- Fragment Spread Type Existence
+-- the type condition of the fragment is a composite type, on which its selections can be built. Specification: 5.5.1.2
+-- Fragment Spread Type Existence, 5.5.1.3 Fragments On Composite Types
 pub record FragmentBuilds (schema : Schema) (x : FragmentDefinition) : Type 0 where
-  pub defined : IsTrue (is_type_defined schema x.type_condition)
+  pub composite : IsTrue (is_type_composite schema x.type_condition)
   pub selections : SelectionsBuild schema x.type_condition x.selection_set.selections
 
 -- the definition is an operation or a fragment that can be built; without a schema each can. Specification: 5.1.1

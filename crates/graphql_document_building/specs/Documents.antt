@@ -1,6 +1,7 @@
 -- What documents say, once they are built against a schema, or without one. Specification: 2.2 Document, 2.3 Operations, 2.8 Fragments.
 use Rattle.std.specs.Prelude.{◌≡◌, Option, None, Ok, Some, codes, option_to_list}
 use Rattle.std.specs.List.{AllZip}
+use Rattle.indexmap.specs.IndexMap.{hasher_of}
 use Rattle.graphql_nodes.specs.Names.{NameText}
 use Rattle.graphql_nodes.specs.declared.nodes.Node.{Node}
 use Rattle.graphql_documents.specs.Schemas.{NamesKind, is_output_type, type_field}
@@ -12,6 +13,7 @@ use Rattle.graphql_documents.specs.declared.documents.executables.Operation.{Ope
 use Rattle.graphql_documents.specs.declared.documents.schemas.Schema.{Schema}
 use Rattle.graphql_nodes.specs.declared.operation_types.OperationType.{OperationType}
 use Rattle.graphql_nodes.specs.declared.operation_types.OperationType.TheVariants.{Query, Mutation, Subscription}
+use Rattle.graphql_hash_seeds.specs.declared.seeds.HashSeed.{HashSeed}
 use Rattle.graphql_trees.specs.declared.documents.Document.{Document}
 use Rattle.graphql_trees.specs.declared.executable.FragmentDefinition.{FragmentDefinition}
 use Rattle.graphql_trees.specs.declared.executable.OperationDefinition.{OperationDefinition}
@@ -60,6 +62,10 @@ pub record DocumentSays (schema : Option Schema) (x : Document) (document : Exec
   pub anonymous : AllZip (OperationSays schema) (anonymous_operations_in x.definitions) (option_to_list document.operations.anonymous)
   pub named : AllZip (SaysUnderName (OperationSays schema)) (named_operations_in x.definitions) document.operations.named.entries
   pub fragments : AllZip (SaysUnderName (FragmentSays schema)) (fragments_in x.definitions) document.fragments.entries
+
+-- the maps of the document hash names by this seed
+abbrev pub HashesBy : HashSeed → ExecutableDocument → Type 0
+HashesBy seed document = (hasher_of document.operations.named ≡ seed) × (hasher_of document.fragments ≡ seed)
 
 -- each field that a type has is of an output type. Specification: 3.6 Objects, 3.7 Interfaces
 abbrev pub HasOutputFields : Schema → Type 0

@@ -1,10 +1,10 @@
 -- What a syntax tree holds: its executable definitions by kind, and the types on which its selections are. Specification: 2.2 Document, 2.3
 -- Operations, 2.4 Selection Sets, 2.8 Fragments.
-use Rattle.std.specs.Prelude.{◌≡◌, Bool, true, false, IsTrue, IsFalse, List, [], Option, None, Some, Ok, Contains, is_none, is_some, if◌then◌else◌, unwrap_or}
+use Rattle.std.specs.Prelude.{◌≡◌, Bool, true, false, IsTrue, IsFalse, List, [], Option, None, Some, Ok, Contains, is_none, if◌then◌else◌, unwrap_or}
 use Rattle.std.specs.List.{filter_map}
 use Rattle.std.specs.Option.{option_map, option_map_or}
 use Rattle.graphql_nodes.specs.Names.{NameText}
-use Rattle.graphql_documents.specs.Schemas.{root_operation, type_definition, type_field}
+use Rattle.graphql_documents.specs.Schemas.{is_composite, root_operation, type_definition, type_field}
 use Rattle.graphql_documents.specs.TypeReferences.{inner_named_type}
 use Rattle.graphql_documents.specs.declared.documents.components.Component.{Component}
 use Rattle.graphql_documents.specs.declared.documents.definitions.FieldDefinition.{FieldDefinition}
@@ -37,21 +37,21 @@ is_leaf_type _ = false
 abbrev pub names_leaf_type : Schema → NameText → Bool
 names_leaf_type schema name = option_map_or is_leaf_type (type_definition schema name) false
 
--- a type has this name
-abbrev pub is_type_defined : Schema → NameText → Bool
-is_type_defined schema name = is_some (type_definition schema name)
+-- the name is that of a composite type: an object, an interface or a union. Specification: 5.5.1.3 Fragments On Composite Types
+abbrev pub is_type_composite : Schema → NameText → Bool
+is_type_composite schema name = option_map_or is_composite (type_definition schema name) false
 
--- the type condition, if there is one, is a defined type
-abbrev pub is_condition_defined : Schema → Option NameText → Bool
-is_condition_defined schema None = true
-is_condition_defined schema (Some condition) = is_type_defined schema condition
+-- the type condition, if there is one, is a composite type
+abbrev pub is_condition_composite : Schema → Option NameText → Bool
+is_condition_composite schema None = true
+is_condition_composite schema (Some condition) = is_type_composite schema condition
 
 -- the type of what a field gives
 abbrev pub type_below : Component FieldDefinition → NameText
 type_below d = inner_named_type d.node.value.value.ty
 
 -- s is one of these selections, which are on the first type, or is below them, on the second type. Below a field that its type lacks, below a scalar
--- or an enum, and under a condition that is not defined, nothing has a type
+-- or an enum, and under a condition that is no composite type, nothing has a type
 pub data StandsOn (schema : Schema) : NameText → List Selection → Selection → NameText → Type 0 where
   stands_here : {parent : NameText} {trees : List Selection} {s : Selection} →
       Contains trees s → StandsOn schema parent trees s parent
@@ -63,7 +63,7 @@ pub data StandsOn (schema : Schema) : NameText → List Selection → Selection 
       StandsOn schema parent trees s here
   stands_in_inline_fragment : {parent here : NameText} {trees : List Selection} {s : Selection} (i : InlineFragment) →
       Contains trees (tree.InlineFragment i) →
-      IsTrue (is_condition_defined schema i.type_condition) →
+      IsTrue (is_condition_composite schema i.type_condition) →
       StandsOn schema (unwrap_or i.type_condition parent) i.selection_set.selections s here →
       StandsOn schema parent trees s here
 

@@ -3,12 +3,12 @@
 ghost use Rattle.std.specs.Prelude.{◌≡◌, [], ◌∷◌, ◌++◌, All, IfOk, None, OnOk, Some, map, option_to_list};
 ghost use Rattle.std.specs.List.{AllZip};
 ghost use Rattle.std.specs.Option.{option_copied, option_map};
-ghost use Rattle.indexmap.specs.IndexMap.{get};
+ghost use Rattle.indexmap.specs.IndexMap.{get, hasher_of};
 ghost use Rattle.graphql_nodes.specs.Names.{AreDistinct, same_name};
 ghost use Rattle.graphql_document_building.specs.BuildingRules.{AnonymousOperationIsAlone, DefinitionBuilds, DocumentBuilds};
 ghost use Rattle.graphql_trees.specs.declared.documents.Definition.TheVariants as definition;
 ghost use Rattle.graphql_document_building.specs.FieldDefinitions.{IsProper, schema_of};
-ghost use Rattle.graphql_document_building.specs.Documents.{DocumentSays, FragmentSays, OperationSays, SaysUnderName};
+ghost use Rattle.graphql_document_building.specs.Documents.{DocumentSays, FragmentSays, HashesBy, OperationSays, SaysUnderName};
 ghost use Rattle.graphql_document_building.specs.Trees.{anonymous_operations_in, as_anonymous_operation, as_fragment, as_named_operation, fragments_in, named_operations_in};
 
 use crate::field_definitions::{FieldDefinitions, unknown_field};
@@ -32,7 +32,8 @@ pub fn build_document(
     tree: &Document,
 ) -> Result<ExecutableDocument, ValidationError>
     requires { DocumentBuilds (Some schema.now) tree.now }
-    ensures { IfOk result (DocumentSays (Some schema.now) tree.now) }
+    ensures says { IfOk result (DocumentSays (Some schema.now) tree.now) }
+    ensures seed { IfOk result (HashesBy hash_seed) }
 {
     build_definitions(alloc, hash_seed, &FieldDefinitions::OfSchema(schema), tree)
 }
@@ -47,7 +48,8 @@ pub fn build_standalone_document(
     tree: &Document,
 ) -> Result<ExecutableDocument, ValidationError>
     requires { DocumentBuilds None tree.now }
-    ensures { IfOk result (DocumentSays None tree.now) }
+    ensures says { IfOk result (DocumentSays None tree.now) }
+    ensures seed { IfOk result (HashesBy hash_seed) }
 {
     let unknown = unknown_field(alloc)?;
     build_definitions(alloc, hash_seed, &FieldDefinitions::Unknown(&unknown), tree)
@@ -61,7 +63,8 @@ fn build_definitions(
 ) -> Result<ExecutableDocument, ValidationError>
     requires proper { IsProper definitions.now }
     requires builds { DocumentBuilds (schema_of definitions.now) tree.now }
-    ensures { IfOk result (DocumentSays (schema_of definitions.now) tree.now) }
+    ensures says { IfOk result (DocumentSays (schema_of definitions.now) tree.now) }
+    ensures seed { IfOk result (HashesBy hash_seed) }
 {
     let trees = tree.definitions.as_slice();
     let anonymous = build_anonymous_operation(alloc, definitions, trees)?;
@@ -101,7 +104,8 @@ fn build_named_operations(
     requires proper { IsProper definitions.now }
     requires builds { All (DefinitionBuilds (schema_of definitions.now)) trees.now }
     requires distinct { AreDistinct (map (λ p. p.0) (named_operations_in trees.now)) }
-    ensures { IfOk result (λ named. AllZip (SaysUnderName (OperationSays (schema_of definitions.now))) (named_operations_in trees.now) named.entries) }
+    ensures seed { IfOk result (λ named. hasher_of named ≡ hash_seed) }
+    ensures says { IfOk result (λ named. AllZip (SaysUnderName (OperationSays (schema_of definitions.now))) (named_operations_in trees.now) named.entries) }
 {
     let mut operations = IndexMap::with_hasher(alloc, hash_seed);
     for tree in trees {
@@ -124,7 +128,8 @@ fn build_fragments(
     requires proper { IsProper definitions.now }
     requires builds { All (DefinitionBuilds (schema_of definitions.now)) trees.now }
     requires distinct { AreDistinct (map (λ p. p.0) (fragments_in trees.now)) }
-    ensures { IfOk result (λ fragments. AllZip (SaysUnderName (FragmentSays (schema_of definitions.now))) (fragments_in trees.now) fragments.entries) }
+    ensures seed { IfOk result (λ fragments. hasher_of fragments ≡ hash_seed) }
+    ensures says { IfOk result (λ fragments. AllZip (SaysUnderName (FragmentSays (schema_of definitions.now))) (fragments_in trees.now) fragments.entries) }
 {
     let mut fragments = IndexMap::with_hasher(alloc, hash_seed);
     for tree in trees {
@@ -178,7 +183,8 @@ fn insert_new<T: Drop>(
     node: Node<T>,
 ) -> Result<(), ValidationError>
     requires { get same_name nodes.old name ≡ None }
-    ensures { OnOk result (nodes.new.entries ≡ nodes.old.entries ++ (name, node) ∷ []) }
+    ensures added { OnOk result (nodes.new.entries ≡ nodes.old.entries ++ (name, node) ∷ []) }
+    ensures seed { hasher_of nodes.new ≡ hasher_of nodes.old }
 {
     nodes.insert(name, node)?;
     Ok(())

@@ -4,7 +4,7 @@ use Rattle.std.specs.Prelude.{◌⊎◌, is_some, unwrap_or}
 use Rattle.std.proofs.lemmas.List.Elements.{All-contains}
 use Rattle.graphql_nodes.specs.Names.{NameText}
 use Rattle.graphql_documents.proofs.ListLemmas.{each_standing, only_one, stands_first}
-use Rattle.graphql_documents.specs.Schemas.{type_definition, type_field}
+use Rattle.graphql_documents.specs.Schemas.{is_composite, type_definition, type_field}
 use Rattle.graphql_documents.specs.declared.documents.components.Component.{Component}
 use Rattle.graphql_documents.specs.declared.documents.definitions.FieldDefinition.{FieldDefinition}
 use Rattle.graphql_documents.specs.declared.documents.schemas.ExtendedType.{ExtendedType}
@@ -20,8 +20,8 @@ use Rattle.graphql_trees.specs.declared.executable.Selection.TheVariants as tree
 use Rattle.graphql_trees.specs.declared.executable.SelectionSet.{SelectionSet}
 use Rattle.graphql_document_building.proofs.BuildsLemmas.{field_builds, nothing_builds, one_builds, set_below_builds, set_of_fragment_builds, stands_among}
 use Rattle.graphql_document_building.specs.BuildingRules.{FieldBuilds, SelectionBuilds, SelectionsBuild}
-use Rattle.graphql_document_building.specs.Trees.{StandsOn, is_condition_defined, names_leaf_type, selections_in, stands_below_field, stands_here, stands_in_inline_fragment, type_below}
-use Rattle.graphql_document_checking.specs.Reports.{IsSelectionReport, IsSetReport, SelectsFromLeaf, SetBuilds, lacks_condition, lacks_field, leaf_kind, selects_from_leaf}
+use Rattle.graphql_document_building.specs.Trees.{StandsOn, is_condition_composite, is_type_composite, names_leaf_type, selections_in, stands_below_field, stands_here, stands_in_inline_fragment, type_below}
+use Rattle.graphql_document_checking.specs.Reports.{IsSelectionReport, IsSetReport, SelectsFromLeaf, SetBuilds, has_invalid_condition, lacks_condition, lacks_field, leaf_kind, selects_from_leaf}
 use Rattle.graphql_building_reports.specs.declared.lists.BuildingReport.{BuildingReport}
 use Rattle.graphql_building_reports.specs.declared.rules.BuildingRule.TheVariants as rule
 use Rattle.graphql_building_reports.specs.declared.kinds.LeafKind.{LeafKind}
@@ -201,7 +201,7 @@ module _ (schema : Schema) where
       inr (is_no_leaf ty is, subst (λ xs. IsSelectionReport schema ty xs r) (all ∙ ap selections_in (sym some)) report)
 
   -- ==== an inline fragment
-  module _ (parent ty : NameText) (i : InlineFragment) (xs : List Selection) (defined : IsTrue (is_condition_defined schema i.type_condition))
+  module _ (parent ty : NameText) (i : InlineFragment) (xs : List Selection) (defined : IsTrue (is_condition_composite schema i.type_condition))
       (is : ty ≡ unwrap_or i.type_condition parent) (all : xs ≡ i.selection_set.selections) where
     of_fragment : (here : NameText) (ys : List Selection) (s : Selection) → ((x : Selection) → Contains ys x → x ≡ tree.InlineFragment i) → StandsOn schema parent ys s here →
         ((s ≡ tree.InlineFragment i) × (here ≡ parent)) ⊎ StandsOn schema (unwrap_or i.type_condition parent) i.selection_set.selections s here
@@ -223,7 +223,7 @@ module _ (schema : Schema) where
               | inr deeper ↦ inside.fields f here deeper
             ];
             inline_fragments = λ j here s. elim (of_fragment here (tree.InlineFragment i ∷ []) (tree.InlineFragment j) only s) [
-              | inl first ↦ subst (λ j. IsTrue (is_condition_defined schema j.type_condition)) (sym (same_inline i j first.0)) defined
+              | inl first ↦ subst (λ j. IsTrue (is_condition_composite schema j.type_condition)) (sym (same_inline i j first.0)) defined
               | inr deeper ↦ inside.inline_fragments j here deeper
             ];
           },
@@ -241,12 +241,33 @@ module _ (schema : Schema) where
           breaks = inside.breaks;
         }
 
+  pub undefined_is_not_composite : (name : NameText) → type_definition schema name ≡ None → ¬ IsTrue (is_type_composite schema name)
+  undefined_is_not_composite name none composite = let no : ⊥ = cc in no
+
   pub condition_breaks : (parent : NameText) (i : InlineFragment) (condition : NameText) → i.type_condition ≡ Some condition → type_definition schema condition ≡ None →
       ¬ SelectionBuilds schema parent (tree.InlineFragment i)
   condition_breaks parent i condition some none builds =
       let defined = builds.inline_fragments i parent (stands_here (stands_first (tree.InlineFragment i) [])) in
-      let there : IsTrue (is_condition_defined schema (Some condition)) = subst (λ c. IsTrue (is_condition_defined schema c)) some defined in
+      let there : IsTrue (is_condition_composite schema (Some condition)) = subst (λ c. IsTrue (is_condition_composite schema c)) some defined in
       let no : ⊥ = cc in no
+
+  pub target_breaks : (parent : NameText) (i : InlineFragment) (condition : NameText) (d : ExtendedType) → i.type_condition ≡ Some condition →
+      type_definition schema condition ≡ Some d → IsFalse (is_composite d) → ¬ SelectionBuilds schema parent (tree.InlineFragment i)
+  target_breaks parent i condition d some is no_composite builds =
+      let composite = builds.inline_fragments i parent (stands_here (stands_first (tree.InlineFragment i) [])) in
+      let there : IsTrue (is_condition_composite schema (Some condition)) = subst (λ c. IsTrue (is_condition_composite schema c)) some composite in
+      let found : IsTrue (is_composite d) = rw is at there in
+      let no : ⊥ = cc in no
+
+  pub target_report : (parent : NameText) (i : InlineFragment) (condition : NameText) (d : ExtendedType) → i.type_condition ≡ Some condition →
+      type_definition schema condition ≡ Some d → IsFalse (is_composite d) →
+      IsSelectionReport schema parent (tree.InlineFragment i ∷ []) (record { location = Some i.span; rule = rule.InvalidFragmentTarget None })
+  target_report parent i condition d some is no_composite = record {
+    s = tree.InlineFragment i;
+    here = parent;
+    stands = stands_here (stands_first (tree.InlineFragment i) []);
+    breaks = has_invalid_condition i condition d some is no_composite;
+  }
 
   pub condition_report : (parent : NameText) (i : InlineFragment) (condition : NameText) → i.type_condition ≡ Some condition → type_definition schema condition ≡ None →
       IsSelectionReport schema parent (tree.InlineFragment i ∷ []) (record { location = condition.location; rule = rule.UndefinedTypeInInlineFragmentTypeCondition condition })

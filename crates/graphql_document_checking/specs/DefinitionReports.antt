@@ -1,9 +1,10 @@
 -- What a report says of a definition that cannot be built. Specification: 3.3.1 Root Operation Types, 5.1.1 Executable
--- Definitions, 5.5.1.2 Fragment Spread Type Existence.
-use Rattle.std.specs.Prelude.{◌≡◌, ◌⊎◌, IsTrue, List, Contains, Option, None, Some}
+-- Definitions, 5.5.1.2 Fragment Spread Type Existence, 5.5.1.3 Fragments On Composite Types.
+use Rattle.std.specs.Prelude.{◌≡◌, ◌⊎◌, IsFalse, IsTrue, List, Contains, Option, None, Some}
 use Rattle.graphql_nodes.specs.Names.{NameText}
 use Rattle.graphql_nodes.specs.declared.spans.SourceSpan.{SourceSpan}
-use Rattle.graphql_documents.specs.Schemas.{type_definition}
+use Rattle.graphql_documents.specs.Schemas.{is_composite, type_definition}
+use Rattle.graphql_documents.specs.declared.documents.schemas.ExtendedType.{ExtendedType}
 use Rattle.graphql_documents.specs.declared.documents.schemas.Schema.{Schema}
 use Rattle.graphql_trees.specs.declared.documents.Definition.{Definition}
 use Rattle.graphql_trees.specs.declared.documents.Definition.TheVariants as definition
@@ -11,7 +12,7 @@ use Rattle.graphql_trees.specs.declared.executable.FragmentDefinition.{FragmentD
 use Rattle.graphql_trees.specs.declared.executable.OperationDefinition.{OperationDefinition}
 use Rattle.graphql_trees.specs.declared.type_system.TypeDefinition.{TypeDefinition}
 use Rattle.graphql_trees.specs.declared.type_system.TypeDefinition.TheVariants as type_tree
-use Rattle.graphql_document_building.specs.Trees.{is_type_defined, root_name}
+use Rattle.graphql_document_building.specs.Trees.{is_type_composite, root_name}
 use Rattle.graphql_document_checking.specs.Reports.{IsSelectionReport}
 use Rattle.graphql_building_reports.specs.declared.lists.BuildingReport.{BuildingReport}
 use Rattle.graphql_building_reports.specs.declared.rules.BuildingRule.TheVariants as rule
@@ -41,13 +42,15 @@ IsOperationReport schema x r =
     ((root_name schema x.operation_type ≡ None) × (r ≡ record { location = Some x.span; rule = rule.UndefinedRootOperation x.operation_type })) ⊎
     ((root : NameText) × (root_name schema x.operation_type ≡ Some root) × IsSelectionReport schema root x.selection_set.selections r)
 
--- the type condition of the fragment is not defined, reported at the condition; or a selection of it cannot be built on
--- that
-abbrev pub IsFragmentReport : Schema → FragmentDefinition → BuildingReport → Type 0
-IsFragmentReport schema x r =
-    ((type_definition schema x.type_condition ≡ None) ×
-    (r ≡ record { location = x.type_condition.location; rule = rule.UndefinedTypeInNamedFragmentTypeCondition x.type_condition x.name })) ⊎
-    (IsTrue (is_type_defined schema x.type_condition) × IsSelectionReport schema x.type_condition x.selection_set.selections r)
+-- the type condition of the fragment is not defined, reported at the condition; or it is no composite type, reported at the
+-- fragment; or a selection of it cannot be built on that
+pub data IsFragmentReport (schema : Schema) (x : FragmentDefinition) : BuildingReport → Type 0 where
+  lacks_target : type_definition schema x.type_condition ≡ None →
+      IsFragmentReport schema x (record { location = x.type_condition.location; rule = rule.UndefinedTypeInNamedFragmentTypeCondition x.type_condition x.name })
+  has_invalid_target : (d : ExtendedType) → type_definition schema x.type_condition ≡ Some d → IsFalse (is_composite d) →
+      IsFragmentReport schema x (record { location = Some x.span; rule = rule.InvalidFragmentTarget (Some x.name) })
+  of_fragment_selection : {r : BuildingReport} → IsTrue (is_type_composite schema x.type_condition) →
+      IsSelectionReport schema x.type_condition x.selection_set.selections r → IsFragmentReport schema x r
 
 -- the operation or the fragment cannot be built, which is reported against a schema alone; or the definition is neither,
 -- reported at the definition

@@ -1,9 +1,9 @@
 -- What a report says of selections that cannot be built.
--- Specification: 5.3.1 Field Selections, 5.3.3 Leaf Field Selections, 5.5.1.2 Fragment Spread Type Existence.
+-- Specification: 5.3.1 Field Selections, 5.3.3 Leaf Field Selections, 5.5.1.2 Fragment Spread Type Existence, 5.5.1.3 Fragments On Composite Types.
 use Rattle.std.specs.Prelude.{◌≡◌, ◌⊎◌, IsFalse, IsTrue, List, Option, None, Some, Ok, Err}
 use Rattle.std.specs.Option.{option_and_then}
 use Rattle.graphql_nodes.specs.Names.{NameText}
-use Rattle.graphql_documents.specs.Schemas.{type_definition, type_field}
+use Rattle.graphql_documents.specs.Schemas.{is_composite, type_definition, type_field}
 use Rattle.graphql_documents.specs.declared.documents.components.Component.{Component}
 use Rattle.graphql_documents.specs.declared.documents.definitions.FieldDefinition.{FieldDefinition}
 use Rattle.graphql_documents.specs.declared.documents.schemas.ExtendedType.{ExtendedType}
@@ -41,7 +41,8 @@ pub record SelectsFromLeaf (schema : Schema) (ty : NameText) (f : Field) (r : Bu
   pub says : r ≡ record { location = Some (out-Field f).span; rule = rule.SubselectionOnLeafType kind ty }
 
 -- the selection on this type breaks a rule: the type lacks the field, reported at the field's name; the field selects
--- something from a scalar or an enum; the type condition is not defined, reported at the condition
+-- something from a scalar or an enum; the type condition is not defined, reported at the condition, or is no composite
+-- type, reported at the inline fragment
 pub data Breaks (schema : Schema) (here : NameText) : Selection → BuildingReport → Type 0 where
   lacks_field : (f : Field) (e : FieldLookupError) →
       type_field schema here (out-Field f).name ≡ Err e →
@@ -51,6 +52,9 @@ pub data Breaks (schema : Schema) (here : NameText) : Selection → BuildingRepo
   lacks_condition : (i : InlineFragment) (condition : NameText) →
       i.type_condition ≡ Some condition → type_definition schema condition ≡ None →
       Breaks schema here (tree.InlineFragment i) (record { location = condition.location; rule = rule.UndefinedTypeInInlineFragmentTypeCondition condition })
+  has_invalid_condition : (i : InlineFragment) (condition : NameText) (d : ExtendedType) →
+      i.type_condition ≡ Some condition → type_definition schema condition ≡ Some d → IsFalse (is_composite d) →
+      Breaks schema here (tree.InlineFragment i) (record { location = Some i.span; rule = rule.InvalidFragmentTarget None })
 
 -- a selection that is among these on the type, or below them, breaks a rule
 pub record IsSelectionReport (schema : Schema) (parent : NameText) (trees : List Selection) (r : BuildingReport) : Type 0 where

@@ -14,12 +14,12 @@ use graphql_nodes::{SourceSpan, ValidationError};
 use graphql_trees::{Definition, FragmentDefinition, OperationDefinition, TypeDefinition};
 
 /// Reports, in the order of the text, what keeps these definitions from being built against the schema, or without one:
-/// definitions of the type system; and against a schema operations without a root type, undefined type conditions of
-/// fragments, and what keeps their selections from being built. Whether names repeat is not looked at. Fails only where an
+/// definitions of the type system; and against a schema operations without a root type, type conditions of fragments that
+/// are not defined or no composite types, and what keeps their selections from being built. Whether names repeat is not looked at. Fails only where an
 /// allocation fails.
 ///
 /// Specification: 3.3.1 Root Operation Types, 5.1.1 Executable Definitions, 5.3.1 Field Selections, 5.3.3 Leaf
-/// Field Selections, 5.5.1.2 Fragment Spread Type Existence.
+/// Field Selections, 5.5.1.2 Fragment Spread Type Existence, 5.5.1.3 Fragments On Composite Types.
 pub fn check_definitions(
     reports: &mut BuildingReportList,
     schema: Option<&Schema>,
@@ -86,12 +86,29 @@ fn check_fragment(
     ensures { Checks result (FragmentBuilds schema.now tree.now) (IsFragmentReport schema.now tree.now) reports.old reports.new }
 {
     match schema.types.get(&tree.type_condition) {
-        Some(_definition) => {
+        Some(definition) => {
+            if !definition.is_composite() {
+                return report_invalid_target(reports, tree);
+            }
             let selections = tree.selection_set.selections.as_slice();
             check_selections(reports, schema, &tree.type_condition, selections)
         }
         None => report_undefined_condition(reports, tree),
     }
+}
+
+fn report_invalid_target(
+    reports: &mut BuildingReportList,
+    tree: &FragmentDefinition,
+) -> Result<(), ValidationError>
+    ensures ok { OnOk result (reports_of reports.new ≡ reports_of reports.old ++ record { location = Some tree.now.span; rule = rule.InvalidFragmentTarget (Some tree.now.name) } ∷ []) }
+    ensures err { OnErr result (reports_of reports.new ≡ reports_of reports.old) }
+{
+    let fragment_name = tree.name.clone_in(reports.allocator())?;
+    let rule = BuildingRule::InvalidFragmentTarget {
+        fragment_name: Some(fragment_name),
+    };
+    reports.push(Some(tree.span), rule)
 }
 
 fn report_type_system(

@@ -29,7 +29,7 @@ use std::alloc::Global;
 ///
 /// Specification: 3.3.1 Root Operation Types, 5.1.1 Executable Definitions, 5.2.1.1 Operation Name Uniqueness,
 /// 5.2.2.1 Lone Anonymous Operation, 5.3.1 Field Selections, 5.3.3 Leaf Field Selections, 5.5.1.1 Fragment Name
-/// Uniqueness, 5.5.1.2 Fragment Spread Type Existence.
+/// Uniqueness, 5.5.1.2 Fragment Spread Type Existence, 5.5.1.3 Fragments On Composite Types.
 pub fn check_document(
     reports: &mut BuildingReportList,
     schema: &Schema,

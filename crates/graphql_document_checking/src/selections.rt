@@ -1,6 +1,6 @@
 //! Whether selections can be built on their types.
 
-ghost use Rattle.std.specs.Prelude.{◌≡◌, ◌∷◌, ◌++◌, [], OnErr, OnOk, Some};
+ghost use Rattle.std.specs.Prelude.{◌≡◌, ◌∷◌, ◌++◌, [], None, OnErr, OnOk, Some};
 ghost use Rattle.graphql_document_building.specs.BuildingRules.{SelectionBuilds, SelectionsBuild};
 ghost use Rattle.graphql_document_checking.specs.Reports.{IsSelectionReport, IsSetReport, SetBuilds, leaf_kind};
 ghost use Rattle.graphql_building_reports.specs.Checks.{Checks, reports_of};
@@ -17,10 +17,11 @@ use graphql_trees::{
 
 /// Reports, in the order of the text, what keeps these selections and all that are below them from being
 /// built on this type: fields that their type lacks, selections from scalars and enums, and type conditions
-/// that are not defined. What is below such a field or condition has no type, and is not looked at. Fails
-/// only where an allocation fails.
+/// that are not defined or no composite types. What is below such a field or condition has no type, and is not looked at.
+/// Fails only if an allocation fails.
 ///
-/// Specification: 5.3.1 Field Selections, 5.3.3 Leaf Field Selections, 5.5.1.2 Fragment Spread Type Existence.
+/// Specification: 5.3.1 Field Selections, 5.3.3 Leaf Field Selections, 5.5.1.2 Fragment Spread Type Existence, 5.5.1.3
+/// Fragments On Composite Types.
 #[cycle(selections)]
 pub fn check_selections(
     reports: &mut BuildingReportList,
@@ -109,7 +110,10 @@ fn check_inline_fragment(
         );
     };
     match schema.types.get(condition) {
-        Some(_definition) => {
+        Some(definition) => {
+            if !definition.is_composite() {
+                return report_invalid_target(reports, tree.span);
+            }
             check_selections(
                 reports,
                 schema,
@@ -119,6 +123,19 @@ fn check_inline_fragment(
         }
         None => report_undefined_condition(reports, condition),
     }
+}
+
+fn report_invalid_target(
+    reports: &mut BuildingReportList,
+    fragment: SourceSpan,
+) -> Result<(), ValidationError>
+    ensures ok { OnOk result (reports_of reports.new ≡ reports_of reports.old ++ record { location = Some fragment; rule = rule.InvalidFragmentTarget None } ∷ []) }
+    ensures err { OnErr result (reports_of reports.new ≡ reports_of reports.old) }
+{
+    let rule = BuildingRule::InvalidFragmentTarget {
+        fragment_name: None,
+    };
+    reports.push(Some(fragment), rule)
 }
 
 fn report_undefined_field(

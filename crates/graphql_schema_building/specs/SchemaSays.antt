@@ -27,7 +27,7 @@ use Rattle.graphql_schema_building.specs.Parts.{ComponentsSay, Originated, liste
 use Rattle.graphql_schema_building.specs.TypesSay.{TypeSays}
 
 -- the types that the definition of the schema and its extensions name as the root of a kind of operations; where
--- it is not defined, before them the object type of the default name. Specification: 3.3.1 Root Operation Types
+-- it is not defined, before them the type of the default name. Specification: 3.3.1 Root Operation Types
 abbrev pub implied_roots : List Definition → OperationType → List SchemaDefinition → List (Originated NameText)
 implied_roots definitions operation [] = map (λ name. (origin.Definition, name)) (default_roots operation (types definitions))
 implied_roots definitions operation (d ∷ ds) = []

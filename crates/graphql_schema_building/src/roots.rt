@@ -28,8 +28,8 @@ struct Root<'a> {
 }
 
 /// The type of the root of a kind of operations, if there is one: the type that the definition of the schema or one
-/// of its extensions names; where the schema is not defined, before those the object type of the default name. The only error is
-/// a failed allocation.
+/// of its extensions names; if the schema is not defined, before those the type of the default name. The only error is a failed
+/// allocation.
 ///
 /// Specification: 3.3.1 Root Operation Types.
 pub fn build_root(
@@ -67,7 +67,7 @@ fn first_root<'a>(
     }
 }
 
-/// The object type of the default name, where the schema is not defined.
+/// The type of the default name, if the schema is not defined.
 fn implied_root<'a>(
     sorted: &SortedDefinitions<'a>,
     operation_type: OperationType,

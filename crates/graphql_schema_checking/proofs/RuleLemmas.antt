@@ -13,9 +13,9 @@ use Rattle.graphql_trees.specs.declared.type_system.SchemaDefinition.{SchemaDefi
 use Rattle.graphql_trees.specs.declared.type_system.TypeDefinition.{TypeDefinition}
 use Rattle.graphql_schema_checking.specs.Definitions.{built_in_directive_names, executables, is_executable, kind_of, name_of, own_directive_names, parts_of, redefines_scalar, same_kind, schema_extensions, schemas, type_extensions, type_named, types}
 use Rattle.graphql_schema_checking.specs.Rules.{NameRules, TypeRules, WholeRules}
-use Rattle.graphql_schema_checking.specs.SchemaBuilds.{DefinitionsBuild, HasDistinctParts, IsOfKind, all_interface_names, all_member_names, has_schema, roots}
+use Rattle.graphql_schema_checking.specs.SchemaBuilds.{DefinitionsBuild, HasDistinctParts, IsNoOtherThanInterface, IsOfKind, all_interface_names, all_member_names, has_schema, implemented_names, roots}
 use Rattle.graphql_repetitions.specs.Repetitions.{RepetitionReport, repetition_rule}
-use Rattle.graphql_schema_checking.specs.SchemaReports.{DefinitionsReport, ExecutableReport, ExtensionReport, LaterReport, OrphanSchemaReport, PartsReport, ScalarReport, repeatable_type_names, root_places, schema_places, of_built_in_directive, of_directive, of_executable, of_extension, of_interface, of_member, of_orphan_schema, of_root, of_scalar, of_schema, of_type}
+use Rattle.graphql_schema_checking.specs.SchemaReports.{DefinitionsReport, ExecutableReport, ExtensionReport, LaterReport, NonInterfaceReport, OrphanSchemaReport, PartsReport, ScalarReport, repeatable_type_names, root_places, schema_places, of_built_in_directive, of_directive, of_executable, of_extension, of_implemented, of_interface, of_member, of_orphan_schema, of_root, of_scalar, of_schema, of_type}
 use Rattle.graphql_schema_checking.specs.Steps.{single_rule}
 use Rattle.graphql_repetitions.specs.declared.repetitions.Repeated.TheVariants as repeated
 use Rattle.graphql_building_reports.specs.declared.kinds.TypeKind.{TypeKind}
@@ -116,6 +116,13 @@ module _ {T E : Type 0} (r : Result T E) (ds : List Definition) (old new : List 
       checks_words r _ _ _ _ old new (λ h. h, λ h. h) (λ e q. of_extension q)
       (subst (λ l. ChecksList r (All (λ e. IsOfKind (type_named (types ds) (name_of e)) e) l) (ExtensionReport (types ds) l) old new) is c)
 
+  pub implemented_checked : (xs : List NameText) → xs ≡ implemented_names ds →
+      ChecksList r (All (λ name. IsNoOtherThanInterface (type_named (types ds) name)) xs) (NonInterfaceReport (types ds) xs) old new →
+      ChecksList r (All (λ name. IsNoOtherThanInterface (type_named (types ds) name)) (implemented_names ds)) (DefinitionsReport ds) old new
+  implemented_checked xs is c =
+      checks_words r _ _ _ _ old new (λ h. h, λ h. h) (λ e q. of_implemented q)
+      (subst (λ l. ChecksList r (All (λ name. IsNoOtherThanInterface (type_named (types ds) name)) l) (NonInterfaceReport (types ds) l) old new) is c)
+
   -- parts of a type
   module _ (d : TypeDefinition) (k : TypeKind) (n : Bor NameText) (kind_is : k ≡ kind_of d) (name_is : n.now ≡ name_of d) (names : List NameText) where
     pub members_checked : names ≡ all_member_names ds d →
@@ -201,7 +208,8 @@ builds_words ds = (
         unique_built_in_directives = named.1.1.1;
         extensions_extend = p.1.0;
         schema_is_there = whole.1.1.1.1.1;
-        distinct_parts = subst (All (HasDistinctParts ds)) (all_first [] (types ds) distinct) p.1.1;
+        implemented_are_interfaces = p.1.1.0;
+        distinct_parts = subst (All (HasDistinctParts ds)) (all_first [] (types ds) distinct) p.1.1.1;
       },
   λ b. (
     (
@@ -217,6 +225,6 @@ builds_words ds = (
         ),
       ),
     ),
-    (b.extensions_extend, subst (All (HasDistinctParts ds)) (sym (all_first [] (types ds) b.unique_types)) b.distinct_parts),
+    (b.extensions_extend, (b.implemented_are_interfaces, subst (All (HasDistinctParts ds)) (sym (all_first [] (types ds) b.unique_types)) b.distinct_parts)),
   ),
 )

@@ -107,9 +107,9 @@ abbrev pub is_scalar : TypeDefinition → Bool
 is_scalar (Scalar d) = true
 is_scalar _ = false
 
-abbrev pub is_object : TypeDefinition → Bool
-is_object (Object d) = true
-is_object _ = false
+abbrev pub is_interface : TypeDefinition → Bool
+is_interface (Interface d) = true
+is_interface _ = false
 
 -- the names of its fields, of its members as a union, or of its values as an enum
 abbrev pub member_names : TypeDefinition → List NameText

@@ -4,7 +4,7 @@ use Rattle.graphql_nodes.specs.Names.{AreDistinct}
 use Rattle.graphql_nodes.specs.declared.operation_types.OperationType.TheVariants.{Query, Mutation, Subscription}
 use Rattle.graphql_trees.specs.declared.documents.Definition.{Definition}
 use Rattle.graphql_schema_checking.specs.Definitions.{built_in_directive_names, executables, is_executable, name_of, own_directive_names, redefines_scalar, schema_extensions, schemas, type_extensions, type_named, types}
-use Rattle.graphql_schema_checking.specs.SchemaBuilds.{HasDistinctParts, IsOfKind, has_schema, roots}
+use Rattle.graphql_schema_checking.specs.SchemaBuilds.{HasDistinctParts, IsNoOtherThanInterface, IsOfKind, has_schema, implemented_names, roots}
 use Rattle.graphql_schema_checking.specs.SchemaReports.{repeatable_type_names}
 use Rattle.graphql_schema_checking.specs.Steps.{first_definitions}
 
@@ -26,8 +26,9 @@ NameRules definitions =
     (AreDistinct (own_directive_names definitions) ×
     AreDistinct (built_in_directive_names definitions)))
 
--- the extensions of types, and what types are made of
+-- the extensions of types, what types implement, and what they are made of
 abbrev pub TypeRules : List Definition → Type 0
 TypeRules definitions =
     All (λ e. IsOfKind (type_named (types definitions) (name_of e)) e) (type_extensions definitions) ×
-    All (HasDistinctParts definitions) (first_definitions (types definitions))
+    (All (λ name. IsNoOtherThanInterface (type_named (types definitions) name)) (implemented_names definitions) ×
+    All (HasDistinctParts definitions) (first_definitions (types definitions)))

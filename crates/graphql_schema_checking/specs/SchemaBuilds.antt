@@ -11,7 +11,7 @@ use Rattle.graphql_trees.specs.declared.documents.Document.{Document}
 use Rattle.graphql_trees.specs.declared.type_system.RootOperationTypeDefinition.{RootOperationTypeDefinition}
 use Rattle.graphql_trees.specs.declared.type_system.SchemaDefinition.{SchemaDefinition}
 use Rattle.graphql_trees.specs.declared.type_system.TypeDefinition.{TypeDefinition}
-use Rattle.graphql_schema_checking.specs.Definitions.{built_in_directive_names, definitions_in, executables, interface_names, is_object, kind_of, member_names, name_of, own_directive_names, parts_of, redefines_scalar, same_kind, schema_extensions, schemas, type_extensions, type_named, types}
+use Rattle.graphql_schema_checking.specs.Definitions.{built_in_directive_names, definitions_in, executables, interface_names, is_built_in_name, is_interface, kind_of, member_names, name_of, own_directive_names, parts_of, redefines_scalar, same_kind, schema_extensions, schemas, type_extensions, type_named, types}
 
 -- Specification: 3.3.1 Root Operation Types, Default Root Operation Type Names
 abbrev pub default_root_name : OperationType → List ℕ
@@ -19,9 +19,9 @@ default_root_name Query = codes "Query"
 default_root_name Mutation = codes "Mutation"
 default_root_name Subscription = codes "Subscription"
 
--- an object type of the default name of the root of a kind of operations
+-- a type of the default name of the root of a kind of operations
 abbrev pub is_default_root : OperationType → TypeDefinition → Bool
-is_default_root operation d = is_object d && bytes_eq (name_of d).text (default_root_name operation)
+is_default_root operation d = bytes_eq (name_of d).text (default_root_name operation)
 
 -- the first of them, if there is one
 abbrev pub default_root : List TypeDefinition → OperationType → Option TypeDefinition
@@ -45,7 +45,7 @@ roots_of_kind operation roots = map (λ root. root.name) (filter (λ root. same_
 abbrev pub named_roots : OperationType → List SchemaDefinition → List NameText
 named_roots operation parts = flat_map (λ part. roots_of_kind operation part.root_operations) parts
 
--- the roots of the definition of the schema; where there is none, the object type of the default name
+-- the roots of the definition of the schema; without one, the type of the default name
 abbrev pub first_roots : OperationType → List TypeDefinition → List SchemaDefinition → List NameText
 first_roots operation types [] = default_roots operation types
 first_roots operation types (d ∷ ds) = named_roots operation (d ∷ ds)
@@ -59,16 +59,25 @@ abbrev pub is_nil : {T : Type 0} → List T → Bool
 is_nil [] = true
 is_nil (x ∷ xs) = false
 
--- there is a schema to extend: it is defined, or an object type has the default name of a root
+-- there is a schema to extend: it is defined, or a type has the default name of a root
 abbrev pub has_schema : List Definition → Bool
 has_schema definitions =
     not (is_nil (schemas definitions)) || is_some (default_root (types definitions) Query) || is_some (default_root (types definitions) Mutation) ||
     is_some (default_root (types definitions) Subscription)
 
--- an extension is of a type that is defined, and of its kind. Specification: 3.4.3 Type Extensions
+-- an extension is of a type that a text defines, and of its kind. Specification: 3.4.3 Type Extensions
 abbrev pub IsOfKind : Option TypeDefinition → TypeDefinition → Type 0
 IsOfKind None e = ⊥
-IsOfKind (Some d) e = IsTrue (same_kind (kind_of d) (kind_of e))
+IsOfKind (Some d) e = IsFalse (is_built_in_name (name_of d)) × IsTrue (same_kind (kind_of d) (kind_of e))
+
+-- the names of what types implement, by their definitions, then by their extensions. Specification: 3.6 Objects, 3.7 Interfaces
+abbrev pub implemented_names : List Definition → List NameText
+implemented_names definitions = flat_map interface_names (types definitions) ++ flat_map interface_names (type_extensions definitions)
+
+-- if the type is defined, it is an interface
+abbrev pub IsNoOtherThanInterface : Option TypeDefinition → Type 0
+IsNoOtherThanInterface None = Unit {0}
+IsNoOtherThanInterface (Some d) = IsTrue (is_interface d)
 
 -- the names of the fields of a type, of its members or of its values, over all its parts
 abbrev pub all_member_names : List Definition → TypeDefinition → List NameText
@@ -104,6 +113,8 @@ pub record DefinitionsBuild (definitions : List Definition) : Type 0 where
   pub unique_built_in_directives : AreDistinct (built_in_directive_names definitions)
   -- 3.4.3 Type Extensions
   pub extensions_extend : All (λ e. IsOfKind (type_named (types definitions) (name_of e)) e) (type_extensions definitions)
+  -- 3.6 Objects, 3.7 Interfaces: what is implemented is an interface, if it is defined
+  pub implemented_are_interfaces : All (λ name. IsNoOtherThanInterface (type_named (types definitions) name)) (implemented_names definitions)
   -- 3.3.2 Schema Extension
   pub schema_is_there : All (λ e. IsTrue (has_schema definitions)) (schema_extensions definitions)
   -- 3.6 to 3.10

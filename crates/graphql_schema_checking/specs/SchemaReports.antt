@@ -8,8 +8,8 @@ use Rattle.graphql_trees.specs.declared.documents.Definition.{Definition}
 use Rattle.graphql_trees.specs.declared.documents.Document.{Document}
 use Rattle.graphql_trees.specs.declared.type_system.SchemaDefinition.{SchemaDefinition}
 use Rattle.graphql_trees.specs.declared.type_system.TypeDefinition.{TypeDefinition}
-use Rattle.graphql_schema_checking.specs.Definitions.{built_in_directive_names, definitions_in, executables, kind_of, name_of, own_directive_names, redefines_scalar, same_kind, schema_extensions, schemas, span_of, type_extensions, type_named, types}
-use Rattle.graphql_schema_checking.specs.SchemaBuilds.{all_interface_names, all_member_names, has_schema, roots}
+use Rattle.graphql_schema_checking.specs.Definitions.{built_in_directive_names, definitions_in, executables, is_built_in_name, is_interface, kind_of, name_of, own_directive_names, redefines_scalar, same_kind, schema_extensions, schemas, span_of, type_extensions, type_named, types}
+use Rattle.graphql_schema_checking.specs.SchemaBuilds.{all_interface_names, all_member_names, has_schema, implemented_names, roots}
 use Rattle.graphql_building_reports.specs.Checks.{Says}
 use Rattle.graphql_building_reports.specs.declared.lists.BuildingReport.{BuildingReport}
 use Rattle.graphql_building_reports.specs.declared.rules.BuildingRule.TheVariants as rule
@@ -58,6 +58,15 @@ pub record OrphanReport (definitions extensions : List TypeDefinition) (report :
   pub undefined : type_named definitions (name_of e) ≡ None
   pub says : Says (rule.OrphanTypeExtension (name_of e)) (name_of e).location report
 
+-- an extension of a type that every schema has
+pub record BuiltInExtensionReport (definitions extensions : List TypeDefinition) (report : BuildingReport) : Type 0 where
+  pub e : TypeDefinition
+  pub d : TypeDefinition
+  pub among : Contains extensions e
+  pub defined : type_named definitions (name_of e) ≡ Some d
+  pub built_in : IsTrue (is_built_in_name (name_of d))
+  pub says : Says (rule.BuiltInTypeExtension (name_of e)) (name_of e).location report
+
 -- an extension of a type that is of another kind
 pub record MismatchReport (definitions extensions : List TypeDefinition) (report : BuildingReport) : Type 0 where
   pub e : TypeDefinition
@@ -70,7 +79,17 @@ pub record MismatchReport (definitions extensions : List TypeDefinition) (report
 -- an extension extends no type
 pub data ExtensionReport (definitions extensions : List TypeDefinition) (report : BuildingReport) : Type 0 where
   of_orphan : OrphanReport definitions extensions report → ExtensionReport definitions extensions report
+  of_built_in : BuiltInExtensionReport definitions extensions report → ExtensionReport definitions extensions report
   of_mismatch : MismatchReport definitions extensions report → ExtensionReport definitions extensions report
+
+-- a type is implemented that is no interface
+pub record NonInterfaceReport (definitions : List TypeDefinition) (names : List NameText) (report : BuildingReport) : Type 0 where
+  pub name : NameText
+  pub d : TypeDefinition
+  pub among : Contains names name
+  pub defined : type_named definitions name ≡ Some d
+  pub is_none : IsFalse (is_interface d)
+  pub says : Says (rule.ImplementedNonInterface name (kind_of d) (name_of d).location) name.location report
 
 -- an extension of the schema, where there is none
 pub record OrphanSchemaReport (there_is : Bool) (extensions : List SchemaDefinition) (report : BuildingReport) : Type 0 where
@@ -108,6 +127,7 @@ pub data DefinitionsReport (definitions : List Definition) (report : BuildingRep
   of_directive : RepetitionReport (own_directive_names definitions) rule.DirectiveDefinitionCollision report → DefinitionsReport definitions report
   of_built_in_directive : RepetitionReport (built_in_directive_names definitions) rule.DirectiveDefinitionCollision report → DefinitionsReport definitions report
   of_extension : ExtensionReport (types definitions) (type_extensions definitions) report → DefinitionsReport definitions report
+  of_implemented : NonInterfaceReport (types definitions) (implemented_names definitions) report → DefinitionsReport definitions report
   of_orphan_schema : OrphanSchemaReport (has_schema definitions) (schema_extensions definitions) report → DefinitionsReport definitions report
   of_parts : {d : TypeDefinition} → Contains (types definitions) d → PartsReport definitions d report → DefinitionsReport definitions report
 

@@ -1,20 +1,20 @@
 //! Checks of the definitions of a kind, one by one.
 
 ghost use Rattle.std.specs.Prelude.{◌≡◌, All, Contains, IsFalse, IsTrue, List, None, Some, filter};
-ghost use Rattle.graphql_nodes.specs.Names.{same_name};
+ghost use Rattle.graphql_nodes.specs.Names.{NameText, same_name};
 ghost use Rattle.graphql_trees.specs.declared.documents.Definition.{Definition};
 ghost use Rattle.graphql_trees.specs.declared.type_system.SchemaDefinition.{SchemaDefinition};
 ghost use Rattle.graphql_trees.specs.declared.type_system.TypeDefinition.{TypeDefinition};
 ghost use Rattle.graphql_building_reports.specs.Checks.{Checks};
-ghost use Rattle.graphql_schema_checking.specs.Definitions.{is_executable, kind_of, name_of, redefines_scalar, same_kind, type_extensions, type_named, types};
-ghost use Rattle.graphql_schema_checking.specs.SchemaBuilds.{HasDistinctParts, IsOfKind};
-ghost use Rattle.graphql_schema_checking.specs.SchemaReports.{DefinitionsReport, ExecutableReport, ExtensionReport, OrphanSchemaReport, PartsReport, ScalarReport};
+ghost use Rattle.graphql_schema_checking.specs.Definitions.{is_built_in_name, is_executable, is_interface, kind_of, name_of, redefines_scalar, same_kind, type_extensions, type_named, types};
+ghost use Rattle.graphql_schema_checking.specs.SchemaBuilds.{HasDistinctParts, IsNoOtherThanInterface, IsOfKind};
+ghost use Rattle.graphql_schema_checking.specs.SchemaReports.{DefinitionsReport, ExecutableReport, ExtensionReport, NonInterfaceReport, OrphanSchemaReport, PartsReport, ScalarReport};
 ghost use Rattle.graphql_repetitions.specs.References.{nows};
 ghost use Rattle.graphql_schema_checking.specs.Steps.{AreFirst, FindsAll};
 
-use crate::kinds::{same_kind, type_kind, type_name, type_span};
+use crate::kinds::{is_interface, same_kind, type_kind, type_name, type_span};
 use crate::members::{interface_names, member_names, parts_of_kind};
-use crate::names::redefines_scalar;
+use crate::names::{is_built_in, redefines_scalar};
 use graphql_building_reports::{BuildingReportList, BuildingRule, ExecutableKind};
 use graphql_nodes::{Name, ValidationError};
 use graphql_repetitions::{Repeated, check_repetitions};
@@ -117,8 +117,8 @@ fn check_scalar(
     }
 }
 
-/// Reports each extension of a type that is not defined or of another kind. The only error is a
-/// failed allocation.
+/// Reports each extension of a type that is not defined, that every schema has, or that is of another kind. The only error
+/// is a failed allocation.
 pub(crate) fn check_type_extensions(
     reports: &mut BuildingReportList,
     first: &IndexMap<&Name, &TypeDefinition>,
@@ -155,11 +155,29 @@ fn check_kind(
     ensures { (types all : List TypeDefinition) → type_named types (name_of extension.now) ≡ Some definition.now → Contains all extension.now →
         Checks result (IsOfKind (Some definition.now) extension.now) (ExtensionReport types all) reports.old reports.new }
 {
-    if same_kind(type_kind(definition), type_kind(extension)) {
+    if is_built_in(type_name(definition)) {
+        report_built_in(reports, definition, extension)
+    } else if same_kind(type_kind(definition), type_kind(extension)) {
         Ok(())
     } else {
         report_mismatch(reports, definition, extension)
     }
+}
+
+fn report_built_in(
+    reports: &mut BuildingReportList,
+    definition: &TypeDefinition,
+    extension: &TypeDefinition,
+) -> Result<(), ValidationError>
+    requires { IsTrue (is_built_in_name (name_of definition.now)) }
+    ensures { (types all : List TypeDefinition) → type_named types (name_of extension.now) ≡ Some definition.now → Contains all extension.now →
+        Checks result ⊥ (ExtensionReport types all) reports.old reports.new }
+{
+    let name = type_name(extension).clone()?;
+    reports.push(
+        type_name(extension).location(),
+        BuildingRule::BuiltInTypeExtension { name },
+    )
 }
 
 fn report_mismatch(
@@ -194,6 +212,71 @@ fn report_orphan(
     reports.push(
         type_name(extension).location(),
         BuildingRule::OrphanTypeExtension { name },
+    )
+}
+
+/// Reports each of these names that is that of a defined type which is no interface. The only error is a failed allocation.
+pub(crate) fn check_implemented(
+    reports: &mut BuildingReportList,
+    first: &IndexMap<&Name, &TypeDefinition>,
+    names: &[&Name],
+) -> Result<(), ValidationError>
+    ensures { (types : List TypeDefinition) → AreFirst first.now types →
+        Checks result (All (λ name. IsNoOtherThanInterface (type_named types name)) (nows names.now)) (NonInterfaceReport types (nows names.now)) reports.old reports.new }
+{
+    for name in names {
+        check_interface(reports, first, *name)?;
+    }
+    Ok(())
+}
+
+fn check_interface(
+    reports: &mut BuildingReportList,
+    first: &IndexMap<&Name, &TypeDefinition>,
+    name: &Name,
+) -> Result<(), ValidationError>
+    ensures { (types : List TypeDefinition) (all : List NameText) → AreFirst first.now types → Contains all name.now →
+        Checks result (IsNoOtherThanInterface (type_named types name.now)) (NonInterfaceReport types all) reports.old reports.new }
+{
+    match first.get(&name) {
+        Some(definition) => check_is_interface(reports, *definition, name),
+        None => Ok(()),
+    }
+}
+
+fn check_is_interface(
+    reports: &mut BuildingReportList,
+    definition: &TypeDefinition,
+    name: &Name,
+) -> Result<(), ValidationError>
+    ensures { (types : List TypeDefinition) (all : List NameText) → type_named types name.now ≡ Some definition.now → Contains all name.now →
+        Checks result (IsTrue (is_interface definition.now)) (NonInterfaceReport types all) reports.old reports.new }
+{
+    if is_interface(definition) {
+        Ok(())
+    } else {
+        report_non_interface(reports, definition, name)
+    }
+}
+
+fn report_non_interface(
+    reports: &mut BuildingReportList,
+    definition: &TypeDefinition,
+    name: &Name,
+) -> Result<(), ValidationError>
+    requires { IsFalse (is_interface definition.now) }
+    ensures { (types : List TypeDefinition) (all : List NameText) → type_named types name.now ≡ Some definition.now → Contains all name.now →
+        Checks result ⊥ (NonInterfaceReport types all) reports.old reports.new }
+{
+    let location = name.location();
+    let name = name.clone()?;
+    reports.push(
+        location,
+        BuildingRule::ImplementedNonInterface {
+            name,
+            definition: type_kind(definition),
+            original: type_name(definition).location(),
+        },
     )
 }
 

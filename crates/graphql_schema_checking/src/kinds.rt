@@ -1,7 +1,7 @@
 //! Definitions of types, by their kinds.
 
 ghost use Rattle.std.specs.Prelude.{◌≡◌};
-ghost use Rattle.graphql_schema_checking.specs.Definitions.{kind_of, name_of, same_kind, span_of};
+ghost use Rattle.graphql_schema_checking.specs.Definitions.{is_interface, kind_of, name_of, same_kind, span_of};
 
 use graphql_building_reports::TypeKind;
 use graphql_nodes::{Name, SourceSpan};
@@ -34,6 +34,13 @@ pub fn same_kind(kind: TypeKind, other: TypeKind) -> bool
             | (TypeKind::Enum, TypeKind::Enum)
             | (TypeKind::InputObject, TypeKind::InputObject)
     )
+}
+
+/// Whether the definition or extension is of an interface.
+pub(crate) fn is_interface(definition: &TypeDefinition) -> bool
+    ensures { result ≡ is_interface definition.now }
+{
+    matches!(definition, TypeDefinition::Interface(_))
 }
 
 /// The name of the type that is defined or extended.

@@ -67,10 +67,34 @@ pub(crate) fn interface_names<'a>(
     ensures { IfOk result (λ names. nows names.items ≡ flat_map interface_names (nows parts.now)) }
 {
     let mut names = Vec::new(alloc);
-    for part in parts {
-        add_interfaces(&mut names, *part)?;
-    }
+    add_all_interfaces(&mut names, parts)?;
     Ok(names)
+}
+
+/// The names of what types implement, by these definitions, then by these extensions. The only error is a failed allocation.
+pub(crate) fn implemented_names<'a>(
+    alloc: Global,
+    types: &[&'a TypeDefinition],
+    extensions: &[&'a TypeDefinition],
+) -> Result<Vec<&'a Name>, ValidationError>
+    ensures { IfOk result (λ names. nows names.items ≡ flat_map interface_names (nows types.now) ++ flat_map interface_names (nows extensions.now)) }
+{
+    let mut names = Vec::new(alloc);
+    add_all_interfaces(&mut names, types)?;
+    add_all_interfaces(&mut names, extensions)?;
+    Ok(names)
+}
+
+fn add_all_interfaces<'a>(
+    names: &mut Vec<&'a Name>,
+    parts: &[&'a TypeDefinition],
+) -> Result<(), ValidationError>
+    ensures { OnOk result (nows names.new.items ≡ nows names.old.items ++ flat_map interface_names (nows parts.now)) }
+{
+    for part in parts {
+        add_interfaces(names, *part)?;
+    }
+    Ok(())
 }
 
 fn add_interfaces<'a>(

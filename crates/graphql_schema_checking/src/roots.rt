@@ -108,7 +108,7 @@ pub fn is_same_operation(a: OperationType, b: OperationType) -> bool
     )
 }
 
-/// Whether there is a schema to extend: it is defined, or an object type has the default name of a root.
+/// Whether there is a schema to extend: it is defined, or a type has the default name of a root.
 ///
 /// Specification: 3.3.2 Schema Extension.
 pub(crate) fn has_schema(sorted: &SortedDefinitions<'_>) -> bool
@@ -120,7 +120,8 @@ pub(crate) fn has_schema(sorted: &SortedDefinitions<'_>) -> bool
         || default_root(&sorted.types, OperationType::Subscription).is_some()
 }
 
-/// The object type of the default name of the root of a kind of operations.
+/// The type of the default name of the root of a kind of operations. If it is no object type, that breaks a rule of
+/// schemas.
 ///
 /// Specification: 3.3.1 Root Operation Types, Default Root Operation Type Names.
 pub fn default_root<'a>(
@@ -140,8 +141,7 @@ pub fn default_root<'a>(
 fn is_default_root(definition: &TypeDefinition, operation_type: OperationType) -> bool
     ensures { result ≡ is_default_root operation_type definition.now }
 {
-    matches!(definition, TypeDefinition::Object(_))
-        && type_name(definition).as_str() == default_root_name(operation_type)
+    type_name(definition).as_str() == default_root_name(operation_type)
 }
 
 fn default_root_name(operation_type: OperationType) -> &'static str

@@ -13,10 +13,11 @@ ghost use Rattle.graphql_schema_checking.specs.Sorting.{AreSorted};
 
 use crate::by_name::{extensions_by_name, first_definitions, in_order};
 use crate::checks::{
-    check_all_parts, check_executables, check_scalars, check_schema_extensions,
+    check_all_parts, check_executables, check_implemented, check_scalars, check_schema_extensions,
     check_type_extensions,
 };
 use crate::definitions::SortedDefinitions;
+use crate::members::implemented_names;
 use crate::names::{DirectiveNames, repeatable_type_names};
 use crate::roots::{has_schema, root_places, schema_places};
 use crate::single::{Single, check_single};
@@ -99,7 +100,7 @@ fn check_names(
     check_repetitions(reports, &directives.built_in, Repeated::Directive)
 }
 
-/// Checks the extensions of types, and what types are made of.
+/// Checks the extensions of types, what types implement, and what they are made of.
 fn check_types(
     reports: &mut BuildingReportList,
     sorted: &SortedDefinitions<'_>,
@@ -109,6 +110,12 @@ fn check_types(
 {
     let first = first_definitions(reports.allocator(), &sorted.types)?;
     check_type_extensions(reports, &first, &sorted.type_extensions)?;
+    let implemented = implemented_names(
+        reports.allocator(),
+        &sorted.types,
+        &sorted.type_extensions,
+    )?;
+    check_implemented(reports, &first, &implemented)?;
     let definitions = in_order(reports.allocator(), first)?;
     let found = extensions_by_name(reports.allocator(), &sorted.type_extensions)?;
     check_all_parts(reports, &definitions, &found)

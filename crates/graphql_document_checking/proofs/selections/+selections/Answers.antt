@@ -1,14 +1,14 @@
-use Rattle.std.proofs.Common.{rules, ◌≡◌, [], ◌∷◌, Ok, Err, Some, None, IsTrue, refl, sym, ap, ◌∙◌, subst, Contains}
+use Rattle.std.proofs.Common.{rules, ◌≡◌, [], ◌∷◌, Ok, Err, Some, None, IsFalse, IsTrue, refl, sym, ap, ◌∙◌, subst, Contains}
 use Rattle.std.specs.Prelude.{unwrap_or}
 use Rattle.graphql_diagnostics.proofs.ReportLemmas.{checks-err, checks-push, checks_words, holds, in_words, kept_by, kept_then, kept_wider, walked_all, walked_more, wider}
-use Rattle.graphql_documents.specs.Schemas.{type_definition, type_field}
+use Rattle.graphql_documents.specs.Schemas.{is_composite, type_definition, type_field}
 use Rattle.graphql_documents.specs.TypeReferences.{inner_named_type}
 use Rattle.graphql_trees.specs.declared.executable.Field.{out-Field}
 use Rattle.graphql_trees.specs.declared.executable.Selection.TheVariants as tree
 use Rattle.graphql_building_reports.specs.Checks.{reports_of}
 use Rattle.graphql_document_building.specs.BuildingRules.{SelectionBuilds, SelectionsBuild}
-use Rattle.graphql_document_building.specs.Trees.{is_condition_defined, type_below}
-use Rattle.graphql_document_checking.proofs.CheckLemmas.{all_build, condition_breaks, condition_report, field_in_words, field_report, fragment_in_words, fragment_report, no_set_builds, open_report, open_set, report_among, spread_builds, undefined_breaks, undefined_report}
+use Rattle.graphql_document_building.specs.Trees.{is_condition_composite, type_below}
+use Rattle.graphql_document_checking.proofs.CheckLemmas.{all_build, condition_breaks, condition_report, field_in_words, field_report, fragment_in_words, fragment_report, no_set_builds, open_report, open_set, report_among, spread_builds, target_breaks, target_report, undefined_breaks, undefined_report}
 use Rattle.graphql_document_checking.specs.Reports.{IsSelectionReport, IsSetReport, SetBuilds, leaf_kind}
 use Rattle.graphql_document_checking.proofs.selections.+selections.Goals as goal
 
@@ -42,28 +42,42 @@ check_inline_fragment-returns-in_default t c =
     let i = c.args.tree.now in
     let xs = c.as_slice.result.now in
     let none : i.type_condition ≡ None = search rules in
-    let defined : IsTrue (is_condition_defined schema i.type_condition) = rw none refl in
+    let defined : IsTrue (is_condition_composite schema i.type_condition) = rw none refl in
     let is : parent ≡ unwrap_or i.type_condition parent = rw none refl in
     checks_words c.check_selections.result (SelectionsBuild schema parent xs) (SelectionBuilds schema parent (tree.InlineFragment i)) (IsSelectionReport schema parent xs)
     (IsSelectionReport schema parent (tree.InlineFragment i ∷ [])) (reports_of c.args.reports.now) (reports_of c.check_selections.new.reports)
     (fragment_in_words schema parent parent i xs defined is c.as_slice.ensures) (fragment_report schema parent parent i xs defined is c.as_slice.ensures) c.check_selections.ensures
 
-pub check_inline_fragment-returns-in-Some-get : goal.check_inline_fragment-returns-in-Some-get
-check_inline_fragment-returns-in-Some-get t c =
+pub check_inline_fragment-returns-else-not-is_composite : goal.check_inline_fragment-returns-else-not-is_composite
+check_inline_fragment-returns-else-not-is_composite t c =
     let schema = c.args.schema.now in
     let parent = c.args.parent.now in
     let i = c.args.tree.now in
     let ty = c.in-Some.condition in
     let xs = c.as_slice-in-Some-get.result.now in
     let some : i.type_condition ≡ Some ty = c.in-Some.is in
-    let there : type_definition schema ty ≡ Some c.in-Some-get._definition.now = search rules in
-    let has : IsTrue (is_condition_defined schema (Some ty)) = rw there refl in
-    let defined : IsTrue (is_condition_defined schema i.type_condition) = subst (λ c. IsTrue (is_condition_defined schema c)) (sym some) has in
+    let there : type_definition schema ty ≡ Some c.in-Some-get.definition.now = search rules in
+    let composite : IsTrue (is_composite c.in-Some-get.definition.now) = search rules in
+    let has : IsTrue (is_condition_composite schema (Some ty)) = rw there composite in
+    let defined : IsTrue (is_condition_composite schema i.type_condition) = subst (λ c. IsTrue (is_condition_composite schema c)) (sym some) has in
     let is : ty ≡ unwrap_or i.type_condition parent = rw some refl in
     checks_words c.check_selections-in-Some-get.result (SelectionsBuild schema ty xs) (SelectionBuilds schema parent (tree.InlineFragment i)) (IsSelectionReport schema ty xs)
     (IsSelectionReport schema parent (tree.InlineFragment i ∷ [])) (reports_of c.args.reports.now) (reports_of c.check_selections-in-Some-get.new.reports)
     (fragment_in_words schema parent ty i xs defined is c.as_slice-in-Some-get.ensures) (fragment_report schema parent ty i xs defined is c.as_slice-in-Some-get.ensures)
     c.check_selections-in-Some-get.ensures
+
+pub check_inline_fragment-returns-then-not-is_composite : goal.check_inline_fragment-returns-then-not-is_composite
+check_inline_fragment-returns-then-not-is_composite t c =
+    let schema = c.args.schema.now in
+    let parent = c.args.parent.now in
+    let i = c.args.tree.now in
+    let ty = c.in-Some.condition in
+    let d = c.in-Some-get.definition.now in
+    let there : type_definition schema ty ≡ Some d = search rules in
+    let not_composite : IsFalse (is_composite d) = search rules in
+    checks-push c.report_invalid_target.result (SelectionBuilds schema parent (tree.InlineFragment i)) (IsSelectionReport schema parent (tree.InlineFragment i ∷ []))
+    (reports_of c.args.reports.now) (reports_of c.report_invalid_target.new.reports) _ c.report_invalid_target.ensures.ok c.report_invalid_target.ensures.err
+    (target_breaks schema parent i ty d c.in-Some.is there not_composite) (target_report schema parent i ty d c.in-Some.is there not_composite)
 
 pub check_inline_fragment-returns-in-None : goal.check_inline_fragment-returns-in-None
 check_inline_fragment-returns-in-None t c =
