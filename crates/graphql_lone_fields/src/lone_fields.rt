@@ -1,17 +1,21 @@
 //! Whether no two fields of operations come together in a response.
 
-ghost use Rattle.std.specs.Prelude.{◌≡◌, ◌∷◌, [], All, IfOk, IsTrue};
+ghost use Rattle.std.specs.Prelude.{◌≡◌, ◌+◌, ◌*◌, ◌<◌, ◌≤◌, ◌∷◌, [], All, IfOk, IsTrue, length};
 ghost use Rattle.graphql_documents.specs.Selections.{fragments_of};
 ghost use Rattle.graphql_specification.specs.Merging.{set_of};
 ghost use Rattle.graphql_merging.specs.FieldSelections.{listed, selection_of};
+ghost use Rattle.graphql_lone_fields.specs.CountedSteps.{Paid};
 ghost use Rattle.graphql_lone_fields.specs.LoneFields.{HasLoneFields};
 
+use crate::counted_expansion::expand_within;
 use crate::keys::have_different_keys;
 use graphql_documents::documents::{ExecutableDocument, Operation, SelectionSet};
-use graphql_merging::expansion::expand_selections;
 use graphql_merging::field_selections::FieldSelection;
 use graphql_nodes::{Node, ValidationError};
+use graphql_steps::Steps;
 use std::alloc::Global;
+use std::marker::Brand;
+use std::sync::ledger::{Blank, Ledger};
 
 /// How many sets may be below one another.
 const LEVELS: usize = 100;
@@ -20,8 +24,9 @@ const LEVELS: usize = 100;
 /// operation's set, and of the set of each field on the way down, is that of one field alone. Then all fields can merge
 /// (`lone_fields_can_merge`), and nothing has to be put together or compared.
 ///
-/// At most `most` fields are listed, and at most 100 sets below one another are gone into. Where an operation has more of either,
-/// the answer is no. The only error is a failed allocation.
+/// The search visits at most `most` selections, counting each visit, and enters at most 100 nested sets. If an operation needs
+/// more of either, the answer is no. The only error is a failed allocation. `have_lone_fields_in_steps`, which this calls, bounds
+/// the number of steps.
 ///
 /// Specification: 5.3.2 Field Selection Merging.
 pub fn have_lone_fields(
@@ -32,20 +37,54 @@ pub fn have_lone_fields(
 ) -> Result<bool, ValidationError>
     ensures { IfOk result (λ lone. IsTrue lone → All (λ o. HasLoneFields (fragments_of document.now) o.now.value.value.selection_set) operations.now) }
 {
+    have_lone_fields_uncounted::<Brand>(alloc, document, operations, most, Blank::new(1))
+}
+
+/// Searches with a counter that nobody reads.
+fn have_lone_fields_uncounted<L: Ledger>(
+    alloc: Global,
+    document: &ExecutableDocument,
+    operations: &[&Node<Operation>],
+    most: usize,
+    blank: Blank,
+) -> Result<bool, ValidationError>
+    requires name { blank.name ≡ L.name }
+    requires parts { blank.parts ≡ L.parts }
+    requires some { 0 < blank.parts }
+    ensures { IfOk result (λ lone. IsTrue lone → All (λ o. HasLoneFields (fragments_of document.now) o.now.value.value.selection_set) operations.now) }
+{
+    let mut steps = Steps::<L>::new(blank);
+    have_lone_fields_in_steps(alloc, document, operations, most, &mut steps)
+}
+
+/// Does what `have_lone_fields` does, and counts its steps: at most twenty for each selection that it may visit, and three for
+/// each operation. A step is a visit of a selection, of a set in the queue, of a field or of the set of a field, a comparison of
+/// two response keys, or the insertion of one.
+pub fn have_lone_fields_in_steps<L: Ledger>(
+    alloc: Global,
+    document: &ExecutableDocument,
+    operations: &[&Node<Operation>],
+    most: usize,
+    steps: &mut Steps<L>,
+) -> Result<bool, ValidationError>
+    ensures lone { IfOk result (λ lone. IsTrue lone → All (λ o. HasLoneFields (fragments_of document.now) o.now.value.value.selection_set) operations.now) }
+    ensures cost { steps.new ≤ steps.old + 20 * most + 3 * length operations.now }
+{
     let mut search = LoneFieldSearch {
         alloc,
         document,
         left: most,
     };
     for operation in operations {
-        if !search.has_lone_fields(&operation.value.selection_set, LEVELS)? {
+        steps.take(1);
+        if !search.has_lone_fields(&operation.value.selection_set, LEVELS, steps)? {
             return Ok(false);
         }
     }
     Ok(true)
 }
 
-/// Where lone fields are sought, and how many fields may still be listed.
+/// Where lone fields are sought, and how many selections the search may still visit.
 #[derive(Drop)]
 struct LoneFieldSearch<'doc> {
     alloc: Global,
@@ -56,39 +95,46 @@ struct LoneFieldSearch<'doc> {
 impl<'doc> LoneFieldSearch<'doc> {
     /// Whether each response key of the set, and of the sets below, is that of one field alone.
     #[cycle(search)]
-    fn has_lone_fields(
+    fn has_lone_fields<L: Ledger>(
         &mut self,
         set: &'doc SelectionSet,
         levels: usize,
+        steps: &mut Steps<L>,
     ) -> Result<bool, ValidationError>
         ensures document { self.new.document ≡ self.old.document }
         ensures lone { IfOk result (λ lone. IsTrue lone → HasLoneFields (fragments_of self.old.document.now) set.now) }
+        ensures cost { Paid self.old.left steps.old self.new.left steps.new 2 }
     {
+        steps.take(1);
         if levels == 0 {
             return Ok(false);
         }
-        let fields = expand_selections(self.alloc, &self.document.fragments, &[set])?;
-        if !self.may_list(fields.len()) {
+        let fragments = &self.document.fragments;
+        let Some(fields) = expand_within(self.alloc, fragments, &[set], &mut self.left, steps)?
+        else {
+            return Ok(false);
+        };
+        if !have_different_keys(self.alloc, self.document.hash_seed(), &fields, steps)? {
             return Ok(false);
         }
-        if !have_different_keys(self.alloc, self.document.hash_seed(), &fields)? {
-            return Ok(false);
-        }
-        self.have_lone_fields_below(&fields, levels - 1)
+        self.have_lone_fields_below(&fields, levels - 1, steps)
     }
 
     /// The same of the sets of these fields.
     #[cycle(search)]
-    fn have_lone_fields_below(
+    fn have_lone_fields_below<L: Ledger>(
         &mut self,
         fields: &[FieldSelection<'doc>],
         levels: usize,
+        steps: &mut Steps<L>,
     ) -> Result<bool, ValidationError>
         ensures document { self.new.document ≡ self.old.document }
         ensures lone { IfOk result (λ lone. IsTrue lone → All (λ x. HasLoneFields (fragments_of self.old.document.now) (set_of x)) (listed fields.now)) }
+        ensures cost { Paid self.old.left steps.old self.new.left steps.new (3 * length fields.now) }
     {
         for field in fields {
-            if !self.has_lone_fields_below(*field, levels)? {
+            steps.take(1);
+            if !self.has_lone_fields_below(*field, levels, steps)? {
                 return Ok(false);
             }
         }
@@ -97,31 +143,20 @@ impl<'doc> LoneFieldSearch<'doc> {
 
     /// The same of the set of a field, in which there may be nothing.
     #[cycle(search)]
-    fn has_lone_fields_below(
+    fn has_lone_fields_below<L: Ledger>(
         &mut self,
         field: FieldSelection<'doc>,
         levels: usize,
+        steps: &mut Steps<L>,
     ) -> Result<bool, ValidationError>
         ensures document { self.new.document ≡ self.old.document }
         ensures lone { IfOk result (λ lone. IsTrue lone → HasLoneFields (fragments_of self.old.document.now) (set_of (selection_of field.entry))) }
+        ensures cost { Paid self.old.left steps.old self.new.left steps.new 2 }
     {
         let set = &field.field.value.selection_set;
         if set.selections.is_empty() {
             return Ok(true);
         }
-        self.has_lone_fields(set, levels)
-    }
-
-    /// Whether so many fields more may be listed; they count then.
-    fn may_list(&mut self, fields: usize) -> bool
-        ensures { self.new.document ≡ self.old.document }
-    {
-        match self.left.checked_sub(fields) {
-            Some(left) => {
-                self.left = left;
-                true
-            }
-            None => false,
-        }
+        self.has_lone_fields(set, levels, steps)
     }
 }

@@ -7,4 +7,6 @@ mod nesting;
 #[cfg(test)]
 mod reach;
 #[cfg(test)]
+mod reached;
+#[cfg(test)]
 mod texts;

@@ -5,6 +5,8 @@
 #[cfg(test)]
 mod bounds;
 #[cfg(test)]
+mod comparisons;
+#[cfg(test)]
 mod hostile;
 #[cfg(test)]
 mod lone;
@@ -12,3 +14,5 @@ mod lone;
 mod numbers;
 #[cfg(test)]
 mod pairs;
+#[cfg(test)]
+mod sets;

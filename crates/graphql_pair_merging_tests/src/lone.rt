@@ -10,7 +10,7 @@ const SCHEMA: &str = "
     type A implements Node { x: Int y: Int }
     type B implements Node { x: Int y: Int }";
 
-/// Documents, how many fields may be listed, and whether no fields come together.
+/// Documents, how many selections the search may visit, and whether no fields come together.
 const DOCUMENTS: &[(&str, usize, bool)] = &[
     ("{ a b }", 100, true),
     ("{ a k: a }", 100, true),
@@ -50,9 +50,13 @@ const DOCUMENTS: &[(&str, usize, bool)] = &[
         10_000,
         false,
     ),
-    // no more than so many
+    // a bound on the selections that are visited, spreads and inline fragments among them
     ("{ a b q { a } }", 4, true),
     ("{ a b q { a } }", 3, false),
+    ("{ ...F ...F } fragment F on Query { a }", 3, true),
+    ("{ ...F ...F } fragment F on Query { a }", 2, false),
+    ("{ ... on Query { a } }", 2, true),
+    ("{ ... on Query { a } }", 1, false),
 ];
 
 #[test]

@@ -79,8 +79,8 @@ pub fn validate_executable_document(
 /// Where the arguments of fields are compared, each four bytes in which they are written count as a field, too. On ordinary
 /// documents it is a small multiple of what is written, and on documents made for it there are exponentially many fields.
 ///
-/// First it is asked whether any fields come together at all, for which at most `work` fields are listed, too. Where none do,
-/// as in most documents, nothing of merging is left to do.
+/// First the call searches for fields that come together at all. That search visits at most `work` selections, counting each
+/// visit. If it finds that there are none, as in most documents, nothing of merging is left to do.
 ///
 /// Where more was listed and compared than `work`, merging by such lists stops. That operation and all later ones are
 /// decided by pairs of selection sets, all together, each pair looked at once in each pass: so no more pairs of fields

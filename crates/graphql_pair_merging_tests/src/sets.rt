@@ -1,0 +1,54 @@
+use graphql_number_sets::bit_sets::BitSet;
+use graphql_number_sets::distinct_numbers::DistinctNumbers;
+use graphql_number_sets::pair_sets::PairSet;
+use std::alloc::Global;
+use std::process::Abort;
+
+fn set_of(rt: &impl Abort, alloc: Global, numbers: &[usize]) -> BitSet {
+    let mut set = BitSet::new(alloc);
+    for number in numbers {
+        set.insert(*number).expect(rt, "memory for a number");
+    }
+    set
+}
+
+/// Numbers, and whether they are among 1, 64, 2 and 200.
+const NUMBERS: &[(usize, bool)] = &[
+    (0, false),
+    (1, true),
+    (2, true),
+    (63, false),
+    (64, true),
+    (199, false),
+    (200, true),
+    (1000, false),
+];
+
+#[test]
+fn a_set_gets_the_numbers_of_another(rt: HostRuntime) {
+    let alloc = rt.alloc();
+    let mut set = set_of(&rt, alloc, &[1, 64]);
+    let other = set_of(&rt, alloc, &[2, 200]);
+    set.add_all(&other).expect(&rt, "memory for numbers");
+    for (number, is_there) in NUMBERS {
+        assert_eq!(rt; set.contains(*number), *is_there, "{number}");
+    }
+    assert!(rt; !other.contains(1));
+}
+
+/// Each number of two is made a pair with each: no end is left.
+#[test]
+fn each_number_becomes_a_pair_with_each(rt: HostRuntime) {
+    let alloc = rt.alloc();
+    let mut numbers = DistinctNumbers::new(alloc);
+    numbers.add(0).expect(&rt, "memory for a number");
+    numbers.add(2).expect(&rt, "memory for a number");
+    let mut pairs = PairSet::new(alloc, 3).expect(&rt, "memory for pairs");
+    let before = pairs.ends(alloc, &numbers).expect(&rt, "memory for ends");
+    assert_eq!(rt; before.as_slice(), [0, 2].as_slice());
+    pairs
+        .add_all(&numbers, &numbers)
+        .expect(&rt, "memory for pairs");
+    let left = pairs.ends(alloc, &numbers).expect(&rt, "memory for ends");
+    assert!(rt; left.as_slice().is_empty());
+}
