@@ -10,7 +10,7 @@ use Rattle.graphql_report_formats.specs.NamedTexts.{Text}
 use Rattle.graphql_frontend.specs.Documents.{ValidatesDocument}
 use Rattle.graphql_frontend.specs.Schemas.{ReadsSchema}
 use Rattle.graphql_frontend.specs.Shown.{IsShownAs, Shows, listed}
-use Rattle.graphql_frontend.specs.Texts.{AreTextsOf}
+use Rattle.graphql_frontend.specs.Texts.{AreTextsOf, IsTextOf}
 use Rattle.graphql_frontend.specs.Verdicts.{Validates}
 use Rattle.graphql_frontend.specs.declared.reports.Reports.{Reports}
 use Rattle.graphql_frontend.specs.declared.schemas.SchemaReading.{SchemaReading}
@@ -69,7 +69,7 @@ IsObjectOf sources source (verdict.DocumentRejected reports) object = AreErrorsO
 
 -- what is found in the bytes of a schema and of a document, and its JSON: what the verdict on their texts says
 pub data Finds (schema document : List ℕ) : Found → List ℕ → Type 0 where
-  by_verdict : {verdict : Verdict} (object : List Token) (sources : List SourceText) (source : SourceText) → AreTextsOf schema sources → source.text.now ≡ document →
+  by_verdict : {verdict : Verdict} (object : List Token) (sources : List SourceText) (source : SourceText) → AreTextsOf schema sources → IsTextOf document source →
       Validates bounds.Bounds.DEFAULT sources source verdict → IsObjectOf sources source verdict object → Finds schema document (found_by verdict) (print object)
 
 -- whether a reading finds something to report
@@ -91,9 +91,9 @@ pub data FindsInSchema (schema : List ℕ) : Found → List ℕ → Type 0 where
 
 -- whether something is reported of the text of these bytes, as a document, and the object of it
 pub data Checks (schema : Schema) (document : List ℕ) : Bool → List Token → Type 0 where
-  reports_nothing : (source : SourceText) → source.text.now ≡ document →
+  reports_nothing : (source : SourceText) → IsTextOf document source →
       ValidatesDocument bounds.Bounds.DEFAULT (Some schema) source None → Checks schema document false no_errors
-  reports_some : {reports : Reports} {object : List Token} (source : SourceText) → source.text.now ≡ document →
+  reports_some : {reports : Reports} {object : List Token} (source : SourceText) → IsTextOf document source →
       ValidatesDocument bounds.Bounds.DEFAULT (Some schema) source (Some reports) → AreErrorsOf (unnamed source ∷ []) None (source ∷ []) reports object →
       Checks schema document true object
 

@@ -8,9 +8,11 @@ ghost use Rattle.graphql_frontend.specs.Schemas.{IsUsable};
 
 use crate::answers::{Answer, Found, Refusal};
 use crate::objects::{add_document, add_nothing, lack_of_introspection, reports_of_schema};
-use crate::texts::{document_source, schema_sources, text_of};
+use crate::texts::text_of;
 use graphql_documents::documents::Schema;
-use graphql_frontend::{SchemaReading, read_schema, validate_document};
+use graphql_frontend::{
+    SchemaReading, document_source, read_schema, schema_sources, validate_document,
+};
 use graphql_parser::Bounds;
 use json::Writer;
 use std::alloc::Global;

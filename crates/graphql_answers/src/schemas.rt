@@ -5,8 +5,8 @@ ghost use Rattle.graphql_answers.specs.Answers.{FindsInSchema, IsRefusalOf};
 
 use crate::answers::{Answer, Refusal};
 use crate::objects::{lack_of_introspection, nothing, reports_of_schema};
-use crate::texts::{schema_sources, text_of};
-use graphql_frontend::{SchemaReading, read_schema};
+use crate::texts::text_of;
+use graphql_frontend::{SchemaReading, read_schema, schema_sources};
 use graphql_parser::Bounds;
 use std::alloc::Global;
 

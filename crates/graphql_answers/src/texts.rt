@@ -1,16 +1,13 @@
 //! The texts of bytes.
 
 ghost use Rattle.std.specs.Prelude.{◌≡◌, [], ◌∷◌, IsUtf8, MatchResult, map};
-ghost use Rattle.graphql_frontend.specs.Texts.{AreTextsOf};
 ghost use Rattle.graphql_answers.specs.Answers.{schema_texts, unnamed};
 ghost use Rattle.graphql_report_formats.specs.NamedTexts.{named_text};
 
 use crate::answers::Refusal;
 use graphql_frontend::SourceText;
-use graphql_nodes::FileId;
 use graphql_report_formats::named_texts::NamedText;
 use graphql_report_formats::schema_texts::BUILT_IN_TEXT;
-use graphql_schema_building::BUILT_IN_DEFINITIONS;
 
 /// The text of these bytes.
 pub(crate) fn text_of(bytes: &[u8]) -> Result<&str, Refusal>
@@ -20,22 +17,6 @@ pub(crate) fn text_of(bytes: &[u8]) -> Result<&str, Refusal>
         Ok(text) => Ok(text),
         Err(_error) => Err(Refusal::NotUtf8),
     }
-}
-
-/// The texts of a schema: the definitions that every schema has, and this one, which is of another file.
-pub(crate) fn schema_sources<'a>(text: &'a str) -> [SourceText<'a>; 2]
-    ensures { AreTextsOf text.now result }
-{
-    [
-        SourceText {
-            file_id: FileId::BUILT_IN,
-            text: BUILT_IN_DEFINITIONS,
-        },
-        SourceText {
-            file_id: FileId(1),
-            text,
-        },
-    ]
 }
 
 /// The texts of a schema, as reports name them: the one of a user is of no file that they name.
@@ -50,16 +31,6 @@ pub(crate) fn schema_texts<'a>(sources: [SourceText<'a>; 2]) -> [NamedText<'a>; 
         },
         unnamed(own),
     ]
-}
-
-/// The text of a document.
-pub(crate) fn document_source<'a>(text: &'a str) -> SourceText<'a>
-    ensures { result.text ≡ text.entry }
-{
-    SourceText {
-        file_id: FileId(2),
-        text,
-    }
 }
 
 /// A text that is of no file that reports name.

@@ -106,6 +106,7 @@ building_original (rule.DuplicateRootOperation operation original) = original
 building_original (rule.TypeDefinitionCollision name original) = original
 building_original (rule.DirectiveDefinitionCollision name original) = original
 building_original (rule.TypeExtensionKindMismatch name extension definition original) = original
+building_original (rule.ImplementedNonInterface name definition original) = original
 building_original (rule.MemberNameCollision kind type_name name original) = original
 building_original (rule.DuplicateImplementsInterface kind type_name name original) = original
 building_original _ = None

@@ -1,5 +1,6 @@
 -- Texts, and the documents that they are. Specification: 2.2 Document.
 use Rattle.std.specs.Prelude.{◌≡◌, ◌≢◌, ℕ, List, [], ◌∷◌, ◌++◌}
+use Rattle.graphql_nodes.specs.declared.spans.FileId.{FileId}
 use Rattle.graphql_nodes.specs.declared.spans.TheConstants as spans
 use Rattle.graphql_parser.specs.Parses.{ParsesDocument}
 use Rattle.graphql_parser.specs.Refusals.{IsRefusal}
@@ -32,6 +33,13 @@ pub data ParsesOneMore (bounds : Bounds) (source : SourceText) (old new : List D
   is_document : (tree : Document) → IsDocumentOf bounds source tree → new ≡ old ++ tree ∷ [] → after ≡ before → ParsesOneMore bounds source old new before after
   is_no_document : (report : SyntaxReport) → IsErrorOf bounds source report → new ≡ old → after ≡ before ++ report ∷ [] → ParsesOneMore bounds source old new before after
 
+-- the file of the text of a schema, and that of the text of a document
+abbrev pub schema_file : FileId
+schema_file = record { 0 = 1 }
+
+abbrev pub document_file : FileId
+document_file = record { 0 = 2 }
+
 -- the texts of a schema: the definitions that every schema has, as the file of these, and this text, as another file
 pub record AreTextsOf (schema : List ℕ) (sources : List SourceText) : Type 0 where
   pub first : SourceText
@@ -39,10 +47,12 @@ pub record AreTextsOf (schema : List ℕ) (sources : List SourceText) : Type 0 w
   pub sources_are : sources ≡ first ∷ own ∷ []
   pub first_file_is : first.file_id ≡ spans.FileId.BUILT_IN
   pub first_is : first.text.now ≡ (built_in.BUILT_IN_DEFINITIONS).now
-  pub own_file_is : own.file_id ≢ spans.FileId.BUILT_IN
+  pub own_file_is : own.file_id ≡ schema_file
+  pub own_is_not_built_in : own.file_id ≢ spans.FileId.BUILT_IN
   pub own_is : own.text.now ≡ schema
 
 -- the text of a document, as a file that is not that of the definitions that every schema has
 pub record IsTextOf (document : List ℕ) (source : SourceText) : Type 0 where
-  pub file_is : source.file_id ≢ spans.FileId.BUILT_IN
+  pub file_is : source.file_id ≡ document_file
+  pub is_not_built_in : source.file_id ≢ spans.FileId.BUILT_IN
   pub text_is : source.text.now ≡ document

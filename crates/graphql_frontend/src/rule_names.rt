@@ -87,6 +87,7 @@ pub fn building_rule(rule: &BuildingRule) -> &'static str
             "UndefinedTypeInNamedFragmentTypeCondition",
         BuildingRule::UndefinedTypeInInlineFragmentTypeCondition { .. } =>
             "UndefinedTypeInInlineFragmentTypeCondition",
+        BuildingRule::InvalidFragmentTarget { .. } => "InvalidFragmentTarget",
         BuildingRule::UndefinedField { .. } => "UndefinedField",
         BuildingRule::SubselectionOnLeafType { .. } => "SubselectionOnLeafType",
         BuildingRule::ExecutableDefinition { .. } => "ExecutableDefinition",
@@ -97,6 +98,8 @@ pub fn building_rule(rule: &BuildingRule) -> &'static str
         BuildingRule::DirectiveDefinitionCollision { .. } => "DirectiveDefinitionCollision",
         BuildingRule::OrphanTypeExtension { .. } => "OrphanTypeExtension",
         BuildingRule::TypeExtensionKindMismatch { .. } => "TypeExtensionKindMismatch",
+        BuildingRule::BuiltInTypeExtension { .. } => "BuiltInTypeExtension",
+        BuildingRule::ImplementedNonInterface { .. } => "ImplementedNonInterface",
         BuildingRule::OrphanSchemaExtension => "OrphanSchemaExtension",
         BuildingRule::MemberNameCollision { .. } => "MemberNameCollision",
         BuildingRule::DuplicateImplementsInterface { .. } => "DuplicateImplementsInterface",

@@ -361,6 +361,7 @@ fn original_of_building(rule: &BuildingRule) -> Option<SourceSpan>
         | BuildingRule::TypeDefinitionCollision { original, .. }
         | BuildingRule::DirectiveDefinitionCollision { original, .. }
         | BuildingRule::TypeExtensionKindMismatch { original, .. }
+        | BuildingRule::ImplementedNonInterface { original, .. }
         | BuildingRule::MemberNameCollision { original, .. }
         | BuildingRule::DuplicateImplementsInterface { original, .. } => *original,
         _ => None,

@@ -14,6 +14,8 @@ mod reach;
 #[cfg(test)]
 mod rules;
 #[cfg(test)]
+mod sequences;
+#[cfg(test)]
 mod standalone;
 #[cfg(test)]
 mod subscriptions;

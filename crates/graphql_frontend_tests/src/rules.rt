@@ -91,6 +91,16 @@ const VALIDATION: &[(&str, &str, &str)] = &[
         "9:16 RootOperationObjectType\n",
     ),
     (
+        "type Query { a: Int } input Mutation { x: Int }",
+        "",
+        "9:28 RootOperationObjectType\n",
+    ),
+    (
+        "type Query { a: Int } enum Subscription { G }",
+        "",
+        "9:27 RootOperationObjectType\n",
+    ),
+    (
         "schema { query: Q mutation: Q } type Q { a: Int }",
         "",
         "9:28 DuplicateRootOperationType\n",
@@ -105,11 +115,6 @@ const VALIDATION: &[(&str, &str, &str)] = &[
     (SCHEMA, "{ f(r: 2147483648) }", "1:7 IntCoercionError\n"),
     (SCHEMA, "{ a @once @once }", "1:10 UniqueDirective 4\n"),
     (SCHEMA, "{ o }", "1:2 MissingSubselection\n"),
-    (
-        SCHEMA,
-        "{ ... on E { ... on Query { a } } }",
-        "1:2 InvalidFragmentTarget\n",
-    ),
     (SCHEMA, "{ ... on O { b } }", "1:2 InvalidFragmentSpread\n"),
     (
         SCHEMA,
@@ -239,6 +244,16 @@ const BUILDING: &[(&str, &str, &str)] = &[
         "{ ... on Z { b } }",
         "1:9 UndefinedTypeInInlineFragmentTypeCondition\n",
     ),
+    (
+        SCHEMA,
+        "{ ... on E { length } }",
+        "1:2 InvalidFragmentTarget\n",
+    ),
+    (
+        SCHEMA,
+        "{ o { ...F } } fragment F on Int { length }",
+        "1:15 InvalidFragmentTarget\n",
+    ),
     (SCHEMA, "{ z }", "1:2 UndefinedField\n"),
     (SCHEMA, "{ a { b } }", "1:2 SubselectionOnLeafType\n"),
     (
@@ -282,6 +297,26 @@ const BUILDING: &[(&str, &str, &str)] = &[
         "9:34 TypeExtensionKindMismatch 5\n",
     ),
     (
+        "type Query { a: Int } extend type __Type { secret: Int }",
+        "",
+        "9:34 BuiltInTypeExtension\n",
+    ),
+    (
+        "type Query { a: Int } extend scalar Int @d directive @d on SCALAR",
+        "",
+        "9:36 BuiltInTypeExtension\n",
+    ),
+    (
+        "type Query implements O { a: Int } type O { a: Int }",
+        "",
+        "9:22 ImplementedNonInterface 40\n",
+    ),
+    (
+        "type Query { a: Int } type O { b: Int } extend type O implements Query",
+        "",
+        "9:65 ImplementedNonInterface 5\n",
+    ),
+    (
         "type O { b: Int } extend schema @d directive @d on SCHEMA",
         "",
         "9:18 OrphanSchemaExtension\n",
@@ -321,6 +356,13 @@ fn each_rule_of_validation_has_its_name_and_its_places(rt: HostRuntime) {
 #[test]
 fn each_rule_of_operations_has_its_name_and_its_places(rt: HostRuntime) {
     bring(&rt, rt.alloc(), OPERATIONS);
+}
+
+/// If the schema is defined, a type with the default name of a root is not the type of that root.
+#[test]
+fn a_default_name_makes_no_root_of_a_defined_schema(rt: HostRuntime) {
+    let schema = "schema { query: Query } type Query { a: Int } input Mutation { x: Int }";
+    bring(&rt, rt.alloc(), &[(schema, "{ a }", "")]);
 }
 
 #[test]

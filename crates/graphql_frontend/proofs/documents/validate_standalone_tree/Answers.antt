@@ -15,7 +15,7 @@ returns-in_ok-document c =
     let document = c.in_ok-document.document in
     if_ok (JudgesDocument c.args.bounds c.args.bytes None document) (JudgesTree c.args.bounds c.args.bytes None c.args.tree.now)
     (λ reports judged. is_built document (silent _ _ _ _ c.in_ok-check_standalone_document.ensures c.with_hash_seed-reports.ensures.empty none)
-    c.in_ok-document.ensures tt judged)
+    c.in_ok-document.ensures.says tt judged)
     c.validate_built.result c.validate_built.ensures
 
 pub returns-else-is_empty : goal.returns-else-is_empty

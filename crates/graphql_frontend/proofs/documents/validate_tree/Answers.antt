@@ -14,7 +14,7 @@ pub returns-in_ok-document : goal.returns-in_ok-document
 returns-in_ok-document c =
     let none : reports_of c.check_document.new.reports ≡ [] = search rules in
     let document = c.in_ok-document.document in
-    let says = c.in_ok-document.ensures in
+    let says = c.in_ok-document.ensures.says in
     if_ok (JudgesDocument c.args.bounds c.args.bytes (Some c.args.schema.now) document) (JudgesTree c.args.bounds c.args.bytes (Some c.args.schema.now) c.args.tree.now)
     (λ reports judged. is_built document (silent _ _ _ _ c.in_ok-check_document.ensures c.with_hash_seed-reports.ensures.empty none) says
     (document_is_built c.args.schema.now c.args.tree.now document says c.requires.names c.requires.output_fields) judged)

@@ -1,0 +1,9 @@
+pub mod DocumentVerdictLemmas
+pub mod EveryRuleLemmas
+pub mod KindLemmas
+pub mod OneVerdictLemmas
+pub mod RootLemmas
+pub mod SameTextLemmas
+pub mod SchemaReadingLemmas
+pub mod TextTreeLemmas
+pub mod TextVerdictLemmas
