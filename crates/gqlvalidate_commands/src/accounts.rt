@@ -1,6 +1,7 @@
 //! What a run reports, and how many.
 
 use crate::faults::{Fault, fault_of_output};
+use crate::json_lines::print_line;
 use crate::presentations::{Palette, Presentation};
 use crate::{github_format, text_format};
 use gqlvalidate_words::Format;
@@ -58,17 +59,18 @@ impl Account {
         })
     }
 
-    /// Reports what is wrong with one subject.
+    /// Reports what is wrong with one subject, which was read within these bounds.
     pub fn report<O: Write>(
         &mut self,
         alloc: Global,
         reports: &Reports,
         subject: Subject<'_>,
+        bounds: Bounds,
         output: &mut O,
     ) -> Result<(), Fault> {
         let Presentation { reporting, palette } = self.presentation;
         let most = reporting.max_reports.saturating_sub(self.tally.shown);
-        let shown = shown_reports(alloc, reports, subject.sources, Bounds::DEFAULT, most)?;
+        let shown = shown_reports(alloc, reports, subject.sources, bounds, most)?;
         let counted = CountedSubject::new(alloc, subject)?;
         self.tally.add(reports.len(), shown.len());
         match reporting.format {
@@ -81,6 +83,7 @@ impl Account {
     /// Prints what is left to print, and says on standard error how many reports there are, if any.
     pub fn end<O: Write, F: Write>(
         self,
+        alloc: Global,
         whole: Whole,
         output: &mut O,
         faults: &mut F,
@@ -91,7 +94,7 @@ impl Account {
             tally,
         } = self;
         match presentation.reporting.format {
-            Format::Json => print_object(json, output)?,
+            Format::Json => print_object(alloc, json, output)?,
             Format::Text | Format::Github => drop(json),
         }
         if tally.reports > 0 {
@@ -132,11 +135,9 @@ fn print<O: Write>(text: String, output: &mut O) -> Result<(), Fault> {
 }
 
 /// Prints the object as a line.
-fn print_object<O: Write>(mut json: Writer, output: &mut O) -> Result<(), Fault> {
+fn print_object<O: Write>(alloc: Global, mut json: Writer, output: &mut O) -> Result<(), Fault> {
     json_format::end(&mut json)?;
-    let mut object = json.into_inner();
-    object.push(b'\n')?;
-    output.write_all(object.as_slice()).map_err(fault_of_output)
+    print_line(alloc, json, output)
 }
 
 impl Tally {

@@ -1,11 +1,18 @@
 //! What documents may take of the program.
 
+ghost use Rattle.std.specs.Prelude.{◌≡◌};
+
+use gqlvalidate_words::Limits;
 use graphql_parser::Bounds;
 
-/// As by default, but for what operations reach: the files are the user's own, and the operations of a whole application together
-/// may well reach its fragments many times.
-pub const DOCUMENT_BOUNDS: Bounds = Bounds {
-    tokens: usize::MAX,
-    depth: 500,
-    reach: 64,
-};
+/// As the command line says; a document may have any number of tokens.
+pub fn bounds_of(limits: Limits) -> Bounds
+    ensures depth { result.depth ≡ limits.depth }
+    ensures reach { result.reach ≡ limits.reach }
+{
+    Bounds {
+        tokens: usize::MAX,
+        depth: limits.depth,
+        reach: limits.reach,
+    }
+}

@@ -5,7 +5,6 @@ ghost use Rattle.graphql_frontend.specs.Documents.{ValidatesDocument};
 ghost use Rattle.graphql_frontend.specs.Schemas.{IsUsable};
 
 use crate::accounts::{Account, Whole};
-use crate::bounds::DOCUMENT_BOUNDS;
 use crate::faults::Fault;
 use crate::one_document::check_together;
 use crate::presentations::Presentation;
@@ -23,13 +22,15 @@ use std::io::{Read, Write};
 use std::mem;
 use std::rt::Files;
 
-/// The paths of a run.
+/// The paths of a run, and what its documents may take.
 #[derive(Clone, Copy)]
 pub struct Paths<'a> {
     pub schema: &'a [&'a str],
     pub documents: &'a [&'a str],
     /// The documents are one document together.
     pub one_document: bool,
+    /// What a document may take.
+    pub bounds: Bounds,
 }
 
 impl Paths<'_> {
@@ -103,7 +104,7 @@ fn check_documents<R: Files + AllocGlobal, I: Read, O: Write, F: Write>(
     } else {
         check_each(rt, schema, paths, &mut account, input, output, faults)?
     };
-    account.end(Whole::Documents(paths.count()), output, faults)?;
+    account.end(rt.alloc(), Whole::Documents(paths.count()), output, faults)?;
     Ok(status)
 }
 
@@ -125,7 +126,7 @@ fn check_each<R: Files + AllocGlobal, I: Read, O: Write, F: Write>(
             Some(text) => {
                 let position = position.saturating_add(paths.schema.len());
                 let document = named_text(position, path, text.as_str());
-                check_text(rt.alloc(), schema, document, account, output)?
+                check_text(rt.alloc(), schema, document, paths.bounds, account, output)?
             }
             None => Status::Unreadable,
         };
@@ -139,17 +140,18 @@ fn check_text<O: Write>(
     alloc: Global,
     schema: &Schema,
     document: NamedText<'_>,
+    bounds: Bounds,
     account: &mut Account,
     output: &mut O,
 ) -> Result<Status, Fault>
     requires { IsUsable schema.now }
-    ensures accepted { result ≡ Ok Status.Accepted → ValidatesDocument DOCUMENT_BOUNDS (Some schema.now) document.entry.source None }
-    ensures reported { result ≡ Ok Status.Reported → (reports : Reports) × ValidatesDocument DOCUMENT_BOUNDS (Some schema.now) document.entry.source (Some reports) }
+    ensures accepted { result ≡ Ok Status.Accepted → ValidatesDocument bounds (Some schema.now) document.entry.source None }
+    ensures reported { result ≡ Ok Status.Reported → (reports : Reports) × ValidatesDocument bounds (Some schema.now) document.entry.source (Some reports) }
 {
-    match validate_document(alloc, schema, document.source, DOCUMENT_BOUNDS)? {
+    match validate_document(alloc, schema, document.source, bounds)? {
         None => Ok(Status::Accepted),
         Some(reports) => {
-            report_document(alloc, &reports, document, account, output)?;
+            report_document(alloc, &reports, document, bounds, account, output)?;
             Ok(Status::Reported)
         }
     }
@@ -160,6 +162,7 @@ fn report_document<O: Write>(
     alloc: Global,
     reports: &Reports,
     document: NamedText<'_>,
+    bounds: Bounds,
     account: &mut Account,
     output: &mut O,
 ) -> Result<(), Fault> {
@@ -170,5 +173,5 @@ fn report_document<O: Write>(
         texts: texts.as_slice(),
         sources: sources.as_slice(),
     };
-    account.report(alloc, reports, subject, output)
+    account.report(alloc, reports, subject, bounds, output)
 }

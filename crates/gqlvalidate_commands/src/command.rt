@@ -1,11 +1,14 @@
+use crate::bounds::bounds_of;
 use crate::check::{Paths, check};
 use crate::faults::{Fault, fault_of_output, fault_of_words};
 use crate::presentations::Presentation;
+use crate::printable::printable_words;
 use crate::schemas::check_schema;
-use crate::serve::serve;
+use crate::serve::{Allowance, serve};
 use crate::statuses::Status;
 use crate::syntax::check_syntax;
 use gqlvalidate_words::{Refusal, Request, parse};
+use std::alloc::Global;
 use std::io;
 use std::io::{Read, Write};
 use std::rt::Files;
@@ -43,7 +46,7 @@ fn run_words<R: Files + AllocGlobal, I: Read, O: Write, F: Write>(
 ) -> Result<Status, Fault> {
     let status = match parse(rt.alloc(), words) {
         Ok(request) => answer(rt, &request, colored_by_default, input, output, faults)?,
-        Err(refusal) => refuse(&refusal, output, faults)?,
+        Err(_) => refuse_words(rt.alloc(), words, output, faults)?,
     };
     output.flush().map_err(fault_of_output)?;
     Ok(status)
@@ -63,12 +66,14 @@ fn answer<R: Files + AllocGlobal, I: Read, O: Write, F: Write>(
             schema,
             documents,
             one_document,
+            limits,
             reporting,
         } => {
             let paths = Paths {
                 schema,
                 documents,
                 one_document: *one_document,
+                bounds: bounds_of(*limits),
             };
             let presentation = Presentation::new(*reporting, colored_by_default);
             check(rt, paths, presentation, input, output, faults)
@@ -77,8 +82,35 @@ fn answer<R: Files + AllocGlobal, I: Read, O: Write, F: Write>(
             let presentation = Presentation::new(*reporting, colored_by_default);
             check_schema(rt, schema, presentation, input, output, faults)
         }
-        Request::Serve { schema } => serve(rt, schema, input, output, faults),
+        Request::Serve {
+            schema,
+            limits,
+            max_line,
+        } => {
+            let allowance = Allowance {
+                bounds: bounds_of(*limits),
+                line: *max_line,
+            };
+            serve(rt, schema, allowance, input, output, faults)
+        }
         Request::Syntax { files } => check_syntax(rt, files, input, output, faults),
+    }
+}
+
+/// Says why these words ask for no run. What it quotes of them is printable.
+fn refuse_words<O: Write, F: Write>(
+    alloc: Global,
+    words: &[String],
+    output: &mut O,
+    faults: &mut F,
+) -> Result<Status, Fault> {
+    let printed = printable_words(alloc, words)?;
+    match parse(alloc, &printed) {
+        Ok(_) => {
+            let _ = writeln!(faults, "error: an argument has a control character");
+            Ok(Status::BadArguments)
+        }
+        Err(refusal) => refuse(&refusal, output, faults),
     }
 }
 

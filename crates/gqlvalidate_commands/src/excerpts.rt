@@ -1,5 +1,6 @@
 //! What is shown of a line of a text.
 
+use crate::printable::printable_character;
 use std::alloc::{AllocError, Global};
 
 /// As many characters of each part of a line are shown at most.
@@ -92,10 +93,8 @@ fn push_shown(shown: &mut String, text: &str) -> Result<(), AllocError> {
     for character in text.chars() {
         if character == '\t' {
             shown.push_str(TAB)?;
-        } else if character.is_control() {
-            shown.push('\u{fffd}')?;
         } else {
-            shown.push(character)?;
+            shown.push(printable_character(character))?;
         }
     }
     Ok(())

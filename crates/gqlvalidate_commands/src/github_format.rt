@@ -1,5 +1,6 @@
 //! Reports as workflow commands of GitHub Actions, a line a report, which become annotations.
 
+use crate::printable::printable_character;
 use graphql_frontend::ShownReport;
 use graphql_report_formats::named_texts::{CountedSubject, shown_name};
 use std::alloc::AllocError;
@@ -67,6 +68,6 @@ fn write_data<W: fmt::Write>(f: &mut fmt::Formatter<W>, character: char) -> fmt:
         '%' => f.write_str("%25"),
         '\r' => f.write_str("%0D"),
         '\n' => f.write_str("%0A"),
-        _ => f.write_char(character),
+        _ => f.write_char(printable_character(character)),
     }
 }

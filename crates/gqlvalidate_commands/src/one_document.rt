@@ -5,13 +5,13 @@ ghost use Rattle.graphql_frontend.specs.Documents.{ValidatesDocuments};
 ghost use Rattle.graphql_frontend.specs.Schemas.{IsUsable};
 
 use crate::accounts::Account;
-use crate::bounds::DOCUMENT_BOUNDS;
 use crate::check::Paths;
 use crate::faults::Fault;
 use crate::schema_files::{named_text, texts_of};
 use crate::statuses::Status;
 use graphql_documents::documents::Schema;
 use graphql_frontend::{Reports, SourceText, validate_documents};
+use graphql_parser::Bounds;
 use graphql_report_formats::named_texts::{NamedText, Subject};
 use graphql_report_formats::schema_texts::sources_of;
 use std::alloc::{AllocError, Global};
@@ -35,11 +35,11 @@ pub fn check_together<R: Files + AllocGlobal, I: Read, O: Write, F: Write>(
     };
     let named = named_documents(rt.alloc(), paths, &texts)?;
     let sources = sources_of(rt.alloc(), &named)?;
-    match reports_of(rt.alloc(), schema, &sources)? {
+    match reports_of(rt.alloc(), schema, &sources, paths.bounds)? {
         None => Ok(Status::Accepted),
         Some(reports) => {
             let subject = subject_of(&named, &sources);
-            account.report(rt.alloc(), &reports, subject, output)?;
+            account.report(rt.alloc(), &reports, subject, paths.bounds, output)?;
             Ok(Status::Reported)
         }
     }
@@ -50,11 +50,12 @@ fn reports_of(
     alloc: Global,
     schema: &Schema,
     sources: &[SourceText<'_>],
+    bounds: Bounds,
 ) -> Result<Option<Reports>, Fault>
     requires { IsUsable schema.now }
-    ensures { (reports : Option Reports) → result ≡ Ok reports → ValidatesDocuments DOCUMENT_BOUNDS (Some schema.now) sources.now reports }
+    ensures { (reports : Option Reports) → result ≡ Ok reports → ValidatesDocuments bounds (Some schema.now) sources.now reports }
 {
-    Ok(validate_documents(alloc, schema, sources, DOCUMENT_BOUNDS)?)
+    Ok(validate_documents(alloc, schema, sources, bounds)?)
 }
 
 /// The texts with their paths, numbered behind those of the schema.

@@ -33,11 +33,7 @@ impl<'a> Question<'a> {
         line: &'a [u8],
         scratch: &'a mut Scratch,
     ) -> Result<Question<'a>, QuestionError> {
-        let object = match Value::from_slice(alloc, line, scratch) {
-            Ok(object) => object,
-            Err(Error::OutOfMemory) => return Err(QuestionError::OutOfMemory),
-            Err(_) => return Err(QuestionError::Unclear("the line is not JSON in UTF-8")),
-        };
+        let object = object_of(alloc, line, scratch)?;
         match object.get("document").and_then(Value::as_str) {
             Some(document) => Ok(Question {
                 id: id_of(&object)?,
@@ -62,6 +58,25 @@ impl<'a> Question<'a> {
                 json.u64(number)
             }
         }
+    }
+}
+
+/// The JSON of a line, in which no object has a key twice.
+fn object_of<'a>(
+    alloc: Global,
+    line: &'a [u8],
+    scratch: &'a mut Scratch,
+) -> Result<Value<'a>, QuestionError> {
+    let Ok(text) = std::str::from_utf8(line) else {
+        return Err(QuestionError::Unclear("the line is not JSON in UTF-8"));
+    };
+    match Value::parse_strict(alloc, text, scratch) {
+        Ok(object) => Ok(object),
+        Err(Error::OutOfMemory) => Err(QuestionError::OutOfMemory),
+        Err(Error::DuplicateKey) => Err(QuestionError::Unclear(
+            "an object of the line has a key twice",
+        )),
+        Err(_) => Err(QuestionError::Unclear("the line is not JSON in UTF-8")),
     }
 }
 

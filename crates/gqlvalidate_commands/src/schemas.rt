@@ -60,7 +60,7 @@ fn accept<O: Write, F: Write>(
     output: &mut O,
     faults: &mut F,
 ) -> Result<Status, Fault> {
-    Account::new(alloc, presentation)?.end(Whole::Schema, output, faults)?;
+    Account::new(alloc, presentation)?.end(alloc, Whole::Schema, output, faults)?;
     Ok(Status::Accepted)
 }
 
@@ -74,7 +74,7 @@ pub fn reject<O: Write, F: Write>(
     faults: &mut F,
 ) -> Result<Status, Fault> {
     let mut account = Account::new(alloc, presentation)?;
-    account.report(alloc, reports, subject, output)?;
-    account.end(Whole::Schema, output, faults)?;
+    account.report(alloc, reports, subject, Bounds::DEFAULT, output)?;
+    account.end(alloc, Whole::Schema, output, faults)?;
     Ok(Status::Reported)
 }

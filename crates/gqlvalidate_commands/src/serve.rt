@@ -2,8 +2,9 @@
 
 ghost use Rattle.graphql_frontend.specs.Schemas.{IsUsable};
 
-use crate::bounds::DOCUMENT_BOUNDS;
 use crate::faults::{Fault, fault_of_output};
+use crate::json_lines::print_line;
+use crate::lines::{ReadLine, read_line};
 use crate::questions::{Question, QuestionError};
 use crate::schema_files::{named_schema, texts_of};
 use crate::sources::explain_input;
@@ -20,17 +21,26 @@ use graphql_report_formats::schema_texts::{schema_subject, sources_of};
 use json::{Scratch, Writer};
 use std::alloc::{AllocError, Global};
 use std::io;
-use std::io::{BufRead, BufReader, Read, Write};
+use std::io::{BufReader, Read, Write};
 use std::rt::Files;
 
 /// The number of the text of a question.
 const QUESTION: FileId = FileId(u32::MAX);
+
+/// What a question may take.
+#[derive(Clone, Copy)]
+pub struct Allowance {
+    pub bounds: Bounds,
+    /// So many bytes its line may have, without its end.
+    pub line: u64,
+}
 
 /// Reads the schema of these files, and answers each line of standard input by a line, until there are no more. If the schema
 /// is reported, one line with its reports ends the run.
 pub fn serve<R: Files + AllocGlobal, I: Read, O: Write, F: Write>(
     rt: &R,
     paths: &[&str],
+    allowance: Allowance,
     input: &mut I,
     output: &mut O,
     faults: &mut F,
@@ -41,7 +51,9 @@ pub fn serve<R: Files + AllocGlobal, I: Read, O: Write, F: Write>(
     let named = named_schema(rt.alloc(), paths, &texts)?;
     let sources = sources_of(rt.alloc(), &named)?;
     match read_schema(rt.alloc(), &sources, Bounds::DEFAULT)? {
-        SchemaReading::Accepted(schema) => answer_lines(rt.alloc(), &schema, input, output, faults),
+        SchemaReading::Accepted(schema) => {
+            answer_lines(rt.alloc(), &schema, allowance, input, output, faults)
+        }
         SchemaReading::Rejected(reports) => {
             let subject = schema_subject(&named, &sources);
             print_reports(rt.alloc(), &reports, subject, output)?;
@@ -54,13 +66,14 @@ pub fn serve<R: Files + AllocGlobal, I: Read, O: Write, F: Write>(
 fn answer_lines<I: Read, O: Write, F: Write>(
     alloc: Global,
     schema: &Schema,
+    allowance: Allowance,
     input: &mut I,
     output: &mut O,
     faults: &mut F,
 ) -> Result<Status, Fault>
     requires { IsUsable schema.now }
 {
-    match answer_each(alloc, schema, input, output) {
+    match answer_each(alloc, schema, allowance, input, output) {
         Ok(()) => Ok(Status::Accepted),
         Err(Ended::Fault(fault)) => Err(fault),
         Err(Ended::InputFailed(error)) => {
@@ -95,6 +108,7 @@ impl From<io::Error> for Ended {
 fn answer_each<I: Read, O: Write>(
     alloc: Global,
     schema: &Schema,
+    allowance: Allowance,
     input: &mut I,
     output: &mut O,
 ) -> Result<(), Ended>
@@ -103,29 +117,57 @@ fn answer_each<I: Read, O: Write>(
     let mut lines = BufReader::new(alloc, input)?;
     let mut line = Vec::new(alloc);
     for _ in 0..u64::MAX {
-        line.clear();
-        if lines.read_until(b'\n', &mut line)? == 0 {
-            break;
+        match read_line(&mut lines, allowance.line, &mut line)? {
+            ReadLine::End => break,
+            ReadLine::Whole => answer(alloc, schema, allowance.bounds, &line, output)?,
+            ReadLine::TooLong => say(TOO_LONG, output)?,
+            ReadLine::OutOfMemory => say(OUT_OF_MEMORY, output)?,
         }
-        answer(alloc, schema, &line, output)?;
     }
     Ok(())
 }
 
-/// Answers a line. One that is no question has an answer that says so.
+/// The answer to a line that is longer than a line may be.
+const TOO_LONG: &str = "{\"fault\":\"the line is longer than `--max-line` allows\"}\n";
+
+/// The answer to a question for which there is no memory.
+const OUT_OF_MEMORY: &str = "{\"fault\":\"out of memory\"}\n";
+
+/// Prints a line that is at hand, at once: that takes no memory.
+fn say<O: Write>(line: &str, output: &mut O) -> Result<(), Fault> {
+    output.write_all(line.as_bytes()).map_err(fault_of_output)?;
+    output.flush().map_err(fault_of_output)
+}
+
+/// Answers a line. If there is no memory for that, the answer says so, and the run goes on.
 fn answer<O: Write>(
     alloc: Global,
     schema: &Schema,
+    bounds: Bounds,
     line: &[u8],
     output: &mut O,
 ) -> Result<(), Fault>
+    requires { IsUsable schema.now }
+{
+    match answer_of(alloc, schema, bounds, line) {
+        Ok(json) => match print_now(alloc, json, output) {
+            Err(Fault::OutOfMemory) => say(OUT_OF_MEMORY, output),
+            ended => ended,
+        },
+        Err(Fault::OutOfMemory) => say(OUT_OF_MEMORY, output),
+        Err(fault) => Err(fault),
+    }
+}
+
+/// The answer to a line. That to one that is no question says so.
+fn answer_of(alloc: Global, schema: &Schema, bounds: Bounds, line: &[u8]) -> Result<Writer, Fault>
     requires { IsUsable schema.now }
 {
     let mut scratch = Scratch::new(alloc);
     let mut json = Writer::new(Vec::new(alloc));
     json.begin_object()?;
     match Question::read(alloc, line, &mut scratch) {
-        Ok(question) => answer_question(alloc, schema, &question, &mut json)?,
+        Ok(question) => answer_question(alloc, schema, bounds, &question, &mut json)?,
         Err(QuestionError::OutOfMemory) => return Err(Fault::OutOfMemory),
         Err(QuestionError::Unclear(why)) => {
             json.key("fault")?;
@@ -133,12 +175,13 @@ fn answer<O: Write>(
         }
     }
     json.end_object()?;
-    print_line(json, output)
+    Ok(json)
 }
 
 fn answer_question(
     alloc: Global,
     schema: &Schema,
+    bounds: Bounds,
     question: &Question<'_>,
     json: &mut Writer,
 ) -> Result<(), Fault>
@@ -149,7 +192,7 @@ fn answer_question(
         file_id: QUESTION,
         text: question.document,
     };
-    let reports = validate_document(alloc, schema, source, DOCUMENT_BOUNDS)?;
+    let reports = validate_document(alloc, schema, source, bounds)?;
     let texts = [NamedText { path: None, source }];
     let sources = [source];
     let subject = Subject {
@@ -159,7 +202,7 @@ fn answer_question(
     };
     begin_errors(json)?;
     if let Some(reports) = reports {
-        add_shown(alloc, &reports, subject, json)?;
+        add_shown(alloc, &reports, subject, bounds, json)?;
     }
     Ok(json.end_array()?)
 }
@@ -168,9 +211,10 @@ fn add_shown(
     alloc: Global,
     reports: &Reports,
     subject: Subject<'_>,
+    bounds: Bounds,
     json: &mut Writer,
 ) -> Result<(), Fault> {
-    let shown = shown_reports(alloc, reports, subject.sources, Bounds::DEFAULT, usize::MAX)?;
+    let shown = shown_reports(alloc, reports, subject.sources, bounds, usize::MAX)?;
     let counted = CountedSubject::new(alloc, subject)?;
     Ok(add_reports(json, &shown, &counted)?)
 }
@@ -185,16 +229,14 @@ fn print_reports<O: Write>(
     let mut json = Writer::new(Vec::new(alloc));
     json.begin_object()?;
     begin_errors(&mut json)?;
-    add_shown(alloc, reports, subject, &mut json)?;
+    add_shown(alloc, reports, subject, Bounds::DEFAULT, &mut json)?;
     json.end_array()?;
     json.end_object()?;
-    print_line(json, output)
+    print_now(alloc, json, output)
 }
 
 /// Prints the object as a line, at once.
-fn print_line<O: Write>(json: Writer, output: &mut O) -> Result<(), Fault> {
-    let mut line = json.into_inner();
-    line.push(b'\n')?;
-    output.write_all(line.as_slice()).map_err(fault_of_output)?;
+fn print_now<O: Write>(alloc: Global, json: Writer, output: &mut O) -> Result<(), Fault> {
+    print_line(alloc, json, output)?;
     output.flush().map_err(fault_of_output)
 }

@@ -1,6 +1,7 @@
 //! The texts of files.
 
 use crate::faults::Fault;
+use crate::printable::Printable;
 use gqlvalidate_words::requests::STANDARD_INPUT;
 use graphql_places::Place;
 use std::alloc::Global;
@@ -30,7 +31,7 @@ enum SourceError {
 impl SourceError {
     /// Says on standard error what is wrong with the file. That this fails changes nothing.
     fn explain<F: Write>(&self, path: &str, faults: &mut F) {
-        let path = shown_path(path);
+        let path = Printable(shown_path(path));
         let _ = match self {
             SourceError::OutOfMemory => Ok(()),
             SourceError::NotRead(error) => writeln!(faults, "{path}: error: {error}"),

@@ -5,6 +5,7 @@ ghost use Rattle.graphql_parser.specs.Parses.{ParsesDocument};
 ghost use Rattle.graphql_trees.specs.declared.documents.Document.{Document};
 
 use crate::faults::{Fault, fault_of_output};
+use crate::printable::Printable;
 use crate::sources::{shown_path, text_or_said};
 use crate::statuses::Status;
 use graphql_nodes::FileId;
@@ -64,7 +65,7 @@ fn report_syntax<O: Write>(
             if is_out_of_memory(error) {
                 return Err(Fault::OutOfMemory);
             }
-            print_error(path, text, error, output)?;
+            print_error(alloc, path, text, error, output)?;
             Ok(true)
         }
     }
@@ -77,15 +78,17 @@ fn is_out_of_memory(error: SyntaxError) -> bool
 }
 
 fn print_error<O: Write>(
+    alloc: Global,
     path: &str,
     text: &str,
     error: SyntaxError,
     output: &mut O,
 ) -> Result<(), Fault> {
-    let path = shown_path(path);
+    let path = Printable(shown_path(path));
     let place = Place::of_byte(text, error.at(text).min(text.len()));
     let line = place.line;
     let column = place.column;
-    let message = refused(error, text, Bounds::DEFAULT);
+    let message = refused(error, text, Bounds::DEFAULT).to_string(alloc)?;
+    let message = Printable(message.as_str());
     writeln!(output, "{path}:{line}:{column}: error: {message}").map_err(fault_of_output)
 }

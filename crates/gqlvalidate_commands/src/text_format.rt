@@ -2,6 +2,7 @@
 
 use crate::excerpts::{Line, shown_beginning, shown_end};
 use crate::presentations::Palette;
+use crate::printable::Printable;
 use graphql_frontend::ShownReport;
 use graphql_report_formats::named_texts::{CountedSubject, Located, shown_name};
 use std::alloc::{AllocError, Global};
@@ -24,7 +25,7 @@ pub fn push_report(
         }
         None => {
             let Palette { strong, end, .. } = palette;
-            let path = shown_name(subject.path);
+            let path = Printable(shown_name(subject.path));
             write!(out, "{strong}{path}:{end}")?;
             push_error(out, message, palette)?;
         }
@@ -43,6 +44,7 @@ fn push_error(out: &mut String, message: &str, palette: Palette) -> Result<(), A
         end,
         ..
     } = palette;
+    let message = Printable(message);
     writeln!(out, " {error}error:{end} {strong}{message}{end}")
 }
 
@@ -70,7 +72,7 @@ fn note_of(rule: &str) -> &'static str {
 
 fn push_place(out: &mut String, located: Located<'_>, palette: Palette) -> Result<(), AllocError> {
     let Palette { strong, end, .. } = palette;
-    let path = shown_name(located.path);
+    let path = Printable(shown_name(located.path));
     let line = located.start.line;
     let column = located.start.column;
     write!(out, "{strong}{path}:{line}:{column}:{end}")

@@ -15,6 +15,9 @@ struct Ended<'a> {
     said: &'a str,
 }
 
+/// The name of a file with characters that control a terminal, the direction of text and the log of a workflow.
+const CONTROLLING: &str = "\u{1b}[2J\u{9b}\u{202e}\n::error::";
+
 /// The files of the tests.
 const FILES: &[(&str, &[u8])] = &[
     (
@@ -46,6 +49,18 @@ const FILES: &[(&str, &[u8])] = &[
     ("lists", b"type Query { sum(of: [Int!]): Int }\n"),
     ("misused", b"query($a: Int) { sum(of: [$a]) }\n"),
     ("binary", b"{ a\n \xC3\xA9\xFF }"),
+    (
+        CONTROLLING,
+        b"{ pet(id: \"\xE2\x80\xAE\") { name colour } }\n",
+    ),
+    (
+        "deferring",
+        b"type Query { a: Int } directive @defer(label: String, if: Boolean! = true) on INLINE_FRAGMENT\n",
+    ),
+    (
+        "labels",
+        b"{\n... @defer(label: \"\\u009b\\u202e\") { a }\n... @defer(label: \"\\u009b\\u202e\") { a }\n}\n",
+    ),
 ];
 
 fn shelf_of(alloc: Global) -> Shelf {
@@ -285,6 +300,10 @@ const QUESTIONS: &[(&str, &str)] = &[
         "{\"id\":-1,\"document\":\"{ a }\"}\n",
         "{\"fault\":\"the `id` is neither a string nor an integer from 0 up to 2^64 - 1\"}\n",
     ),
+    (
+        "{\"document\":\"{ a }\",\"document\":\"{ pet(id: 1) { name } }\"}\n",
+        "{\"fault\":\"an object of the line has a key twice\"}\n",
+    ),
     ("", ""),
 ];
 
@@ -303,6 +322,40 @@ fn questions_are_answered_in_turn(rt: HostRuntime) {
             wanted,
         );
     }
+}
+
+/// A line that is longer than a line may be has an answer that says so, and the lines behind it are answered.
+#[test]
+fn a_line_that_is_too_long_is_gone_past(rt: HostRuntime) {
+    let input =
+        " {\"document\":\"{ pet(id: 1) { name } }\"}\n{\"document\":\"{ pet(id: 1) { name } }\"}\n{\"document\":\"{ pet(id: 1) { name } }\"}";
+    let wanted = Ended {
+        status: 0,
+        printed: "{\"fault\":\"the line is longer than `--max-line` allows\"}\n{\"errors\":[]}\n{\"errors\":[]}\n",
+        said: "",
+    };
+    let words = ["serve", "--max-line", "38", "--schema", "schema"];
+    ends(&rt, words.as_slice(), input.as_bytes(), wanted);
+}
+
+/// A document that nests deeper than the command line allows is refused, with that number.
+#[test]
+fn a_document_may_nest_as_deep_as_the_words_say(rt: HostRuntime) {
+    let deep = ["check", "--max-depth", "2", "--schema", "schema", "valid"];
+    run_ends(&rt, deep.as_slice(), 0, "", "");
+    let words = ["check", "--max-depth", "1", "--schema", "schema", "valid"];
+    let printed = "valid:1:14: error: more than 1 levels of brackets and braces
+  |
+1 | { pet(id: 1) { name } }
+  |              ^
+";
+    run_ends(
+        &rt,
+        words.as_slice(),
+        1,
+        printed,
+        "1 report in 1 of 1 document\n",
+    );
 }
 
 #[test]
@@ -563,4 +616,94 @@ fn a_failed_write_ends_the_run(rt: HostRuntime) {
         assert_eq!(rt; ended.number(), 4);
         assert!(rt; faults.is_empty());
     }
+}
+
+/// Words of runs over texts of strangers that would control a terminal or a log, what is printed, and what is said.
+const CONTROLLED: &[(&[&str], u8, &str, &str)] = &[
+    (
+        &["check", "--schema", "schema", CONTROLLING],
+        1,
+        "\u{fffd}[2J\u{fffd}\u{fffd}\u{fffd}::error:::1:23: error: type `Pet` does not have a field `colour`
+  |
+1 | { pet(id: \"\u{fffd}\") { name colour } }
+  |                       ^^^^^^
+",
+        "1 report in 1 of 1 document\n",
+    ),
+    (
+        &[
+            "check",
+            "--format",
+            "github",
+            "--schema",
+            "schema",
+            CONTROLLING,
+        ],
+        1,
+        "::error file=\u{fffd}[2J\u{fffd}\u{fffd}%0A%3A%3Aerror%3A%3A,line=1,endLine=1,col=23,endColumn=29,title=UndefinedField::type `Pet` does not have a field `colour`\n",
+        "1 report in 1 of 1 document\n",
+    ),
+    (
+        &[
+            "check",
+            "--format",
+            "json",
+            "--schema",
+            "schema",
+            CONTROLLING,
+        ],
+        1,
+        "{\"errors\":[{\"message\":\"type `Pet` does not have a field `colour`\",\"locations\":[{\"line\":1,\"column\":23}],\"extensions\":{\"file\":\"\\u001b[2J\\u009b\\u202e\\n::error::\",\"rule\":\"UndefinedField\",\"span\":{\"start\":24,\"end\":30}}}]}\n",
+        "1 report in 1 of 1 document\n",
+    ),
+    (
+        &["check", "--schema", "deferring", "labels"],
+        1,
+        "labels:3:19: error: the label \"\u{fffd}\u{fffd}\" of @defer is used multiple times
+  |
+3 | ... @defer(label: \"\\u009b\\u202e\") { a }
+  |                   ^^^^^^^^^^^^^^
+labels:2:19: note: first here
+",
+        "1 report in 1 of 1 document\n",
+    ),
+    (
+        &["syntax", "\u{1b}c\n::error::"],
+        5,
+        "",
+        "\u{fffd}c\u{fffd}::error::: error: entity not found\n",
+    ),
+];
+
+#[test]
+fn texts_of_strangers_control_nothing(rt: HostRuntime) {
+    for (texts, status, printed, said) in CONTROLLED {
+        run_ends(&rt, texts, *status, printed, said);
+    }
+}
+
+/// A word that is refused is quoted with replacement characters, so that what is said has no control but the ends of its lines.
+#[test]
+fn refused_words_control_nothing(rt: HostRuntime) {
+    let alloc = rt.alloc();
+    let words = Ok(words_of(&rt, alloc, &["check", "--\u{1b}[2J\n::error::\u{202e}"]));
+    let mut output = Vec::new(alloc);
+    let mut faults = Vec::new(alloc);
+    let mut input: &[u8] = b"";
+    let status = run(
+        &shelf_of(alloc),
+        words,
+        false,
+        &mut input,
+        &mut output,
+        &mut faults,
+    );
+    let said = std::str::from_utf8(&faults).expect(&rt, "text");
+    assert!(&rt;
+        said.contains("\u{fffd}[2J\u{fffd}::error::\u{fffd}"),
+        "{said}"
+    );
+    assert!(&rt; !said.contains(['\u{1b}', '\u{202e}']), "{said}");
+    assert!(&rt; !said.contains("\n::error"), "{said}");
+    assert_eq!(&rt; status.number(), 2);
 }

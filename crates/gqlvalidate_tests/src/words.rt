@@ -8,7 +8,7 @@ const READ: &[(&[&str], &str)] = &[
     (&["syntax", "a", "-"], "Syntax { files: [\"a\", \"-\"] }"),
     (
         &["check", "--schema", "s", "a", "--schema=t", "b"],
-        "Check { schema: [\"s\", \"t\"], documents: [\"a\", \"b\"], one_document: false, reporting: Reporting { format: Text, color: Auto, max_reports: 100 } }",
+        "Check { schema: [\"s\", \"t\"], documents: [\"a\", \"b\"], one_document: false, limits: Limits { depth: 500, reach: 64 }, reporting: Reporting { format: Text, color: Auto, max_reports: 100 } }",
     ),
     (
         &["schema", "--format", "json", "--max-reports", "7", "s"],
@@ -30,15 +30,32 @@ const READ: &[(&[&str], &str)] = &[
         &[
             "check",
             "--one-document",
+            "--max-depth",
+            "7",
+            "--max-reach=5",
             "--color",
             "always",
             "--schema",
             "s",
             "a",
         ],
-        "Check { schema: [\"s\"], documents: [\"a\"], one_document: true, reporting: Reporting { format: Text, color: Always, max_reports: 100 } }",
+        "Check { schema: [\"s\"], documents: [\"a\"], one_document: true, limits: Limits { depth: 7, reach: 5 }, reporting: Reporting { format: Text, color: Always, max_reports: 100 } }",
     ),
-    (&["serve", "--schema", "s"], "Serve { schema: [\"s\"] }"),
+    (
+        &["serve", "--schema", "s"],
+        "Serve { schema: [\"s\"], limits: Limits { depth: 500, reach: 4 }, max_line: 8388608 }",
+    ),
+    (
+        &[
+            "serve",
+            "--max-line=9",
+            "--max-reach=2",
+            "--max-depth=3",
+            "--schema",
+            "s",
+        ],
+        "Serve { schema: [\"s\"], limits: Limits { depth: 3, reach: 2 }, max_line: 9 }",
+    ),
     (
         &["serve", "--schema", "-"],
         "error: standard input, `-`, is named more than once\n",

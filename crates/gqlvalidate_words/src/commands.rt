@@ -16,6 +16,12 @@ pub const COLOR: &str = "color";
 
 pub const ONE_DOCUMENT: &str = "one-document";
 
+pub const MAX_DEPTH: &str = "max-depth";
+
+pub const MAX_REACH: &str = "max-reach";
+
+pub const MAX_LINE: &str = "max-line";
+
 /// The names of the commands.
 pub const CHECK: &str = "check";
 
@@ -74,6 +80,8 @@ fn check<'a>(alloc: Global) -> Result<Command<'a>, Error> {
     let command = command.arg(schema_files(alloc))?;
     let command = with_reporting(alloc, command)?;
     let command = command.arg(one_document(alloc))?;
+    let command = command.arg(max_depth(alloc))?;
+    let command = command.arg(max_reach(alloc, "64"))?;
     Ok(command.arg(files(alloc, "DOCUMENT", "Executable documents"))?)
 }
 
@@ -95,6 +103,9 @@ fn serve<'a>(alloc: Global) -> Result<Command<'a>, Error> {
             "Answers lines of JSON on standard input, a document each, against a schema that is read once",
         )
         .after_help(STATUSES);
+    let command = command.arg(max_depth(alloc))?;
+    let command = command.arg(max_reach(alloc, "4"))?;
+    let command = command.arg(max_line(alloc))?;
     Ok(command.arg(schema_files(alloc))?)
 }
 
@@ -155,6 +166,38 @@ fn one_document<'a>(alloc: Global) -> Arg<'a> {
         .long(ONE_DOCUMENT)
         .help("The documents are one document together, fragments in files of their own among them")
         .action(ArgAction::SetTrue)
+}
+
+fn max_depth<'a>(alloc: Global) -> Arg<'a> {
+    Arg::new(alloc, MAX_DEPTH)
+        .long(MAX_DEPTH)
+        .value_name("N")
+        .help(
+            "How many levels a document may nest, by brackets and braces and through its fragments",
+        )
+        .value_parser(value_parser!(usize))
+        .default_value("500")
+        .action(ArgAction::Set)
+}
+
+fn max_reach<'a>(alloc: Global, default: &'a str) -> Arg<'a> {
+    Arg::new(alloc, MAX_REACH)
+        .long(MAX_REACH)
+        .value_name("N")
+        .help("How many bytes the operations of a document may reach for each byte of its text")
+        .value_parser(value_parser!(usize))
+        .default_value(default)
+        .action(ArgAction::Set)
+}
+
+fn max_line<'a>(alloc: Global) -> Arg<'a> {
+    Arg::new(alloc, MAX_LINE)
+        .long(MAX_LINE)
+        .value_name("BYTES")
+        .help("How long a line of standard input may be")
+        .value_parser(value_parser!(u64))
+        .default_value("8388608")
+        .action(ArgAction::Set)
 }
 
 fn max_reports<'a>(alloc: Global) -> Arg<'a> {

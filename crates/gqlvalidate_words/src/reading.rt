@@ -1,10 +1,10 @@
 //! From words to a request.
 
 use crate::commands::{
-    ALWAYS, CHECK, COLOR, FILES, FORMAT, GITHUB, JSON, MAX_REPORTS, NEVER, ONE_DOCUMENT, SCHEMA,
-    SERVE, SYNTAX, program,
+    ALWAYS, CHECK, COLOR, FILES, FORMAT, GITHUB, JSON, MAX_DEPTH, MAX_LINE, MAX_REACH, MAX_REPORTS,
+    NEVER, ONE_DOCUMENT, SCHEMA, SERVE, SYNTAX, program,
 };
-use crate::requests::{Color, Format, Refusal, Reporting, Request, STANDARD_INPUT};
+use crate::requests::{Color, Format, Limits, Refusal, Reporting, Request, STANDARD_INPUT};
 use clap::error::ErrorKind;
 use clap::{ArgMatches, Error};
 use std::alloc::{AllocError, Global};
@@ -68,11 +68,16 @@ fn request_of<'a>(
             schema,
             documents: files,
             one_document: given.get_flag(ONE_DOCUMENT),
+            limits: limits(given),
             reporting: reporting(given),
         })
     } else if command == SERVE {
         let schema = paths(alloc, given, SCHEMA)?;
-        Ok(Request::Serve { schema })
+        Ok(Request::Serve {
+            schema,
+            limits: limits(given),
+            max_line: given.get_one::<u64>(MAX_LINE).unwrap_or(u64::MAX),
+        })
     } else if command == SYNTAX {
         Ok(Request::Syntax { files })
     } else {
@@ -87,6 +92,14 @@ fn wrong(alloc: Global, text: &str) -> Refusal {
     match String::from_str(alloc, text) {
         Ok(text) => Refusal::Wrong(text),
         Err(_refused) => Refusal::OutOfMemory,
+    }
+}
+
+/// What a document may take. Each number has a default on the command line.
+fn limits(given: &ArgMatches<'_>) -> Limits {
+    Limits {
+        depth: given.get_one::<usize>(MAX_DEPTH).unwrap_or(usize::MAX),
+        reach: given.get_one::<usize>(MAX_REACH).unwrap_or(usize::MAX),
     }
 }
 

@@ -68,6 +68,15 @@ fn most_of(format: Format) -> usize
     }
 }
 
+/// What a document may take.
+#[derive(Clone, Copy, Debug, PartialEq, Eq)]
+pub struct Limits {
+    /// So many levels it may nest.
+    pub depth: usize,
+    /// So many bytes its operations may reach for each byte of its text.
+    pub reach: usize,
+}
+
 /// What a command line asks for. Paths are in the order of the command line.
 #[derive(Debug, Drop)]
 pub enum Request<'a> {
@@ -77,6 +86,7 @@ pub enum Request<'a> {
         documents: Vec<&'a str>,
         /// The documents are one document together.
         one_document: bool,
+        limits: Limits,
         reporting: Reporting,
     },
     /// To validate the schema of these files.
@@ -87,6 +97,9 @@ pub enum Request<'a> {
     /// To answer lines of JSON on standard input, a document each, against the schema of these files.
     Serve {
         schema: Vec<&'a str>,
+        limits: Limits,
+        /// So many bytes a line may have, without its end.
+        max_line: u64,
     },
     /// To test whether these files are GraphQL documents, each for itself.
     Syntax {
