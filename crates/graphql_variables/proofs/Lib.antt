@@ -1,3 +1,4 @@
+pub mod DefinitionUseLemmas
 pub mod FirstPlaceLemmas
 pub mod NameSetLemmas
 pub mod OperationUseLemmas

@@ -1,7 +1,6 @@
 -- Which variables an operation uses: what its selections use.
-use Rattle.std.proofs.Common.{◌≡◌, ◌↔◌, ℕ, ◌+◌, ◌<◌, arith, List, [], length, get_or, take, map, refl, sym, ap, ◌∙◌, subst, Contains, None, Some}
+use Rattle.std.proofs.Common.{◌≡◌, ◌↔◌, ℕ, ◌+◌, ◌<◌, arith, List, [], length, get_or, take, map, refl, sym, ap, ◌∙◌, subst, Contains}
 use Rattle.std.specs.Prelude.{◌⊎◌}
-use Rattle.std.proofs.lemmas.Option.{none-some, same_Some}
 use Rattle.std.specs.Borrow.{Bor}
 use Rattle.std.specs.List.{Any}
 use mathlib.Core.Logic.{inl, inr}
@@ -9,7 +8,6 @@ use Rattle.graphql_nodes.specs.Names.{NameText}
 use Rattle.graphql_documents.specs.Selections.{Fragments, Reachable, arguments_of, directives_of}
 use Rattle.graphql_documents.specs.VariableUses.{StandsInArguments, StandsInDirectives, UsesVariable, in_arguments, in_directives, in_fragment_definition, in_operation}
 use Rattle.graphql_documents.specs.declared.documents.executables.Field.{Field}
-use Rattle.graphql_documents.specs.declared.documents.executables.Fragment.{Fragment}
 use Rattle.graphql_documents.specs.declared.documents.executables.FragmentSpread.{FragmentSpread}
 use Rattle.graphql_documents.specs.declared.documents.executables.InlineFragment.{InlineFragment}
 use Rattle.graphql_documents.specs.declared.documents.executables.Operation.{Operation}
@@ -19,7 +17,7 @@ use Rattle.graphql_documents.specs.declared.documents.executables.Selection.{Sel
 use Rattle.graphql_nodes.specs.declared.nodes.Node.{Node}
 use Rattle.graphql_documents.proofs.ListLemmas.{made_of, stands_mapped}
 use Rattle.graphql_documents.proofs.SelectionLemmas.{not_spread, same_spread, spread_not_inline}
-use Rattle.graphql_variables.specs.Uses.{IsNamedIn, NamesAlso, UsedAt, in_definition, in_own_arguments, in_own_directives, names_of}
+use Rattle.graphql_variables.specs.Uses.{IsNamedIn, NamesAlso, UsedAt, UsedInDefinition, in_definition, in_own_arguments, in_own_directives, names_of}
 use Rattle.graphql_variables.proofs.UseLemmas.{also_in_words, also_then, any_has, any_more, has_any, none_in_none}
 
 -- no variable is in no arguments
@@ -66,9 +64,9 @@ module _ {fragments : Fragments} {s : Selection} where
     back (in_own_arguments a) = absurd (no_arguments n (subst (StandsInArguments n) arguments_are a))
     back (in_definition {p = p} spread found d) = absurd (spread_not_inline i p (sym spread ∙ is))
 
-  pub used_at_defined : (p : Node FragmentSpread) (d : Node Fragment) → s ≡ kind.FragmentSpread p → fragments p.value.value.fragment_name ≡ Some d → (n : NameText) →
-      (StandsInDirectives n p.value.value.directives.items ⊎ StandsInDirectives n d.value.value.directives.items) ↔ UsedAt fragments s n
-  used_at_defined p d is found n = (forth, back) where
+  pub used_at_spread : (p : Node FragmentSpread) → s ≡ kind.FragmentSpread p → (n : NameText) →
+      (StandsInDirectives n p.value.value.directives.items ⊎ UsedInDefinition fragments p.value.value.fragment_name n) ↔ UsedAt fragments s n
+  used_at_spread p is n = (forth, back) where
     opens : out-Selection s ≡ Open.FragmentSpread p
     opens = ap out-Selection is ∙ kind.outs-FragmentSpread p
 
@@ -78,36 +76,15 @@ module _ {fragments : Fragments} {s : Selection} where
     arguments_are : arguments_of s ≡ []
     arguments_are = rw (opens, arguments_of) refl
 
-    forth : StandsInDirectives n p.value.value.directives.items ⊎ StandsInDirectives n d.value.value.directives.items → UsedAt fragments s n
+    forth : StandsInDirectives n p.value.value.directives.items ⊎ UsedInDefinition fragments p.value.value.fragment_name n → UsedAt fragments s n
     forth (inl own) = in_own_directives (subst (StandsInDirectives n) (sym directives_are) own)
-    forth (inr there) = in_definition is found there
+    forth (inr (d, found, there)) = in_definition is found there
 
-    back : UsedAt fragments s n → StandsInDirectives n p.value.value.directives.items ⊎ StandsInDirectives n d.value.value.directives.items
+    back : UsedAt fragments s n → StandsInDirectives n p.value.value.directives.items ⊎ UsedInDefinition fragments p.value.value.fragment_name n
     back (in_own_directives own) = inl (subst (StandsInDirectives n) directives_are own)
     back (in_own_arguments a) = absurd (no_arguments n (subst (StandsInArguments n) arguments_are a))
-    back (in_definition {p = q} {d = e} spread found' there) =
-        let same : q ≡ p = same_spread q p (sym spread ∙ is) in
-        let one : e ≡ d = same_Some e d (sym found' ∙ ap (λ (x : Node FragmentSpread). fragments x.value.value.fragment_name) same ∙ found) in
-        inr (subst (λ (x : Node Fragment). StandsInDirectives n x.value.value.directives.items) one there)
-
-  pub used_at_undefined : (p : Node FragmentSpread) → s ≡ kind.FragmentSpread p → fragments p.value.value.fragment_name ≡ None → (n : NameText) →
-      StandsInDirectives n p.value.value.directives.items ↔ UsedAt fragments s n
-  used_at_undefined p is missing n = (λ own. in_own_directives (subst (StandsInDirectives n) (sym directives_are) own), back) where
-    opens : out-Selection s ≡ Open.FragmentSpread p
-    opens = ap out-Selection is ∙ kind.outs-FragmentSpread p
-
-    directives_are : directives_of s ≡ p.value.value.directives.items
-    directives_are = rw (opens, directives_of) refl
-
-    arguments_are : arguments_of s ≡ []
-    arguments_are = rw (opens, arguments_of) refl
-
-    back : UsedAt fragments s n → StandsInDirectives n p.value.value.directives.items
-    back (in_own_directives own) = subst (StandsInDirectives n) directives_are own
-    back (in_own_arguments a) = absurd (no_arguments n (subst (StandsInArguments n) arguments_are a))
-    back (in_definition {p = q} {d = e} spread found there) =
-        let same : q ≡ p = same_spread q p (sym spread ∙ is) in
-        absurd (none-some e (sym missing ∙ ap (λ (x : Node FragmentSpread). fragments x.value.value.fragment_name) (sym same) ∙ found))
+    back (in_definition {p = q} {d = d} spread found there) =
+        inr (subst (λ (x : Node FragmentSpread). UsedInDefinition fragments x.value.value.fragment_name n) (same_spread q p (sym spread ∙ is)) (d, found, there))
 
 -- a variable is used where the operation's directives or the selections that it reaches use it
 pub uses_by_selections : (fragments : Fragments) (o : Operation) (selections : List (Bor Selection)) →

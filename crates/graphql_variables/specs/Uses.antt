@@ -41,6 +41,16 @@ pub data UsedAt (fragments : Fragments) (s : Selection) (name : NameText) : Type
       s ≡ kind.FragmentSpread p → fragments p.value.value.fragment_name ≡ Some d →
       StandsInDirectives name d.value.value.directives.items → UsedAt fragments s name
 
+-- the definition of the fragment of this name uses a variable in its directives
+abbrev pub UsedInDefinition : Fragments → NameText → NameText → Type 0
+UsedInDefinition fragments fragment name =
+    (d : Node Fragment) × (fragments fragment ≡ Some d) × StandsInDirectives name d.value.value.directives.items
+
+-- the list names each variable that the definitions of these fragments use in their directives
+abbrev pub NamesDefinitions : Fragments → List (Bor NameText) → List (Bor NameText) → Type 0
+NamesDefinitions fragments entered names =
+    (fragment name : NameText) → IsNamedIn (names_of entered) fragment → UsedInDefinition fragments fragment name → IsNamedIn (names_of names) name
+
 -- the set holds exactly the names of which this holds
 abbrev pub HasUsed : {S : Type 0} → (NameText → Type 0) → IndexSet (Bor NameText) S → Type 0
 HasUsed Used set = (name : NameText) → IsNamedIn (names_of set.keys) name ↔ Used name

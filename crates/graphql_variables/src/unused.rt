@@ -7,7 +7,7 @@ ghost use Rattle.graphql_specification.specs.Variables.{AreUnusedReports, AreUse
 ghost use Rattle.graphql_documents.specs.VariableUses.{UsesVariable};
 ghost use Rattle.graphql_documents.specs.declared.documents.executables.Operation.{Operation};
 ghost use Rattle.graphql_documents.specs.declared.documents.executables.Selection.{Selection};
-ghost use Rattle.graphql_variables.specs.Uses.{HasUsed, IsLastDefinition, IsNamedIn, NamesAlso, UsedAt, names_of};
+ghost use Rattle.graphql_variables.specs.Uses.{HasUsed, IsLastDefinition, IsNamedIn, NamesAlso, NamesDefinitions, UsedAt, UsedInDefinition, names_of};
 
 use super::uses::{add_in_arguments, add_in_directives};
 use super::walks::walk_selections_with_deduped_fragments;
@@ -56,20 +56,25 @@ fn used_variables<'doc>(
         IfOk result (HasUsed (UsesVariable (fragments_of document.now) operation.now)) }
 {
     let mut names = Vec::new(alloc);
+    let mut entered = IndexSet::with_hasher(alloc, document.hash_seed());
     add_in_directives(&mut names, &operation.directives)?;
     for selection in selections {
-        add_in_selection(&mut names, document, selection)?;
+        add_in_selection(&mut names, &mut entered, document, selection)?;
     }
     set_of(alloc, document.hash_seed(), &names)
 }
 
-/// Adds the variables that a selection uses, below it apart.
+/// Adds the variables that a selection uses, except those below it. The directives of each fragment are gone through once, at
+/// its first spread.
 fn add_in_selection<'doc>(
     names: &mut Vec<&'doc Name>,
+    entered: &mut IndexSet<&'doc Name, HashSeed>,
     document: &'doc ExecutableDocument,
     selection: &'doc Selection,
 ) -> Result<(), ValidationError>
-    ensures { OnOk result (NamesAlso (UsedAt (fragments_of document.now) selection.now) names.old.items names.new.items) }
+    requires { NamesDefinitions (fragments_of document.now) entered.old.keys names.old.items }
+    ensures also { OnOk result (NamesAlso (UsedAt (fragments_of document.now) selection.now) names.old.items names.new.items) }
+    ensures definitions { OnOk result (NamesDefinitions (fragments_of document.now) entered.new.keys names.new.items) }
 {
     match selection {
         Selection::Field(field) => {
@@ -78,12 +83,29 @@ fn add_in_selection<'doc>(
         }
         Selection::FragmentSpread(spread) => {
             add_in_directives(names, &spread.value.directives)?;
-            match document.fragments.get(&spread.value.fragment_name) {
-                Some(fragment) => add_in_directives(names, &fragment.value.directives),
-                None => Ok(()),
-            }
+            add_in_definition(names, entered, document, &spread.value.fragment_name)
         }
         Selection::InlineFragment(fragment) => add_in_directives(names, &fragment.value.directives),
+    }
+}
+
+/// Adds the variables in the directives of the fragment of this name, unless it was entered before.
+fn add_in_definition<'doc>(
+    names: &mut Vec<&'doc Name>,
+    entered: &mut IndexSet<&'doc Name, HashSeed>,
+    document: &'doc ExecutableDocument,
+    name: &'doc Name,
+) -> Result<(), ValidationError>
+    requires { NamesDefinitions (fragments_of document.now) entered.old.keys names.old.items }
+    ensures also { OnOk result (NamesAlso (UsedInDefinition (fragments_of document.now) name.now) names.old.items names.new.items) }
+    ensures definitions { OnOk result (NamesDefinitions (fragments_of document.now) entered.new.keys names.new.items) }
+{
+    if !entered.insert(name)? {
+        return Ok(());
+    }
+    match document.fragments.get(name) {
+        Some(fragment) => add_in_directives(names, &fragment.value.directives),
+        None => Ok(()),
     }
 }
 
