@@ -10,9 +10,10 @@ use std::alloc::Global;
 /// Decides of the operations of a document, one after another, whether all fields that come together in
 /// a response agree, as `FieldsInSetCanMerge` does, until a bound of work is passed.
 ///
-/// The work is the number of fields that are listed: those of each list of fields that come together, once for
-/// shapes and once for names and arguments, also where the same list was examined before. Where fields are put together
-/// whose arguments are compared, each four bytes of these count as a field, those of the first of a group at each comparison.
+/// The work is the number of selections that are gone past to list the fields that come together, once for shapes and once for
+/// names and arguments, even if the same list was examined before. A field on an abstract type counts again for each object type
+/// whose group it is copied into. If arguments are compared, each four bytes of them count as a selection, those of the first
+/// field of a group at each comparison.
 ///
 /// Specification: 5.3.2 Field Selection Merging.
 #[derive(Drop)]
@@ -57,11 +58,11 @@ impl<'s, 'doc> BoundedMerging<'s, 'doc> {
     }
 
     /// Merges the fields of an operation as `FieldsInSetCanMerge::validate_operation` does, and answers whether the
-    /// operation was decided: that is so unless more was listed and compared for the operations so far than
-    /// the bound allows. Without a bound each operation is decided.
+    /// operation was decided: it was, unless more was gone through and compared for the operations so far than the bound
+    /// allows. Without a bound each operation is decided.
     ///
-    /// Where it is not decided, what is reported is true of two chains of fields of the operation, and no limit is
-    /// reported. No later operation is decided then, and nothing is reported of them.
+    /// If it was not decided, each report is true of two chains of fields of the operation, and no limit is reported. No later
+    /// operation is decided then, and the calls report nothing of them.
     ///
     /// The only error is a failed allocation. In any case the old diagnostics stay, and each further one is true,
     /// of a value that is sound, as all are that `new` and these calls make.

@@ -1,16 +1,19 @@
 //! The groups in which the fields of a list are put together.
 
-ghost use Rattle.std.specs.Prelude.{◌≡◌, ◌++◌, ◌∷◌, [], false, IfOk, List, OnOk, flat_map, length, map};
+ghost use Rattle.std.specs.Prelude.{◌≡◌, ◌++◌, ◌∷◌, [], false, IfErr, IfOk, List, OnOk, flat_map, length, map};
 ghost use Rattle.std.specs.Option.{option_map_or};
 ghost use Rattle.graphql_documents.specs.Schemas.{is_composite, type_definition};
 ghost use Rattle.graphql_specification.specs.MergedSets.{is_abstract, with_parents, groups_of, groups_on, objects_of, unless_empty};
 ghost use Rattle.graphql_merging.specs.NumberedFields.{AreGroupsNumbered, AreNumberedIn, IsNumberedIn, listed, lists_of, selection_of};
 ghost use Rattle.graphql_merging.specs.Groups.{by_keys, by_objects, pass_of, with_field, with_owned};
 ghost use Rattle.graphql_merging.specs.NumberedGroups.{AreEntriesNumbered, named_fields};
+ghost use Rattle.graphql_merging.specs.Works.{IsUnbounded};
+ghost use Rattle.graphql_merging.specs.declared.work.Interruption.TheVariants.{OutOfMemory};
 ghost use Rattle.graphql_contents.specs.declared.contents.Content.{Content};
 
 pub use crate::keyed_fields::fields_by_key;
 use crate::numbered_fields::NumberedField;
+use crate::work::{Interruption, Work};
 use graphql_documents::documents::{ExtendedType, Schema};
 use graphql_hash_seeds::HashSeed;
 use graphql_nodes::{Name, ValidationError};
@@ -31,26 +34,28 @@ pub enum Pass {
 }
 
 /// The groups of a list of fields, in order of first field. Fields that are on no object, interface or union
-/// are in no group for names and arguments. The only error is a failed allocation.
+/// are in no group for names and arguments. The call is interrupted if more fields are copied than the work allows.
 ///
 /// Specification: 5.3.2 Field Selection Merging.
 pub(crate) fn groups_of<'doc>(
     alloc: Global,
     hash_seed: HashSeed,
+    work: &mut Work,
     schema: &Schema,
     pass: Pass,
     fields: &[NumberedField<'doc>],
-) -> Result<Vec<Vec<NumberedField<'doc>>>, ValidationError>
+) -> Result<Vec<Vec<NumberedField<'doc>>>, Interruption>
     ensures groups { IfOk result (λ groups. lists_of groups.items ≡ groups_of schema.now (pass_of pass) (listed fields.now)) }
     ensures numbered { (contents : List Content) → AreNumberedIn contents fields.now → IfOk result (λ groups. AreGroupsNumbered contents groups.items) }
+    ensures unbounded { IsUnbounded work.old → IsUnbounded work.new × IfErr result (λ e. e ≡ OutOfMemory) }
 {
     if fields.len() == 1 {
-        return groups_of_one(alloc, schema, pass, fields[0]);
+        return Ok(groups_of_one(alloc, schema, pass, fields[0])?);
     }
     let fields_by_key = numbered_by_key(alloc, hash_seed, fields)?;
     match pass {
         Pass::Shapes => Ok(fields_by_key.into_values().collect(alloc)?),
-        Pass::NamesAndArguments => groups_by_types(alloc, schema, fields_by_key),
+        Pass::NamesAndArguments => groups_by_types(alloc, work, schema, fields_by_key),
     }
 }
 
@@ -78,16 +83,18 @@ fn groups_of_one<'doc>(
 /// The groups, by types, of the fields under each key.
 fn groups_by_types<'doc>(
     alloc: Global,
+    work: &mut Work,
     schema: &Schema,
     fields_by_key: IndexMap<&'doc Name, Vec<NumberedField<'doc>>, HashSeed>,
-) -> Result<Vec<Vec<NumberedField<'doc>>>, ValidationError>
+) -> Result<Vec<Vec<NumberedField<'doc>>>, Interruption>
     ensures groups { IfOk result (λ groups. lists_of groups.items ≡
         flat_map (λ entry. groups_on schema.now entry.1 (objects_of schema.now entry.1)) (named_fields fields_by_key.entry.entries)) }
     ensures numbered { (contents : List Content) → AreEntriesNumbered contents fields_by_key.entry.entries → IfOk result (λ groups. AreGroupsNumbered contents groups.items) }
+    ensures unbounded { IsUnbounded work.old → IsUnbounded work.new × IfErr result (λ e. e ≡ OutOfMemory) }
 {
     let mut groups = Vec::new(alloc);
     for fields in fields_by_key.into_values() {
-        push_groups(&mut groups, alloc, schema, fields)?;
+        push_groups(&mut groups, alloc, work, schema, fields)?;
     }
     Ok(groups)
 }
@@ -136,17 +143,19 @@ fn push_under<'name, 'doc, S: BuildHasher>(
 fn push_groups<'doc>(
     groups: &mut Vec<Vec<NumberedField<'doc>>>,
     alloc: Global,
+    work: &mut Work,
     schema: &Schema,
     fields: Vec<NumberedField<'doc>>,
-) -> Result<(), ValidationError>
+) -> Result<(), Interruption>
     ensures groups { OnOk result (lists_of groups.new.items ≡
         lists_of groups.old.items ++ groups_on schema.now (listed fields.entry.items) (objects_of schema.now (listed fields.entry.items))) }
     ensures numbered { (contents : List Content) → AreGroupsNumbered contents groups.old.items → AreNumberedIn contents fields.entry.items → OnOk result (AreGroupsNumbered contents groups.new.items) }
+    ensures unbounded { IsUnbounded work.old → IsUnbounded work.new × IfErr result (λ e. e ≡ OutOfMemory) }
 {
     if fields.len() == 1 {
-        push_alone(groups, schema, fields)
+        Ok(push_alone(groups, schema, fields)?)
     } else {
-        push_by_types(groups, alloc, schema, &fields)
+        push_by_types(groups, alloc, work, schema, &fields)
     }
 }
 
@@ -180,26 +189,29 @@ fn is_on_composite(schema: &Schema, field: NumberedField) -> bool
 }
 
 /// Adds the groups of fields with one response key: for each object type the fields on it, and then those
-/// on abstract types; or the latter alone, where none is on an object type.
+/// on abstract types; or the latter alone, if none is on an object type. The fields on abstract types are counted for each
+/// object type, since its group has a copy of them.
 fn push_by_types<'doc>(
     groups: &mut Vec<Vec<NumberedField<'doc>>>,
     alloc: Global,
+    work: &mut Work,
     schema: &Schema,
     fields: &[NumberedField<'doc>],
-) -> Result<(), ValidationError>
+) -> Result<(), Interruption>
     ensures groups { OnOk result (lists_of groups.new.items ≡
         lists_of groups.old.items ++ groups_on schema.now (listed fields.now) (objects_of schema.now (listed fields.now))) }
     ensures numbered { (contents : List Content) → AreGroupsNumbered contents groups.old.items → AreNumberedIn contents fields.now → OnOk result (AreGroupsNumbered contents groups.new.items) }
+    ensures unbounded { IsUnbounded work.old → IsUnbounded work.new × IfErr result (λ e. e ≡ OutOfMemory) }
 {
     let FieldsOnTypes {
         on_objects,
         on_abstract,
     } = FieldsOnTypes::of(alloc, schema, fields)?;
     if on_objects.is_empty() {
-        push_unless_empty(groups, on_abstract)
-    } else {
-        push_each_with(groups, on_objects, &on_abstract)
+        return Ok(push_unless_empty(groups, on_abstract)?);
     }
+    work.count(on_objects.len().saturating_mul(on_abstract.len()))?;
+    Ok(push_each_with(groups, on_objects, &on_abstract)?)
 }
 
 /// Adds a group, if there is a field in it.

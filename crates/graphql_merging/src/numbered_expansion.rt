@@ -1,6 +1,6 @@
 //! The fields of sets, with those of the fragments in them, and with the numbers of the contents of each.
 
-ghost use Rattle.std.specs.Prelude.{◌≡◌, ◌∷◌, [], All, IfOk, OnOk, length, map};
+ghost use Rattle.std.specs.Prelude.{◌≡◌, ◌∷◌, [], All, IfErr, IfOk, OnOk, length, map};
 ghost use Rattle.graphql_contents.specs.Contents.{HasNumber};
 ghost use Rattle.graphql_contents.specs.Documents.{HasFragments, IsNumberedSet, contents_in, document_in};
 ghost use Rattle.graphql_specification.specs.MergedSets.{Expansion};
@@ -10,8 +10,11 @@ ghost use Rattle.graphql_documents.specs.declared.documents.executables.Selectio
 ghost use Rattle.graphql_merging.specs.ExpansionSteps.{Expands};
 ghost use Rattle.graphql_merging.specs.NumberedFields.{AreNumberedIn, listed};
 ghost use Rattle.graphql_merging.specs.NumberedExpansions.{HasNumbers, expanding};
+ghost use Rattle.graphql_merging.specs.Works.{IsUnbounded};
+ghost use Rattle.graphql_merging.specs.declared.work.Interruption.TheVariants.{OutOfMemory};
 
 use super::numbered_fields::NumberedField;
+use super::work::{Interruption, Work};
 use graphql_contents::{NumberedDocument, NumberedSet};
 use graphql_documents::documents::{FragmentSpread, Selection};
 use graphql_hash_seeds::HashSeed;
@@ -20,17 +23,19 @@ use indexmap::IndexSet;
 use std::alloc::Global;
 use std::collections::VecDeque;
 
-/// Lists the fields of these sets as `expand_selections` does, each with the number of its contents. The only error is a failed
-/// allocation.
+/// Lists the fields of these sets as `expand_selections` does, each with the number of its contents. Each selection of a set is
+/// counted before the set is gone through. The call is interrupted if there are more of them than the work allows.
 pub(crate) fn expand_sets<'n, 'doc>(
     alloc: Global,
     numbered: &'n NumberedDocument<'doc>,
+    work: &mut Work,
     sets: Vec<NumberedSet<'n, 'doc>>,
-) -> Result<Vec<NumberedField<'doc>>, ValidationError>
+) -> Result<Vec<NumberedField<'doc>>, Interruption>
     requires fragments { HasFragments numbered.now }
     requires sets { All (IsNumberedSet (contents_in numbered.now)) sets.items }
     ensures fields { IfOk result (λ fields. Expansion (fragments_of (document_in numbered.now)) (map (λ set. set.set.now) sets.entry.items) (listed fields.items)) }
     ensures numbers { IfOk result (λ fields. AreNumberedIn (contents_in numbered.now) fields.items) }
+    ensures unbounded { IsUnbounded work.old → IsUnbounded work.new × IfErr result (λ e. e ≡ OutOfMemory) }
 {
     let mut expansion = NumberedExpansion {
         numbered,
@@ -39,6 +44,7 @@ pub(crate) fn expand_sets<'n, 'doc>(
         queue: VecDeque::from(sets),
     };
     while let Some(set) = expansion.queue.pop_front() {
+        work.count(set.set.selections.len())?;
         expansion.expand_set(set)?;
     }
     Ok(expansion.fields)

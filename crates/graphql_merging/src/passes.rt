@@ -40,7 +40,7 @@ pub(crate) struct MergingPass<'s, 'doc> {
 
 impl<'s, 'doc> MergingPass<'s, 'doc> {
     /// Examines the fields of a set, and what is merged below them, unless the same fields were examined
-    /// before. It is interrupted where more is listed or compared than the work allows.
+    /// before. The call is interrupted if more is gone through or compared than the work allows.
     pub(crate) fn examine_set(
         &self,
         diagnostics: &mut DiagnosticList,
@@ -97,6 +97,7 @@ impl<'s, 'doc> MergingPass<'s, 'doc> {
         let groups = groups_of(
             diagnostics.allocator(),
             self.numbered.hash_seed(),
+            work,
             self.schema,
             self.pass,
             &list.fields,
@@ -151,8 +152,8 @@ impl<'s, 'doc> MergingPass<'s, 'doc> {
         Ok(())
     }
 
-    /// Lists the fields of these sets, and those of the fragments in them, unless they are more than the work
-    /// allows.
+    /// Lists the fields of these sets, and those of the fragments in them. The call is interrupted if more selections are gone
+    /// through than the work allows.
     fn expand(
         &self,
         alloc: Global,
@@ -164,8 +165,7 @@ impl<'s, 'doc> MergingPass<'s, 'doc> {
         ensures fields { IfOk result (λ list. Expansion (fragments_of (document_in self.now.numbered.now)) (map (λ set. set.set.now) sets.entry.items) (listed list.fields.items)) }
         ensures unbounded { IsUnbounded work.old → IsUnbounded work.new × IfErr result (λ e. e ≡ OutOfMemory) }
     {
-        let fields = expand_sets(alloc, self.numbered, sets)?;
-        work.count(fields.len())?;
+        let fields = expand_sets(alloc, self.numbered, work, sets)?;
         Ok(FieldList { fields })
     }
 }

@@ -4,14 +4,14 @@ use super::groups::Pass;
 use super::numbered_fields::NumberedField;
 use graphql_documents::documents::Argument;
 use graphql_nodes::{Node, SourceSpan, ValidationError};
-use std::alloc::AllocFailed;
+use std::alloc::{AllocError, AllocFailed};
 
 /// Why a walk over lists of fields does not come to its end.
 #[derive(Clone, Copy, Debug, PartialEq, Eq)]
 pub(crate) enum Interruption {
     /// An allocation failed.
     OutOfMemory,
-    /// More was listed or compared than the work allows.
+    /// More was gone through or compared than the work allows.
     OutOfWork,
 }
 
@@ -37,8 +37,20 @@ impl<T: Drop> From<AllocFailed<T>> for Interruption {
     }
 }
 
-/// How much may still be listed and compared, if it is bounded. A field that is listed is one unit of work, and so are four
-/// bytes of an argument that is compared: no entry of an object is written in fewer.
+impl From<AllocError> for Interruption {
+    ghost use Rattle.std.specs.Prelude.{◌≡◌};
+    ghost use Rattle.graphql_merging.specs.declared.work.Interruption.TheVariants.{OutOfMemory};
+
+    ghost from_gives = { λ _ interruption. interruption ≡ OutOfMemory };
+
+    fn from(_refusal: AllocError) -> Interruption {
+        Interruption::OutOfMemory
+    }
+}
+
+/// How much may still be gone through and compared, if it is bounded. Each selection that is gone past is one unit of work, each
+/// field that is copied into the group of an object type, and each four bytes of an argument that is compared: no entry of an
+/// object is written in fewer.
 #[derive(Clone, Copy, Debug)]
 pub(crate) struct Work {
     left: Option<usize>,
@@ -49,7 +61,7 @@ impl Work {
     ghost use Rattle.graphql_merging.specs.Works.{IsUnbounded};
     ghost use Rattle.graphql_merging.specs.declared.work.Interruption.TheVariants.{OutOfMemory};
 
-    /// So much may be listed and compared, or anything.
+    /// So much may be gone through and compared, or anything.
     pub(crate) fn new(bound: Option<usize>) -> Work
         ensures { bound ≡ None → IsUnbounded result }
     {
@@ -89,7 +101,7 @@ impl Work {
     }
 }
 
-/// How many bytes of arguments are read where the first of these fields is compared with each other one.
+/// How many bytes of arguments are read when the first of these fields is compared with each other one.
 fn compared_bytes(group: &[NumberedField<'_>]) -> usize {
     let Some((first, rest)) = group.split_first() else {
         return 0;

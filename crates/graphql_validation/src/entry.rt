@@ -73,23 +73,22 @@ pub fn validate_executable_document(
     validate_against(diagnostics, schema, document, None)
 }
 
-/// Validates a document against a schema as `validate_executable_document` does, with a bound on the work of merging:
-/// that is the number of fields in the lists of fields that come together, which are listed to be compared,
-/// once for shapes and once for names and arguments, of all operations together; a list that comes up again counts again.
-/// Where the arguments of fields are compared, each four bytes in which they are written count as a field, too. On ordinary
-/// documents it is a small multiple of what is written, and on documents made for it there are exponentially many fields.
+/// Validates a document against a schema as `validate_executable_document` does, with a bound on the work of merging. The work is
+/// the number of selections that are gone past to list the fields that come together, once for shapes and once for names and
+/// arguments, of all operations together; a list that comes up again counts again. A field on an abstract type counts again for
+/// each object type whose fields it is compared with. If arguments are compared, each four bytes of them count as a selection.
+/// On ordinary documents the work is a small multiple of what is written; a document made for it can need exponentially much.
 ///
 /// First the call searches for fields that come together at all. That search visits at most `work` selections, counting each
 /// visit. If it finds that there are none, as in most documents, nothing of merging is left to do.
 ///
-/// Where more was listed and compared than `work`, merging by such lists stops. That operation and all later ones are
+/// If more was gone through and compared than `work`, merging by such lists stops. That operation and all later ones are
 /// decided by pairs of selection sets, all together, each pair looked at once in each pass: so no more pairs of fields
 /// are compared than the square of those that are written.
 ///
-/// Reports come in the same order; those of merging are complete for the operations before. Of the operation that was
-/// interrupted there may be some; then none of merging until the end, where one conflict is reported if there
-/// is one in these operations, also where it was reported before. For these operations there is no limit of the
-/// depth. The only error is a failed allocation.
+/// Reports come in the same order; those of merging are complete for the operations before. Some conflicts of the operation that
+/// was interrupted may be reported; then none until the end, where one conflict is reported if there is one in these operations,
+/// even if it was reported before. For these operations there is no limit of the depth. The only error is a failed allocation.
 ///
 /// Specification: 5 Validation.
 pub fn validate_executable_document_within(

@@ -23,6 +23,7 @@ loop-fields-preserved c =
           let before = c.loop-fields.invariant.numbered contents lists in
           let left = subst (AreGroupsNumbered contents) c.in-Some.ensures.steps before.1 in
           (e.numbered contents before.0 (All-head (IsGroupNumbered contents) x rest left), All-tail (IsGroupNumbered contents) x rest left);
+      unbounded = λ before. (c.push_groups.ensures.unbounded (c.loop-fields.invariant.unbounded before)).0;
     }
 
 pub returns-clause-numbered : goal.returns-clause-numbered

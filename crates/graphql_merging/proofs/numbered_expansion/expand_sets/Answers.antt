@@ -57,6 +57,7 @@ loop-set-preserved c =
           (subst (λ (q : List NumberedSet). (more : List FieldSelection) → ExpandsFrom (fragments_of (document_in c.args.numbered.now)) (expanding before).visited (map (λ set. set.set.now) q) more →
           Expansion (fragments_of (document_in c.args.numbered.now)) sets (listed before.fields.items ++ more)) c.in-Some.ensures.items c.loop-set.invariant.rest)));
       numbers = subst (λ m. HasNumbers (contents_in m) after) same e.numbers;
+      unbounded = λ before. (c.count.ensures (c.loop-set.invariant.unbounded before)).0;
     }
 
 pub returns-clause-fields : goal.returns-clause-fields

@@ -6,6 +6,7 @@ use Rattle.graphql_specification.specs.Merging.{FieldSelection}
 use Rattle.graphql_documents.specs.Selections.{fragments_of}
 use Rattle.graphql_merging.specs.NumberedExpansions.{HasNumbers, expanding}
 use Rattle.graphql_merging.specs.NumberedFields.{listed}
+use Rattle.graphql_merging.specs.Works.{IsUnbounded}
 use Rattle.graphql_merging.proofs.ExpansionSizeLemmas.{left}
 use Rattle.graphql_merging.proofs.numbered_expansion.expand_sets.Given as goal
 
@@ -15,6 +16,7 @@ invariant-loop-set l = record {
   rest : (more : List FieldSelection) → ExpandsFrom (fragments_of (document_in l.numbered)) (expanding l.expansion).visited (expanding l.expansion).queue more →
       Expansion (fragments_of (document_in l.numbered)) (map (λ set. set.set.now) l.fn.sets.items) (listed l.expansion.fields.items ++ more);
   numbers : HasNumbers (contents_in l.numbered) l.expansion;
+  unbounded : IsUnbounded l.initial.work → IsUnbounded l.work;
 }
 
 abbrev pub decreases-loop-set : goal.decreases-loop-set
