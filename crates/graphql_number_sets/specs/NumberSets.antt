@@ -1,5 +1,5 @@
 -- Sets of numbers as words of 64 bits, lists of different numbers, and sets of pairs of numbers.
-use Rattle.std.specs.Prelude.{◌≡◌, ◌↔◌, ◌⊎◌, ◌++◌, ◌∷◌, ◌/◌, ◌%◌, ◌==◌, ℕ, Bool, true, false, List, [], Option, None, Some, Contains, slice_get, slice_index}
+use Rattle.std.specs.Prelude.{◌≡◌, ◌↔◌, ◌⊎◌, ◌++◌, ◌∷◌, ◌/◌, ◌%◌, ◌==◌, ℕ, Bool, true, false, List, [], Option, None, Some, All, Contains, slice_get, slice_index}
 use Rattle.std.specs.Int.{bit_at}
 use Rattle.graphql_number_sets.specs.declared.bit_sets.BitSet.{BitSet}
 use Rattle.graphql_number_sets.specs.declared.distinct_numbers.DistinctNumbers.{DistinctNumbers}
@@ -53,13 +53,41 @@ pub record AreEnds (pairs : PairSet) (numbers ends : List ℕ) : Type 0 where
   pub others : (first second : ℕ) → Contains numbers first → Contains numbers second →
       ArePaired pairs first second ⊎ (Contains ends first ⊎ Contains ends second)
 
--- a number came to those that are pairs with one another, since it is one with each of them and itself; or to the ends, since
--- it is not
+-- each two numbers of a set are a pair
+abbrev pub IsClique : PairSet → BitSet → Type 0
+IsClique pairs clique = (first second : ℕ) → has clique first ≡ true → has clique second ≡ true → ArePaired pairs first second
+
+-- each two numbers of each clique that is kept are a pair
+abbrev pub KeepsCliques : PairSet → Type 0
+KeepsCliques pairs = All (IsClique pairs) pairs.cliques.sets.items
+
+-- some of the numbers, of which each two are a pair
+pub record AreKnown (pairs : PairSet) (numbers known : List ℕ) : Type 0 where
+  pub among : (number : ℕ) → Contains known number → Contains numbers number
+  pub paired : (first second : ℕ) → Contains known first → Contains known second → ArePaired pairs first second
+
+-- a number was among those that are pairs with one another; or it came to them, since it is one with each of them and itself; or
+-- to the ends, since it is not
 pub data IsPlaced (pairs : PairSet) (number : ℕ) (paired ends new_paired new_ends : List ℕ) : Type 0 where
+  was_paired : Contains paired number → new_paired ≡ paired → new_ends ≡ ends → IsPlaced pairs number paired ends new_paired new_ends
   is_paired : has_pair pairs number number ≡ true → ((other : ℕ) → Contains paired other → has_pair pairs number other ≡ true) →
       IsAdded number paired new_paired → new_ends ≡ ends → IsPlaced pairs number paired ends new_paired new_ends
   is_end : (other : ℕ) → Contains paired other ⊎ (other ≡ number) → has_pair pairs number other ≡ false →
       IsAdded number ends new_ends → new_paired ≡ paired → IsPlaced pairs number paired ends new_paired new_ends
+
+-- the new set has the numbers of the old one, and perhaps some of these
+pub record HasSomeMore (old new : BitSet) (numbers : List ℕ) : Type 0 where
+  pub kept : (number : ℕ) → has old number ≡ true → has new number ≡ true
+  pub added : (number : ℕ) → has new number ≡ true → (has old number ≡ true) ⊎ Contains numbers number
+
+-- two of the numbers of which one is an end
+abbrev pub HaveEnd : (numbers ends : List ℕ) → ℕ → ℕ → Type 0
+HaveEnd numbers ends first second = (Contains ends first × Contains numbers second) ⊎ (Contains numbers first × Contains ends second)
+
+-- the new set has the pairs of the old one, and perhaps some of the numbers of which one is an end
+pub record HasSomeJoined (old new : PairSet) (numbers ends : List ℕ) : Type 0 where
+  pub kept : (first second : ℕ) → has_pair old first second ≡ true → has_pair new first second ≡ true
+  pub added : (first second : ℕ) → has_pair new first second ≡ true → (has_pair old first second ≡ true) ⊎ HaveEnd numbers ends first second
 
 -- the new set has the pairs of the old one, and perhaps some of one of the first numbers and one of the second
 pub record HasSomeOf (old new : PairSet) (firsts seconds : List ℕ) : Type 0 where

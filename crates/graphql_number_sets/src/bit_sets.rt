@@ -1,7 +1,7 @@
 //! Sets of numbers.
 
-ghost use Rattle.std.specs.Prelude.{◌≡◌, ◌↔◌, ◌⊎◌, ◌≤◌, ℕ, IsFalse, IsTrue, OnErr, OnOk, false, true, vec_len};
-ghost use Rattle.graphql_number_sets.specs.NumberSets.{has, word_at};
+ghost use Rattle.std.specs.Prelude.{◌≡◌, ◌↔◌, ◌⊎◌, ◌≤◌, ℕ, Contains, IsFalse, IsTrue, OnErr, OnOk, false, true, vec_len};
+ghost use Rattle.graphql_number_sets.specs.NumberSets.{HasSomeMore, has, word_at};
 
 use graphql_nodes::ValidationError;
 use std::alloc::Global;
@@ -51,6 +51,18 @@ impl BitSet {
         let place = number / 64;
         self.make_words(place + 1)?;
         self.words[place] |= 1 << (number % 64);
+        Ok(())
+    }
+
+    /// Adds each of some numbers. The only error is a failed allocation, and then some of the numbers may have been added,
+    /// and no other.
+    pub(crate) fn insert_each(&mut self, numbers: &[usize]) -> Result<(), ValidationError>
+        ensures added { OnOk result ((number : ℕ) → (has self.new number ≡ true) ↔ ((has self.old number ≡ true) ⊎ Contains numbers.now number)) }
+        ensures refused { OnErr result (HasSomeMore self.old self.new numbers.now) }
+    {
+        for number in numbers {
+            self.insert(*number)?;
+        }
         Ok(())
     }
 

@@ -2,5 +2,6 @@
 #![tactic(auto)]
 
 pub mod bit_sets;
+mod cliques;
 pub mod distinct_numbers;
 pub mod pair_sets;

@@ -1,17 +1,23 @@
 //! Sets of pairs of numbers.
 
 ghost use Rattle.std.specs.Prelude.{◌≡◌, ◌↔◌, ◌⊎◌, ◌<◌, ℕ, All, Contains, IfOk, OnErr, OnOk, false, true, vec_len};
-ghost use Rattle.graphql_number_sets.specs.NumberSets.{AreEnds, AreExact, HasSomeOf, IsPlaced, has_pair, numbers_of};
+ghost use Rattle.graphql_number_sets.specs.NumberSets.{AreEnds, AreExact, AreKnown, HasSomeJoined, HasSomeMore, HasSomeOf, HaveEnd, IsPlaced, KeepsCliques, has, has_pair, numbers_of};
 
 use super::bit_sets::BitSet;
+use super::cliques::Cliques;
 use super::distinct_numbers::DistinctNumbers;
 use graphql_nodes::ValidationError;
 use std::alloc::Global;
 
-/// Pairs of numbers below a bound, in order: for each first number the set of its second ones.
+/// The most numbers that come to a set one by one: more of them come by whole words.
+const FEW: usize = 64;
+
+/// Pairs of numbers below a bound, in order: for each first number the set of its second ones. Beside them some sets of
+/// numbers of which each two are a pair, so that many need no test.
 #[derive(Debug, Drop)]
 pub struct PairSet {
     rows: Vec<BitSet>,
+    cliques: Cliques,
 }
 
 impl PairSet {
@@ -19,27 +25,30 @@ impl PairSet {
     pub fn new(alloc: Global, count: usize) -> Result<PairSet, ValidationError>
         ensures count { IfOk result (λ pairs. vec_len pairs.rows ≡ count) }
         ensures empty { IfOk result (λ pairs. (first second : ℕ) → has_pair pairs first second ≡ false) }
+        ensures cliques { IfOk result KeepsCliques }
     {
         let mut rows = Vec::new(alloc);
         for _ in 0..count {
             rows.push(BitSet::new(alloc))?;
         }
-        Ok(PairSet { rows })
+        let cliques = Cliques::new(alloc, count)?;
+        Ok(PairSet { rows, cliques })
     }
 
     /// Such of some numbers that of each two which are no pair of the set, one way or the other, at least one is among
-    /// them: those that are no pair with one of the numbers before them that are not among them, or with themselves. None,
-    /// where each two are a pair. The only error is a failed allocation.
+    /// them: those that are no pair with one of the numbers that are not among them, or with themselves. None, if each two
+    /// are a pair. The only error is a failed allocation.
     pub fn ends(
         &self,
         alloc: Global,
         numbers: &DistinctNumbers,
     ) -> Result<DistinctNumbers, ValidationError>
+        requires cliques { KeepsCliques self.now }
         requires within { All (λ number. number < vec_len self.now.rows) (numbers_of numbers.now) }
         ensures exact { IfOk result AreExact }
         ensures ends { IfOk result (λ ends. AreEnds self.now (numbers_of numbers.now) (numbers_of ends)) }
     {
-        let mut paired = DistinctNumbers::new(alloc);
+        let mut paired = self.known(alloc, &numbers.numbers)?;
         let mut ends = DistinctNumbers::new(alloc);
         for number in &numbers.numbers {
             self.place(&mut paired, &mut ends, *number)?;
@@ -47,7 +56,20 @@ impl PairSet {
         Ok(ends)
     }
 
-    /// Adds a number to those that are pairs with one another, if it is one with each of them and itself, and else to the ends.
+    /// Those of the numbers that are in one of the cliques: the one around them, if there is one.
+    fn known(&self, alloc: Global, numbers: &[usize]) -> Result<DistinctNumbers, ValidationError>
+        requires { KeepsCliques self.now }
+        ensures exact { IfOk result AreExact }
+        ensures known { IfOk result (λ known. AreKnown self.now numbers.now (numbers_of known)) }
+    {
+        match self.cliques.around(numbers) {
+            Some(clique) => those_in(alloc, numbers, clique),
+            None => Ok(DistinctNumbers::new(alloc)),
+        }
+    }
+
+    /// Adds a number to those that are pairs with one another, if it is one with each of them and itself, and else to the
+    /// ends. Nothing changes if it is among the pairs.
     fn place(
         &self,
         paired: &mut DistinctNumbers,
@@ -61,6 +83,9 @@ impl PairSet {
         ensures ends { AreExact ends.new }
         ensures placed { OnOk result (IsPlaced self.now number (numbers_of paired.old) (numbers_of ends.old) (numbers_of paired.new) (numbers_of ends.new)) }
     {
+        if paired.members.contains(number) {
+            return Ok(());
+        }
         let row = &self.rows[number];
         if !row.contains(number) {
             return ends.add(number);
@@ -70,6 +95,51 @@ impl PairSet {
         } else {
             ends.add(number)
         }
+    }
+
+    /// Adds each pair of some numbers of which one is among the ends: then each two of them are a pair, one way or the other.
+    /// The only error is a failed allocation, and then some of these pairs may have been added, and no other.
+    pub fn join(
+        &mut self,
+        numbers: DistinctNumbers,
+        ends: &DistinctNumbers,
+    ) -> Result<(), ValidationError>
+        requires cliques { KeepsCliques self.old }
+        requires numbers_exact { AreExact numbers }
+        requires ends_exact { AreExact ends.now }
+        requires within { All (λ number. number < vec_len self.old.rows) (numbers_of numbers) }
+        requires ends { AreEnds self.old (numbers_of numbers) (numbers_of ends.now) }
+        ensures count { vec_len self.new.rows ≡ vec_len self.old.rows }
+        ensures cliques { KeepsCliques self.new }
+        ensures added { OnOk result ((first second : ℕ) → (has_pair self.new first second ≡ true) ↔
+            ((has_pair self.old first second ≡ true) ⊎ HaveEnd (numbers_of numbers) (numbers_of ends.now) first second)) }
+        ensures refused { OnErr result (HasSomeJoined self.old self.new (numbers_of numbers) (numbers_of ends.now)) }
+    {
+        self.add_joined(&numbers, ends)?;
+        if self.cliques.have_most(&numbers.numbers) {
+            return Ok(());
+        }
+        self.cliques.add(numbers)
+    }
+
+    /// Adds the pairs that `join` adds.
+    fn add_joined(
+        &mut self,
+        numbers: &DistinctNumbers,
+        ends: &DistinctNumbers,
+    ) -> Result<(), ValidationError>
+        requires numbers_exact { AreExact numbers.now }
+        requires ends_exact { AreExact ends.now }
+        requires within { All (λ number. number < vec_len self.old.rows) (numbers_of numbers.now) }
+        requires ends_within { All (λ number. number < vec_len self.old.rows) (numbers_of ends.now) }
+        ensures count { vec_len self.new.rows ≡ vec_len self.old.rows }
+        ensures cliques { KeepsCliques self.old → KeepsCliques self.new }
+        ensures added { OnOk result ((first second : ℕ) → (has_pair self.new first second ≡ true) ↔
+            ((has_pair self.old first second ≡ true) ⊎ HaveEnd (numbers_of numbers.now) (numbers_of ends.now) first second)) }
+        ensures refused { OnErr result (HasSomeJoined self.old self.new (numbers_of numbers.now) (numbers_of ends.now)) }
+    {
+        self.add_all(ends, numbers)?;
+        self.add_all(numbers, ends)
     }
 
     /// Adds each pair of one of the first numbers and one of the second ones. The only error is a failed allocation, and then
@@ -82,13 +152,46 @@ impl PairSet {
         requires exact { AreExact seconds.now }
         requires within { All (λ number. number < vec_len self.old.rows) (numbers_of firsts.now) }
         ensures count { vec_len self.new.rows ≡ vec_len self.old.rows }
+        ensures cliques { KeepsCliques self.old → KeepsCliques self.new }
         ensures added { OnOk result ((first second : ℕ) → (has_pair self.new first second ≡ true) ↔
             ((has_pair self.old first second ≡ true) ⊎ (Contains (numbers_of firsts.now) first × Contains (numbers_of seconds.now) second))) }
         ensures refused { OnErr result (HasSomeOf self.old self.new (numbers_of firsts.now) (numbers_of seconds.now)) }
     {
         for number in &firsts.numbers {
-            self.rows[*number].add_all(&seconds.members)?;
+            add_to_row(&mut self.rows[*number], seconds)?;
         }
         Ok(())
     }
+}
+
+/// Adds each of the numbers to a row. The only error is a failed allocation, and then some of them may have been added, and no
+/// other.
+fn add_to_row(row: &mut BitSet, numbers: &DistinctNumbers) -> Result<(), ValidationError>
+    requires { AreExact numbers.now }
+    ensures added { OnOk result ((number : ℕ) → (has row.new number ≡ true) ↔ ((has row.old number ≡ true) ⊎ Contains (numbers_of numbers.now) number)) }
+    ensures refused { OnErr result (HasSomeMore row.old row.new (numbers_of numbers.now)) }
+{
+    if numbers.numbers.len() > FEW {
+        row.add_all(&numbers.members)
+    } else {
+        row.insert_each(&numbers.numbers)
+    }
+}
+
+/// Those of the numbers that are in a set.
+fn those_in(
+    alloc: Global,
+    numbers: &[usize],
+    set: &BitSet,
+) -> Result<DistinctNumbers, ValidationError>
+    ensures exact { IfOk result AreExact }
+    ensures among { IfOk result (λ those. (number : ℕ) → Contains (numbers_of those) number → Contains numbers.now number × (has set.now number ≡ true)) }
+{
+    let mut those = DistinctNumbers::new(alloc);
+    for number in numbers {
+        if set.contains(*number) {
+            those.add(*number)?;
+        }
+    }
+    Ok(those)
 }

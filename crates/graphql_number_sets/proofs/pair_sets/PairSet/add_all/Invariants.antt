@@ -6,5 +6,6 @@ use Rattle.graphql_number_sets.proofs.pair_sets.PairSet.add_all.Given as goal
 abbrev pub invariant-loop-number : goal.invariant-loop-number
 invariant-loop-number l = record {
   count : vec_len l.self.rows ≡ vec_len l.fn.self.rows;
+  cliques : l.self.cliques ≡ l.fn.self.cliques;
   added : (a b : ℕ) → (has_pair l.self a b ≡ true) ↔ ((has_pair l.fn.self a b ≡ true) ⊎ (Contains (take l.number-index l.number-items) a × Contains (numbers_of l.seconds) b));
 }

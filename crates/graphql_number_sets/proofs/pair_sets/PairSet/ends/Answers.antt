@@ -1,16 +1,19 @@
-use Rattle.std.proofs.Common.{◌+◌, ◌<◌, ℕ, All, get_or, subst, sym, take, ◌∙◌}
+use Rattle.std.proofs.Common.{◌+◌, ◌<◌, ℕ, All, Contains, get_or, subst, sym, take, ◌∙◌}
 use Rattle.std.proofs.lemmas.List.{take_all, take_more}
 use Rattle.std.proofs.lemmas.List.Elements.{All-get_or}
-use Rattle.graphql_number_sets.specs.NumberSets.{numbers_of}
-use Rattle.graphql_number_sets.proofs.NumberLemmas.{Placing, placed, placing_begins, placing_more}
+use Rattle.graphql_number_sets.specs.NumberSets.{AreKnown, numbers_of}
+use Rattle.graphql_number_sets.proofs.NumberLemmas.{Placing, in_place, placed, placing_begins, placing_more}
 use Rattle.graphql_number_sets.proofs.pair_sets.PairSet.ends.Goals as goal
 
 pub loop-number-init : goal.loop-number-init
-loop-number-init c = record {
-  paired = c.new-paired.ensures.exact;
-  ends = c.new-ends.ensures.exact;
-  placing = placing_begins c.args.self.now (numbers_of c.new-paired.result) (numbers_of c.new-ends.result) c.new-paired.ensures.numbers c.new-ends.ensures.numbers;
-}
+loop-number-init c =
+    let numbers = numbers_of c.args.numbers.now in
+    record {
+      paired = c.in_ok-paired.ensures.exact;
+      ends = c.new-ends.ensures.exact;
+      placing = placing_begins c.args.self.now numbers (numbers_of c.in_ok-paired.paired) (numbers_of c.new-ends.result)
+          (subst (λ l. AreKnown c.args.self.now l (numbers_of c.in_ok-paired.paired)) c.deref.ensures.value c.in_ok-paired.ensures.known) c.new-ends.ensures.numbers;
+    }
 
 pub place-requires-clause-within : goal.place-requires-clause-within
 place-requires-clause-within c =
@@ -23,16 +26,19 @@ loop-number-preserved c =
     let xs = c.deref-number-items.result.now in
     let i = c.loop-number.number-index in
     let number = get_or xs i 0 in
+    let numbers = numbers_of c.args.numbers.now in
     record {
       paired = c.place.ensures.paired;
       ends = c.place.ensures.ends;
-      placing = placing_more c.args.self.now (take i xs) (take (i + 1) xs) number (take_more xs i 0 c.loop-number-test.true)
+      placing = placing_more c.args.self.now numbers (take i xs) (take (i + 1) xs) number (take_more xs i 0 c.loop-number-test.true)
+          (subst (λ l. Contains l number) c.deref-number-items.ensures.value (i, c.loop-number-test.true, in_place xs i number 0 c.loop-number-test.true))
           (numbers_of c.loop-number.paired) (numbers_of c.loop-number.ends) (numbers_of c.place.new.paired) (numbers_of c.place.new.ends)
           c.loop-number.invariant.placing c.in_ok-place.ensures.placed;
     }
 
 pub returns-clause-ends : goal.returns-clause-ends
 returns-clause-ends c =
-    placed c.args.self.now (numbers_of c.args.numbers.now) (numbers_of c.loop-number.paired) (numbers_of c.loop-number.ends)
-    (subst (λ l. Placing c.args.self.now l (numbers_of c.loop-number.paired) (numbers_of c.loop-number.ends))
+    let numbers = numbers_of c.args.numbers.now in
+    placed c.args.self.now numbers (numbers_of c.loop-number.paired) (numbers_of c.loop-number.ends)
+    (subst (λ l. Placing c.args.self.now numbers l (numbers_of c.loop-number.paired) (numbers_of c.loop-number.ends))
     (take_all c.loop-number.number-index c.deref-number-items.result.now c.loop-number-test.false ∙ c.deref-number-items.ensures.value) c.loop-number.invariant.placing)

@@ -7,5 +7,5 @@ abbrev pub invariant-loop-number : goal.invariant-loop-number
 invariant-loop-number l = record {
   paired : AreExact l.paired;
   ends : AreExact l.ends;
-  placing : Placing l.self (take l.number-index l.number-items) (numbers_of l.paired) (numbers_of l.ends);
+  placing : Placing l.self (numbers_of l.numbers) (take l.number-index l.number-items) (numbers_of l.paired) (numbers_of l.ends);
 }
