@@ -1,6 +1,6 @@
 -- Sets that are joined to others, and lists of them that wait.
 use Rattle.std.proofs.Common.{◌≡◌, ℕ, ◌+◌, ◌<◌, ◌≤◌, true, false, eqb, eqb-true, List, [], ◌∷◌, ◌++◌, Some, arith, get_or, length, refl, sym, ap, ◌∙◌, subst, All, Contains, take, length-append, inl, inr}
-use Rattle.std.specs.Prelude.{◌≢◌, ◌⊎◌, ◌↔◌, Err, IfOk, Ok, OnOk, Result, Vec, slice_get}
+use Rattle.std.specs.Prelude.{◌≢◌, ◌⊎◌, Err, IfOk, Ok, Result, Vec, slice_get}
 use Rattle.std.specs.declared.alloc.Global.{Global}
 use Rattle.std.proofs.lemmas.List.{append-nil, append_assoc, map-append, take-append-le, take_more}
 use Rattle.std.proofs.lemmas.List.Elements.{All-contains, All-get_or, Contains-append_cases}
@@ -8,9 +8,9 @@ use Rattle.std.proofs.lemmas.Option.{get_or_from_slice_get, slice_get-get_or, sl
 use Rattle.indexmap.proofs.IndexTableLemmas.Probe.{pigeonhole}
 use Rattle.graphql_documents.proofs.ListLemmas.{each_standing, kept_by_filter, none_stands, only_one, stands_first}
 use Rattle.graphql_number_sets.proofs.NumberLemmas.{is_added, stays}
-use Rattle.graphql_number_sets.specs.NumberSets.{AreEnds, IsAdded, has_pair}
+use Rattle.graphql_number_sets.specs.NumberSets.{AreEnds, IsAdded}
 use Rattle.graphql_number_sets.specs.declared.pair_sets.PairSet.{PairSet}
-use Rattle.graphql_pair_merging.specs.JoinedSets.{AddsEach, AreJoined, HaveEnd, IsJoined, Takes, joined_first, joined_fragment}
+use Rattle.graphql_pair_merging.specs.JoinedSets.{AddsEach, AreJoined, IsJoined, Takes, joined_first, joined_fragment}
 use Rattle.graphql_documents.specs.Selections.{selections_of}
 use Rattle.graphql_documents.specs.declared.documents.schemas.Schema.{Schema}
 use Rattle.graphql_specification.specs.MergedSets.{key_of}
@@ -300,29 +300,6 @@ module _ (schema : Schema) (pass : Pass) (sets : List NumberedSet) (ends numbers
     some x y own_x one_key none =
         let name = key_of (field_of y) in
         none_stands x (subst (λ l. Contains l x) (sym (grouped name) ∙ none) (kept_by_filter (has_name ResponseKey name) own x own_x one_key))
-
--- pairs of an end and any set were added, and those of any set and an end
-pub both_added : {T E : Type 0} (r : Result T E) (old mid new : PairSet) (joined ends : List ℕ) →
-    ((a b : ℕ) → (has_pair mid a b ≡ true) ↔ ((has_pair old a b ≡ true) ⊎ (Contains ends a × Contains joined b))) →
-    OnOk r ((a b : ℕ) → (has_pair new a b ≡ true) ↔ ((has_pair mid a b ≡ true) ⊎ (Contains joined a × Contains ends b))) →
-    OnOk r ((a b : ℕ) → (has_pair new a b ≡ true) ↔ ((has_pair old a b ≡ true) ⊎ HaveEnd joined ends a b))
-both_added (Err e) old mid new joined ends first second = tt
-both_added (Ok v) old mid new joined ends first second = λ a b. (
-  λ has. elim ((second a b).0 has) [
-    | inl in_mid ↦ elim ((first a b).0 in_mid) [
-      | inl was ↦ inl was
-      | inr end ↦ inr (inl end)
-    ]
-    | inr end ↦ inr (inr end)
-  ],
-  λ has. elim has [
-    | inl was ↦ (second a b).1 (inl ((first a b).1 (inl was)))
-    | inr end ↦ elim end [
-      | inl one ↦ (second a b).1 (inl ((first a b).1 (inr one)))
-      | inr other ↦ (second a b).1 (inr other)
-    ]
-  ],
-)
 
 -- one field more was looked at: it came to the fields, or there are none of its name
 pub named_one : (by : GroupedBy) (groups : Groups) (done zs : List NumberedField) (x : NumberedField) (old now new : List NumberedField) → zs ≡ done ++ x ∷ [] → new ≡ now ++ x ∷ [] →

@@ -10,5 +10,6 @@ pub mod ParentLemmas
 pub mod PlaceLemmas
 pub mod ReportedLemmas
 pub mod SettleLemmas
+pub mod TurnLemmas
 pub mod WalkLemmas
 pub mod WeightLemmas

@@ -8,11 +8,11 @@ use Rattle.graphql_laws.proofs.FirstOfGroupLaws.{one_field_back, one_field_then}
 use Rattle.graphql_laws.proofs.MergingLaws.{same_shape_back, same_shape_then}
 use Rattle.graphql_nodes.proofs.NameLemmas.{same_name_back, same_name_then}
 use Rattle.graphql_nodes.specs.Names.{SameName}
-use Rattle.graphql_specification.specs.MergedSets.{Agree, ArePutTogether}
+use Rattle.graphql_specification.specs.MergedSets.{Agree, ArePutTogether, key_of}
 use Rattle.graphql_specification.specs.Merging.{FieldSelection, Pass, ParentsMayOverlap, SameKey, field_pass, shape_pass, type_of}
 use Rattle.graphql_pair_merging.specs.FieldGroups.{IsGroupOf, has_name, name_by}
 use Rattle.graphql_pair_merging.specs.NumberedSets.{field_of}
-use Rattle.graphql_pair_merging.specs.Pairs.{AllAgree, AreBelow, AreFieldsAround, AreListed, AreSetsBelow, AreTogether, Both, DecidesAlone, DisagreeAmong, Finds, FindsIn, HaveOneKey, LooksAt, Settles, SetPair, pair_of}
+use Rattle.graphql_pair_merging.specs.Pairs.{AllAgree, AreBelow, AreFieldsAround, AreListed, AreSetsBelow, AreTogether, Both, DecidesAlone, DisagreeAmong, Finds, FindsIn, HaveOneKey, IsBelow, LooksAt, Settles, SetPair, pair_of}
 use Rattle.graphql_pair_merging.specs.declared.disagreements.Conflict.{Conflict}
 use Rattle.graphql_pair_merging.specs.declared.field_groups.GroupedBy.TheVariants.{ParentType, ResponseKey}
 use Rattle.graphql_pair_merging.specs.declared.field_groups.GroupedBy.{GroupedBy}
@@ -49,9 +49,26 @@ put_under_one_key : (schema : Schema) (pass : Pass) (x y : FieldSelection) → A
 put_under_one_key schema shape_pass x y put = put
 put_under_one_key schema field_pass x y put = put.0
 
+-- two that are put together, and agree, in the other order
+put_back : (schema : Schema) (pass : Pass) (x y : FieldSelection) → ArePutTogether schema pass x y → ArePutTogether schema pass y x
+put_back schema shape_pass x y put = same_name_back (key_of x) (key_of y) put
+put_back schema field_pass x y put = (same_name_back (key_of x) (key_of y) put.0, parents_back schema x y put.1)
+
+agree_back : (schema : Schema) (pass : Pass) (x y : FieldSelection) → Agree schema pass x y → Agree schema pass y x
+agree_back schema shape_pass x y agree = same_shape_back schema (type_of x) (type_of y) agree
+agree_back schema field_pass x y agree = one_field_back x y agree
+
 module _ (schema : Schema) (pass : Pass) where
   pub one_key : (x y : FieldSelection) → ArePutTogether schema pass x y → SameKey x y
   one_key x y put = put_under_one_key schema pass x y put
+
+  below_back : (x y : NumberedField) (p : SetPair) → IsBelow schema pass x y p → IsBelow schema pass y x (pair_of p.second p.first)
+  below_back x y p below = record {
+    put = put_back schema pass (field_of x) (field_of y) below.put;
+    first_selects = below.second_selects;
+    second_selects = below.first_selects;
+    is = ap (λ (q : SetPair). pair_of q.second q.first) below.is;
+  }
 
   module _ (fields : List NumberedField) where
     -- nothing was to be compared
@@ -91,6 +108,22 @@ module _ (schema : Schema) (pass : Pass) where
       added = s.added;
       agree = λ x y q put. s.agree x y (words x y q put) put;
       below = λ x y q p below. s.below x y (words x y q below.put) p below;
+    }
+
+    -- the same in other words, of fields in either order
+    pub settles_either : (P Q : NumberedField → NumberedField → Type 0) (a b : List (List ℕ)) →
+        ((x y : NumberedField) → Q x y → ArePutTogether schema pass (field_of x) (field_of y) → P x y ⊎ P y x) → Settles schema pass fields P a b → Settles schema pass fields Q a b
+    settles_either P Q a b words s = record {
+      kept = s.kept;
+      added = s.added;
+      agree = λ x y q put. elim (words x y q put) [
+        | inl h ↦ s.agree x y h put
+        | inr h ↦ agree_back schema pass (field_of y) (field_of x) (s.agree y x h (put_back schema pass (field_of x) (field_of y) put))
+      ];
+      below = λ x y q p below. elim (words x y q below.put) [
+        | inl h ↦ s.below x y h p below
+        | inr h ↦ let listed = s.below y x h (pair_of p.second p.first) (below_back x y p below) in (listed.0, listed.1, listed.3, listed.2)
+      ];
     }
 
     -- one call more, in other words
@@ -229,6 +262,12 @@ module _ (schema : Schema) (fields first second : List NumberedField) (key : Hav
     by (inl u) (inr v) = parents_of overlap x y u v
     by (inr u) (inl v) = parents_back schema (field_of y) (field_of x) (parents_of overlap y x v u)
     by (inr u) (inr v) = seconds x y u v
+
+-- the same of the fields of one group
+pub together_alone : (schema : Schema) (fields group : List NumberedField) → HaveOneKey fields → IsGroupOf ParentType fields group → (one : NumberedField) → Contains group one →
+    ParentsMayOverlap schema (field_of one) (field_of one) → AreTogether schema field_pass group
+together_alone schema fields group key is one there overlap x y in_x in_y =
+    together schema fields group group key is is one one there there (group ++ group) refl overlap x y (Contains-append_left group group x in_x) (Contains-append_left group group y in_y)
 
 -- fields that were compared with the first
 pub first_or_found : {E : Type 0} (schema : Schema) (pass : Pass) (r : Result (Option Conflict) E) (first : NumberedField) (fields : List NumberedField) → Contains fields first →

@@ -4,11 +4,11 @@ use Rattle.std.specs.Prelude.{◌↔◌, ◌⊎◌, slice_get}
 use Rattle.std.proofs.lemmas.List.Elements.{All-contains}
 use Rattle.graphql_documents.proofs.ListLemmas.{each_standing, made_of, only_one, stands_first, stands_mapped}
 use Rattle.graphql_documents.specs.declared.documents.schemas.Schema.{Schema}
-use Rattle.graphql_number_sets.specs.NumberSets.{ArePaired, has_pair}
+use Rattle.graphql_number_sets.specs.NumberSets.{ArePaired, HaveEnd, has_pair}
 use Rattle.graphql_number_sets.specs.declared.pair_sets.PairSet.{PairSet}
 use Rattle.graphql_specification.specs.MergedSets.{Agree, ArePutTogether, key_of}
 use Rattle.graphql_specification.specs.Merging.{FieldSelection, Pass, SameKey, field_pass, shape_pass}
-use Rattle.graphql_pair_merging.specs.JoinedSets.{HaveEnd, IsJoined, Takes, joined_first, joined_fragment}
+use Rattle.graphql_pair_merging.specs.JoinedSets.{IsJoined, Takes, joined_first, joined_fragment}
 use Rattle.graphql_pair_merging.specs.NumberedSets.{field_of}
 use Rattle.graphql_pair_merging.specs.Pairs.{AreBelow, AreLinked, AreListed, Both, FindsBelow, FindsIn, HasLooked, IsLinked, IsReached, IsStart, LeadsTo, LooksAt, SetPair, WereLookedAt, pair_of, reached_first, reached_next}
 use Rattle.graphql_pair_merging.specs.declared.disagreements.Conflict.{Conflict}

@@ -33,7 +33,3 @@ module _ (sets : List NumberedSet) where
     pub are_ends : AreEnds looked joined ends
     pub others : (l : List ℕ) → Contains old l → Contains new l ⊎ ((l ≡ list) ⊎ WereLookedAt looked l)
     pub some : ends ≢ []
-
--- two of the sets of which one is an end
-abbrev pub HaveEnd : (joined ends : List ℕ) → ℕ → ℕ → Type 0
-HaveEnd joined ends a b = (Contains ends a × Contains joined b) ⊎ (Contains joined a × Contains ends b)

@@ -4,3 +4,4 @@ pub mod JoinedSets
 pub mod Meetings
 pub mod NumberedSets
 pub mod Pairs
+pub mod Parents

@@ -1,6 +1,7 @@
 //! Two fields in sets that come together: whether they are put together, and what they do not agree on.
 
-ghost use Rattle.std.specs.Prelude.{◌↔◌, ◌∷◌, [], IfOk, IsTrue, MatchOption};
+ghost use Rattle.std.specs.Prelude.{◌≡◌, ◌↔◌, ◌∷◌, [], IfOk, IsTrue, MatchOption};
+ghost use Rattle.graphql_documents.specs.Schemas.{type_definition};
 ghost use Rattle.graphql_documents.specs.declared.documents.schemas.Schema.{Schema};
 ghost use Rattle.graphql_specification.specs.MergedSets.{Agree};
 ghost use Rattle.graphql_specification.specs.Merging as merging;
@@ -11,6 +12,7 @@ ghost use Rattle.graphql_merging.specs.FieldSelections.{selection_of};
 ghost use Rattle.graphql_merging.specs.Groups.{pass_of};
 ghost use Rattle.graphql_pair_merging.specs.Disagreements.{Disagrees, HasDefinition};
 ghost use Rattle.graphql_pair_merging.specs.NumberedSets.{HaveNumbers, field_of};
+ghost use Rattle.graphql_pair_merging.specs.Parents.{may_overlap_others};
 
 use super::numbered_sets::NumberedField;
 use graphql_diagnostics::DiagnosticList;
@@ -20,7 +22,7 @@ use graphql_merging::comparisons::{FieldConflict, find_field_conflict, same_outp
 use graphql_merging::conflict_reports::{report_conflict, report_types};
 use graphql_merging::field_selections::FieldSelection;
 use graphql_merging::groups::Pass;
-use graphql_nodes::ValidationError;
+use graphql_nodes::{Name, ValidationError};
 use std::alloc::Global;
 
 /// What two fields that were put together do not agree on.
@@ -126,6 +128,18 @@ fn may_overlap(first: &ExtendedType, second: &ExtendedType) -> bool
             first.value.name == second.value.name
         }
         _ => first.is_composite() && second.is_composite(),
+    }
+}
+
+/// Whether an object of the type under this name may be of a type under another name too: if the type is abstract, or an
+/// object type that has another name of its own.
+pub(crate) fn may_overlap_others(schema: &Schema, name: &Name) -> bool
+    ensures { result ≡ may_overlap_others name.now (type_definition schema.now name.now) }
+{
+    match schema.types.get(name) {
+        Some(ExtendedType::Object(object)) => object.value.name != *name,
+        Some(other) => other.is_composite(),
+        None => false,
     }
 }
 

@@ -1,8 +1,8 @@
 //! Selection sets whose fields come together.
 
 ghost use Rattle.std.specs.Prelude.{◌≡◌, ◌<◌, ◌⊎◌, ◌↔◌, ℕ, All, IfOk, OnOk, Some, length, slice_get, true, vec_len};
-ghost use Rattle.graphql_number_sets.specs.NumberSets.{AreExact, has_pair, numbers_of};
-ghost use Rattle.graphql_pair_merging.specs.JoinedSets.{AddsEach, AreJoined, HaveEnd};
+ghost use Rattle.graphql_number_sets.specs.NumberSets.{AreEnds, AreExact, HaveEnd, KeepsCliques, has_pair, numbers_of};
+ghost use Rattle.graphql_pair_merging.specs.JoinedSets.{AddsEach, AreJoined};
 ghost use Rattle.graphql_pair_merging.specs.Pairs.{AreLinked};
 ghost use Rattle.graphql_pair_merging.specs.declared.numbered_sets.NumberedSet.{NumberedSet};
 
@@ -22,17 +22,19 @@ pub(crate) struct JoinedSets {
 
 impl JoinedSets {
     /// Adds each pair of the sets of which one is an end. The only error is a failed allocation.
-    pub(crate) fn add_to(&self, looked: &mut PairSet) -> Result<(), ValidationError>
-        requires all_exact { AreExact self.now.all }
-        requires ends_exact { AreExact self.now.ends }
-        requires all_within { All (λ number. number < vec_len looked.old.rows) (numbers_of self.now.all) }
-        requires ends_within { All (λ number. number < vec_len looked.old.rows) (numbers_of self.now.ends) }
+    pub(crate) fn add_to(self, looked: &mut PairSet) -> Result<(), ValidationError>
+        requires cliques { KeepsCliques looked.old }
+        requires all_exact { AreExact self.all }
+        requires ends_exact { AreExact self.ends }
+        requires within { All (λ number. number < vec_len looked.old.rows) (numbers_of self.all) }
+        requires ends { AreEnds looked.old (numbers_of self.all) (numbers_of self.ends) }
         ensures count { vec_len looked.new.rows ≡ vec_len looked.old.rows }
+        ensures cliques { KeepsCliques looked.new }
         ensures added { OnOk result ((first second : ℕ) → (has_pair looked.new first second ≡ true) ↔
-            ((has_pair looked.old first second ≡ true) ⊎ HaveEnd (numbers_of self.now.all) (numbers_of self.now.ends) first second)) }
+            ((has_pair looked.old first second ≡ true) ⊎ HaveEnd (numbers_of self.all) (numbers_of self.ends) first second)) }
     {
-        looked.add_all(&self.ends, &self.all)?;
-        looked.add_all(&self.all, &self.ends)
+        let JoinedSets { all, ends } = self;
+        looked.join(all, &ends)
     }
 }
 

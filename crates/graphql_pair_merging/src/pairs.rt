@@ -2,17 +2,20 @@
 
 ghost use Rattle.std.specs.Prelude.{◌≡◌, ◌<◌, ◌∷◌, [], ⊤, ℕ, All, Contains, IfOk, IsTrue, List, MatchOption, length, map, true, vec_len};
 ghost use Rattle.graphql_merging.specs.Groups.{pass_of};
-ghost use Rattle.graphql_number_sets.specs.NumberSets.{AreExact, numbers_of};
+ghost use Rattle.graphql_number_sets.specs.NumberSets.{AreExact, KeepsCliques, numbers_of};
 ghost use Rattle.graphql_pair_merging.specs.FieldGroups.{IsGroupOf, IsGrouped, has_name, names_in};
 ghost use Rattle.graphql_pair_merging.specs.JoinedSets.{Takes};
 ghost use Rattle.graphql_pair_merging.specs.NumberedSets.{HaveArgumentNumbers, HaveNumbers, field_of};
 ghost use Rattle.graphql_pair_merging.specs.Pairs.{AllAgree, AreFieldsAround, AreFieldsOf, AreLinked, AreNamedIn, AreSetsBelow, AreTogether, AreComparable, Both, DecidesAlone, DisagreeAmong, Finds, FindsBelow, FindsIn, HasLooked, LooksAt, Settles, WereLookedAt, lists_at};
+ghost use Rattle.graphql_pair_merging.specs.Parents.{IsInTurn};
 ghost use Rattle.graphql_pair_merging.specs.declared.field_groups.GroupedBy.TheVariants.{ParentType, ResponseKey};
 ghost use Rattle.graphql_pair_merging.specs.declared.numbered_sets.NumberedField.{NumberedField};
 ghost use Rattle.graphql_specification.specs.MergedSets.{Agree};
 ghost use Rattle.graphql_specification.specs.Merging.{field_pass};
 
-use super::disagreements::{Conflict, disagreement_of, has_defined_type, parents_may_overlap};
+use super::disagreements::{
+    Conflict, disagreement_of, has_defined_type, may_overlap_others, parents_may_overlap,
+};
 use super::field_groups::{FieldsByName, GroupedBy, add_named_in, group_fields, names_of};
 use super::joined_sets::{JoinedSets, with_fragments};
 use super::numbered_sets::{NumberedField, NumberedSet};
@@ -82,6 +85,7 @@ impl<'s, 'doc> PairPass<'s, 'doc> {
         waiting: &mut Waiting,
     ) -> Result<Option<JoinedSets>, ValidationError>
         requires linked { AreLinked self.now.sets.now }
+        requires cliques { KeepsCliques looked.now }
         requires count { vec_len looked.now.rows ≡ length self.now.sets.now }
         requires within { All (λ l. All (λ number. number < length self.now.sets.now) l) (lists_at waiting.old.items) }
         ensures all_exact { IfOk result (λ found. MatchOption found ⊤ (λ joined. AreExact joined.all)) }
@@ -251,7 +255,8 @@ impl<'s, 'doc> PairPass<'s, 'doc> {
         Ok(None)
     }
 
-    /// The same of those on one of the types with all of them.
+    /// The same of those on one of the types: with all of them, if the type may overlap with others, else with one
+    /// another alone.
     fn look_from_parent(
         &self,
         waiting: &mut Waiting,
@@ -261,13 +266,36 @@ impl<'s, 'doc> PairPass<'s, 'doc> {
     ) -> Result<Option<Conflict<'doc>>, ValidationError>
         requires { pass_of self.now.pass ≡ field_pass }
         ensures { (fields : List NumberedField) → AreComparable fields → IsGrouped ParentType fields groups.now.entries → parents.now ≡ names_in groups.now.entries → IfOk result (λ found. MatchOption found
-            (Settles self.now.schema.now (pass_of self.now.pass) fields (λ x y. Both fields x y × (has_name ParentType parent.now x ≡ true)) (lists_at waiting.old.items) (lists_at waiting.new.items))
+            (Settles self.now.schema.now (pass_of self.now.pass) fields (λ x y. Both fields x y × IsInTurn self.now.schema.now x y × (has_name ParentType parent.now x ≡ true)) (lists_at waiting.old.items) (lists_at waiting.new.items))
             (Finds self.now.schema.now (pass_of self.now.pass) fields fields)) }
     {
-        match groups.get(&parent) {
-            Some(first) => self.look_with_parents(waiting, first, groups, parents),
-            None => Ok(None),
+        let Some(first) = groups.get(&parent) else {
+            return Ok(None);
+        };
+        if may_overlap_others(self.schema, parent) {
+            return self.look_with_parents(waiting, first, groups, parents);
         }
+        self.look_at_one_parent(waiting, first)
+    }
+
+    /// The same of those on one type with one another, if the type may overlap with itself.
+    fn look_at_one_parent(
+        &self,
+        waiting: &mut Waiting,
+        fields: &[NumberedField<'doc>],
+    ) -> Result<Option<Conflict<'doc>>, ValidationError>
+        requires { pass_of self.now.pass ≡ field_pass }
+        ensures { (all : List NumberedField) → AreComparable all → IsGroupOf ParentType all fields.now → IfOk result (λ found. MatchOption found
+            (Settles self.now.schema.now (pass_of self.now.pass) all (Both fields.now) (lists_at waiting.old.items) (lists_at waiting.new.items))
+            (Finds self.now.schema.now (pass_of self.now.pass) all all)) }
+    {
+        let Some(one) = fields.first() else {
+            return Ok(None);
+        };
+        if !parents_may_overlap(self.schema, one.field, one.field) {
+            return Ok(None);
+        }
+        self.look_at_fields(waiting, fields)
     }
 
     /// The same of those on one type with all of them.

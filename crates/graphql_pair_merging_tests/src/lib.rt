@@ -15,4 +15,6 @@ mod numbers;
 #[cfg(test)]
 mod pairs;
 #[cfg(test)]
+mod parents;
+#[cfg(test)]
 mod sets;

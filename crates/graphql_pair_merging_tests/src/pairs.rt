@@ -84,7 +84,7 @@ fn told(diagnostics: &DiagnosticList) -> &'static str {
 }
 
 /// The operation of the text has this report, or none.
-fn reports(rt: &impl Abort, alloc: Global, schema: &Schema, text: &str, expected: &str) {
+pub(crate) fn reports(rt: &impl Abort, alloc: Global, schema: &Schema, text: &str, expected: &str) {
     let Ok(document) = document(alloc, schema, text) else {
         panic!(rt; "no document: {text}")
     };

@@ -1,3 +1,7 @@
+ghost use Rattle.std.specs.Prelude.{◌<◌, All, IfOk};
+ghost use Rattle.graphql_number_sets.specs.NumberSets.{AreExact, numbers_of};
+
+use graphql_nodes::ValidationError;
 use graphql_number_sets::bit_sets::BitSet;
 use graphql_number_sets::distinct_numbers::DistinctNumbers;
 use graphql_number_sets::pair_sets::PairSet;
@@ -51,4 +55,34 @@ fn each_number_becomes_a_pair_with_each(rt: HostRuntime) {
         .expect(&rt, "memory for pairs");
     let left = pairs.ends(alloc, &numbers).expect(&rt, "memory for ends");
     assert!(rt; left.as_slice().is_empty());
+}
+
+/// The numbers below a bound. The only error is a failed allocation.
+fn numbers_below(alloc: Global, bound: usize) -> Result<DistinctNumbers, ValidationError>
+    ensures exact { IfOk result AreExact }
+    ensures within { IfOk result (λ numbers. All (λ number. number < bound) (numbers_of numbers)) }
+{
+    let mut numbers = DistinctNumbers::new(alloc);
+    for number in 0..bound {
+        numbers.add(number)?;
+    }
+    Ok(numbers)
+}
+
+/// Numbers that came together are joined by one more: it is an end, since it is no pair with the others, and then none is.
+#[test]
+fn numbers_are_joined_by_one_more(rt: HostRuntime) {
+    let alloc = rt.alloc();
+    let mut pairs = PairSet::new(alloc, 101).expect(&rt, "memory for pairs");
+    let numbers = numbers_below(alloc, 100).expect(&rt, "memory for numbers");
+    let all = pairs.ends(alloc, &numbers).expect(&rt, "memory for ends");
+    assert_eq!(rt; all.as_slice(), numbers.as_slice());
+    pairs.join(numbers, &all).expect(&rt, "memory for pairs");
+    let more = numbers_below(alloc, 101).expect(&rt, "memory for numbers");
+    let last = pairs.ends(alloc, &more).expect(&rt, "memory for ends");
+    assert_eq!(rt; last.as_slice(), [100].as_slice());
+    pairs.join(more, &last).expect(&rt, "memory for pairs");
+    let more = numbers_below(alloc, 101).expect(&rt, "memory for numbers");
+    let none = pairs.ends(alloc, &more).expect(&rt, "memory for ends");
+    assert!(rt; none.as_slice().is_empty());
 }

@@ -14,9 +14,13 @@ loop-looked-init c =
     let self = c.args.self.now in
     record {
       count = c.in_ok-looked.ensures.count;
+      cliques = c.in_ok-looked.ensures.cliques;
       walks = walks_begin self.schema.now (pass_of self.pass) self.sets.now c.args.starts.now c.requires.linked c.requires.within c.in_ok-looked.looked (lists_at c.in_ok-waiting.waiting.items)
           c.in_ok-looked.ensures.empty c.in_ok-waiting.ensures;
     }
+
+pub next_unlooked-requires-clause-cliques : goal.next_unlooked-requires-clause-cliques
+next_unlooked-requires-clause-cliques c = c.loop-looked.invariant.cliques
 
 pub next_unlooked-requires-clause-count : goal.next_unlooked-requires-clause-count
 next_unlooked-requires-clause-count c = c.loop-looked.invariant.count
@@ -74,22 +78,19 @@ pub add_to-requires-clause-ends_exact : goal.add_to-requires-clause-ends_exact
 add_to-requires-clause-ends_exact c =
     subst (λ o. MatchOption o ⊤ (λ (j : JoinedSets). AreExact j.ends)) c.in-Some.is c.in_ok-joined.ensures.ends_exact
 
-pub add_to-requires-clause-all_within : goal.add_to-requires-clause-all_within
-add_to-requires-clause-all_within c =
+pub add_to-requires-clause-within : goal.add_to-requires-clause-within
+add_to-requires-clause-within c =
     let count = length c.args.self.now.sets.now in
     let within = subst (λ o. MatchOption o ⊤ (λ (j : JoinedSets). All (λ n. n < count) (numbers_of j.all))) c.in-Some.is c.in_ok-joined.ensures.all_within in
     subst (λ m. All (λ n. n < m) (numbers_of c.in-Some.joined.all)) (sym c.loop-looked.invariant.count) within
 
-pub add_to-requires-clause-ends_within : goal.add_to-requires-clause-ends_within
-add_to-requires-clause-ends_within c =
+pub add_to-requires-clause-ends : goal.add_to-requires-clause-ends
+add_to-requires-clause-ends c =
     let sets = c.args.self.now.sets.now in
     let old = lists_at c.loop-looked.waiting.items in
     let mid = lists_at c.next_unlooked.new.waiting.items in
-    let joined = c.in-Some.joined in
     let taken = subst (λ o. MatchOption o (All (WereLookedAt c.loop-looked.looked) old) (λ (j : JoinedSets). Takes sets c.loop-looked.looked old mid (numbers_of j.all) (numbers_of j.ends))) c.in-Some.is c.in_ok-joined.ensures.taken in
-    let within = subst (λ o. MatchOption o ⊤ (λ (j : JoinedSets). All (λ n. n < length sets) (numbers_of j.all))) c.in-Some.is c.in_ok-joined.ensures.all_within in
-    subst (λ m. All (λ n. n < m) (numbers_of joined.ends)) (sym c.loop-looked.invariant.count)
-    (ends_within sets c.loop-looked.looked old mid (numbers_of joined.all) (numbers_of joined.ends) (length sets) taken within)
+    taken.are_ends
 
 pub loop-looked-smaller : goal.loop-looked-smaller
 loop-looked-smaller c =
@@ -120,6 +121,7 @@ loop-looked-preserved c =
     let looks = subst (λ o. MatchOption o (LooksAt schema pass sets (numbers_of joined.ends) (numbers_of joined.all) mid after) (FindsIn schema pass sets (numbers_of joined.all))) c.in_default-2.is c.in_ok-conflict.ensures in
     record {
       count = c.add_to.ensures.count ∙ c.loop-looked.invariant.count;
+      cliques = c.add_to.ensures.cliques;
       walks = walks_on schema pass sets c.args.starts.now c.requires.linked c.requires.within c.loop-looked.looked c.add_to.new.looked old mid after (numbers_of joined.all) (numbers_of joined.ends) taken
           looks c.in_ok-add_to.ensures.added c.loop-looked.invariant.walks;
     }

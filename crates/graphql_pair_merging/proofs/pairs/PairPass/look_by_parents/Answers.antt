@@ -1,26 +1,32 @@
-use Rattle.std.proofs.Common.{◌≡◌, ◌+◌, inl, inr, subst, take, true, ap, ◌∙◌}
+use Rattle.std.proofs.Common.{Contains, ◌≡◌, ◌+◌, inl, inr, subst, take, true, ap, ◌∙◌}
 use Rattle.std.specs.Prelude.{MatchOption}
 use Rattle.std.proofs.lemmas.List.{take_all}
 use Rattle.graphql_documents.proofs.ListLemmas.{more_is}
 use Rattle.graphql_merging.specs.Groups.{pass_of}
-use Rattle.graphql_pair_merging.specs.FieldGroups.{has_name}
+use Rattle.graphql_specification.specs.MergedSets.{ArePutTogether}
+use Rattle.graphql_pair_merging.specs.FieldGroups.{has_name, names_in}
+use Rattle.graphql_pair_merging.specs.NumberedSets.{field_of}
 use Rattle.graphql_pair_merging.specs.Pairs.{Both, Finds, Settles, lists_at}
+use Rattle.graphql_pair_merging.specs.Parents.{IsInTurn}
 use Rattle.graphql_pair_merging.specs.declared.field_groups.GroupedBy.TheVariants.{ParentType}
+use Rattle.graphql_pair_merging.specs.declared.numbered_sets.NumberedField.{NumberedField}
 use Rattle.graphql_pair_merging.proofs.GroupLemmas.{all_among, among_more, is_among, none_among}
-use Rattle.graphql_pair_merging.proofs.SettleLemmas.{settles_next, settles_nothing, settles_words}
+use Rattle.graphql_pair_merging.proofs.SettleLemmas.{settles_either, settles_next, settles_nothing}
+use Rattle.graphql_pair_merging.proofs.TurnLemmas.{in_turn}
 use Rattle.graphql_pair_merging.proofs.pairs.PairPass.look_by_parents.Goals as goal
 
 pub loop-parent-init : goal.loop-parent-init
 loop-parent-init c fields key grouped named =
-    settles_nothing c.args.self.now.schema.now (pass_of c.args.self.now.pass) fields (λ x y. Both fields x y × (is_among ParentType (take 0 c.args.parents.now) x ≡ true)) (lists_at c.args.waiting.now.items)
-    (λ x y p put. none_among ParentType x p.1)
+    let schema = c.args.self.now.schema.now in
+    settles_nothing schema (pass_of c.args.self.now.pass) fields (λ x y. Both fields x y × IsInTurn schema x y × (is_among ParentType (take 0 c.args.parents.now) x ≡ true)) (lists_at c.args.waiting.now.items)
+    (λ x y p put. none_among ParentType x p.2)
 
 pub returns-in-Some : goal.returns-in-Some
 returns-in-Some c fields key grouped named =
     let schema = c.args.self.now.schema.now in
     let pass = pass_of c.args.self.now.pass in
     subst (λ o. MatchOption o
-    (Settles schema pass fields (λ x y. Both fields x y × (has_name ParentType c.parent-item.result.now x ≡ true)) (lists_at c.loop-parent.waiting.items) (lists_at c.look_from_parent.new.waiting.items)) (Finds schema pass fields fields))
+    (Settles schema pass fields (λ x y. Both fields x y × IsInTurn schema x y × (has_name ParentType c.parent-item.result.now x ≡ true)) (lists_at c.loop-parent.waiting.items) (lists_at c.look_from_parent.new.waiting.items)) (Finds schema pass fields fields))
     c.in-Some.is (c.in_ok-conflict.ensures fields key grouped named)
 
 pub loop-parent-preserved : goal.loop-parent-preserved
@@ -32,19 +38,25 @@ loop-parent-preserved c fields key grouped named =
     let name = c.parent-item.result in
     let mid = lists_at c.loop-parent.waiting.items in
     let new = lists_at c.look_from_parent.new.waiting.items in
-    let step = subst (λ o. MatchOption o (Settles schema pass fields (λ x y. Both fields x y × (has_name ParentType name.now x ≡ true)) mid new) (Finds schema pass fields fields)) c.in_default.is
+    let step = subst (λ o. MatchOption o (Settles schema pass fields (λ x y. Both fields x y × IsInTurn schema x y × (has_name ParentType name.now x ≡ true)) mid new) (Finds schema pass fields fields)) c.in_default.is
     (c.in_ok-conflict.ensures fields key grouped named) in
-    settles_next schema pass fields (λ x y. Both fields x y × (is_among ParentType (take i names) x ≡ true)) (λ x y. Both fields x y × (has_name ParentType name.now x ≡ true))
-    (λ x y. Both fields x y × (is_among ParentType (take (i + 1) names) x ≡ true)) (lists_at c.args.waiting.now.items) mid new (c.loop-parent.invariant fields key grouped named) step
-    (λ x y p put. elim (among_more ParentType (take i names) (take (i + 1) names) name x (more_is names i name c.loop-parent-test.true c.parent-item.is) p.1) [
-      | inl before ↦ inl (p.0, before)
-      | inr here ↦ inr (p.0, here)
+    settles_next schema pass fields (λ x y. Both fields x y × IsInTurn schema x y × (is_among ParentType (take i names) x ≡ true)) (λ x y. Both fields x y × IsInTurn schema x y × (has_name ParentType name.now x ≡ true))
+    (λ x y. Both fields x y × IsInTurn schema x y × (is_among ParentType (take (i + 1) names) x ≡ true)) (lists_at c.args.waiting.now.items) mid new (c.loop-parent.invariant fields key grouped named) step
+    (λ x y p put. elim (among_more ParentType (take i names) (take (i + 1) names) name x (more_is names i name c.loop-parent-test.true c.parent-item.is) p.2) [
+      | inl before ↦ inl (p.0, p.1, before)
+      | inr here ↦ inr (p.0, p.1, here)
     ])
 
 pub returns : goal.returns
 returns c fields key grouped named =
-    let names = c.args.parents.now in
-    settles_words c.args.self.now.schema.now (pass_of c.args.self.now.pass) fields (λ x y. Both fields x y × (is_among ParentType (take c.loop-parent.parent-index names) x ≡ true)) (Both fields) (lists_at c.args.waiting.now.items)
-    (lists_at c.loop-parent.waiting.items)
-    (λ x y both put. (both, ap (λ l. is_among ParentType l x) (take_all c.loop-parent.parent-index names c.loop-parent-test.false ∙ named) ∙ all_among ParentType fields c.args.groups.now.entries grouped x both.0))
-    (c.loop-parent.invariant fields key grouped named)
+    let schema = c.args.self.now.schema.now in
+    let pass = pass_of c.args.self.now.pass in
+    let names = take c.loop-parent.parent-index c.args.parents.now in
+    let all : names ≡ names_in c.args.groups.now.entries = take_all c.loop-parent.parent-index c.args.parents.now c.loop-parent-test.false ∙ named in
+    let among : (x : NumberedField) → Contains fields x → is_among ParentType names x ≡ true =
+    λ x in'. ap (λ l. is_among ParentType l x) all ∙ all_among ParentType fields c.args.groups.now.entries grouped x in' in
+    settles_either schema pass fields (λ x y. Both fields x y × IsInTurn schema x y × (is_among ParentType names x ≡ true)) (Both fields) (lists_at c.args.waiting.now.items) (lists_at c.loop-parent.waiting.items)
+    (λ x y both put. elim (in_turn schema x y (subst (λ p. ArePutTogether schema p (field_of x) (field_of y)) c.requires put).1) [
+      | inl first ↦ inl (both, first, among x both.0)
+      | inr second ↦ inr ((both.1, both.0), second, among y both.1)
+    ]) (c.loop-parent.invariant fields key grouped named)
