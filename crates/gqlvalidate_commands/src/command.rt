@@ -86,10 +86,12 @@ fn answer<R: Files + AllocGlobal, I: Read, O: Write, F: Write>(
             schema,
             limits,
             max_line,
+            max_reports,
         } => {
             let allowance = Allowance {
                 bounds: bounds_of(*limits),
                 line: *max_line,
+                reports: *max_reports,
             };
             serve(rt, schema, allowance, input, output, faults)
         }

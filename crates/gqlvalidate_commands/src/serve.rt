@@ -33,6 +33,8 @@ pub struct Allowance {
     pub bounds: Bounds,
     /// So many bytes its line may have, without its end.
     pub line: u64,
+    /// As many reports its answer has at most.
+    pub reports: usize,
 }
 
 /// Reads the schema of these files, and answers each line of standard input by a line, until there are no more. If the schema
@@ -56,7 +58,11 @@ pub fn serve<R: Files + AllocGlobal, I: Read, O: Write, F: Write>(
         }
         SchemaReading::Rejected(reports) => {
             let subject = schema_subject(&named, &sources);
-            print_reports(rt.alloc(), &reports, subject, output)?;
+            let allowance = Allowance {
+                bounds: Bounds::DEFAULT,
+                ..allowance
+            };
+            print_reports(rt.alloc(), &reports, subject, allowance, output)?;
             Ok(Status::Reported)
         }
         SchemaReading::LacksIntrospection => Err(Fault::LacksIntrospection),
@@ -119,7 +125,7 @@ fn answer_each<I: Read, O: Write>(
     for _ in 0..u64::MAX {
         match read_line(&mut lines, allowance.line, &mut line)? {
             ReadLine::End => break,
-            ReadLine::Whole => answer(alloc, schema, allowance.bounds, &line, output)?,
+            ReadLine::Whole => answer(alloc, schema, allowance, &line, output)?,
             ReadLine::TooLong => say(TOO_LONG, output)?,
             ReadLine::OutOfMemory => say(OUT_OF_MEMORY, output)?,
         }
@@ -143,13 +149,13 @@ fn say<O: Write>(line: &str, output: &mut O) -> Result<(), Fault> {
 fn answer<O: Write>(
     alloc: Global,
     schema: &Schema,
-    bounds: Bounds,
+    allowance: Allowance,
     line: &[u8],
     output: &mut O,
 ) -> Result<(), Fault>
     requires { IsUsable schema.now }
 {
-    match answer_of(alloc, schema, bounds, line) {
+    match answer_of(alloc, schema, allowance, line) {
         Ok(json) => match print_now(alloc, json, output) {
             Err(Fault::OutOfMemory) => say(OUT_OF_MEMORY, output),
             ended => ended,
@@ -160,14 +166,19 @@ fn answer<O: Write>(
 }
 
 /// The answer to a line. That to one that is no question says so.
-fn answer_of(alloc: Global, schema: &Schema, bounds: Bounds, line: &[u8]) -> Result<Writer, Fault>
+fn answer_of(
+    alloc: Global,
+    schema: &Schema,
+    allowance: Allowance,
+    line: &[u8],
+) -> Result<Writer, Fault>
     requires { IsUsable schema.now }
 {
     let mut scratch = Scratch::new(alloc);
     let mut json = Writer::new(Vec::new(alloc));
     json.begin_object()?;
     match Question::read(alloc, line, &mut scratch) {
-        Ok(question) => answer_question(alloc, schema, bounds, &question, &mut json)?,
+        Ok(question) => answer_question(alloc, schema, allowance, &question, &mut json)?,
         Err(QuestionError::OutOfMemory) => return Err(Fault::OutOfMemory),
         Err(QuestionError::Unclear(why)) => {
             json.key("fault")?;
@@ -181,7 +192,7 @@ fn answer_of(alloc: Global, schema: &Schema, bounds: Bounds, line: &[u8]) -> Res
 fn answer_question(
     alloc: Global,
     schema: &Schema,
-    bounds: Bounds,
+    allowance: Allowance,
     question: &Question<'_>,
     json: &mut Writer,
 ) -> Result<(), Fault>
@@ -192,7 +203,7 @@ fn answer_question(
         file_id: QUESTION,
         text: question.document,
     };
-    let reports = validate_document(alloc, schema, source, bounds)?;
+    let reports = validate_document(alloc, schema, source, allowance.bounds)?;
     let texts = [NamedText { path: None, source }];
     let sources = [source];
     let subject = Subject {
@@ -200,23 +211,39 @@ fn answer_question(
         texts: texts.as_slice(),
         sources: sources.as_slice(),
     };
-    begin_errors(json)?;
-    if let Some(reports) = reports {
-        add_shown(alloc, &reports, subject, bounds, json)?;
+    match reports {
+        Some(reports) => add_errors(alloc, &reports, subject, allowance, json),
+        None => {
+            begin_errors(json)?;
+            Ok(json.end_array()?)
+        }
     }
-    Ok(json.end_array()?)
 }
 
-fn add_shown(
+/// Adds the first reports, as many as an answer has at most, and the number of the others, if there are any.
+fn add_errors(
     alloc: Global,
     reports: &Reports,
     subject: Subject<'_>,
-    bounds: Bounds,
+    allowance: Allowance,
     json: &mut Writer,
 ) -> Result<(), Fault> {
-    let shown = shown_reports(alloc, reports, subject.sources, bounds, usize::MAX)?;
+    let Allowance {
+        bounds,
+        reports: most,
+        ..
+    } = allowance;
+    let shown = shown_reports(alloc, reports, subject.sources, bounds, most)?;
     let counted = CountedSubject::new(alloc, subject)?;
-    Ok(add_reports(json, &shown, &counted)?)
+    begin_errors(json)?;
+    add_reports(json, &shown, &counted)?;
+    json.end_array()?;
+    let others = reports.len().saturating_sub(shown.len());
+    if others > 0 {
+        json.key("notShown")?;
+        json.u64(others as u64)?;
+    }
+    Ok(())
 }
 
 /// Prints the reports of a schema as a line.
@@ -224,13 +251,12 @@ fn print_reports<O: Write>(
     alloc: Global,
     reports: &Reports,
     subject: Subject<'_>,
+    allowance: Allowance,
     output: &mut O,
 ) -> Result<(), Fault> {
     let mut json = Writer::new(Vec::new(alloc));
     json.begin_object()?;
-    begin_errors(&mut json)?;
-    add_shown(alloc, reports, subject, Bounds::DEFAULT, &mut json)?;
-    json.end_array()?;
+    add_errors(alloc, reports, subject, allowance, &mut json)?;
     json.end_object()?;
     print_now(alloc, json, output)
 }

@@ -338,6 +338,23 @@ fn a_line_that_is_too_long_is_gone_past(rt: HostRuntime) {
     ends(&rt, words.as_slice(), input.as_bytes(), wanted);
 }
 
+/// An answer has as many reports as the command line allows, and counts the others.
+#[test]
+fn an_answer_counts_what_it_does_not_show(rt: HostRuntime) {
+    let wanted = Ended {
+        status: 0,
+        printed: "{\"errors\":[{\"message\":\"the argument `size` is not supported by `Query.pet`\",\
+            \"locations\":[{\"line\":1,\"column\":14}],\
+            \"extensions\":{\"rule\":\"UndefinedArgument\",\"span\":{\"start\":13,\"end\":20}}}],\"notShown\":2}\n\
+            {\"errors\":[]}\n",
+        said: "",
+    };
+    let input =
+        "{\"document\":\"{ pet(id: 1, size: 2, age: 3, mass: 4) { name } }\"}\n{\"document\":\"{ pet(id: 1) { name } }\"}\n";
+    let words = ["serve", "--max-reports", "1", "--schema", "schema"];
+    ends(&rt, words.as_slice(), input.as_bytes(), wanted);
+}
+
 /// A document that nests deeper than the command line allows is refused, with that number.
 #[test]
 fn a_document_may_nest_as_deep_as_the_words_say(rt: HostRuntime) {

@@ -43,7 +43,7 @@ const READ: &[(&[&str], &str)] = &[
     ),
     (
         &["serve", "--schema", "s"],
-        "Serve { schema: [\"s\"], limits: Limits { depth: 500, reach: 4 }, max_line: 8388608 }",
+        "Serve { schema: [\"s\"], limits: Limits { depth: 500, reach: 4 }, max_line: 8388608, max_reports: 1000 }",
     ),
     (
         &[
@@ -51,10 +51,11 @@ const READ: &[(&[&str], &str)] = &[
             "--max-line=9",
             "--max-reach=2",
             "--max-depth=3",
+            "--max-reports=8",
             "--schema",
             "s",
         ],
-        "Serve { schema: [\"s\"], limits: Limits { depth: 3, reach: 2 }, max_line: 9 }",
+        "Serve { schema: [\"s\"], limits: Limits { depth: 3, reach: 2 }, max_line: 9, max_reports: 8 }",
     ),
     (
         &["serve", "--schema", "-"],

@@ -106,6 +106,7 @@ fn serve<'a>(alloc: Global) -> Result<Command<'a>, Error> {
     let command = command.arg(max_depth(alloc))?;
     let command = command.arg(max_reach(alloc, "4"))?;
     let command = command.arg(max_line(alloc))?;
+    let command = command.arg(max_reports_of_an_answer(alloc))?;
     Ok(command.arg(schema_files(alloc))?)
 }
 
@@ -206,5 +207,15 @@ fn max_reports<'a>(alloc: Global) -> Arg<'a> {
         .value_name("N")
         .help("How many reports are written at most [default: 100 as text, all otherwise]")
         .value_parser(value_parser!(usize))
+        .action(ArgAction::Set)
+}
+
+fn max_reports_of_an_answer<'a>(alloc: Global) -> Arg<'a> {
+    Arg::new(alloc, MAX_REPORTS)
+        .long(MAX_REPORTS)
+        .value_name("N")
+        .help("How many reports an answer has at most; the others are counted in `notShown`")
+        .value_parser(value_parser!(usize))
+        .default_value("1000")
         .action(ArgAction::Set)
 }

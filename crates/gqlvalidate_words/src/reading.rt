@@ -77,6 +77,7 @@ fn request_of<'a>(
             schema,
             limits: limits(given),
             max_line: given.get_one::<u64>(MAX_LINE).unwrap_or(u64::MAX),
+            max_reports: given.get_one::<usize>(MAX_REPORTS).unwrap_or(usize::MAX),
         })
     } else if command == SYNTAX {
         Ok(Request::Syntax { files })

@@ -100,6 +100,8 @@ pub enum Request<'a> {
         limits: Limits,
         /// So many bytes a line may have, without its end.
         max_line: u64,
+        /// As many reports an answer has at most.
+        max_reports: usize,
     },
     /// To test whether these files are GraphQL documents, each for itself.
     Syntax {
