@@ -7,10 +7,10 @@ use super::distinct_numbers::DistinctNumbers;
 use graphql_nodes::ValidationError;
 use std::alloc::Global;
 
-/// The most numbers outside of each clique with which a list does not become a clique of its own.
+/// A list becomes a clique of its own only if it has more numbers than this outside the clique that holds most of it.
 const MOST_OTHERS: usize = 64;
 
-/// Cliques, and for each number the place of the last one to which it came.
+/// Cliques, and for each number the place of the last clique that was added with it.
 #[derive(Debug, Drop)]
 pub(crate) struct Cliques {
     pub(crate) sets: Vec<BitSet>,
@@ -32,8 +32,8 @@ impl Cliques {
         })
     }
 
-    /// A clique that has many of the numbers, if one is found: that of most of them, or that of most of the others, if it
-    /// has more of the numbers.
+    /// A clique that has many of the numbers, if one is found: the last clique of most of them, or the last clique of most of
+    /// the others if that one has more of the numbers.
     pub(crate) fn around(&self, numbers: &[usize]) -> Option<&BitSet>
         ensures { MatchOption result ⊤ (λ clique. Contains self.now.sets.items clique.now) }
     {
@@ -44,7 +44,7 @@ impl Cliques {
         }
     }
 
-    /// Whether one of the cliques has all of the numbers but a few.
+    /// Whether one of the cliques has all but a few of the numbers.
     pub(crate) fn have_most(&self, numbers: &[usize]) -> bool {
         let known = match self.around(numbers) {
             Some(clique) => count_in(numbers, clique),
@@ -53,8 +53,8 @@ impl Cliques {
         numbers.len() - known <= MOST_OTHERS
     }
 
-    /// Adds a clique, unless there are as many as numbers. The only error is a failed allocation, and then the cliques are
-    /// those that were there.
+    /// Adds a clique, unless there are already as many cliques as numbers. The only error is a failed allocation, and then the
+    /// cliques are as before.
     pub(crate) fn add(&mut self, clique: DistinctNumbers) -> Result<(), ValidationError>
         ensures added { OnOk result ((self.new.sets.items ≡ self.old.sets.items) ⊎ (self.new.sets.items ≡ self.old.sets.items ++ clique.members ∷ [])) }
         ensures refused { OnErr result (self.new.sets.items ≡ self.old.sets.items) }
@@ -73,7 +73,8 @@ impl Cliques {
         Ok(())
     }
 
-    /// The last clique of most of those numbers that are not in another clique, if there is one; else perhaps that of some.
+    /// The last clique of more than half of the numbers that are not in the other clique, if there is one; otherwise the last
+    /// clique of some of them, or none.
     fn of_most(&self, numbers: &[usize], other: Option<&BitSet>) -> Option<&BitSet>
         ensures { MatchOption result ⊤ (λ clique. Contains self.now.sets.items clique.now) }
     {

@@ -9,11 +9,11 @@ use super::distinct_numbers::DistinctNumbers;
 use graphql_nodes::ValidationError;
 use std::alloc::Global;
 
-/// The most numbers that come to a set one by one: more of them come by whole words.
+/// At most so many numbers are added to a row one by one; more are added by whole words.
 const FEW: usize = 64;
 
-/// Pairs of numbers below a bound, in order: for each first number the set of its second ones. Beside them some sets of
-/// numbers of which each two are a pair, so that many need no test.
+/// Pairs of numbers below a bound: for each first number the set of its second ones. Some cliques, sets of numbers of which
+/// each two are a pair, are kept too, so that `ends` need not test their numbers.
 #[derive(Debug, Drop)]
 pub struct PairSet {
     rows: Vec<BitSet>,
@@ -35,8 +35,8 @@ impl PairSet {
         Ok(PairSet { rows, cliques })
     }
 
-    /// Such of some numbers that of each two which are no pair of the set, one way or the other, at least one is among
-    /// them: those that are no pair with one of the numbers that are not among them, or with themselves. None, if each two
+    /// Chooses some of the numbers as ends, so that of each two numbers that are no pair, either way round, at least one is an
+    /// end. An end is no pair with itself, or with one of the numbers that are no ends. There are no ends if each two numbers
     /// are a pair. The only error is a failed allocation.
     pub fn ends(
         &self,
@@ -56,7 +56,7 @@ impl PairSet {
         Ok(ends)
     }
 
-    /// Those of the numbers that are in one of the cliques: the one around them, if there is one.
+    /// The numbers that are in the clique that holds many of them, if one is found.
     fn known(&self, alloc: Global, numbers: &[usize]) -> Result<DistinctNumbers, ValidationError>
         requires { KeepsCliques self.now }
         ensures exact { IfOk result AreExact }
@@ -97,7 +97,7 @@ impl PairSet {
         }
     }
 
-    /// Adds each pair of some numbers of which one is among the ends: then each two of them are a pair, one way or the other.
+    /// Adds each pair of the numbers of which at least one is an end. Then each two of the numbers are a pair, either way round.
     /// The only error is a failed allocation, and then some of these pairs may have been added, and no other.
     pub fn join(
         &mut self,
@@ -178,7 +178,7 @@ fn add_to_row(row: &mut BitSet, numbers: &DistinctNumbers) -> Result<(), Validat
     }
 }
 
-/// Those of the numbers that are in a set.
+/// The numbers that are in a set.
 fn those_in(
     alloc: Global,
     numbers: &[usize],

@@ -193,7 +193,7 @@ impl<'s, 'doc> PairPass<'s, 'doc> {
         Ok(None)
     }
 
-    /// The same of those that are under one of the keys.
+    /// Compares the fields under one of the keys.
     fn look_under_name(
         &self,
         waiting: &mut Waiting,
@@ -210,7 +210,7 @@ impl<'s, 'doc> PairPass<'s, 'doc> {
         }
     }
 
-    /// The same of fields that have one response key.
+    /// Compares fields of one response key: all of them for shapes, and those whose parents may overlap for names and arguments.
     fn look_under_key(
         &self,
         waiting: &mut Waiting,
@@ -235,7 +235,7 @@ impl<'s, 'doc> PairPass<'s, 'doc> {
         }
     }
 
-    /// The same of those that are grouped by the types on which they are.
+    /// Compares fields that are grouped by the types on which they are.
     fn look_by_parents(
         &self,
         waiting: &mut Waiting,
@@ -255,8 +255,7 @@ impl<'s, 'doc> PairPass<'s, 'doc> {
         Ok(None)
     }
 
-    /// The same of those on one of the types: with all of them, if the type may overlap with others, else with one
-    /// another alone.
+    /// Compares the fields on one of the types: with all of them if the type may overlap with others, otherwise with one another.
     fn look_from_parent(
         &self,
         waiting: &mut Waiting,
@@ -278,7 +277,7 @@ impl<'s, 'doc> PairPass<'s, 'doc> {
         self.look_at_one_parent(waiting, first)
     }
 
-    /// The same of those on one type with one another, if the type may overlap with itself.
+    /// Compares the fields on one type with one another, if an object may be of that type.
     fn look_at_one_parent(
         &self,
         waiting: &mut Waiting,
@@ -298,7 +297,7 @@ impl<'s, 'doc> PairPass<'s, 'doc> {
         self.look_at_fields(waiting, fields)
     }
 
-    /// The same of those on one type with all of them.
+    /// Compares the fields on one type with all of them.
     fn look_with_parents(
         &self,
         waiting: &mut Waiting,
@@ -319,7 +318,7 @@ impl<'s, 'doc> PairPass<'s, 'doc> {
         Ok(None)
     }
 
-    /// The same of those on one type with those on one of the types.
+    /// Compares the fields on one type with those on one of the types.
     fn look_with_parent(
         &self,
         waiting: &mut Waiting,
@@ -338,7 +337,7 @@ impl<'s, 'doc> PairPass<'s, 'doc> {
         }
     }
 
-    /// The same of those on one type with those on another, if the types may overlap.
+    /// Compares the fields on one type with those on another, if the types may overlap.
     fn look_at_two_parents(
         &self,
         waiting: &mut Waiting,
@@ -410,7 +409,7 @@ impl<'s, 'doc> PairPass<'s, 'doc> {
         self.conflict_of_any(fields)
     }
 
-    /// The same, each with each.
+    /// Two of these fields that do not agree, if there are any: each is compared with each.
     fn conflict_of_any(
         &self,
         fields: &[NumberedField<'doc>],
