@@ -73,8 +73,8 @@ impl Cliques {
         Ok(())
     }
 
-    /// The last clique of more than half of the numbers that are not in the other clique, if there is one; otherwise the last
-    /// clique of some of them, or none.
+    /// The last clique of more than half of the numbers that have one and are not in the other clique, if there is one;
+    /// otherwise the last clique of some of them.
     fn of_most(&self, numbers: &[usize], other: Option<&BitSet>) -> Option<&BitSet>
         ensures { MatchOption result ⊤ (λ clique. Contains self.now.sets.items clique.now) }
     {
@@ -83,8 +83,11 @@ impl Cliques {
             lead: 0,
         };
         for number in numbers {
-            if !is_in(*number, other) {
-                vote.cast(self.latest.get(*number).copied().flatten());
+            let place = self.latest.get(*number).copied().flatten();
+            if let Some(place) = place
+                && !is_in(*number, other)
+            {
+                vote.cast(place);
             }
         }
         self.sets.get(vote.place?)
@@ -99,12 +102,12 @@ struct Vote {
 }
 
 impl Vote {
-    /// Counts a vote for a place, or for none.
-    fn cast(&mut self, place: Option<usize>) {
+    /// Counts a vote for a place.
+    fn cast(&mut self, place: usize) {
         if self.lead == 0 {
-            self.place = place;
+            self.place = Some(place);
         }
-        if place == self.place {
+        if self.place == Some(place) {
             self.lead = self.lead.saturating_add(1);
         } else {
             self.lead -= 1;
