@@ -7,9 +7,6 @@ use super::distinct_numbers::DistinctNumbers;
 use graphql_nodes::ValidationError;
 use std::alloc::Global;
 
-/// A list becomes a clique of its own only if it has more numbers than this outside the clique that holds most of it.
-const MOST_OTHERS: usize = 64;
-
 /// Cliques, and for each number the place of the last clique that was added with it.
 #[derive(Debug, Drop)]
 pub(crate) struct Cliques {
@@ -32,25 +29,20 @@ impl Cliques {
         })
     }
 
-    /// A clique that has many of the numbers, if one is found: the last clique of most of them, or the last clique of most of
-    /// the others if that one has more of the numbers.
+    /// A clique that has many of the numbers, if one is found: the last clique of most of them; or, if that one has less than
+    /// half of them, the last clique of most of the others if it has more of the numbers.
     pub(crate) fn around(&self, numbers: &[usize]) -> Option<&BitSet>
         ensures { MatchOption result ⊤ (λ clique. Contains self.now.sets.items clique.now) }
     {
         let first = self.of_most(numbers, None)?;
+        let known = count_in(numbers, first);
+        if known >= numbers.len() / 2 {
+            return Some(first);
+        }
         match self.of_most(numbers, Some(first)) {
-            Some(second) if count_in(numbers, second) > count_in(numbers, first) => Some(second),
+            Some(second) if count_in(numbers, second) > known => Some(second),
             _ => Some(first),
         }
-    }
-
-    /// Whether one of the cliques has all but a few of the numbers.
-    pub(crate) fn have_most(&self, numbers: &[usize]) -> bool {
-        let known = match self.around(numbers) {
-            Some(clique) => count_in(numbers, clique),
-            None => 0,
-        };
-        numbers.len() - known <= MOST_OTHERS
     }
 
     /// Adds a clique, unless there are already as many cliques as numbers. The only error is a failed allocation, and then the

@@ -9,7 +9,8 @@ use super::distinct_numbers::DistinctNumbers;
 use graphql_nodes::ValidationError;
 use std::alloc::Global;
 
-/// At most so many numbers are added to a row one by one; more are added by whole words.
+/// At most so many numbers are added to a row one by one; more are added by whole words. Numbers become a clique only if more of
+/// them are ends.
 const FEW: usize = 64;
 
 /// Pairs of numbers below a bound: for each first number the set of its second ones. Some cliques, sets of numbers of which
@@ -116,7 +117,7 @@ impl PairSet {
         ensures refused { OnErr result (HasSomeJoined self.old self.new (numbers_of numbers) (numbers_of ends.now)) }
     {
         self.add_joined(&numbers, ends)?;
-        if self.cliques.have_most(&numbers.numbers) {
+        if ends.numbers.len() <= FEW {
             return Ok(());
         }
         self.cliques.add(numbers)
