@@ -48,15 +48,15 @@ pub const NEVER: &str = "never";
 static COLORS: [&str; 3] = [AUTO, ALWAYS, NEVER];
 
 /// What the help of the program and of its commands ends with.
-const STATUSES: &str = "A FILE is `-` for standard input, at most once.
+const STATUSES: &str = "`-` stands for standard input, and may be named once.
 
 Status:
-  0  nothing is reported
-  1  something is reported
+  0  nothing was reported
+  1  something was reported
   2  bad arguments
   3  out of memory
-  4  standard output cannot be written
-  5  a file cannot be read";
+  4  standard output could not be written
+  5  a file could not be read";
 
 /// The program with its commands.
 pub fn program<'a>(alloc: Global) -> Result<Command<'a>, Error> {
@@ -93,14 +93,14 @@ fn schema<'a>(alloc: Global) -> Result<Command<'a>, Error> {
     Ok(command.arg(files(
         alloc,
         "FILE",
-        "The files of the schema, which are one schema together",
+        "Files of the schema; together they form one schema",
     ))?)
 }
 
 fn serve<'a>(alloc: Global) -> Result<Command<'a>, Error> {
     let command = Command::new(alloc, SERVE)
         .about(
-            "Answers lines of JSON on standard input, a document each, against a schema that is read once",
+            "Validates documents from standard input, one in each line of JSON, against a schema that is read once",
         )
         .after_help(STATUSES);
     let command = command.arg(max_depth(alloc))?;
@@ -112,9 +112,9 @@ fn serve<'a>(alloc: Global) -> Result<Command<'a>, Error> {
 
 fn syntax<'a>(alloc: Global) -> Result<Command<'a>, Error> {
     let command = Command::new(alloc, SYNTAX)
-        .about("Tells which files are no GraphQL documents, of either kind")
+        .about("Checks the grammar of files, whether documents or schemas")
         .after_help(STATUSES);
-    Ok(command.arg(files(alloc, "FILE", "The files, each for itself"))?)
+    Ok(command.arg(files(alloc, "FILE", "Files to check, each on its own"))?)
 }
 
 fn with_reporting<'a>(alloc: Global, command: Command<'a>) -> Result<Command<'a>, Error> {
@@ -137,7 +137,7 @@ fn schema_files<'a>(alloc: Global) -> Arg<'a> {
     Arg::new(alloc, SCHEMA)
         .long(SCHEMA)
         .value_name("FILE")
-        .help("A file of the schema; several are one schema, each behind a `--schema` of its own")
+        .help("A file of the schema; repeat the option for each file")
         .required(true)
         .action(ArgAction::Append)
 }
@@ -146,7 +146,7 @@ fn format<'a>(alloc: Global) -> Arg<'a> {
     Arg::new(alloc, FORMAT)
         .long(FORMAT)
         .value_name("FORMAT")
-        .help("How reports are written")
+        .help("Format of the reports")
         .value_parser(FORMATS.as_slice())
         .default_value(TEXT)
         .action(ArgAction::Set)
@@ -156,7 +156,7 @@ fn color<'a>(alloc: Global) -> Arg<'a> {
     Arg::new(alloc, COLOR)
         .long(COLOR)
         .value_name("WHEN")
-        .help("When text is coloured; auto: at a terminal, unless NO_COLOR is set")
+        .help("When to colour text; auto: on a terminal, unless NO_COLOR is set")
         .value_parser(COLORS.as_slice())
         .default_value(AUTO)
         .action(ArgAction::Set)
@@ -165,7 +165,7 @@ fn color<'a>(alloc: Global) -> Arg<'a> {
 fn one_document<'a>(alloc: Global) -> Arg<'a> {
     Arg::new(alloc, ONE_DOCUMENT)
         .long(ONE_DOCUMENT)
-        .help("The documents are one document together, fragments in files of their own among them")
+        .help("Treat all files as one document, so that they can share fragments")
         .action(ArgAction::SetTrue)
 }
 
@@ -174,7 +174,7 @@ fn max_depth<'a>(alloc: Global) -> Arg<'a> {
         .long(MAX_DEPTH)
         .value_name("N")
         .help(
-            "How many levels a document may nest, by brackets and braces and through its fragments",
+            "Levels to which a document may nest, in brackets and braces and through its fragments",
         )
         .value_parser(value_parser!(usize))
         .default_value("500")
@@ -185,7 +185,7 @@ fn max_reach<'a>(alloc: Global, default: &'a str) -> Arg<'a> {
     Arg::new(alloc, MAX_REACH)
         .long(MAX_REACH)
         .value_name("N")
-        .help("How many bytes the operations of a document may reach for each byte of its text")
+        .help("Bytes to which operations may expand, for each byte of the document")
         .value_parser(value_parser!(usize))
         .default_value(default)
         .action(ArgAction::Set)
@@ -195,7 +195,7 @@ fn max_line<'a>(alloc: Global) -> Arg<'a> {
     Arg::new(alloc, MAX_LINE)
         .long(MAX_LINE)
         .value_name("BYTES")
-        .help("How long a line of standard input may be")
+        .help("Bytes that a line of standard input may have")
         .value_parser(value_parser!(u64))
         .default_value("8388608")
         .action(ArgAction::Set)
@@ -205,7 +205,7 @@ fn max_reports<'a>(alloc: Global) -> Arg<'a> {
     Arg::new(alloc, MAX_REPORTS)
         .long(MAX_REPORTS)
         .value_name("N")
-        .help("How many reports are written at most [default: 100 as text, all otherwise]")
+        .help("Reports to print at most [default: 100 as text, no limit otherwise]")
         .value_parser(value_parser!(usize))
         .action(ArgAction::Set)
 }
@@ -214,7 +214,7 @@ fn max_reports_of_an_answer<'a>(alloc: Global) -> Arg<'a> {
     Arg::new(alloc, MAX_REPORTS)
         .long(MAX_REPORTS)
         .value_name("N")
-        .help("How many reports an answer has at most; the others are counted in `notShown`")
+        .help("Reports in an answer at most; `notShown` counts the others")
         .value_parser(value_parser!(usize))
         .default_value("1000")
         .action(ArgAction::Set)
