@@ -46,6 +46,7 @@ fn run_words<R: Files + AllocGlobal, I: Read, O: Write, F: Write>(
 ) -> Result<Status, Fault> {
     let status = match parse(rt.alloc(), words) {
         Ok(request) => answer(rt, &request, colored_by_default, input, output, faults)?,
+        Err(Refusal::OutOfMemory) => return Err(Fault::OutOfMemory),
         Err(_) => refuse_words(rt.alloc(), words, output, faults)?,
     };
     output.flush().map_err(fault_of_output)?;
