@@ -46,8 +46,7 @@ fn run_words<R: Files + AllocGlobal, I: Read, O: Write, F: Write>(
 ) -> Result<Status, Fault> {
     let status = match parse(rt.alloc(), words) {
         Ok(request) => answer(rt, &request, colored_by_default, input, output, faults)?,
-        Err(Refusal::OutOfMemory) => return Err(Fault::OutOfMemory),
-        Err(_) => refuse_words(rt.alloc(), words, output, faults)?,
+        Err(refusal) => refuse_words(rt.alloc(), words, &refusal, output, faults)?,
     };
     output.flush().map_err(fault_of_output)?;
     Ok(status)
@@ -104,9 +103,13 @@ fn answer<R: Files + AllocGlobal, I: Read, O: Write, F: Write>(
 fn refuse_words<O: Write, F: Write>(
     alloc: Global,
     words: &[String],
+    refusal: &Refusal,
     output: &mut O,
     faults: &mut F,
 ) -> Result<Status, Fault> {
+    if matches!(refusal, Refusal::OutOfMemory) {
+        return Err(Fault::OutOfMemory);
+    }
     let printed = printable_words(alloc, words)?;
     match parse(alloc, &printed) {
         Ok(_) => {
