@@ -18,6 +18,7 @@ use Rattle.graphql_documents.specs.contracts.documents.executables.FieldPartialE
 use Rattle.graphql_documents.specs.contracts.documents.executables.FieldPartialEq.TheImpl.Laws as field_laws
 use Rattle.graphql_documents.specs.contracts.documents.executables.FragmentSpreadPartialEq.TheImpl as spread_impl
 use Rattle.graphql_documents.specs.contracts.documents.executables.Selection as selection_type
+use Rattle.graphql_documents.specs.contracts.documents.executables.SelectionPartialEq.TheImpl as selection_impl
 use Rattle.graphql_documents.specs.declared.documents.executables.Field.{Field, roll-Field}
 use Rattle.graphql_documents.specs.declared.documents.executables.FragmentSpread.{FragmentSpread}
 use Rattle.graphql_documents.specs.declared.documents.executables.InlineFragment.{InlineFragment, roll-InlineFragment}
@@ -215,17 +216,29 @@ opened_follows (selection_open.InlineFragment a) (selection_open.InlineFragment 
     rw (kind.rolls-InlineFragment _, kind.rolls-InlineFragment b) (next_inline_fragment _ b (a.value.value.1 b.value.value h) more)
 opened_follows _ _ h xs ys more = absurd h
 
-field_follows : (a : Field) → FieldFollows a
-field_follows = folds.ind-Field SelectionFollows FieldFollows InlineFollows SetFollows
-    (λ x y e b xs ys h more.
+-- the steps of the induction over selections, fields, inline fragments and sets
+step_selection : (x : selection_open.Selection-F Selection Field InlineFragment SelectionSet) (y : selection_open.Selection-F KeptSelection KeptField KeptInline KeptSet) → kept_opened y ≡ x → SelectionFollows (roll-Selection x)
+step_selection x y e b xs ys h more =
     let here = selection_opened (roll-Selection x) b h in
     subst (λ z. SameSelections (roll-Selection z ∷ xs) (b ∷ ys)) e
     (subst (λ z. SameSelections (roll-Selection (kept_opened y) ∷ xs) (z ∷ ys)) (roll-out-Selection b)
-    (opened_follows y (out-Selection b) (subst (λ z. EqualOpened z (out-Selection b)) (out-roll-Selection x ∙ sym e) here) xs ys more)))
-    (λ x y e. field_from_set (roll-Field x) (subst (λ z. SetFollows (roll-Field z).selection_set) e y.selection_set.1))
-    (λ x y e. inline_from_set (roll-InlineFragment x) (subst (λ z. SetFollows (roll-InlineFragment z).selection_set) e y.selection_set.1))
-    (λ x y e. set_from_selections (roll-SelectionSet x) (subst (λ z. All SelectionFollows (roll-SelectionSet z).selections.items) e
-    (All-map SelectionFollows (λ (k : KeptSelection). k.0) y.selections.items (λ k d in'. (get_or y.selections.items k d).1))))
+    (opened_follows y (out-Selection b) (subst (λ z. EqualOpened z (out-Selection b)) (out-roll-Selection x ∙ sym e) here) xs ys more))
+
+step_field : (x : selection_open.Field-F Selection Field InlineFragment SelectionSet) (y : selection_open.Field-F KeptSelection KeptField KeptInline KeptSet) →
+    folds.map-Field KeptSelection KeptField KeptInline KeptSet Selection Field InlineFragment SelectionSet (λ e. e.0) (λ e. e.0) (λ e. e.0) (λ e. e.0) y ≡ x → FieldFollows (roll-Field x)
+step_field x y e = field_from_set (roll-Field x) (subst (λ z. SetFollows (roll-Field z).selection_set) e y.selection_set.1)
+
+step_inline : (x : selection_open.InlineFragment-F Selection Field InlineFragment SelectionSet) (y : selection_open.InlineFragment-F KeptSelection KeptField KeptInline KeptSet) →
+    folds.map-InlineFragment KeptSelection KeptField KeptInline KeptSet Selection Field InlineFragment SelectionSet (λ e. e.0) (λ e. e.0) (λ e. e.0) (λ e. e.0) y ≡ x → InlineFollows (roll-InlineFragment x)
+step_inline x y e = inline_from_set (roll-InlineFragment x) (subst (λ z. SetFollows (roll-InlineFragment z).selection_set) e y.selection_set.1)
+
+step_set : (x : selection_open.SelectionSet-F Selection Field InlineFragment SelectionSet) (y : selection_open.SelectionSet-F KeptSelection KeptField KeptInline KeptSet) →
+    folds.map-SelectionSet KeptSelection KeptField KeptInline KeptSet Selection Field InlineFragment SelectionSet (λ e. e.0) (λ e. e.0) (λ e. e.0) (λ e. e.0) y ≡ x → SetFollows (roll-SelectionSet x)
+step_set x y e = set_from_selections (roll-SelectionSet x) (subst (λ z. All SelectionFollows (roll-SelectionSet z).selections.items) e
+    (All-map SelectionFollows (λ (k : KeptSelection). k.0) y.selections.items (λ k d in'. (get_or y.selections.items k d).1)))
+
+field_follows : (a : Field) → FieldFollows a
+field_follows = folds.ind-Field SelectionFollows FieldFollows InlineFollows SetFollows step_selection step_field step_inline step_set
 
 mutual
   same_field_is_equal : {a b : Field} → SameField a b → IsTrue (equal_fields a b)
@@ -262,3 +275,16 @@ mutual
 
 pub equality_of_fields : (a b : Field) → IsTrue (field_impl.ghosts.eq a b) ↔ SameField a b
 equality_of_fields a b = (field_follows a b, same_field_is_equal)
+
+selection_follows : (a : Selection) → SelectionFollows a
+selection_follows = folds.ind-Selection SelectionFollows FieldFollows InlineFollows SetFollows step_selection step_field step_inline step_set
+
+lone_selections_are_equal : (a b : Selection) → IsTrue (pointwise equal_selections (a ∷ []) (b ∷ [])) → IsTrue (equal_selections a b)
+lone_selections_are_equal a b h = (both (equal_selections a b) true h).0
+
+-- two selections are equal exactly where the lists of them alone have the same selections
+pub equality_of_selections : (a b : Selection) → IsTrue (selection_impl.ghosts.eq a b) ↔ SameSelections (a ∷ []) (b ∷ [])
+equality_of_selections a b = (
+  λ h. selection_follows a b [] [] h no_selections,
+  λ h. lone_selections_are_equal a b (same_selections_are_equal h),
+)
