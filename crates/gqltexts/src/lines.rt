@@ -29,6 +29,9 @@ const BOUNDS: Bounds = Bounds {
     tokens: usize::MAX,
     depth: 1_000,
     reach: usize::MAX,
+    work: usize::MAX,
+    reports: usize::MAX,
+    report_bytes: usize::MAX,
 };
 
 /// The file that places name.

@@ -14,5 +14,8 @@ pub fn bounds_of(limits: Limits) -> Bounds
         tokens: usize::MAX,
         depth: limits.depth,
         reach: limits.reach,
+        work: usize::MAX,
+        reports: usize::MAX,
+        report_bytes: usize::MAX,
     }
 }

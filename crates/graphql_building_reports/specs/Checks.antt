@@ -1,9 +1,10 @@
 -- Lists of reports, and what a call that checks a rule has done to one.
-use Rattle.std.specs.Prelude.{◌≡◌, List, Option, Result, MatchResult}
+use Rattle.std.specs.Prelude.{◌≡◌, Bool, List, Option, Result, MatchResult}
 use Rattle.std.specs.Vec.{vec_allocator}
 use Rattle.std.specs.declared.alloc.Global.{Global}
 use Rattle.graphql_nodes.specs.declared.spans.SourceSpan.{SourceSpan}
 use Rattle.graphql_diagnostics.specs.Reports.{KeepsReports, Reports}
+use Rattle.graphql_diagnostics.specs.declared.bounds.ReportBound.{ReportBound}
 use Rattle.graphql_hash_seeds.specs.declared.seeds.HashSeed.{HashSeed}
 use Rattle.graphql_building_reports.specs.declared.lists.BuildingReport.{BuildingReport}
 use Rattle.graphql_building_reports.specs.declared.lists.BuildingReportList.{BuildingReportList}
@@ -20,6 +21,14 @@ allocator_of list = vec_allocator list.reports
 -- the seed by which names are hashed
 abbrev pub hash_seed_of : BuildingReportList → HashSeed
 hash_seed_of list = list.hash_seed
+
+-- what a list may still keep, if it has a bound
+abbrev pub room_of : BuildingReportList → Option ReportBound
+room_of list = list.room
+
+-- the list refused a report that its bound does not admit
+abbrev pub has_more_of : BuildingReportList → Bool
+has_more_of list = list.has_more
 
 -- a call that checks a rule: where it answers, it reports nothing exactly where the rule holds; in
 -- any case the old reports stay, and each further one is true

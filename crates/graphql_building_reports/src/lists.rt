@@ -1,11 +1,14 @@
 //! Reports, and lists of them.
 
-ghost use Rattle.std.specs.Prelude.{◌≡◌, ◌↔◌, IsTrue, [], ◌∷◌, ◌++◌, OnOk, OnErr};
+ghost use Rattle.std.specs.Prelude.{◌≡◌, ◌↔◌, IsTrue, IfOk, None, Some, [], ◌∷◌, ◌++◌, false, OnOk, OnErr};
 ghost use Rattle.std.specs.Slice.Iter.{iter_rest};
-ghost use Rattle.graphql_building_reports.specs.Checks.{allocator_of, hash_seed_of, reports_of};
+ghost use Rattle.graphql_building_reports.specs.Checks.{allocator_of, has_more_of, hash_seed_of, reports_of, room_of};
+ghost use Rattle.graphql_building_reports.specs.Messages.{building_message};
+ghost use Rattle.graphql_diagnostics.specs.Bounds.{LeavesRoom};
 ghost use Rattle.graphql_hash_seeds.specs.Seeds.{seed_of};
 
 use crate::rules::BuildingRule;
+use graphql_diagnostics::ReportBound;
 use graphql_hash_seeds::HashSeed;
 use graphql_nodes::{SourceSpan, ValidationError};
 use std::alloc::Global;
@@ -18,11 +21,14 @@ pub struct BuildingReport {
     pub rule: BuildingRule,
 }
 
-/// Reports in the order in which they were pushed, and the seed by which a check that fills the list hashes names.
+/// Reports in the order in which they were pushed, and the seed by which a check that fills the list hashes names. A list may
+/// have a bound: then it keeps the first reports, and refuses the others.
 #[derive(Debug, Drop)]
 pub struct BuildingReportList {
     reports: Vec<BuildingReport>,
     hash_seed: HashSeed,
+    room: Option<ReportBound>,
+    has_more: bool,
 }
 
 impl BuildingReportList {
@@ -31,6 +37,8 @@ impl BuildingReportList {
         ensures empty { reports_of result ≡ [] }
         ensures allocator { allocator_of result ≡ alloc }
         ensures hash_seed { hash_seed_of result ≡ seed_of 0 }
+        ensures room { room_of result ≡ None }
+        ensures no_more { has_more_of result ≡ false }
     {
         BuildingReportList::with_hash_seed(alloc, HashSeed::default())
     }
@@ -40,10 +48,31 @@ impl BuildingReportList {
         ensures empty { reports_of result ≡ [] }
         ensures allocator { allocator_of result ≡ alloc }
         ensures hash_seed { hash_seed_of result ≡ hash_seed }
+        ensures room { room_of result ≡ None }
+        ensures no_more { has_more_of result ≡ false }
     {
         BuildingReportList {
             reports: Vec::new(alloc),
             hash_seed,
+            room: None,
+            has_more: false,
+        }
+    }
+
+    /// The same with a bound: the list keeps the first reports that the bound admits. It refuses the next one, and each one
+    /// after that, as if memory were refused.
+    pub fn with_bound(alloc: Global, hash_seed: HashSeed, bound: ReportBound) -> BuildingReportList
+        ensures empty { reports_of result ≡ [] }
+        ensures allocator { allocator_of result ≡ alloc }
+        ensures hash_seed { hash_seed_of result ≡ hash_seed }
+        ensures room { room_of result ≡ Some bound }
+        ensures no_more { has_more_of result ≡ false }
+    {
+        BuildingReportList {
+            reports: Vec::new(alloc),
+            hash_seed,
+            room: Some(bound),
+            has_more: false,
         }
     }
 
@@ -61,8 +90,8 @@ impl BuildingReportList {
         self.hash_seed
     }
 
-    /// Adds a report at the end. Where the allocation fails, the list stays as it was, and the report is dropped. The list
-    /// keeps its allocator and its seed.
+    /// Adds a report at the end. If memory is refused or the bound of the list is passed, the list keeps the reports that it
+    /// has, and the new one is dropped. The list keeps its allocator and its seed.
     pub fn push(
         &mut self,
         location: Option<SourceSpan>,
@@ -72,9 +101,39 @@ impl BuildingReportList {
         ensures err { OnErr result (reports_of self.new ≡ reports_of self.old) }
         ensures allocator { allocator_of self.new ≡ allocator_of self.old }
         ensures hash_seed { hash_seed_of self.new ≡ hash_seed_of self.old }
+        ensures room { OnOk result (LeavesRoom (room_of self.old) (building_message rule) (room_of self.new)) }
+        ensures refused_room { OnErr result (room_of self.new ≡ room_of self.old) }
+        ensures no_more { OnOk result ((has_more_of self.old ≡ false) × (has_more_of self.new ≡ false)) }
     {
+        let room = self.room_beside(&rule)?;
         self.reports.push(BuildingReport { location, rule })?;
+        self.room = room;
         Ok(())
+    }
+
+    /// What the list may keep beside a report of this rule. If its bound does not admit it, the list has more from now on.
+    fn room_beside(&mut self, rule: &BuildingRule) -> Result<Option<ReportBound>, ValidationError>
+        ensures room { IfOk result (LeavesRoom (room_of self.old) (building_message rule.now)) }
+        ensures no_more { OnOk result ((has_more_of self.old ≡ false) × (has_more_of self.new ≡ false)) }
+        ensures stays { (self.new.reports ≡ self.old.reports) × (self.new.hash_seed ≡ self.old.hash_seed) × (self.new.room ≡ self.old.room) }
+    {
+        if !self.has_more {
+            let Some(bound) = self.room else {
+                return Ok(None);
+            };
+            if let Some(left) = bound.after(rule) {
+                return Ok(Some(left));
+            }
+        }
+        self.has_more = true;
+        Err(ValidationError::OutOfMemory)
+    }
+
+    /// Whether the list refused a report that its bound does not admit: there is more to report than it keeps.
+    pub fn has_more(&self) -> bool
+        ensures { result ≡ has_more_of self.now }
+    {
+        self.has_more
     }
 
     /// Whether there is no report.

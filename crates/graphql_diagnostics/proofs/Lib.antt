@@ -1,3 +1,4 @@
+pub mod BoundLemmas
 pub mod DiagnosticLemmas
 pub mod ReportLemmas
 pub mod ReportWithinLemmas

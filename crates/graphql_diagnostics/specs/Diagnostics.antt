@@ -1,10 +1,11 @@
 -- Lists of reports.
-use Rattle.std.specs.Prelude.{List, Option, ℕ}
+use Rattle.std.specs.Prelude.{Bool, List, Option, ℕ}
 use Rattle.std.specs.Vec.{vec_allocator}
 use Rattle.std.specs.declared.alloc.Global.{Global}
 use Rattle.std.specs.Borrow.{Bor}
 use Rattle.graphql_hash_seeds.specs.declared.seeds.HashSeed.{HashSeed}
 use Rattle.graphql_nodes.specs.Names.{NameText}
+use Rattle.graphql_diagnostics.specs.declared.bounds.ReportBound.{ReportBound}
 use Rattle.graphql_diagnostics.specs.declared.lists.DiagnosticEntry.{DiagnosticEntry}
 use Rattle.graphql_diagnostics.specs.declared.lists.DiagnosticList.{DiagnosticList}
 use Rattle.graphql_nodes.specs.declared.spans.SourceSpan.{SourceSpan}
@@ -25,6 +26,14 @@ allocator_of list = vec_allocator list.entries
 -- the seed by which names are hashed
 abbrev pub hash_seed_of : DiagnosticList → HashSeed
 hash_seed_of list = list.hash_seed
+
+-- what a list may still keep, if it has a bound
+abbrev pub room_of : DiagnosticList → Option ReportBound
+room_of list = list.room
+
+-- the list refused a report that its bound does not admit
+abbrev pub has_more_of : DiagnosticList → Bool
+has_more_of list = list.has_more
 
 -- what is reported is a broken rule, and this holds of it and its place
 abbrev pub DiagnosticReport : (DiagnosticData → Option SourceSpan → Type 0) → Details → Option SourceSpan → Type 0

@@ -1,3 +1,4 @@
+pub mod Bounds
 pub mod Diagnostics
 pub mod Messages
 pub mod Reports

@@ -2,6 +2,7 @@
 //! say which rule a diagnostic names.
 #![tactic(auto)]
 
+pub mod bounds;
 pub mod build_errors;
 pub mod data;
 pub mod details;
@@ -9,6 +10,7 @@ pub mod lists;
 mod messages;
 pub mod names;
 
+pub use bounds::ReportBound;
 pub use build_errors::BuildError;
 pub use data::DiagnosticData;
 pub use details::Details;

@@ -1,3 +1,4 @@
+use super::bounds::ReportBound;
 use super::details::Details;
 use graphql_hash_seeds::HashSeed;
 use graphql_nodes::{SourceSpan, ValidationError};
@@ -11,17 +12,22 @@ pub struct DiagnosticEntry {
     pub details: Details,
 }
 
-/// Reports in the order in which they were pushed, and the seed by which a check that fills the list hashes names.
+/// Reports in the order in which they were pushed, and the seed by which a check that fills the list hashes names. A list may
+/// have a bound: then it keeps the first reports, and refuses the others.
 #[derive(Debug, Drop)]
 pub struct DiagnosticList {
     entries: Vec<DiagnosticEntry>,
     hash_seed: HashSeed,
+    room: Option<ReportBound>,
+    has_more: bool,
 }
 
 impl DiagnosticList {
-    ghost use Rattle.std.specs.Prelude.{◌≡◌, ◌↔◌, IsTrue, [], ◌∷◌, ◌++◌, length, OnOk, OnErr};
+    ghost use Rattle.std.specs.Prelude.{◌≡◌, ◌↔◌, IsTrue, IfOk, None, Some, [], ◌∷◌, ◌++◌, false, length, OnOk, OnErr};
     ghost use Rattle.std.specs.Slice.Iter.{iter_rest};
-    ghost use Rattle.graphql_diagnostics.specs.Diagnostics.{entries, allocator_of, hash_seed_of};
+    ghost use Rattle.graphql_diagnostics.specs.Diagnostics.{entries, allocator_of, has_more_of, hash_seed_of, room_of};
+    ghost use Rattle.graphql_diagnostics.specs.Bounds.{LeavesRoom};
+    ghost use Rattle.graphql_diagnostics.specs.Messages.{details_text};
     ghost use Rattle.graphql_hash_seeds.specs.Seeds.{seed_of};
 
     /// A list of no reports, which grows by this allocator. Names are hashed by the default seed.
@@ -29,6 +35,8 @@ impl DiagnosticList {
         ensures empty { entries result ≡ [] }
         ensures allocator { allocator_of result ≡ alloc }
         ensures hash_seed { hash_seed_of result ≡ seed_of 0 }
+        ensures room { room_of result ≡ None }
+        ensures no_more { has_more_of result ≡ false }
     {
         DiagnosticList::with_hash_seed(alloc, HashSeed::default())
     }
@@ -38,10 +46,31 @@ impl DiagnosticList {
         ensures empty { entries result ≡ [] }
         ensures allocator { allocator_of result ≡ alloc }
         ensures hash_seed { hash_seed_of result ≡ hash_seed }
+        ensures room { room_of result ≡ None }
+        ensures no_more { has_more_of result ≡ false }
     {
         DiagnosticList {
             entries: Vec::new(alloc),
             hash_seed,
+            room: None,
+            has_more: false,
+        }
+    }
+
+    /// The same with a bound: the list keeps the first reports that the bound admits. It refuses the next one, and each one
+    /// after that, as if memory were refused.
+    pub fn with_bound(alloc: Global, hash_seed: HashSeed, bound: ReportBound) -> DiagnosticList
+        ensures empty { entries result ≡ [] }
+        ensures allocator { allocator_of result ≡ alloc }
+        ensures hash_seed { hash_seed_of result ≡ hash_seed }
+        ensures room { room_of result ≡ Some bound }
+        ensures no_more { has_more_of result ≡ false }
+    {
+        DiagnosticList {
+            entries: Vec::new(alloc),
+            hash_seed,
+            room: Some(bound),
+            has_more: false,
         }
     }
 
@@ -59,8 +88,8 @@ impl DiagnosticList {
         self.hash_seed
     }
 
-    /// Adds a diagnostic at the end. Where memory is refused the list stays as it was, and the diagnostic is
-    /// dropped. The list keeps its allocator and its seed.
+    /// Adds a diagnostic at the end. If memory is refused or the bound of the list is passed, the list keeps the diagnostics
+    /// that it has, and the new one is dropped. The list keeps its allocator and its seed.
     pub fn push(
         &mut self,
         location: Option<SourceSpan>,
@@ -70,9 +99,39 @@ impl DiagnosticList {
         ensures err { OnErr result (entries self.new ≡ entries self.old) }
         ensures allocator { allocator_of self.new ≡ allocator_of self.old }
         ensures hash_seed { hash_seed_of self.new ≡ hash_seed_of self.old }
+        ensures room { OnOk result (LeavesRoom (room_of self.old) (details_text details) (room_of self.new)) }
+        ensures refused_room { OnErr result (room_of self.new ≡ room_of self.old) }
+        ensures no_more { OnOk result ((has_more_of self.old ≡ false) × (has_more_of self.new ≡ false)) }
     {
+        let room = self.room_beside(&details)?;
         self.entries.push(DiagnosticEntry { location, details })?;
+        self.room = room;
         Ok(())
+    }
+
+    /// What the list may keep beside this diagnostic. If its bound does not admit it, the list has more from now on.
+    fn room_beside(&mut self, details: &Details) -> Result<Option<ReportBound>, ValidationError>
+        ensures room { IfOk result (LeavesRoom (room_of self.old) (details_text details.now)) }
+        ensures no_more { OnOk result ((has_more_of self.old ≡ false) × (has_more_of self.new ≡ false)) }
+        ensures stays { (self.new.entries ≡ self.old.entries) × (self.new.hash_seed ≡ self.old.hash_seed) × (self.new.room ≡ self.old.room) }
+    {
+        if !self.has_more {
+            let Some(bound) = self.room else {
+                return Ok(None);
+            };
+            if let Some(left) = bound.after(details) {
+                return Ok(Some(left));
+            }
+        }
+        self.has_more = true;
+        Err(ValidationError::OutOfMemory)
+    }
+
+    /// Whether the list refused a report that its bound does not admit: there is more to report than it keeps.
+    pub fn has_more(&self) -> bool
+        ensures { result ≡ has_more_of self.now }
+    {
+        self.has_more
     }
 
     /// How many reports there are.

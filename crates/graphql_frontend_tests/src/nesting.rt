@@ -11,6 +11,9 @@ const THREE_LEVELS: Bounds = Bounds {
     tokens: usize::MAX,
     depth: 3,
     reach: usize::MAX,
+    work: usize::MAX,
+    reports: usize::MAX,
+    report_bytes: usize::MAX,
 };
 
 /// Documents, with what is reported where three levels are allowed.

@@ -28,6 +28,9 @@ fn bounds(reach: usize) -> Bounds {
         tokens: usize::MAX,
         depth: 500,
         reach,
+        work: usize::MAX,
+        reports: usize::MAX,
+        report_bytes: usize::MAX,
     }
 }
 

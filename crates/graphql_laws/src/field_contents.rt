@@ -1,7 +1,7 @@
-//! Laws of `==` at values, definitions of fields and fields: that it compares contents, wherever these are.
+//! Laws of `==` at values, definitions of fields, fields and selections: it compares contents, not places.
 
-ghost use Rattle.std.specs.Prelude.{◌↔◌, IsTrue, List};
-ghost use Rattle.graphql_documents.specs.Contents.{SameField, SameFieldDefinition};
+ghost use Rattle.std.specs.Prelude.{◌↔◌, IsTrue, List, [], ◌∷◌};
+ghost use Rattle.graphql_documents.specs.Contents.{SameField, SameFieldDefinition, SameSelections};
 ghost use Rattle.graphql_specification.specs.MergedSets.{AreAlike};
 ghost use Rattle.graphql_specification.specs.Merging.{FieldSelection, SameFields};
 ghost use Rattle.graphql_documents.specs.Selections.{fragments_of};
@@ -9,8 +9,9 @@ ghost use Rattle.graphql_documents.specs.Values.{IsCopy, SameValue};
 ghost use Rattle.graphql_documents.specs.declared.documents.definitions.FieldDefinition.{FieldDefinition};
 ghost use Rattle.graphql_documents.specs.declared.documents.executables.ExecutableDocument.{ExecutableDocument};
 ghost use Rattle.graphql_documents.specs.declared.documents.executables.Field.{Field};
+ghost use Rattle.graphql_documents.specs.declared.documents.executables.Selection.{Selection};
 ghost use Rattle.graphql_documents.specs.declared.documents.values.Value.{Value};
-ghost use Rattle.graphql_laws.specs.Equality.{field_definition_equality, field_equality, value_equality};
+ghost use Rattle.graphql_laws.specs.Equality.{field_definition_equality, field_equality, selection_equality, value_equality};
 
 /// `==` takes two values for equal exactly where the one is a copy of the other as written, places apart.
 ///
@@ -38,6 +39,14 @@ pub fn equality_of_field_definitions_is_of_contents()
 /// Specification: 2.5 Fields.
 pub fn equality_of_fields_is_of_contents()
     ensures { (a b : Field) → IsTrue (field_equality a b) ↔ SameField a b }
+{}
+
+/// `==` takes two selections for equal exactly where they are of one kind and have the same contents: as lists of one
+/// selection each, they have the same selections.
+///
+/// Specification: 2.4 Selection Sets.
+pub fn equality_of_selections_is_of_contents()
+    ensures { (a b : Selection) → IsTrue (selection_equality a b) ↔ SameSelections (a ∷ []) (b ∷ []) }
 {}
 
 /// Fields of the same contents are alike in all that merging asks about: key, name, arguments and type, and

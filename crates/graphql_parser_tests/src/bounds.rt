@@ -8,6 +8,9 @@ const BOUNDS: Bounds = Bounds {
     tokens: 12,
     depth: 2,
     reach: 0,
+    work: usize::MAX,
+    reports: usize::MAX,
+    report_bytes: usize::MAX,
 };
 
 /// Texts of twelve tokens at most, in which a third bracket or brace opens at this byte.
