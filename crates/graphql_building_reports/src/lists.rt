@@ -22,7 +22,7 @@ pub struct BuildingReport {
 }
 
 /// Reports in the order in which they were pushed, and the seed by which a check that fills the list hashes names. A list may
-/// have a bound: then it keeps the first reports, and refuses the others.
+/// have a bound: then it keeps the first reports, one at least, and refuses the others.
 #[derive(Debug, Drop)]
 pub struct BuildingReportList {
     reports: Vec<BuildingReport>,
@@ -59,8 +59,8 @@ impl BuildingReportList {
         }
     }
 
-    /// The same with a bound: the list keeps the first reports that the bound admits. It refuses the next one, and each one
-    /// after that, as if memory were refused.
+    /// The same with a bound: the list keeps the first report, and those after it that the bound admits. It refuses the next
+    /// one, and each one after that, as if memory were refused.
     pub fn with_bound(alloc: Global, hash_seed: HashSeed, bound: ReportBound) -> BuildingReportList
         ensures empty { reports_of result ≡ [] }
         ensures allocator { allocator_of result ≡ alloc }
@@ -101,7 +101,7 @@ impl BuildingReportList {
         ensures err { OnErr result (reports_of self.new ≡ reports_of self.old) }
         ensures allocator { allocator_of self.new ≡ allocator_of self.old }
         ensures hash_seed { hash_seed_of self.new ≡ hash_seed_of self.old }
-        ensures room { OnOk result (LeavesRoom (room_of self.old) (building_message rule) (room_of self.new)) }
+        ensures room { OnOk result (LeavesRoom (reports_of self.old) (room_of self.old) (building_message rule) (room_of self.new)) }
         ensures refused_room { OnErr result (room_of self.new ≡ room_of self.old) }
         ensures no_more { OnOk result ((has_more_of self.old ≡ false) × (has_more_of self.new ≡ false)) }
     {
@@ -113,7 +113,7 @@ impl BuildingReportList {
 
     /// What the list may keep beside a report of this rule. If its bound does not admit it, the list has more from now on.
     fn room_beside(&mut self, rule: &BuildingRule) -> Result<Option<ReportBound>, ValidationError>
-        ensures room { IfOk result (LeavesRoom (room_of self.old) (building_message rule.now)) }
+        ensures room { IfOk result (LeavesRoom (reports_of self.old) (room_of self.old) (building_message rule.now)) }
         ensures no_more { OnOk result ((has_more_of self.old ≡ false) × (has_more_of self.new ≡ false)) }
         ensures stays { (self.new.reports ≡ self.old.reports) × (self.new.hash_seed ≡ self.old.hash_seed) × (self.new.room ≡ self.old.room) }
     {
@@ -123,6 +123,9 @@ impl BuildingReportList {
             };
             if let Some(left) = bound.after(rule) {
                 return Ok(Some(left));
+            }
+            if self.reports.is_empty() {
+                return Ok(Some(ReportBound::NOTHING));
             }
         }
         self.has_more = true;

@@ -16,6 +16,12 @@ pub struct ReportBound {
 }
 
 impl ReportBound {
+    /// Nothing more is kept.
+    pub const NOTHING: ReportBound = ReportBound {
+        reports: 0,
+        bytes: 0,
+    };
+
     /// What may be kept beside a report with this message; `None` if the report is one too many or its message is too long.
     pub fn after<M: fmt::Display + Drop>(self, message: M) -> Option<ReportBound>
         ensures { IfSome result (λ left. IfSome (M.output message) (λ text. Leaves self text left)) }

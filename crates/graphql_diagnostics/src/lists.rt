@@ -13,7 +13,7 @@ pub struct DiagnosticEntry {
 }
 
 /// Reports in the order in which they were pushed, and the seed by which a check that fills the list hashes names. A list may
-/// have a bound: then it keeps the first reports, and refuses the others.
+/// have a bound: then it keeps the first reports, one at least, and refuses the others.
 #[derive(Debug, Drop)]
 pub struct DiagnosticList {
     entries: Vec<DiagnosticEntry>,
@@ -57,8 +57,8 @@ impl DiagnosticList {
         }
     }
 
-    /// The same with a bound: the list keeps the first reports that the bound admits. It refuses the next one, and each one
-    /// after that, as if memory were refused.
+    /// The same with a bound: the list keeps the first report, and those after it that the bound admits. It refuses the next
+    /// one, and each one after that, as if memory were refused.
     pub fn with_bound(alloc: Global, hash_seed: HashSeed, bound: ReportBound) -> DiagnosticList
         ensures empty { entries result ≡ [] }
         ensures allocator { allocator_of result ≡ alloc }
@@ -99,7 +99,7 @@ impl DiagnosticList {
         ensures err { OnErr result (entries self.new ≡ entries self.old) }
         ensures allocator { allocator_of self.new ≡ allocator_of self.old }
         ensures hash_seed { hash_seed_of self.new ≡ hash_seed_of self.old }
-        ensures room { OnOk result (LeavesRoom (room_of self.old) (details_text details) (room_of self.new)) }
+        ensures room { OnOk result (LeavesRoom (entries self.old) (room_of self.old) (details_text details) (room_of self.new)) }
         ensures refused_room { OnErr result (room_of self.new ≡ room_of self.old) }
         ensures no_more { OnOk result ((has_more_of self.old ≡ false) × (has_more_of self.new ≡ false)) }
     {
@@ -111,7 +111,7 @@ impl DiagnosticList {
 
     /// What the list may keep beside this diagnostic. If its bound does not admit it, the list has more from now on.
     fn room_beside(&mut self, details: &Details) -> Result<Option<ReportBound>, ValidationError>
-        ensures room { IfOk result (LeavesRoom (room_of self.old) (details_text details.now)) }
+        ensures room { IfOk result (LeavesRoom (entries self.old) (room_of self.old) (details_text details.now)) }
         ensures no_more { OnOk result ((has_more_of self.old ≡ false) × (has_more_of self.new ≡ false)) }
         ensures stays { (self.new.entries ≡ self.old.entries) × (self.new.hash_seed ≡ self.old.hash_seed) × (self.new.room ≡ self.old.room) }
     {
@@ -121,6 +121,9 @@ impl DiagnosticList {
             };
             if let Some(left) = bound.after(details) {
                 return Ok(Some(left));
+            }
+            if self.entries.is_empty() {
+                return Ok(Some(ReportBound::NOTHING));
             }
         }
         self.has_more = true;
