@@ -106,9 +106,15 @@ fn lines_against(
 fn print_reports(reports: &Reports, places: Places, lines: &mut Vec<u8>) -> Result<(), Fault> {
     match reports {
         Reports::Syntax(_) => Ok(writeln!(lines, "no GraphQL document")?),
-        Reports::Building(list) => print_building_rules(list, lines),
+        Reports::Building(list) | Reports::FirstBuilding(list) => {
+            print_building_rules(list, lines)
+        }
         Reports::Nesting(report) => Ok(writeln!(lines, "- {report}")?),
         Reports::Reach(report) => Ok(writeln!(lines, "- {report}")?),
+        Reports::Work(report) => Ok(writeln!(lines, "- {report}")?),
+        Reports::FirstSchemaRules(rules) | Reports::FirstDocumentRules(rules) => {
+            print_entries(rules, places, lines)
+        }
         Reports::SchemaRules(reports) => {
             print_entries(&reports.rules, places, lines)?;
             print_repetitions(reports.input_fields.as_slice(), lines)

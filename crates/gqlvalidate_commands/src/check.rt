@@ -5,6 +5,7 @@ ghost use Rattle.graphql_frontend.specs.Documents.{ValidatesDocument};
 ghost use Rattle.graphql_frontend.specs.Schemas.{IsUsable};
 
 use crate::accounts::{Account, Whole};
+use crate::bounds::OF_SCHEMA;
 use crate::faults::Fault;
 use crate::one_document::check_together;
 use crate::presentations::Presentation;
@@ -71,7 +72,7 @@ fn check_against<R: Files + AllocGlobal, I: Read, O: Write, F: Write>(
     faults: &mut F,
 ) -> Result<Status, Fault> {
     let sources = sources_of(rt.alloc(), named)?;
-    match read_schema(rt.alloc(), &sources, Bounds::DEFAULT)? {
+    match read_schema(rt.alloc(), &sources, OF_SCHEMA)? {
         SchemaReading::Accepted(schema) => {
             let status = check_documents(rt, &schema, paths, presentation, input, output, faults);
             // The process ends here, and its memory is freed at once, not part by part.

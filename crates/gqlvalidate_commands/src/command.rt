@@ -1,4 +1,4 @@
-use crate::bounds::bounds_of;
+use crate::bounds::{bounds_of, bounds_of_answers};
 use crate::check::{Paths, check};
 use crate::faults::{Fault, fault_of_output, fault_of_words};
 use crate::presentations::Presentation;
@@ -89,7 +89,7 @@ fn answer<R: Files + AllocGlobal, I: Read, O: Write, F: Write>(
             max_reports,
         } => {
             let allowance = Allowance {
-                bounds: bounds_of(*limits),
+                bounds: bounds_of_answers(*limits, *max_reports),
                 line: *max_line,
                 reports: *max_reports,
             };

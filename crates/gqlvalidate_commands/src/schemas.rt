@@ -1,12 +1,12 @@
 //! A schema that is validated for itself.
 
 use crate::accounts::{Account, Whole};
+use crate::bounds::OF_SCHEMA;
 use crate::faults::Fault;
 use crate::presentations::Presentation;
 use crate::schema_files::{named_schema, texts_of};
 use crate::statuses::Status;
 use graphql_frontend::{Reports, SchemaReading, read_schema};
-use graphql_parser::Bounds;
 use graphql_report_formats::named_texts::{NamedText, Subject};
 use graphql_report_formats::schema_texts::{schema_subject, sources_of};
 use std::alloc::Global;
@@ -39,7 +39,7 @@ fn check_texts<O: Write, F: Write>(
     faults: &mut F,
 ) -> Result<Status, Fault> {
     let sources = sources_of(alloc, named)?;
-    match read_schema(alloc, &sources, Bounds::DEFAULT)? {
+    match read_schema(alloc, &sources, OF_SCHEMA)? {
         SchemaReading::Accepted(schema) => {
             // The process ends here, and its memory is freed at once, not part by part.
             mem::forget(schema);
@@ -74,7 +74,7 @@ pub fn reject<O: Write, F: Write>(
     faults: &mut F,
 ) -> Result<Status, Fault> {
     let mut account = Account::new(alloc, presentation)?;
-    account.report(alloc, reports, subject, Bounds::DEFAULT, output)?;
+    account.report(alloc, reports, subject, OF_SCHEMA, output)?;
     account.end(alloc, Whole::Schema, output, faults)?;
     Ok(Status::Reported)
 }

@@ -2,6 +2,7 @@
 
 ghost use Rattle.graphql_frontend.specs.Schemas.{IsUsable};
 
+use crate::bounds::OF_SCHEMA;
 use crate::faults::{Fault, fault_of_output};
 use crate::json_lines::print_line;
 use crate::lines::{ReadLine, read_line};
@@ -52,14 +53,14 @@ pub fn serve<R: Files + AllocGlobal, I: Read, O: Write, F: Write>(
     };
     let named = named_schema(rt.alloc(), paths, &texts)?;
     let sources = sources_of(rt.alloc(), &named)?;
-    match read_schema(rt.alloc(), &sources, Bounds::DEFAULT)? {
+    match read_schema(rt.alloc(), &sources, OF_SCHEMA)? {
         SchemaReading::Accepted(schema) => {
             answer_lines(rt.alloc(), &schema, allowance, input, output, faults)
         }
         SchemaReading::Rejected(reports) => {
             let subject = schema_subject(&named, &sources);
             let allowance = Allowance {
-                bounds: Bounds::DEFAULT,
+                bounds: OF_SCHEMA,
                 ..allowance
             };
             print_reports(rt.alloc(), &reports, subject, allowance, output)?;

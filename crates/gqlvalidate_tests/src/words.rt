@@ -8,7 +8,7 @@ const READ: &[(&[&str], &str)] = &[
     (&["syntax", "a", "-"], "Syntax { files: [\"a\", \"-\"] }"),
     (
         &["check", "--schema", "s", "a", "--schema=t", "b"],
-        "Check { schema: [\"s\", \"t\"], documents: [\"a\", \"b\"], one_document: false, limits: Limits { depth: 500, reach: 64 }, reporting: Reporting { format: Text, color: Auto, max_reports: 100 } }",
+        "Check { schema: [\"s\", \"t\"], documents: [\"a\", \"b\"], one_document: false, limits: Limits { depth: 500, reach: 64, work: 10000000 }, reporting: Reporting { format: Text, color: Auto, max_reports: 100 } }",
     ),
     (
         &["schema", "--format", "json", "--max-reports", "7", "s"],
@@ -33,17 +33,18 @@ const READ: &[(&[&str], &str)] = &[
             "--max-depth",
             "7",
             "--max-reach=5",
+            "--max-work=6",
             "--color",
             "always",
             "--schema",
             "s",
             "a",
         ],
-        "Check { schema: [\"s\"], documents: [\"a\"], one_document: true, limits: Limits { depth: 7, reach: 5 }, reporting: Reporting { format: Text, color: Always, max_reports: 100 } }",
+        "Check { schema: [\"s\"], documents: [\"a\"], one_document: true, limits: Limits { depth: 7, reach: 5, work: 6 }, reporting: Reporting { format: Text, color: Always, max_reports: 100 } }",
     ),
     (
         &["serve", "--schema", "s"],
-        "Serve { schema: [\"s\"], limits: Limits { depth: 500, reach: 4 }, max_line: 8388608, max_reports: 1000 }",
+        "Serve { schema: [\"s\"], limits: Limits { depth: 500, reach: 4, work: 10000000 }, max_line: 8388608, max_reports: 1000 }",
     ),
     (
         &[
@@ -55,7 +56,7 @@ const READ: &[(&[&str], &str)] = &[
             "--schema",
             "s",
         ],
-        "Serve { schema: [\"s\"], limits: Limits { depth: 3, reach: 2 }, max_line: 9, max_reports: 8 }",
+        "Serve { schema: [\"s\"], limits: Limits { depth: 3, reach: 2, work: 10000000 }, max_line: 9, max_reports: 8 }",
     ),
     (
         &["serve", "--schema", "-"],

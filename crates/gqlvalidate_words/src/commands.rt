@@ -20,6 +20,8 @@ pub const MAX_DEPTH: &str = "max-depth";
 
 pub const MAX_REACH: &str = "max-reach";
 
+pub const MAX_WORK: &str = "max-work";
+
 pub const MAX_LINE: &str = "max-line";
 
 /// The names of the commands.
@@ -82,6 +84,7 @@ fn check<'a>(alloc: Global) -> Result<Command<'a>, Error> {
     let command = command.arg(one_document(alloc))?;
     let command = command.arg(max_depth(alloc))?;
     let command = command.arg(max_reach(alloc, "64"))?;
+    let command = command.arg(max_work(alloc))?;
     Ok(command.arg(files(alloc, "DOCUMENT", "Executable documents"))?)
 }
 
@@ -105,6 +108,7 @@ fn serve<'a>(alloc: Global) -> Result<Command<'a>, Error> {
         .after_help(STATUSES);
     let command = command.arg(max_depth(alloc))?;
     let command = command.arg(max_reach(alloc, "4"))?;
+    let command = command.arg(max_work(alloc))?;
     let command = command.arg(max_line(alloc))?;
     let command = command.arg(max_reports_of_an_answer(alloc))?;
     Ok(command.arg(schema_files(alloc))?)
@@ -188,6 +192,16 @@ fn max_reach<'a>(alloc: Global, default: &'a str) -> Arg<'a> {
         .help("Bytes to which operations may expand, for each byte of the document")
         .value_parser(value_parser!(usize))
         .default_value(default)
+        .action(ArgAction::Set)
+}
+
+fn max_work<'a>(alloc: Global) -> Arg<'a> {
+    Arg::new(alloc, MAX_WORK)
+        .long(MAX_WORK)
+        .value_name("N")
+        .help("Steps to compare the fields of a document that come together")
+        .value_parser(value_parser!(usize))
+        .default_value("10000000")
         .action(ArgAction::Set)
 }
 

@@ -2,7 +2,7 @@
 
 use crate::commands::{
     ALWAYS, CHECK, COLOR, FILES, FORMAT, GITHUB, JSON, MAX_DEPTH, MAX_LINE, MAX_REACH, MAX_REPORTS,
-    NEVER, ONE_DOCUMENT, SCHEMA, SERVE, SYNTAX, program,
+    MAX_WORK, NEVER, ONE_DOCUMENT, SCHEMA, SERVE, SYNTAX, program,
 };
 use crate::requests::{Color, Format, Limits, Refusal, Reporting, Request, STANDARD_INPUT};
 use clap::error::ErrorKind;
@@ -101,6 +101,7 @@ fn limits(given: &ArgMatches<'_>) -> Limits {
     Limits {
         depth: given.get_one::<usize>(MAX_DEPTH).unwrap_or(usize::MAX),
         reach: given.get_one::<usize>(MAX_REACH).unwrap_or(usize::MAX),
+        work: given.get_one::<usize>(MAX_WORK).unwrap_or(usize::MAX),
     }
 }
 

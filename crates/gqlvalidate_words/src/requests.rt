@@ -75,6 +75,8 @@ pub struct Limits {
     pub depth: usize,
     /// So many bytes its operations may reach for each byte of its text.
     pub reach: usize,
+    /// So many steps may be taken to compare its fields that come together.
+    pub work: usize,
 }
 
 /// What a command line asks for. Paths are in the order of the command line.

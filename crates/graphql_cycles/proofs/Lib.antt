@@ -1,6 +1,7 @@
 pub mod CycleLemmas
 pub mod DifferentNameLemmas
 pub mod DirectiveLevelLemmas
+pub mod DirectiveRankLemmas
 pub mod DirectiveRoomLemmas
 pub mod DirectiveSearchLemmas
 pub mod DirectiveSearchRootLemmas

@@ -1,5 +1,6 @@
 pub mod CycleSearches
 pub mod DirectiveLevels
+pub mod DirectiveRanks
 pub mod DirectiveSearches
 pub mod FragmentSearches
 pub mod InputObjectLevels

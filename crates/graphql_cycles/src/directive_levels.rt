@@ -5,7 +5,9 @@ ghost use Rattle.graphql_diagnostics.specs.Diagnostics.{IsDiagnostic};
 ghost use Rattle.graphql_diagnostics.specs.Reports.{ChecksWithin};
 ghost use Rattle.graphql_specification.specs.DirectiveCycles.{DirectiveCycleReport, DirectiveHasNoCycle, DirectiveLimit, HasLongDirectivePath, HasLongTypePath, directive_depth_limit, directive_part, type_part};
 ghost use Rattle.graphql_cycles.specs.DirectiveLevels.{ArePartLevels, DirectiveLeadsLowerUnder, PartLeadsLower, ReferenceIsLower, TypeLeadsLowerUnder};
+ghost use Rattle.graphql_cycles.specs.DirectiveRanks.{ArePartRanks};
 
+use super::directive_ranks::find_ranks;
 use super::directives::validate_directive_cycles;
 use super::levels::{LEVELS, Levels, add_level};
 use super::schema_references::{Reference, references_of_directive, references_of_type};
@@ -19,17 +21,19 @@ use std::alloc::Global;
 /// The levels of the directive definitions and of the types of a schema, as far as they are known: a definition of a level
 /// refers only to such of lower levels.
 #[derive(Drop)]
-struct PartLevels<'schema> {
-    directives: Levels<'schema>,
-    types: Levels<'schema>,
+pub(super) struct PartLevels<'schema> {
+    pub(super) directives: Levels<'schema>,
+    pub(super) types: Levels<'schema>,
 }
 
-/// A schema with the levels of its directive definitions, as far as they are known.
+/// A schema with the levels of its directive definitions, as far as they are known, and ranks of those that have no level.
 #[derive(Drop)]
 pub struct DirectiveLevels<'schema> {
     pub schema: &'schema Schema,
     levels: PartLevels<'schema>,
+    ranks: PartLevels<'schema>,
     ghost lower: { ∥ ArePartLevels schema.now levels 32 ∥₁ },
+    ghost ranked: { ∥ ArePartRanks schema.now ranks ∥₁ },
 }
 
 impl<'schema> DirectiveLevels<'schema> {
@@ -40,12 +44,13 @@ impl<'schema> DirectiveLevels<'schema> {
         DirectiveLevels {
             schema,
             levels: PartLevels::unknown(alloc),
+            ranks: PartLevels::unknown(alloc),
         }
     }
 
     /// Finds the levels of all directive definitions from which each path of references ends within 32 definitions, types
-    /// among them; of a few directive definitions, which are as soon searched, no levels are found. Takes time in proportion
-    /// to the schema, whatever refers to what. The only error is a failed allocation.
+    /// among them, and ranks if some have no level; of a few directive definitions, which are as soon searched, nothing is
+    /// found. Takes time in proportion to the schema, whatever refers to what. The only error is a failed allocation.
     ///
     /// Specification: 3.13 Directives.
     pub fn find(
@@ -58,7 +63,12 @@ impl<'schema> DirectiveLevels<'schema> {
             return Ok(DirectiveLevels::unknown(alloc, schema));
         }
         let levels = find_levels(alloc, schema)?;
-        Ok(DirectiveLevels { schema, levels })
+        let ranks = ranks_beside(alloc, schema, &levels)?;
+        Ok(DirectiveLevels {
+            schema,
+            levels,
+            ranks,
+        })
     }
 
     /// Whether a directive definition is known by its level to lead to no cycle, and to no path of references that goes through
@@ -82,11 +92,33 @@ impl<'schema> DirectiveLevels<'schema> {
         };
         self.levels.directive_leads_lower(alloc, definition, level)
     }
+
+    /// Whether a directive definition is known to be on no cycle: by its level; or because it has a rank below 32 and refers
+    /// only to lower ones, though it may lead to a cycle of others. No path from it is longer than `validate_directive_cycles`
+    /// allows. The only error is a failed allocation.
+    fn is_on_no_cycle(
+        &self,
+        alloc: Global,
+        definition: &Node<DirectiveDefinition>,
+    ) -> Result<bool, ValidationError>
+        ensures { IfOk result (λ on_no_cycle. IsTrue on_no_cycle → DirectiveHasNoCycle self.now.schema.now definition.now) }
+    {
+        let is_known = self.is_known_without_cycle(alloc, definition)?;
+        if is_known {
+            return Ok(true);
+        }
+        match place_of(&self.ranks.directives, &definition.value.name) {
+            Some(rank) if rank < LEVELS => {
+                self.ranks.directive_leads_lower(alloc, definition, rank)
+            }
+            _ => Ok(false),
+        }
+    }
 }
 
 /// Reports a directive definition that leads back to itself, and one from which a path of references goes through too many
-/// directives or types, as `validate_directive_cycles` does in the schema of the levels. Where the level of the definition says
-/// that there is nothing to report, nothing to which it refers is searched.
+/// directives or types, as `validate_directive_cycles` does in the schema of the levels. Where the level or the rank of the
+/// definition says that there is nothing to report, nothing to which it refers is searched.
 ///
 /// Specification: 3.13 Directives.
 pub fn validate_directive_cycles_by_levels(
@@ -98,8 +130,8 @@ pub fn validate_directive_cycles_by_levels(
         (IsDiagnostic (DirectiveCycleReport levels.now.schema.now definition.now))
         (λ e. DirectiveLimit levels.now.schema.now definition.now e.details e.location) diagnostics.old diagnostics.new }
 {
-    let is_known = levels.is_known_without_cycle(diagnostics.allocator(), definition)?;
-    if is_known {
+    let on_no_cycle = levels.is_on_no_cycle(diagnostics.allocator(), definition)?;
+    if on_no_cycle {
         return Ok(());
     }
     validate_directive_cycles(diagnostics, levels.schema, definition)
@@ -122,9 +154,23 @@ fn find_levels(alloc: Global, schema: &Schema) -> Result<PartLevels<'_>, Validat
     Ok(levels)
 }
 
+/// Ranks of the definitions of a schema, unless all directive definitions have levels.
+fn ranks_beside<'schema>(
+    alloc: Global,
+    schema: &'schema Schema,
+    levels: &PartLevels<'_>,
+) -> Result<PartLevels<'schema>, ValidationError>
+    ensures { IfOk result (ArePartRanks schema.now) }
+{
+    if levels.directives.len() < schema.directive_definitions.len() {
+        return find_ranks(alloc, schema);
+    }
+    Ok(PartLevels::unknown(alloc))
+}
+
 impl<'schema> PartLevels<'schema> {
     /// No levels.
-    fn unknown(alloc: Global) -> PartLevels<'schema>
+    pub(super) fn unknown(alloc: Global) -> PartLevels<'schema>
         ensures { (schema : Schema) → ArePartLevels schema result 0 }
     {
         PartLevels {
@@ -210,7 +256,7 @@ impl<'schema> PartLevels<'schema> {
     }
 
     /// Whether a directive definition refers only to lower levels than this.
-    fn directive_leads_lower(
+    pub(super) fn directive_leads_lower(
         &self,
         alloc: Global,
         definition: &Node<DirectiveDefinition>,
@@ -223,7 +269,7 @@ impl<'schema> PartLevels<'schema> {
     }
 
     /// The same of a type.
-    fn type_leads_lower(
+    pub(super) fn type_leads_lower(
         &self,
         alloc: Global,
         definition: &ExtendedType,

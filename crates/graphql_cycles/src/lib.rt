@@ -4,6 +4,7 @@
 #![tactic(auto)]
 
 pub mod directive_levels;
+mod directive_ranks;
 pub mod directives;
 pub mod fragments;
 pub mod input_object_levels;

@@ -305,6 +305,11 @@ pub kept_so_far : (schema : Schema) (document : ExecutableDocument) {done undeci
     ValidatedSoFar schema document done undecided m old now → KeepsReports (RuleEntryReport (Some schema) document) old now
 kept_so_far schema document so_far = record { added = so_far.added; appended = so_far.appended; each = so_far.each }
 
+-- what holds in any case holds of each answer
+pub if_ok : {T E A : Type 0} (r : Result T E) → A → OnOk r A
+if_ok (Ok x) a = a
+if_ok (Err x) a = tt
+
 -- operations in which no fields come together: what is said of them as subscriptions is all that is said
 module _ (schema : Schema) (document : ExecutableDocument) where
   abbrev SaidOfSubscriptions : {T E : Type 0} → Result T E → (old new : List DiagnosticEntry) → Type 0

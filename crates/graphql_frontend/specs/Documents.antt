@@ -28,9 +28,11 @@ use Rattle.graphql_reach.specs.declared.reports.ReachReport.{ReachReport}
 use Rattle.graphql_usage_rules.specs.UndefinedVariables.{DocumentUndefinedReport, VariableUsesAreDefined}
 use Rattle.graphql_usage_rules.specs.VariableMisuses.{DocumentMisuseReport, VariableUsagesAreAllowed}
 use Rattle.graphql_usage_rules.specs.declared.reports.VariableMisuse.{VariableMisuse}
+use Rattle.graphql_frontend.specs.FirstReports.{AreFirst}
 use Rattle.graphql_frontend.specs.Texts.{IsDocumentOf, IsErrorOf, ParsesTexts}
+use Rattle.graphql_frontend.specs.Work.{IsWorkReport}
 use Rattle.graphql_frontend.specs.declared.reports.Reports.{Reports}
-use Rattle.graphql_frontend.specs.declared.reports.Reports.TheVariants.{Syntax, Building, Nesting, Reach, DocumentRules}
+use Rattle.graphql_frontend.specs.declared.reports.Reports.TheVariants.{Syntax, Building, FirstBuilding, Nesting, Reach, Work, DocumentRules, FirstDocumentRules}
 use Rattle.graphql_frontend.specs.declared.reports.DocumentReports.{DocumentReports}
 use Rattle.graphql_frontend.specs.declared.texts.SourceText.{SourceText}
 use Rattle.graphql_frontend.specs.declared.texts.SyntaxReport.{SyntaxReport}
@@ -132,8 +134,8 @@ pub data IsReachReport (bounds : Bounds) (bytes : ℕ) (document : ExecutableDoc
   passes_its_bytes : ¬ NestsWithin 99 document → IsReachReportOf (counted_bytes bytes) document report → IsReachReport bounds bytes document report
   passes_the_bounds : NestsWithin 99 document → IsReachReportOf (most_reached bounds bytes) document report → IsReachReport bounds bytes document report
 
--- what a document that was built comes to: it nests deeper than the bound, or reaches more, and is not validated; else nothing is
--- reported only where every rule holds, and what is reported is true of it
+-- what a document that was built comes to: it nests deeper than the bound, or reaches more, or its fields take more work to compare, and it is not
+-- validated further; or more rules are broken than the bounds keep; else nothing is reported only if every rule holds, and what is reported is true
 abbrev pub JudgesDocument : Bounds → ℕ → Option Schema → ExecutableDocument → Option Reports → Type 0
 JudgesDocument bounds bytes schema document None =
     NestsWithin bounds.depth document × ReachesWithinBounds bounds bytes document × (IsBuiltFor schema document → EveryRuleHolds schema document)
@@ -141,12 +143,18 @@ JudgesDocument bounds bytes schema document (Some (Nesting report)) = IsNestingR
 JudgesDocument bounds bytes schema document (Some (Reach report)) = NestsWithin bounds.depth document × IsReachReport bounds bytes document report
 JudgesDocument bounds bytes schema document (Some (DocumentRules reports)) =
     NestsWithin bounds.depth document × ReachesWithinBounds bounds bytes document × ¬ ReportsNothing reports × AreReportsOf schema document reports
+JudgesDocument bounds bytes schema document (Some (Work report)) =
+    NestsWithin bounds.depth document × ReachesWithinBounds bounds bytes document × IsWorkReport bounds document report
+JudgesDocument bounds bytes schema document (Some (FirstDocumentRules list)) =
+    NestsWithin bounds.depth document × ReachesWithinBounds bounds bytes document × AreFirst bounds (IsDocumentEntry schema document) (entries list)
 JudgesDocument bounds bytes schema document (Some _) = ⊥
 
 -- what the tree of a document comes to of whose texts there are so many bytes
 pub data JudgesTree (bounds : Bounds) (bytes : ℕ) (schema : Option Schema) (tree : Document) : Option Reports → Type 0 where
   does_not_build : {list : BuildingReportList} → ¬ DocumentBuilds schema tree → reports_of list ≢ [] → All (DocumentBuildingReport schema tree) (reports_of list) →
       JudgesTree bounds bytes schema tree (Some (Building list))
+  breaks_more : {list : BuildingReportList} → AreFirst bounds (DocumentBuildingReport schema tree) (reports_of list) →
+      JudgesTree bounds bytes schema tree (Some (FirstBuilding list))
   is_built : {reports : Option Reports} (document : ExecutableDocument) → DocumentBuilds schema tree → DocumentSays schema tree document →
       IsBuiltFor schema document → JudgesDocument bounds bytes schema document reports →
       JudgesTree bounds bytes schema tree reports

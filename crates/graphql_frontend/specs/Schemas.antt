@@ -20,8 +20,9 @@ use Rattle.graphql_document_building.specs.Documents.{HasOutputFields}
 use Rattle.graphql_schema_building.specs.SchemaSays.{SchemaSays}
 use Rattle.graphql_schema_checking.specs.SchemaBuilds.{SchemaBuilds}
 use Rattle.graphql_schema_checking.specs.SchemaReports.{SchemaBuildingReport}
+use Rattle.graphql_frontend.specs.FirstReports.{AreFirst}
 use Rattle.graphql_frontend.specs.Texts.{IsDocumentOf, ParsesTexts}
-use Rattle.graphql_frontend.specs.declared.reports.Reports.TheVariants.{Syntax, Building, SchemaRules}
+use Rattle.graphql_frontend.specs.declared.reports.Reports.TheVariants.{Syntax, Building, FirstBuilding, SchemaRules, FirstSchemaRules}
 use Rattle.graphql_frontend.specs.declared.reports.SchemaReports.{SchemaReports}
 use Rattle.graphql_frontend.specs.declared.schemas.SchemaReading.{SchemaReading}
 use Rattle.graphql_frontend.specs.declared.schemas.SchemaReading.TheVariants.{Accepted, Rejected, LacksIntrospection}
@@ -47,25 +48,28 @@ pub record AreReportsOfSchema (schema retained : Schema) (reports : SchemaReport
   pub input_fields : Reports (SchemaInputFieldsAreUnique schema) (SchemaInputFieldReport schema) [] reports.input_fields.items
 
 -- what a schema that was built comes to
-abbrev pub Judges : Schema → SchemaReading → Type 0
-Judges schema (Accepted retained) = IsAccepted schema retained
-Judges schema (Rejected (SchemaRules reports)) =
+abbrev pub Judges : Bounds → Schema → SchemaReading → Type 0
+Judges bounds schema (Accepted retained) = IsAccepted schema retained
+Judges bounds schema (Rejected (FirstSchemaRules list)) = AreFirst bounds (SchemaEntryReport schema) (entries list)
+Judges bounds schema (Rejected (SchemaRules reports)) =
     ¬ ReportsNothingOfSchema reports × (retained : Schema) × SchemaRetainsUsedBuiltInScalars schema retained ×
     AreReportsOfSchema schema retained reports
-Judges schema (Rejected _) = ⊥
-Judges schema LacksIntrospection = (retained : Schema) × SchemaRetainsUsedBuiltInScalars schema retained × ¬ HasTypesOfMetaFields retained
+Judges bounds schema (Rejected _) = ⊥
+Judges bounds schema LacksIntrospection = (retained : Schema) × SchemaRetainsUsedBuiltInScalars schema retained × ¬ HasTypesOfMetaFields retained
 
 -- what documents come to as a schema
-pub data JudgesTrees (trees : List Document) : SchemaReading → Type 0 where
+pub data JudgesTrees (bounds : Bounds) (trees : List Document) : SchemaReading → Type 0 where
   does_not_build : {list : BuildingReportList} → ¬ SchemaBuilds trees → reports_of list ≢ [] → All (SchemaBuildingReport trees) (reports_of list) →
-      JudgesTrees trees (Rejected (Building list))
-  is_built : {reading : SchemaReading} (schema : Schema) → SchemaBuilds trees → SchemaSays trees schema → Judges schema reading → JudgesTrees trees reading
+      JudgesTrees bounds trees (Rejected (Building list))
+  breaks_more : {list : BuildingReportList} → AreFirst bounds (SchemaBuildingReport trees) (reports_of list) → JudgesTrees bounds trees (Rejected (FirstBuilding list))
+  is_built : {reading : SchemaReading} (schema : Schema) → SchemaBuilds trees → SchemaSays trees schema → Judges bounds schema reading →
+      JudgesTrees bounds trees reading
 
 -- what texts come to as a schema
 pub data ReadsSchema (bounds : Bounds) (sources : List SourceText) : SchemaReading → Type 0 where
   not_all_are_documents : {errors : Vec SyntaxReport Global} (trees : List Document) → ParsesTexts bounds sources trees errors.items → errors.items ≢ [] →
       ReadsSchema bounds sources (Rejected (Syntax errors))
-  are_documents : {reading : SchemaReading} (trees : List Document) → AllZip (IsDocumentOf bounds) sources trees → JudgesTrees trees reading →
+  are_documents : {reading : SchemaReading} (trees : List Document) → AllZip (IsDocumentOf bounds) sources trees → JudgesTrees bounds trees reading →
       ReadsSchema bounds sources reading
 
 -- documents can be validated against the schema, if there is one: what `validate_document` asks of it

@@ -23,6 +23,8 @@ use Rattle.graphql_frontend.specs.declared.reports.Reports.TheVariants as report
 use Rattle.graphql_frontend.specs.declared.shown.ShownReport.{ShownReport}
 use Rattle.graphql_frontend.specs.declared.texts.SourceText.{SourceText}
 use Rattle.graphql_frontend.specs.declared.texts.SyntaxReport.{SyntaxReport}
+use Rattle.graphql_frontend.specs.declared.work.WorkReport.{WorkReport}
+use Rattle.graphql_frontend.specs.Work.{work_message}
 use Rattle.graphql_input_rules.specs.InputFields.{repetition_message}
 use Rattle.graphql_input_rules.specs.declared.reports.InputFieldRepetition.{InputFieldRepetition}
 use Rattle.graphql_nesting.specs.Messages.{nesting_message}
@@ -48,17 +50,23 @@ pub data Report : Type 0 where
   building : BuildingReport → Report
   nesting : NestingReport → Report
   reach : ReachReport → Report
+  work : WorkReport → Report
   validation : DiagnosticEntry → Report
   input_field : InputFieldRepetition → Report
   usage : VariableMisuse → Report
+  more : Report
 
 -- the single reports, in order: of a schema or a document the rules of validation come first; of a document, undefined variables come next; then
--- input fields; and last usages of variables
+-- input fields; and last usages of variables. If there are more than are kept, the last report says so
 abbrev pub listed : Reports → List Report
 listed (reports.Syntax errors) = map syntax errors.items
 listed (reports.Building list) = map building (reports_of list)
+listed (reports.FirstBuilding list) = map building (reports_of list) ++ (more ∷ [])
 listed (reports.Nesting report) = nesting report ∷ []
 listed (reports.Reach report) = reach report ∷ []
+listed (reports.Work report) = work report ∷ []
+listed (reports.FirstSchemaRules list) = map validation (entries list) ++ (more ∷ [])
+listed (reports.FirstDocumentRules list) = map validation (entries list) ++ (more ∷ [])
 listed (reports.SchemaRules found) = map validation (entries found.rules) ++ map input_field found.input_fields.items
 listed (reports.DocumentRules found) =
     map validation (entries found.rules) ++ (map validation found.undefined_variables.items ++ (map input_field found.input_fields.items ++ map usage found.usages.items))
@@ -120,6 +128,9 @@ ShowsNesting report shown = IsShownAs report.location (codes "NestsTooDeep") (ne
 abbrev pub ShowsReach : ReachReport → ShownReport → Type 0
 ShowsReach report shown = IsShownAs report.location (codes "ReachesTooMuch") (reach_message report) None shown
 
+abbrev pub ShowsWork : WorkReport → ShownReport → Type 0
+ShowsWork report shown = IsShownAs report.location (codes "TakesTooMuch") (work_message report) None shown
+
 -- how many names of this kind a path may have on which a cycle is searched: input objects and directives have one limit
 abbrev pub path_limit : List ℕ → ℕ
 path_limit describe = if bytes_eq describe (codes "fragment") then fragment_depth_limit else input_object_depth_limit
@@ -167,15 +178,21 @@ abbrev pub ShowsMisuse : VariableMisuse → ShownReport → Type 0
 ShowsMisuse misuse shown =
     IsShownAs misuse.location (codes "DisallowedVariableUsage") (misuse_message misuse.name misuse.variable_type misuse.location_type) misuse.definition_location shown
 
+-- that there are more reports than are kept
+abbrev pub ShowsThatMore : Unit {0} → ShownReport → Type 0
+ShowsThatMore _ shown = IsShownAs None (codes "MoreReports") (codes "there are more reports than are kept") None shown
+
 -- a report of these texts, as it is shown
 abbrev pub Shows : List SourceText → Bounds → Report → ShownReport → Type 0
 Shows sources bounds (syntax report) shown = ShowsSyntax sources bounds report shown
 Shows sources bounds (building report) shown = ShowsBuilding report shown
 Shows sources bounds (nesting report) shown = ShowsNesting report shown
 Shows sources bounds (reach report) shown = ShowsReach report shown
+Shows sources bounds (work report) shown = ShowsWork report shown
 Shows sources bounds (validation entry) shown = ShowsEntry entry shown
 Shows sources bounds (input_field repetition) shown = ShowsRepetition repetition shown
 Shows sources bounds (usage misuse) shown = ShowsMisuse misuse shown
+Shows sources bounds more shown = ShowsThatMore tt shown
 
 -- behind what was shown, each of these is shown, in order
 abbrev pub ShowsMore : {X : Type 0} → (X → ShownReport → Type 0) → List X → List ShownReport → List ShownReport → Type 0

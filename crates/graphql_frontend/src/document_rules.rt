@@ -1,7 +1,7 @@
 //! The rules of documents, together: those of validation, and those that validation asks in part or not at all: that variables
 //! are defined at any depth, that input fields are unique, and that usages of variables are allowed at any depth.
 
-ghost use Rattle.std.specs.Prelude.{◌≡◌, ◌∷◌, ◌++◌, [], IfOk, List, None, OnOk, Some, filter, filter_map, not, option_to_list};
+ghost use Rattle.std.specs.Prelude.{◌≡◌, ◌∷◌, ◌++◌, [], All, IfOk, List, None, OnOk, Option, Some, filter, filter_map, not, option_to_list};
 ghost use Rattle.std.specs.Option.{option_copied};
 ghost use Rattle.graphql_diagnostics.specs.Diagnostics.{entries};
 ghost use Rattle.graphql_diagnostics.specs.Reports.{Reports};
@@ -9,18 +9,25 @@ ghost use Rattle.graphql_diagnostics.specs.declared.lists.DiagnosticEntry as ent
 ghost use Rattle.graphql_documents.specs.declared.documents.executables.ExecutableDocument as document_type;
 ghost use Rattle.graphql_nodes.specs.declared.spans.SourceSpan as span_type;
 ghost use Rattle.graphql_input_rules.specs.InputFields.{InputFieldReport, InputFieldsAreUnique};
-ghost use Rattle.graphql_frontend.specs.Documents.{AreFurtherMisuses, AreFurtherUndefined, AreReportsOf, AreRuleReports};
+ghost use Rattle.graphql_documents.specs.declared.documents.schemas.Schema as schema_type;
+ghost use Rattle.graphql_documents.specs.Executables.{operations_of};
+ghost use Rattle.graphql_frontend.specs.Documents.{AreFurtherMisuses, AreFurtherUndefined, AreReportsOf, AreRuleReports, IsDocumentEntry};
+ghost use Rattle.graphql_frontend.specs.RuleReadings.{ReadsRules};
+ghost use Rattle.graphql_frontend.specs.Work.{first_location};
 ghost use Rattle.graphql_frontend.specs.Places.{HasThese, end_of, is_place_among, undefined_place};
 
+use crate::first_reports::{is_full_of_rules, report_bound};
 use crate::reports::DocumentReports;
+use crate::work::WorkReport;
 use graphql_diagnostics::{Details, DiagnosticData, DiagnosticEntry, DiagnosticList};
 use graphql_document_rules::documents::{
-    validate_document_rules, validate_standalone_document_rules,
+    PairWork, validate_document_rules, validate_standalone_document_rules,
 };
 use graphql_documents::documents::{ExecutableDocument, Schema};
 use graphql_hash_seeds::HashSeed;
 use graphql_input_rules::{InputFieldRepetition, check_input_fields};
 use graphql_nodes::{SourceSpan, ValidationError};
+use graphql_parser::Bounds;
 use graphql_usage_rules::{VariableMisuse, check_undefined_variables, check_variable_usages};
 use std::alloc::Global;
 use std::collections::HashSet;
@@ -28,20 +35,31 @@ use std::collections::HashSet;
 /// How much work merging may do set by set of a document of so many bytes, before it goes by pairs of sets: fields that it lists,
 /// and arguments that it compares. A text has at most a field for each two bytes, and each is in a list of each of two passes;
 /// fragments that are spread at several places count at each.
-pub(crate) fn merging_work(bytes: usize) -> usize {
+fn merging_work(bytes: usize) -> usize {
     bytes.saturating_mul(4).saturating_add(100_000)
 }
 
-/// What the rules report of a document, against a schema or without one.
+/// What validation reports of a document, within bounds.
+#[derive(Drop)]
+pub(crate) enum RuleReports {
+    /// All that it reports.
+    All(DiagnosticList),
+    /// The first reports of more than the bounds keep.
+    First(DiagnosticList),
+    /// That its fields take too much work to compare.
+    Work(WorkReport),
+}
+
+/// What the rules report of a document, against a schema or without one. Validation reported these.
 pub(crate) fn document_reports(
     alloc: Global,
     schema: Option<&Schema>,
     document: &ExecutableDocument,
-    work: usize,
+    rules: DiagnosticList,
 ) -> Result<DocumentReports, ValidationError>
-    ensures { IfOk result (AreReportsOf (option_copied schema.entry) document.now) }
+    ensures { AreRuleReports (option_copied schema.entry) document.now (entries rules) →
+        IfOk result (AreReportsOf (option_copied schema.entry) document.now) }
 {
-    let rules = rule_reports(alloc, schema, document, work)?;
     let undefined_variables = further_undefined_variables(alloc, document, &rules)?;
     let input_fields = repeated_input_fields(alloc, document)?;
     let usages = further_misuses(alloc, schema, document, &rules)?;
@@ -65,18 +83,19 @@ fn repeated_input_fields(
     Ok(input_fields)
 }
 
-/// What validation reports of a document.
-fn rule_reports(
+/// What validation reports of a document, within the bounds. Its texts have so many bytes.
+pub(crate) fn rule_reports(
     alloc: Global,
     schema: Option<&Schema>,
     document: &ExecutableDocument,
-    work: usize,
-) -> Result<DiagnosticList, ValidationError>
-    ensures { IfOk result (λ rules. AreRuleReports (option_copied schema.entry) document.now (entries rules)) }
+    bounds: Bounds,
+    bytes: usize,
+) -> Result<RuleReports, ValidationError>
+    ensures { IfOk result (ReadsRules bounds (option_copied schema.entry) document.now) }
 {
     match schema {
-        Some(schema) => rule_reports_against(alloc, schema, document, work),
-        None => standalone_rule_reports(alloc, document),
+        Some(schema) => rule_reports_against(alloc, schema, document, bounds, bytes),
+        None => standalone_rule_reports(alloc, document, bounds),
     }
 }
 
@@ -84,24 +103,68 @@ fn rule_reports_against(
     alloc: Global,
     schema: &Schema,
     document: &ExecutableDocument,
-    work: usize,
-) -> Result<DiagnosticList, ValidationError>
-    ensures { IfOk result (λ rules. AreRuleReports (Some schema.now) document.now (entries rules)) }
+    bounds: Bounds,
+    bytes: usize,
+) -> Result<RuleReports, ValidationError>
+    ensures { IfOk result (ReadsRules bounds (Some schema.now) document.now) }
 {
-    let mut rules = DiagnosticList::with_hash_seed(alloc, document.hash_seed());
-    validate_document_rules(&mut rules, schema, document, work)?;
-    Ok(rules)
+    let seed = document.hash_seed();
+    let mut rules = DiagnosticList::with_bound(alloc, seed, report_bound(bounds));
+    let mut pairs = PairWork::new(bounds.work);
+    let work = merging_work(bytes);
+    match validate_document_rules(&mut rules, schema, document, work, &mut pairs) {
+        Ok(true) => Ok(RuleReports::All(rules)),
+        Ok(false) => Ok(RuleReports::Work(WorkReport {
+            counted: pairs.counted(),
+            most: bounds.work,
+            location: location_of_first(document),
+        })),
+        Err(error) => first_rules(rules, bounds, error),
+    }
 }
 
 fn standalone_rule_reports(
     alloc: Global,
     document: &ExecutableDocument,
-) -> Result<DiagnosticList, ValidationError>
-    ensures { IfOk result (λ rules. AreRuleReports None document.now (entries rules)) }
+    bounds: Bounds,
+) -> Result<RuleReports, ValidationError>
+    ensures { IfOk result (ReadsRules bounds None document.now) }
 {
-    let mut rules = DiagnosticList::with_hash_seed(alloc, document.hash_seed());
-    validate_standalone_document_rules(&mut rules, document)?;
-    Ok(rules)
+    let seed = document.hash_seed();
+    let mut rules = DiagnosticList::with_bound(alloc, seed, report_bound(bounds));
+    match validate_standalone_document_rules(&mut rules, document) {
+        Ok(()) => Ok(RuleReports::All(rules)),
+        Err(error) => first_rules(rules, bounds, error),
+    }
+}
+
+/// The first reports, if validation ended with this error because there are more than the bounds keep.
+fn first_rules(
+    rules: DiagnosticList,
+    bounds: Bounds,
+    error: ValidationError,
+) -> Result<RuleReports, ValidationError>
+    ensures { (schema : Option schema_type.Schema) (document : document_type.ExecutableDocument) →
+        All (IsDocumentEntry schema document) (entries rules) → IfOk result (ReadsRules bounds schema document) }
+{
+    if is_full_of_rules(&rules, bounds) {
+        Ok(RuleReports::First(rules))
+    } else {
+        Err(error)
+    }
+}
+
+/// Where the first operation is.
+fn location_of_first(document: &ExecutableDocument) -> Option<SourceSpan>
+    ensures { result ≡ first_location (operations_of document.now) }
+{
+    if let Some(operation) = &document.operations.anonymous {
+        return operation.location;
+    }
+    match document.operations.named.first() {
+        Some((_, operation)) => operation.location,
+        None => None,
+    }
 }
 
 /// The variables that operations use and do not define, without those that validation reports as undefined: it does not look

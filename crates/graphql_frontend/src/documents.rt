@@ -1,7 +1,10 @@
 //! Executable documents, from their texts.
 
-ghost use Rattle.std.specs.Prelude.{◌≡◌, ℕ, IfOk, MatchOption, None, Option, Some};
+ghost use Rattle.std.specs.Prelude.{◌≡◌, ℕ, All, IfOk, MatchOption, None, Option, Some};
 ghost use Rattle.std.specs.Option.{option_copied};
+ghost use Rattle.graphql_building_reports.specs.Checks.{reports_of};
+ghost use Rattle.graphql_diagnostics.specs.Diagnostics.{entries};
+ghost use Rattle.graphql_document_checking.specs.DocumentReports.{DocumentBuildingReport};
 ghost use Rattle.graphql_documents.specs.declared.documents.schemas.Schema as schema_type;
 ghost use Rattle.graphql_nesting.specs.Nesting.{NestsWithin};
 ghost use Rattle.graphql_parser.specs.Refusals.{IsRefusal};
@@ -9,13 +12,15 @@ ghost use Rattle.graphql_parser.specs.declared.bounds.Bounds as source_bounds;
 ghost use Rattle.graphql_trees.specs.declared.documents.Document as document_tree;
 ghost use Rattle.graphql_frontend.specs.Texts.{IsDocumentOf};
 ghost use Rattle.graphql_frontend.specs.declared.texts.SourceText as source_text;
-ghost use Rattle.graphql_frontend.specs.Documents.{HasDefinitionsOf, IsReachReport, JudgesDocument, JudgesTree, ReachesWithinBounds, ValidatesDocument, ValidatesDocuments, bytes_of};
+ghost use Rattle.graphql_frontend.specs.Documents.{AreRuleReports, HasDefinitionsOf, IsReachReport, JudgesDocument, JudgesTree, ReachesWithinBounds, ValidatesDocument, ValidatesDocuments, bytes_of};
 ghost use Rattle.graphql_frontend.specs.Schemas.{IsUsable};
 
-use crate::document_rules::{document_reports, merging_work};
+use crate::document_rules::{RuleReports, document_reports, rule_reports};
+use crate::first_reports::{is_full_of_building_rules, report_bound};
 use crate::reports::Reports;
 use crate::texts::{Parsed, SourceText, SyntaxReport, is_out_of_memory, parse_texts};
 use graphql_building_reports::BuildingReportList;
+use graphql_diagnostics::DiagnosticList;
 use graphql_document_building::{build_document, build_standalone_document};
 use graphql_document_checking::{check_document, check_standalone_document};
 use graphql_documents::documents::{ExecutableDocument, Schema};
@@ -191,13 +196,33 @@ fn validate_tree(
     requires { IsUsable schema.now }
     ensures { IfOk result (JudgesTree bounds bytes (Some schema.now) tree.now) }
 {
-    let mut reports = BuildingReportList::with_hash_seed(alloc, hash_seed);
-    check_document(&mut reports, schema, tree)?;
-    if reports.is_empty() {
-        let document = build_document(alloc, hash_seed, schema, tree)?;
-        validate_built(alloc, Some(schema), &document, bounds, bytes)
+    let mut reports = BuildingReportList::with_bound(alloc, hash_seed, report_bound(bounds));
+    match check_document(&mut reports, schema, tree) {
+        Ok(()) => {
+            if reports.is_empty() {
+                let document = build_document(alloc, hash_seed, schema, tree)?;
+                validate_built(alloc, Some(schema), &document, bounds, bytes)
+            } else {
+                Ok(Some(Reports::Building(reports)))
+            }
+        }
+        Err(error) => first_building_reports(reports, bounds, error),
+    }
+}
+
+/// The first reports, if a check ended with this error because there are more than the bounds keep.
+fn first_building_reports(
+    reports: BuildingReportList,
+    bounds: Bounds,
+    error: ValidationError,
+) -> Result<Option<Reports>, ValidationError>
+    ensures { (bytes : ℕ) (schema : Option schema_type.Schema) (tree : document_tree.Document) →
+        All (DocumentBuildingReport schema tree) (reports_of reports) → IfOk result (JudgesTree bounds bytes schema tree) }
+{
+    if is_full_of_building_rules(&reports, bounds) {
+        Ok(Some(Reports::FirstBuilding(reports)))
     } else {
-        Ok(Some(Reports::Building(reports)))
+        Err(error)
     }
 }
 
@@ -211,13 +236,17 @@ fn validate_standalone_tree(
 ) -> Result<Option<Reports>, ValidationError>
     ensures { IfOk result (JudgesTree bounds bytes None tree.now) }
 {
-    let mut reports = BuildingReportList::with_hash_seed(alloc, hash_seed);
-    check_standalone_document(&mut reports, tree)?;
-    if reports.is_empty() {
-        let document = build_standalone_document(alloc, hash_seed, tree)?;
-        validate_built(alloc, None, &document, bounds, bytes)
-    } else {
-        Ok(Some(Reports::Building(reports)))
+    let mut reports = BuildingReportList::with_bound(alloc, hash_seed, report_bound(bounds));
+    match check_standalone_document(&mut reports, tree) {
+        Ok(()) => {
+            if reports.is_empty() {
+                let document = build_standalone_document(alloc, hash_seed, tree)?;
+                validate_built(alloc, None, &document, bounds, bytes)
+            } else {
+                Ok(Some(Reports::Building(reports)))
+            }
+        }
+        Err(error) => first_building_reports(reports, bounds, error),
     }
 }
 
@@ -235,7 +264,7 @@ fn validate_built(
         return Ok(Some(Reports::Nesting(report)));
     }
     match check_bytes_reached(alloc, document, bounds, bytes)? {
-        None => validate_within(alloc, schema, document, merging_work(bytes)),
+        None => validate_within(alloc, schema, document, bounds, bytes),
         Some(report) => Ok(Some(Reports::Reach(report))),
     }
 }
@@ -259,17 +288,36 @@ fn check_bytes_reached(
     }
 }
 
-/// Validates a document that nests and reaches within the bounds. So much work may be done on merging by sets.
+/// Validates a document that nests and reaches within the bounds. Its texts have so many bytes.
 fn validate_within(
     alloc: Global,
     schema: Option<&Schema>,
     document: &ExecutableDocument,
-    work: usize,
+    bounds: Bounds,
+    bytes: usize,
 ) -> Result<Option<Reports>, ValidationError>
-    ensures { (bounds : source_bounds.Bounds) (bytes : ℕ) → NestsWithin bounds.depth document.now → ReachesWithinBounds bounds bytes document.now →
+    ensures { NestsWithin bounds.depth document.now → ReachesWithinBounds bounds bytes document.now →
         IfOk result (JudgesDocument bounds bytes (option_copied schema.entry) document.now) }
 {
-    let reports = document_reports(alloc, schema, document, work)?;
+    match rule_reports(alloc, schema, document, bounds, bytes)? {
+        RuleReports::All(rules) => validate_beside(alloc, schema, document, rules),
+        RuleReports::First(rules) => Ok(Some(Reports::FirstDocumentRules(rules))),
+        RuleReports::Work(report) => Ok(Some(Reports::Work(report))),
+    }
+}
+
+/// Validates a document by the rules beside those of validation, which reported this.
+fn validate_beside(
+    alloc: Global,
+    schema: Option<&Schema>,
+    document: &ExecutableDocument,
+    rules: DiagnosticList,
+) -> Result<Option<Reports>, ValidationError>
+    ensures { AreRuleReports (option_copied schema.entry) document.now (entries rules) →
+        (bounds : source_bounds.Bounds) (bytes : ℕ) → NestsWithin bounds.depth document.now → ReachesWithinBounds bounds bytes document.now →
+        IfOk result (JudgesDocument bounds bytes (option_copied schema.entry) document.now) }
+{
+    let reports = document_reports(alloc, schema, document, rules)?;
     if reports.is_empty() {
         Ok(None)
     } else {

@@ -5,6 +5,7 @@
 pub mod build_error_messages;
 mod document_rules;
 pub mod documents;
+mod first_reports;
 mod meta_fields;
 pub mod reports;
 pub mod rule_names;
@@ -13,6 +14,7 @@ pub mod schemas;
 pub mod shown;
 pub mod texts;
 pub mod verdicts;
+pub mod work;
 
 pub use documents::{validate_document, validate_documents, validate_standalone_document};
 pub use graphql_nodes::{FileId, SourceSpan, ValidationError};
@@ -23,3 +25,4 @@ pub use schemas::{SchemaReading, read_schema};
 pub use shown::{ShownReport, shown_reports};
 pub use texts::{SourceText, SyntaxReport};
 pub use verdicts::{Verdict, document_source, schema_sources, validate, validate_texts};
+pub use work::WorkReport;

@@ -5,6 +5,7 @@ ghost use Rattle.graphql_frontend.specs.Documents.{ReportsNothing};
 ghost use Rattle.graphql_frontend.specs.Schemas.{ReportsNothingOfSchema};
 
 use crate::texts::SyntaxReport;
+use crate::work::WorkReport;
 use graphql_building_reports::BuildingReportList;
 use graphql_diagnostics::{DiagnosticEntry, DiagnosticList};
 use graphql_input_rules::InputFieldRepetition;
@@ -19,14 +20,22 @@ pub enum Reports {
     Syntax(Vec<SyntaxReport>),
     /// Rules that the texts break, so that nothing is built of them.
     Building(BuildingReportList),
+    /// The first of these, if there are more than the bounds keep.
+    FirstBuilding(BuildingReportList),
     /// A document that nests too deep to be validated.
     Nesting(NestingReport),
     /// A document whose operations reach too much to be validated.
     Reach(ReachReport),
+    /// A document whose fields take too much work to compare.
+    Work(WorkReport),
     /// Rules that the schema breaks.
     SchemaRules(SchemaReports),
+    /// The first of these, if there are more than the bounds keep.
+    FirstSchemaRules(DiagnosticList),
     /// Rules that the document breaks.
     DocumentRules(DocumentReports),
+    /// The first of these, if there are more than the bounds keep.
+    FirstDocumentRules(DiagnosticList),
 }
 
 /// What is reported of a schema that was built.
@@ -52,12 +61,16 @@ pub struct DocumentReports {
 }
 
 impl Reports {
-    /// How many there are.
+    /// How many are shown: those that are kept, and one more if there are others.
     pub fn len(&self) -> usize {
         match self {
             Reports::Syntax(errors) => errors.len(),
             Reports::Building(list) => list.iter().len(),
-            Reports::Nesting(_) | Reports::Reach(_) => 1,
+            Reports::FirstBuilding(list) => list.iter().len().saturating_add(1),
+            Reports::FirstSchemaRules(list) | Reports::FirstDocumentRules(list) => {
+                list.len().saturating_add(1)
+            }
+            Reports::Nesting(_) | Reports::Reach(_) | Reports::Work(_) => 1,
             Reports::SchemaRules(reports) => {
                 reports
                     .rules
@@ -71,6 +84,16 @@ impl Reports {
                 .saturating_add(reports.input_fields.len())
                 .saturating_add(reports.usages.len()),
         }
+    }
+
+    /// Whether there is more to report than is kept.
+    pub fn has_more(&self) -> bool {
+        matches!(
+            self,
+            Reports::FirstBuilding(_)
+                | Reports::FirstSchemaRules(_)
+                | Reports::FirstDocumentRules(_)
+        )
     }
 }
 

@@ -1,30 +1,51 @@
 //! The rules of schemas, together: those of validation, and that of input fields, which validation does not ask.
 
 ghost use Rattle.std.specs.Prelude.{IfOk};
-ghost use Rattle.graphql_frontend.specs.Schemas.{AreReportsOfSchema};
-ghost use Rattle.graphql_specification.specs.BuiltInScalars.{SchemaRetainsUsedBuiltInScalars};
+ghost use Rattle.graphql_frontend.specs.SchemaRuleReadings.{ReadsSchemaRules};
 
+use crate::first_reports::{is_full_of_rules, report_bound};
 use crate::reports::SchemaReports;
 use graphql_diagnostics::DiagnosticList;
 use graphql_documents::documents::Schema;
+use graphql_hash_seeds::HashSeed;
 use graphql_input_rules::check_schema_input_fields;
 use graphql_nodes::ValidationError;
+use graphql_parser::Bounds;
 use graphql_schemas::schema::validate_schema;
 use std::alloc::Global;
 
-/// What the rules report of a schema, whose used built-in scalars are retained.
+/// What the rules report of a schema, within bounds.
+#[derive(Drop)]
+pub(crate) enum SchemaRuleReports {
+    /// All that they report.
+    All(SchemaReports),
+    /// The first reports of validation, of more than the bounds keep.
+    First(DiagnosticList),
+}
+
+/// What the rules report of a schema, within the bounds. If all of it is kept, the used built-in scalars of the schema are
+/// retained.
 pub(crate) fn schema_reports(
     alloc: Global,
     schema: &mut Schema,
-) -> Result<SchemaReports, ValidationError>
-    ensures { IfOk result (λ reports. SchemaRetainsUsedBuiltInScalars schema.old schema.new × AreReportsOfSchema schema.old schema.new reports) }
+    bounds: Bounds,
+) -> Result<SchemaRuleReports, ValidationError>
+    ensures { IfOk result (ReadsSchemaRules bounds schema.old schema.new) }
 {
     let mut input_fields = Vec::new(alloc);
     check_schema_input_fields(&mut input_fields, schema)?;
-    let mut rules = DiagnosticList::new(alloc);
-    validate_schema(&mut rules, schema)?;
-    Ok(SchemaReports {
-        rules,
-        input_fields,
-    })
+    let mut rules = DiagnosticList::with_bound(alloc, HashSeed::default(), report_bound(bounds));
+    match validate_schema(&mut rules, schema) {
+        Ok(()) => Ok(SchemaRuleReports::All(SchemaReports {
+            rules,
+            input_fields,
+        })),
+        Err(error) => {
+            if is_full_of_rules(&rules, bounds) {
+                Ok(SchemaRuleReports::First(rules))
+            } else {
+                Err(error)
+            }
+        }
+    }
 }

@@ -1,14 +1,22 @@
 //! Schemas, from their texts.
 
-ghost use Rattle.std.specs.Prelude.{IfOk};
-ghost use Rattle.graphql_frontend.specs.Schemas.{AcceptsOnlyUsableSchemas, Judges, JudgesTrees, ReadsSchema};
+ghost use Rattle.std.specs.Prelude.{All, IfOk, List};
+ghost use Rattle.graphql_building_reports.specs.Checks.{reports_of};
+ghost use Rattle.graphql_schema_checking.specs.SchemaReports.{SchemaBuildingReport};
+ghost use Rattle.graphql_trees.specs.declared.documents.Document as document_tree;
+ghost use Rattle.graphql_documents.specs.declared.documents.schemas.Schema as schema_type;
+ghost use Rattle.graphql_frontend.specs.Schemas.{AcceptsOnlyUsableSchemas, AreReportsOfSchema, Judges, JudgesTrees, ReadsSchema};
+ghost use Rattle.graphql_parser.specs.declared.bounds.Bounds as source_bounds;
+ghost use Rattle.graphql_specification.specs.BuiltInScalars.{SchemaRetainsUsedBuiltInScalars};
 
+use crate::first_reports::{is_full_of_building_rules, report_bound};
 use crate::meta_fields::has_types_of_meta_fields;
-use crate::reports::Reports;
-use crate::schema_rules::schema_reports;
+use crate::reports::{Reports, SchemaReports};
+use crate::schema_rules::{SchemaRuleReports, schema_reports};
 use crate::texts::{Parsed, SourceText, parse_texts};
 use graphql_building_reports::BuildingReportList;
 use graphql_documents::documents::Schema;
+use graphql_hash_seeds::HashSeed;
 use graphql_nodes::ValidationError;
 use graphql_parser::Bounds;
 use graphql_schema_building::build_schema;
@@ -44,7 +52,7 @@ pub fn read_schema(
 {
     let Parsed { documents, errors } = parse_texts(alloc, sources, bounds)?;
     if errors.is_empty() {
-        schema_of_documents(alloc, &documents)
+        schema_of_documents(alloc, &documents, bounds)
     } else {
         Ok(SchemaReading::Rejected(Reports::Syntax(errors)))
     }
@@ -54,29 +62,66 @@ pub fn read_schema(
 fn schema_of_documents(
     alloc: Global,
     documents: &[Document],
+    bounds: Bounds,
 ) -> Result<SchemaReading, ValidationError>
-    ensures { IfOk result (JudgesTrees documents.now) }
+    ensures { IfOk result (JudgesTrees bounds documents.now) }
 {
-    let mut reports = BuildingReportList::new(alloc);
-    check_schema(&mut reports, documents)?;
-    if reports.is_empty() {
-        let schema = build_schema(alloc, documents)?;
-        validated(alloc, schema)
+    let seed = HashSeed::default();
+    let mut reports = BuildingReportList::with_bound(alloc, seed, report_bound(bounds));
+    match check_schema(&mut reports, documents) {
+        Ok(()) => {
+            if reports.is_empty() {
+                let schema = build_schema(alloc, documents)?;
+                validated(alloc, schema, bounds)
+            } else {
+                Ok(SchemaReading::Rejected(Reports::Building(reports)))
+            }
+        }
+        Err(error) => first_building_reports(reports, bounds, error),
+    }
+}
+
+/// The first reports, if a check ended with this error because there are more than the bounds keep.
+fn first_building_reports(
+    reports: BuildingReportList,
+    bounds: Bounds,
+    error: ValidationError,
+) -> Result<SchemaReading, ValidationError>
+    ensures { (trees : List document_tree.Document) → All (SchemaBuildingReport trees) (reports_of reports) → IfOk result (JudgesTrees bounds trees) }
+{
+    if is_full_of_building_rules(&reports, bounds) {
+        Ok(SchemaReading::Rejected(Reports::FirstBuilding(reports)))
     } else {
-        Ok(SchemaReading::Rejected(Reports::Building(reports)))
+        Err(error)
     }
 }
 
 /// The schema, if it holds, with its used built-in scalars retained.
-fn validated(alloc: Global, mut schema: Schema) -> Result<SchemaReading, ValidationError>
-    ensures { IfOk result (Judges schema) }
+fn validated(
+    alloc: Global,
+    mut schema: Schema,
+    bounds: Bounds,
+) -> Result<SchemaReading, ValidationError>
+    ensures { IfOk result (Judges bounds schema) }
 {
-    let reports = schema_reports(alloc, &mut schema)?;
+    match schema_reports(alloc, &mut schema, bounds)? {
+        SchemaRuleReports::All(reports) => Ok(reading_of(schema, reports)),
+        SchemaRuleReports::First(rules) => {
+            Ok(SchemaReading::Rejected(Reports::FirstSchemaRules(rules)))
+        }
+    }
+}
+
+/// What a schema comes to, with its used built-in scalars retained, of which the rules report this.
+fn reading_of(schema: Schema, reports: SchemaReports) -> SchemaReading
+    ensures { (bounds : source_bounds.Bounds) (given : schema_type.Schema) → SchemaRetainsUsedBuiltInScalars given schema → AreReportsOfSchema given schema reports →
+        Judges bounds given result }
+{
     if !reports.is_empty() {
-        Ok(SchemaReading::Rejected(Reports::SchemaRules(reports)))
+        SchemaReading::Rejected(Reports::SchemaRules(reports))
     } else if has_types_of_meta_fields(&schema) {
-        Ok(SchemaReading::Accepted(schema))
+        SchemaReading::Accepted(schema)
     } else {
-        Ok(SchemaReading::LacksIntrospection)
+        SchemaReading::LacksIntrospection
     }
 }

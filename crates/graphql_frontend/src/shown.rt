@@ -5,14 +5,15 @@ ghost use Rattle.std.specs.List.{AllZip};
 ghost use Rattle.graphql_parser.specs.declared.bounds.Bounds as source_bounds;
 ghost use Rattle.graphql_frontend.specs.declared.reports.Reports.TheVariants as all_reports;
 ghost use Rattle.graphql_frontend.specs.declared.texts.SourceText as source_text;
-ghost use Rattle.graphql_frontend.specs.Shown.{Shows, ShowsBuilding, ShowsEntry, ShowsMisuse, ShowsMore, ShowsNesting, ShowsReach, ShowsRepetition, ShowsSyntax, build_error_original, building_original, details_message, details_original, diagnostic_original, error_end, error_span, listed, narrow, path_limit, text_of, validation_message};
+ghost use Rattle.graphql_frontend.specs.Shown.{Shows, ShowsBuilding, ShowsEntry, ShowsMisuse, ShowsMore, ShowsNesting, ShowsReach, ShowsRepetition, ShowsSyntax, ShowsThatMore, ShowsWork, build_error_original, building_original, details_message, details_original, diagnostic_original, error_end, error_span, listed, narrow, path_limit, text_of, validation_message};
 
 use crate::build_error_messages::BuildErrorMessage;
 use crate::reports::{DocumentReports, Reports, SchemaReports};
 use crate::rule_names::{building_rule, details_rule};
 use crate::texts::{SourceText, SyntaxReport};
-use graphql_building_reports::{BuildingReport, BuildingRule};
-use graphql_diagnostics::{BuildError, Details, DiagnosticData, DiagnosticEntry};
+use crate::work::WorkReport;
+use graphql_building_reports::{BuildingReport, BuildingReportList, BuildingRule};
+use graphql_diagnostics::{BuildError, Details, DiagnosticData, DiagnosticEntry, DiagnosticList};
 use graphql_input_rules::InputFieldRepetition;
 use graphql_nesting::NestingReport;
 use graphql_nodes::{FileId, SourceSpan, ValidationError};
@@ -24,6 +25,9 @@ use std::alloc::{AllocError, Global};
 
 /// What is said where a walk passes a limit that its report does not tell.
 const RECURSION_MESSAGE: &str = "too much recursion: a limit is passed, and no rule is broken";
+
+/// What is said if there are more reports than are kept.
+const MORE_MESSAGE: &str = "there are more reports than are kept";
 
 /// How many fragments a path of spreads may have.
 const FRAGMENT_LIMIT: usize = 100;
@@ -48,6 +52,7 @@ pub struct ShownReport {
 /// allocation.
 ///
 /// Of a document, the rules of validation come first, then undefined variables, repeated input fields, and usages of variables.
+/// If there are more reports than are kept, the last one says so.
 pub fn shown_reports(
     alloc: Global,
     reports: &Reports,
@@ -78,10 +83,14 @@ fn push_reports(
         Reports::Building(list) => {
             push_building(alloc, first(list.iter().as_slice(), most), shown)
         }
+        Reports::FirstBuilding(list) => push_first_building(alloc, list, most, shown),
         Reports::Nesting(report) => push_nesting(alloc, report, most, shown),
         Reports::Reach(report) => push_reach(alloc, report, most, shown),
+        Reports::Work(report) => push_work(alloc, report, most, shown),
         Reports::SchemaRules(reports) => push_schema(alloc, reports, most, shown),
         Reports::DocumentRules(reports) => push_document(alloc, reports, most, shown),
+        Reports::FirstSchemaRules(rules) => push_first_rules(alloc, rules, most, shown),
+        Reports::FirstDocumentRules(rules) => push_first_rules(alloc, rules, most, shown),
     }
 }
 
@@ -127,6 +136,51 @@ fn push_document(
     push_repetitions(alloc, first(&reports.input_fields, left), shown)?;
     let left = left.saturating_sub(reports.input_fields.len());
     push_misuses(alloc, first(&reports.usages, left), shown)
+}
+
+/// Adds the first rules that keep texts from making a schema or a document, and that there are more: at most so many reports.
+fn push_first_building(
+    alloc: Global,
+    list: &BuildingReportList,
+    most: usize,
+    shown: &mut Vec<ShownReport>,
+) -> Result<(), ValidationError>
+    ensures { (sources : List source_text.SourceText) (bounds : source_bounds.Bounds) →
+        OnOk result (ShowsMore (Shows sources bounds) (take most (listed (all_reports.FirstBuilding list.now))) shown.old.items shown.new.items) }
+{
+    let reports = list.iter().as_slice();
+    push_building(alloc, first(reports, most), shown)?;
+    push_more(alloc, most.saturating_sub(reports.len()), shown)
+}
+
+/// Adds the first rules of validation, and that there are more: at most so many reports.
+fn push_first_rules(
+    alloc: Global,
+    list: &DiagnosticList,
+    most: usize,
+    shown: &mut Vec<ShownReport>,
+) -> Result<(), ValidationError>
+    ensures { (sources : List source_text.SourceText) (bounds : source_bounds.Bounds) →
+        OnOk result (ShowsMore (Shows sources bounds) (take most (listed (all_reports.FirstDocumentRules list.now))) shown.old.items shown.new.items) }
+{
+    let rules = list.iter().as_slice();
+    push_rules(alloc, first(rules, most), shown)?;
+    push_more(alloc, most.saturating_sub(rules.len()), shown)
+}
+
+/// Adds that there are more reports than are kept, if there may be one report.
+fn push_more(
+    alloc: Global,
+    most: usize,
+    shown: &mut Vec<ShownReport>,
+) -> Result<(), ValidationError>
+    ensures { OnOk result (ShowsMore ShowsThatMore (take most (tt ∷ [])) shown.old.items shown.new.items) }
+{
+    if most == 0 {
+        return Ok(());
+    }
+    shown.push(shown_more(alloc)?)?;
+    Ok(())
 }
 
 /// Adds texts that are no documents.
@@ -191,6 +245,22 @@ fn push_reach(
     Ok(())
 }
 
+/// Adds a document whose fields take too much work to compare, if there may be one report.
+fn push_work(
+    alloc: Global,
+    report: &WorkReport,
+    most: usize,
+    shown: &mut Vec<ShownReport>,
+) -> Result<(), ValidationError>
+    ensures { OnOk result (ShowsMore ShowsWork (take most (report.now ∷ [])) shown.old.items shown.new.items) }
+{
+    if most == 0 {
+        return Ok(());
+    }
+    shown.push(shown_work(alloc, report)?)?;
+    Ok(())
+}
+
 /// Adds rules of validation.
 fn push_rules(
     alloc: Global,
@@ -251,6 +321,28 @@ fn shown_reach(alloc: Global, report: &ReachReport) -> Result<ShownReport, Valid
         location: report.location,
         rule: "ReachesTooMuch",
         message: report.to_string(alloc)?,
+        original: None,
+    })
+}
+
+fn shown_work(alloc: Global, report: &WorkReport) -> Result<ShownReport, ValidationError>
+    ensures { IfOk result (ShowsWork report.now) }
+{
+    Ok(ShownReport {
+        location: report.location,
+        rule: "TakesTooMuch",
+        message: report.to_string(alloc)?,
+        original: None,
+    })
+}
+
+fn shown_more(alloc: Global) -> Result<ShownReport, ValidationError>
+    ensures { IfOk result (ShowsThatMore tt) }
+{
+    Ok(ShownReport {
+        location: None,
+        rule: "MoreReports",
+        message: String::from_str(alloc, MORE_MESSAGE)?,
         original: None,
     })
 }

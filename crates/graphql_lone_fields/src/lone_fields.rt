@@ -5,7 +5,7 @@ ghost use Rattle.graphql_documents.specs.Selections.{fragments_of};
 ghost use Rattle.graphql_specification.specs.Merging.{set_of};
 ghost use Rattle.graphql_merging.specs.FieldSelections.{listed, selection_of};
 ghost use Rattle.graphql_lone_fields.specs.CountedSteps.{Paid};
-ghost use Rattle.graphql_lone_fields.specs.LoneFields.{HasLoneFields};
+ghost use Rattle.graphql_lone_fields.specs.LoneFields.{HasLoneFields, HasLoneFieldsWithin};
 
 use crate::counted_expansion::expand_within;
 use crate::keys::have_different_keys;
@@ -24,8 +24,8 @@ const LEVELS: usize = 100;
 /// operation's set, and of the set of each field on the way down, is that of one field alone. Then all fields can merge
 /// (`lone_fields_can_merge`), and nothing has to be put together or compared.
 ///
-/// The search visits at most `most` selections, counting each visit, and enters at most 100 nested sets. If an operation needs
-/// more of either, the answer is no. The only error is a failed allocation. `have_lone_fields_in_steps`, which this calls, bounds
+/// The search visits at most `most` selections, counting each visit, and enters at most 100 nested sets that select something
+/// (`depth`). If an operation needs more of either, the answer is no. The only error is a failed allocation. `have_lone_fields_in_steps`, which this calls, bounds
 /// the number of steps.
 ///
 /// Specification: 5.3.2 Field Selection Merging.
@@ -35,7 +35,8 @@ pub fn have_lone_fields(
     operations: &[&Node<Operation>],
     most: usize,
 ) -> Result<bool, ValidationError>
-    ensures { IfOk result (λ lone. IsTrue lone → All (λ o. HasLoneFields (fragments_of document.now) o.now.value.value.selection_set) operations.now) }
+    ensures lone { IfOk result (λ lone. IsTrue lone → All (λ o. HasLoneFields (fragments_of document.now) o.now.value.value.selection_set) operations.now) }
+    ensures depth { IfOk result (λ lone. IsTrue lone → All (λ o. HasLoneFieldsWithin (fragments_of document.now) 100 o.now.value.value.selection_set) operations.now) }
 {
     have_lone_fields_uncounted::<Brand>(alloc, document, operations, most, Blank::new(1))
 }
@@ -51,7 +52,8 @@ fn have_lone_fields_uncounted<L: Ledger>(
     requires name { blank.name ≡ L.name }
     requires parts { blank.parts ≡ L.parts }
     requires some { 0 < blank.parts }
-    ensures { IfOk result (λ lone. IsTrue lone → All (λ o. HasLoneFields (fragments_of document.now) o.now.value.value.selection_set) operations.now) }
+    ensures lone { IfOk result (λ lone. IsTrue lone → All (λ o. HasLoneFields (fragments_of document.now) o.now.value.value.selection_set) operations.now) }
+    ensures depth { IfOk result (λ lone. IsTrue lone → All (λ o. HasLoneFieldsWithin (fragments_of document.now) 100 o.now.value.value.selection_set) operations.now) }
 {
     let mut steps = Steps::<L>::new(blank);
     have_lone_fields_in_steps(alloc, document, operations, most, &mut steps)
@@ -68,6 +70,7 @@ pub fn have_lone_fields_in_steps<L: Ledger>(
     steps: &mut Steps<L>,
 ) -> Result<bool, ValidationError>
     ensures lone { IfOk result (λ lone. IsTrue lone → All (λ o. HasLoneFields (fragments_of document.now) o.now.value.value.selection_set) operations.now) }
+    ensures depth { IfOk result (λ lone. IsTrue lone → All (λ o. HasLoneFieldsWithin (fragments_of document.now) 100 o.now.value.value.selection_set) operations.now) }
     ensures cost { steps.new ≤ steps.old + 20 * most + 3 * length operations.now }
 {
     let mut search = LoneFieldSearch {
@@ -102,7 +105,7 @@ impl<'doc> LoneFieldSearch<'doc> {
         steps: &mut Steps<L>,
     ) -> Result<bool, ValidationError>
         ensures document { self.new.document ≡ self.old.document }
-        ensures lone { IfOk result (λ lone. IsTrue lone → HasLoneFields (fragments_of self.old.document.now) set.now) }
+        ensures lone { IfOk result (λ lone. IsTrue lone → HasLoneFieldsWithin (fragments_of self.old.document.now) levels set.now) }
         ensures cost { Paid self.old.left steps.old self.new.left steps.new 2 }
     {
         steps.take(1);
@@ -129,7 +132,7 @@ impl<'doc> LoneFieldSearch<'doc> {
         steps: &mut Steps<L>,
     ) -> Result<bool, ValidationError>
         ensures document { self.new.document ≡ self.old.document }
-        ensures lone { IfOk result (λ lone. IsTrue lone → All (λ x. HasLoneFields (fragments_of self.old.document.now) (set_of x)) (listed fields.now)) }
+        ensures lone { IfOk result (λ lone. IsTrue lone → All (λ x. HasLoneFieldsWithin (fragments_of self.old.document.now) levels (set_of x)) (listed fields.now)) }
         ensures cost { Paid self.old.left steps.old self.new.left steps.new (3 * length fields.now) }
     {
         for field in fields {
@@ -150,7 +153,7 @@ impl<'doc> LoneFieldSearch<'doc> {
         steps: &mut Steps<L>,
     ) -> Result<bool, ValidationError>
         ensures document { self.new.document ≡ self.old.document }
-        ensures lone { IfOk result (λ lone. IsTrue lone → HasLoneFields (fragments_of self.old.document.now) (set_of (selection_of field.entry))) }
+        ensures lone { IfOk result (λ lone. IsTrue lone → HasLoneFieldsWithin (fragments_of self.old.document.now) levels (set_of (selection_of field.entry))) }
         ensures cost { Paid self.old.left steps.old self.new.left steps.new 2 }
     {
         let set = &field.field.value.selection_set;

@@ -5,3 +5,4 @@ pub mod Meetings
 pub mod NumberedSets
 pub mod Pairs
 pub mod Parents
+pub mod Works

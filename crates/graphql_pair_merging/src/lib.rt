@@ -8,3 +8,4 @@ mod joined_sets;
 pub mod merging;
 mod numbered_sets;
 mod pairs;
+pub mod work;

@@ -1,7 +1,7 @@
 //! Whether all fields of operations that come together in a response agree.
 
 ghost use Rattle.std.specs.List.{Any};
-ghost use Rattle.std.specs.Prelude.{◌≡◌, ◌↔◌, [], All, IfOk, MatchOption, OnOk};
+ghost use Rattle.std.specs.Prelude.{◌≡◌, ◌↔◌, [], All, IfOk, IsErrOf, IsFalse, IsTrue, MatchOption, OnOk};
 ghost use Rattle.graphql_diagnostics.specs.Diagnostics.{entries};
 ghost use Rattle.graphql_diagnostics.specs.Reports.{Appends, KeepsReports};
 ghost use Rattle.graphql_documents.specs.Selections.{fragments_of};
@@ -10,10 +10,13 @@ ghost use Rattle.graphql_merging.specs.ExpansionSteps.{fragments_in};
 ghost use Rattle.graphql_specification.specs.MergedSets.{MeetingFieldsAgree};
 ghost use Rattle.graphql_pair_merging.specs.Meetings.{IsMetConflict};
 ghost use Rattle.graphql_pair_merging.specs.NumberedSets.{operation_sets};
+ghost use Rattle.graphql_pair_merging.specs.Works.{IsPassed, most_of};
+ghost use Rattle.graphql_pair_merging.specs.declared.work.Interruption.TheVariants.{OutOfWork};
 
 use super::disagreements::Conflict;
 use super::numbered_sets::number_sets;
 use super::pairs::PairPass;
+use super::work::{Interruption, PairWork};
 use graphql_diagnostics::DiagnosticList;
 use graphql_documents::documents::{ExecutableDocument, Fragment, Operation, Schema};
 use graphql_hash_seeds::HashSeed;
@@ -44,10 +47,42 @@ pub fn merge_by_pairs(
         (λ e. Any (λ o. MergingReport schema.now (fragments_of document.now) o.now.value.value.selection_set e.details e.location) operations.now)
         (entries diagnostics.old) (entries diagnostics.new) }
 {
+    let mut work = PairWork::new(usize::MAX);
+    let decided = merge_by_pairs_within(diagnostics, schema, document, operations, &mut work)?;
+    let counted = work.counted();
+    prove!(decided && counted <= usize::MAX);
+    Ok(())
+}
+
+/// As `merge_by_pairs`, but answers whether the operations were decided. They were, unless the work that was counted passes its
+/// bound. Then the search stops, and nothing is reported. What was counted before the call counts too, and the bound stays.
+///
+/// Specification: 5.3.2 Field Selection Merging.
+pub fn merge_by_pairs_within(
+    diagnostics: &mut DiagnosticList,
+    schema: &Schema,
+    document: &ExecutableDocument,
+    operations: &[&Node<Operation>],
+    work: &mut PairWork,
+) -> Result<bool, ValidationError>
+    ensures decides { IfOk result (λ decided. IsTrue decided → Appends
+        (λ added. (added ≡ []) ↔ All (λ o. FieldsCanMerge schema.now (fragments_of document.now) o.now.value.value.selection_set) operations.now)
+        (entries diagnostics.old) (entries diagnostics.new)) }
+    ensures passed { IfOk result (λ decided. IsFalse decided → IsPassed work.new × (entries diagnostics.new ≡ entries diagnostics.old)) }
+    ensures truth { KeepsReports
+        (λ e. Any (λ o. MergingReport schema.now (fragments_of document.now) o.now.value.value.selection_set e.details e.location) operations.now)
+        (entries diagnostics.old) (entries diagnostics.new) }
+    ensures most { most_of work.new ≡ most_of work.old }
+{
     let alloc = diagnostics.allocator();
-    match find_conflict(alloc, schema, &document.fragments, operations)? {
-        Some(conflict) => conflict.report(diagnostics),
-        None => Ok(()),
+    match find_conflict(alloc, schema, &document.fragments, operations, work) {
+        Ok(Some(conflict)) => {
+            conflict.report(diagnostics)?;
+            Ok(true)
+        }
+        Ok(None) => Ok(true),
+        Err(Interruption::OutOfWork) => Ok(false),
+        Err(Interruption::OutOfMemory) => Err(ValidationError::OutOfMemory),
     }
 }
 
@@ -57,10 +92,13 @@ fn find_conflict<'doc>(
     schema: &Schema,
     fragments: &'doc IndexMap<Name, Node<Fragment>, HashSeed>,
     operations: &[&'doc Node<Operation>],
-) -> Result<Option<Conflict<'doc>>, ValidationError>
-    ensures { IfOk result (λ found. MatchOption found
+    work: &mut PairWork,
+) -> Result<Option<Conflict<'doc>>, Interruption>
+    ensures found { IfOk result (λ found. MatchOption found
         (All (MeetingFieldsAgree schema.now (fragments_in fragments.now)) (operation_sets operations.now))
         (IsMetConflict schema.now (fragments_in fragments.now) (operation_sets operations.now))) }
+    ensures most { most_of work.new ≡ most_of work.old }
+    ensures passed { IsErrOf result OutOfWork → IsPassed work.new }
 {
     let hash_seed = *fragments.hasher();
     let numbered = number_sets(alloc, fragments, operations)?;
@@ -71,7 +109,7 @@ fn find_conflict<'doc>(
         sets: &numbered.sets,
         pass: Pass::Shapes,
     };
-    if let Some(conflict) = shapes.find_conflict(&numbered.starts)? {
+    if let Some(conflict) = shapes.find_conflict(&numbered.starts, work)? {
         return Ok(Some(conflict));
     }
     let fields = PairPass {
@@ -81,5 +119,5 @@ fn find_conflict<'doc>(
         sets: &numbered.sets,
         pass: Pass::NamesAndArguments,
     };
-    fields.find_conflict(&numbered.starts)
+    fields.find_conflict(&numbered.starts, work)
 }

@@ -1,6 +1,6 @@
 //! The pairs of sets whose fields come together.
 
-ghost use Rattle.std.specs.Prelude.{◌≡◌, ◌<◌, ◌∷◌, [], ⊤, ℕ, All, Contains, IfOk, IsTrue, List, MatchOption, length, map, true, vec_len};
+ghost use Rattle.std.specs.Prelude.{◌≡◌, ◌<◌, ◌∷◌, [], ⊤, ℕ, All, Contains, IfOk, IsErrOf, IsTrue, List, MatchOption, length, map, true, vec_len};
 ghost use Rattle.graphql_merging.specs.Groups.{pass_of};
 ghost use Rattle.graphql_number_sets.specs.NumberSets.{AreExact, KeepsCliques, numbers_of};
 ghost use Rattle.graphql_pair_merging.specs.FieldGroups.{IsGroupOf, IsGrouped, has_name, names_in};
@@ -8,8 +8,10 @@ ghost use Rattle.graphql_pair_merging.specs.JoinedSets.{Takes};
 ghost use Rattle.graphql_pair_merging.specs.NumberedSets.{HaveArgumentNumbers, HaveNumbers, field_of};
 ghost use Rattle.graphql_pair_merging.specs.Pairs.{AllAgree, AreFieldsAround, AreFieldsOf, AreLinked, AreNamedIn, AreSetsBelow, AreTogether, AreComparable, Both, DecidesAlone, DisagreeAmong, Finds, FindsBelow, FindsIn, HasLooked, LooksAt, Settles, WereLookedAt, lists_at};
 ghost use Rattle.graphql_pair_merging.specs.Parents.{IsInTurn};
+ghost use Rattle.graphql_pair_merging.specs.Works.{IsPassed, most_of};
 ghost use Rattle.graphql_pair_merging.specs.declared.field_groups.GroupedBy.TheVariants.{ParentType, ResponseKey};
 ghost use Rattle.graphql_pair_merging.specs.declared.numbered_sets.NumberedField.{NumberedField};
+ghost use Rattle.graphql_pair_merging.specs.declared.work.Interruption.TheVariants.{OutOfWork};
 ghost use Rattle.graphql_specification.specs.MergedSets.{Agree};
 ghost use Rattle.graphql_specification.specs.Merging.{field_pass};
 
@@ -19,10 +21,12 @@ use super::disagreements::{
 use super::field_groups::{FieldsByName, GroupedBy, add_named_in, group_fields, names_of};
 use super::joined_sets::{JoinedSets, with_fragments};
 use super::numbered_sets::{NumberedField, NumberedSet};
+use super::work::{Interruption, PairWork};
 use graphql_documents::documents::Schema;
 use graphql_hash_seeds::HashSeed;
 use graphql_merging::groups::Pass;
 use graphql_nodes::{Name, ValidationError};
+use graphql_number_sets::distinct_numbers::DistinctNumbers;
 use graphql_number_sets::pair_sets::PairSet;
 use std::alloc::Global;
 
@@ -42,22 +46,26 @@ type Waiting = Vec<Vec<usize>>;
 impl<'s, 'doc> PairPass<'s, 'doc> {
     /// Two fields that come together below one of the sets with these numbers and do not agree, if there are any.
     /// Each pair of sets is looked at once: of a list of sets that come together the ends are looked at with all of the
-    /// list, at once. The only error is a failed allocation.
+    /// list, at once. The search is interrupted if an allocation fails or if it counts more work than it may: the sets of each
+    /// list with the fragments in them, the fields that are listed, grouped and compared, and the pairs of types.
     pub(crate) fn find_conflict(
         &self,
         starts: &[usize],
-    ) -> Result<Option<Conflict<'doc>>, ValidationError>
+        work: &mut PairWork,
+    ) -> Result<Option<Conflict<'doc>>, Interruption>
         requires linked { AreLinked self.now.sets.now }
         requires numbers { HaveArgumentNumbers self.now.sets.now }
         requires within { All (λ number. number < length self.now.sets.now) starts.now }
-        ensures { IfOk result (λ found. MatchOption found
+        ensures found { IfOk result (λ found. MatchOption found
             (HasLooked self.now.schema.now (pass_of self.now.pass) self.now.sets.now starts.now)
             (FindsBelow self.now.schema.now (pass_of self.now.pass) self.now.sets.now starts.now)) }
+        ensures most { most_of work.new ≡ most_of work.old }
+        ensures passed { IsErrOf result OutOfWork → IsPassed work.new }
     {
         let mut waiting = self.each_alone(starts)?;
         let mut looked = PairSet::new(self.alloc, self.sets.len())?;
-        while let Some(joined) = self.next_unlooked(&looked, &mut waiting)? {
-            if let Some(conflict) = self.look_at(&mut waiting, &joined)? {
+        while let Some(joined) = self.next_unlooked(&looked, &mut waiting, work)? {
+            if let Some(conflict) = self.look_at(&mut waiting, work, &joined)? {
                 return Ok(Some(conflict));
             }
             joined.add_to(&mut looked)?;
@@ -83,7 +91,8 @@ impl<'s, 'doc> PairPass<'s, 'doc> {
         &self,
         looked: &PairSet,
         waiting: &mut Waiting,
-    ) -> Result<Option<JoinedSets>, ValidationError>
+        work: &mut PairWork,
+    ) -> Result<Option<JoinedSets>, Interruption>
         requires linked { AreLinked self.now.sets.now }
         requires cliques { KeepsCliques looked.now }
         requires count { vec_len looked.now.rows ≡ length self.now.sets.now }
@@ -94,9 +103,12 @@ impl<'s, 'doc> PairPass<'s, 'doc> {
         ensures taken { IfOk result (λ found. MatchOption found
             (All (WereLookedAt looked.now) (lists_at waiting.old.items))
             (λ joined. Takes self.now.sets.now looked.now (lists_at waiting.old.items) (lists_at waiting.new.items) (numbers_of joined.all) (numbers_of joined.ends))) }
+        ensures most { most_of work.new ≡ most_of work.old }
+        ensures passed { IsErrOf result OutOfWork → IsPassed work.new }
     {
         while let Some(first) = waiting.pop() {
             let all = with_fragments(self.alloc, self.sets, &first)?;
+            work.spend(self.count_steps(&all))?;
             let ends = looked.ends(self.alloc, &all)?;
             if !ends.as_slice().is_empty() {
                 return Ok(Some(JoinedSets { all, ends }));
@@ -105,25 +117,53 @@ impl<'s, 'doc> PairPass<'s, 'doc> {
         Ok(None)
     }
 
+    /// How many sets these are, and how many fragments are in them.
+    fn count_steps(&self, numbers: &DistinctNumbers) -> usize {
+        let mut steps = 0_usize;
+        for number in numbers.as_slice() {
+            if let Some(set) = self.sets.get(*number) {
+                steps = steps.saturating_add(1).saturating_add(set.fragments.len());
+            }
+        }
+        steps
+    }
+
+    /// How many sets these are, and how many fields are in them.
+    fn count_fields(&self, numbers: &DistinctNumbers) -> usize {
+        let mut fields = 0_usize;
+        for number in numbers.as_slice() {
+            if let Some(set) = self.sets.get(*number) {
+                fields = fields.saturating_add(1).saturating_add(set.fields.len());
+            }
+        }
+        fields
+    }
+
     /// Looks at each of the ends with each of the sets: compares their fields, and adds lists of the sets below those that
     /// come together.
     fn look_at(
         &self,
         waiting: &mut Waiting,
+        work: &mut PairWork,
         joined: &JoinedSets,
-    ) -> Result<Option<Conflict<'doc>>, ValidationError>
+    ) -> Result<Option<Conflict<'doc>>, Interruption>
         requires numbers { HaveArgumentNumbers self.now.sets.now }
         requires all_within { All (λ number. number < length self.now.sets.now) (numbers_of joined.now.all) }
         requires ends_within { All (λ number. number < length self.now.sets.now) (numbers_of joined.now.ends) }
         requires among { (number : ℕ) → Contains (numbers_of joined.now.ends) number → Contains (numbers_of joined.now.all) number }
-        ensures { IfOk result (λ found. MatchOption found
+        ensures found { IfOk result (λ found. MatchOption found
             (LooksAt self.now.schema.now (pass_of self.now.pass) self.now.sets.now (numbers_of joined.now.ends) (numbers_of joined.now.all) (lists_at waiting.old.items) (lists_at waiting.new.items))
             (FindsIn self.now.schema.now (pass_of self.now.pass) self.now.sets.now (numbers_of joined.now.all))) }
+        ensures most { most_of work.new ≡ most_of work.old }
+        ensures passed { IsErrOf result OutOfWork → IsPassed work.new }
     {
+        work.spend(self.count_fields(&joined.ends))?;
+        work.spend(self.count_fields(&joined.all))?;
         let fields = self.fields_around(joined.ends.as_slice(), joined.all.as_slice())?;
+        work.spend(fields.len())?;
         let groups = group_fields(self.alloc, self.hash_seed, &fields, GroupedBy::ResponseKey)?;
         let keys = names_of(self.alloc, &groups)?;
-        self.look_by_keys(waiting, &groups, &keys)
+        self.look_by_keys(waiting, work, &groups, &keys)
     }
 
     /// The fields of some sets that may come together with one in an end.
@@ -178,15 +218,18 @@ impl<'s, 'doc> PairPass<'s, 'doc> {
     fn look_by_keys(
         &self,
         waiting: &mut Waiting,
+        work: &mut PairWork,
         groups: &FieldsByName<'doc>,
         keys: &[&'doc Name],
-    ) -> Result<Option<Conflict<'doc>>, ValidationError>
-        ensures { (fields : List NumberedField) → HaveNumbers fields → IsGrouped ResponseKey fields groups.now.entries → keys.now ≡ names_in groups.now.entries → IfOk result (λ found. MatchOption found
+    ) -> Result<Option<Conflict<'doc>>, Interruption>
+        ensures found { (fields : List NumberedField) → HaveNumbers fields → IsGrouped ResponseKey fields groups.now.entries → keys.now ≡ names_in groups.now.entries → IfOk result (λ found. MatchOption found
             (Settles self.now.schema.now (pass_of self.now.pass) fields (Both fields) (lists_at waiting.old.items) (lists_at waiting.new.items))
             (Finds self.now.schema.now (pass_of self.now.pass) fields fields)) }
+        ensures most { most_of work.new ≡ most_of work.old }
+        ensures passed { IsErrOf result OutOfWork → IsPassed work.new }
     {
         for key in keys {
-            if let Some(conflict) = self.look_under_name(waiting, groups, *key)? {
+            if let Some(conflict) = self.look_under_name(waiting, work, groups, *key)? {
                 return Ok(Some(conflict));
             }
         }
@@ -197,15 +240,18 @@ impl<'s, 'doc> PairPass<'s, 'doc> {
     fn look_under_name(
         &self,
         waiting: &mut Waiting,
+        work: &mut PairWork,
         groups: &FieldsByName<'doc>,
         key: &'doc Name,
-    ) -> Result<Option<Conflict<'doc>>, ValidationError>
-        ensures { (fields : List NumberedField) → HaveNumbers fields → IsGrouped ResponseKey fields groups.now.entries → IfOk result (λ found. MatchOption found
+    ) -> Result<Option<Conflict<'doc>>, Interruption>
+        ensures found { (fields : List NumberedField) → HaveNumbers fields → IsGrouped ResponseKey fields groups.now.entries → IfOk result (λ found. MatchOption found
             (Settles self.now.schema.now (pass_of self.now.pass) fields (λ x y. Both fields x y × (has_name ResponseKey key.now x ≡ true)) (lists_at waiting.old.items) (lists_at waiting.new.items))
             (Finds self.now.schema.now (pass_of self.now.pass) fields fields)) }
+        ensures most { most_of work.new ≡ most_of work.old }
+        ensures passed { IsErrOf result OutOfWork → IsPassed work.new }
     {
         match groups.get(&key) {
-            Some(fields) => self.look_under_key(waiting, fields),
+            Some(fields) => self.look_under_key(waiting, work, fields),
             None => Ok(None),
         }
     }
@@ -214,15 +260,19 @@ impl<'s, 'doc> PairPass<'s, 'doc> {
     fn look_under_key(
         &self,
         waiting: &mut Waiting,
+        work: &mut PairWork,
         fields: &[NumberedField<'doc>],
-    ) -> Result<Option<Conflict<'doc>>, ValidationError>
-        ensures { AreComparable fields.now → IfOk result (λ found. MatchOption found
+    ) -> Result<Option<Conflict<'doc>>, Interruption>
+        ensures found { AreComparable fields.now → IfOk result (λ found. MatchOption found
             (Settles self.now.schema.now (pass_of self.now.pass) fields.now (Both fields.now) (lists_at waiting.old.items) (lists_at waiting.new.items))
             (Finds self.now.schema.now (pass_of self.now.pass) fields.now fields.now)) }
+        ensures most { most_of work.new ≡ most_of work.old }
+        ensures passed { IsErrOf result OutOfWork → IsPassed work.new }
     {
         match self.pass {
-            Pass::Shapes => self.look_at_fields(waiting, fields),
+            Pass::Shapes => self.look_at_fields(waiting, work, fields),
             Pass::NamesAndArguments => {
+                work.spend(fields.len())?;
                 let groups = group_fields(
                     self.alloc,
                     self.hash_seed,
@@ -230,7 +280,7 @@ impl<'s, 'doc> PairPass<'s, 'doc> {
                     GroupedBy::ParentType,
                 )?;
                 let parents = names_of(self.alloc, &groups)?;
-                self.look_by_parents(waiting, &groups, &parents)
+                self.look_by_parents(waiting, work, &groups, &parents)
             }
         }
     }
@@ -239,16 +289,21 @@ impl<'s, 'doc> PairPass<'s, 'doc> {
     fn look_by_parents(
         &self,
         waiting: &mut Waiting,
+        work: &mut PairWork,
         groups: &FieldsByName<'doc>,
         parents: &[&'doc Name],
-    ) -> Result<Option<Conflict<'doc>>, ValidationError>
+    ) -> Result<Option<Conflict<'doc>>, Interruption>
         requires { pass_of self.now.pass ≡ field_pass }
-        ensures { (fields : List NumberedField) → AreComparable fields → IsGrouped ParentType fields groups.now.entries → parents.now ≡ names_in groups.now.entries → IfOk result (λ found. MatchOption found
+        ensures found { (fields : List NumberedField) → AreComparable fields → IsGrouped ParentType fields groups.now.entries → parents.now ≡ names_in groups.now.entries → IfOk result (λ found. MatchOption found
             (Settles self.now.schema.now (pass_of self.now.pass) fields (Both fields) (lists_at waiting.old.items) (lists_at waiting.new.items))
             (Finds self.now.schema.now (pass_of self.now.pass) fields fields)) }
+        ensures most { most_of work.new ≡ most_of work.old }
+        ensures passed { IsErrOf result OutOfWork → IsPassed work.new }
     {
         for parent in parents {
-            if let Some(conflict) = self.look_from_parent(waiting, groups, parents, *parent)? {
+            if let Some(conflict) = self.look_from_parent(
+                waiting, work, groups, parents, *parent,
+            )? {
                 return Ok(Some(conflict));
             }
         }
@@ -259,34 +314,40 @@ impl<'s, 'doc> PairPass<'s, 'doc> {
     fn look_from_parent(
         &self,
         waiting: &mut Waiting,
+        work: &mut PairWork,
         groups: &FieldsByName<'doc>,
         parents: &[&'doc Name],
         parent: &'doc Name,
-    ) -> Result<Option<Conflict<'doc>>, ValidationError>
+    ) -> Result<Option<Conflict<'doc>>, Interruption>
         requires { pass_of self.now.pass ≡ field_pass }
-        ensures { (fields : List NumberedField) → AreComparable fields → IsGrouped ParentType fields groups.now.entries → parents.now ≡ names_in groups.now.entries → IfOk result (λ found. MatchOption found
+        ensures found { (fields : List NumberedField) → AreComparable fields → IsGrouped ParentType fields groups.now.entries → parents.now ≡ names_in groups.now.entries → IfOk result (λ found. MatchOption found
             (Settles self.now.schema.now (pass_of self.now.pass) fields (λ x y. Both fields x y × IsInTurn self.now.schema.now x y × (has_name ParentType parent.now x ≡ true)) (lists_at waiting.old.items) (lists_at waiting.new.items))
             (Finds self.now.schema.now (pass_of self.now.pass) fields fields)) }
+        ensures most { most_of work.new ≡ most_of work.old }
+        ensures passed { IsErrOf result OutOfWork → IsPassed work.new }
     {
         let Some(first) = groups.get(&parent) else {
             return Ok(None);
         };
         if may_overlap_others(self.schema, parent) {
-            return self.look_with_parents(waiting, first, groups, parents);
+            return self.look_with_parents(waiting, work, first, groups, parents);
         }
-        self.look_at_one_parent(waiting, first)
+        self.look_at_one_parent(waiting, work, first)
     }
 
     /// Compares the fields on one type with one another, if an object may be of that type.
     fn look_at_one_parent(
         &self,
         waiting: &mut Waiting,
+        work: &mut PairWork,
         fields: &[NumberedField<'doc>],
-    ) -> Result<Option<Conflict<'doc>>, ValidationError>
+    ) -> Result<Option<Conflict<'doc>>, Interruption>
         requires { pass_of self.now.pass ≡ field_pass }
-        ensures { (all : List NumberedField) → AreComparable all → IsGroupOf ParentType all fields.now → IfOk result (λ found. MatchOption found
+        ensures found { (all : List NumberedField) → AreComparable all → IsGroupOf ParentType all fields.now → IfOk result (λ found. MatchOption found
             (Settles self.now.schema.now (pass_of self.now.pass) all (Both fields.now) (lists_at waiting.old.items) (lists_at waiting.new.items))
             (Finds self.now.schema.now (pass_of self.now.pass) all all)) }
+        ensures most { most_of work.new ≡ most_of work.old }
+        ensures passed { IsErrOf result OutOfWork → IsPassed work.new }
     {
         let Some(one) = fields.first() else {
             return Ok(None);
@@ -294,24 +355,28 @@ impl<'s, 'doc> PairPass<'s, 'doc> {
         if !parents_may_overlap(self.schema, one.field, one.field) {
             return Ok(None);
         }
-        self.look_at_fields(waiting, fields)
+        self.look_at_fields(waiting, work, fields)
     }
 
     /// Compares the fields on one type with all of them.
     fn look_with_parents(
         &self,
         waiting: &mut Waiting,
+        work: &mut PairWork,
         first: &[NumberedField<'doc>],
         groups: &FieldsByName<'doc>,
         parents: &[&'doc Name],
-    ) -> Result<Option<Conflict<'doc>>, ValidationError>
+    ) -> Result<Option<Conflict<'doc>>, Interruption>
         requires { pass_of self.now.pass ≡ field_pass }
-        ensures { (fields : List NumberedField) → AreComparable fields → IsGrouped ParentType fields groups.now.entries → IsGroupOf ParentType fields first.now → parents.now ≡ names_in groups.now.entries → IfOk result (λ found. MatchOption found
+        ensures found { (fields : List NumberedField) → AreComparable fields → IsGrouped ParentType fields groups.now.entries → IsGroupOf ParentType fields first.now → parents.now ≡ names_in groups.now.entries → IfOk result (λ found. MatchOption found
             (Settles self.now.schema.now (pass_of self.now.pass) fields (λ x y. Contains first.now x × Contains fields y) (lists_at waiting.old.items) (lists_at waiting.new.items))
             (Finds self.now.schema.now (pass_of self.now.pass) fields fields)) }
+        ensures most { most_of work.new ≡ most_of work.old }
+        ensures passed { IsErrOf result OutOfWork → IsPassed work.new }
     {
+        work.spend(parents.len())?;
         for parent in parents {
-            if let Some(conflict) = self.look_with_parent(waiting, first, groups, *parent)? {
+            if let Some(conflict) = self.look_with_parent(waiting, work, first, groups, *parent)? {
                 return Ok(Some(conflict));
             }
         }
@@ -322,17 +387,20 @@ impl<'s, 'doc> PairPass<'s, 'doc> {
     fn look_with_parent(
         &self,
         waiting: &mut Waiting,
+        work: &mut PairWork,
         first: &[NumberedField<'doc>],
         groups: &FieldsByName<'doc>,
         parent: &'doc Name,
-    ) -> Result<Option<Conflict<'doc>>, ValidationError>
+    ) -> Result<Option<Conflict<'doc>>, Interruption>
         requires { pass_of self.now.pass ≡ field_pass }
-        ensures { (fields : List NumberedField) → AreComparable fields → IsGrouped ParentType fields groups.now.entries → IsGroupOf ParentType fields first.now → IfOk result (λ found. MatchOption found
+        ensures found { (fields : List NumberedField) → AreComparable fields → IsGrouped ParentType fields groups.now.entries → IsGroupOf ParentType fields first.now → IfOk result (λ found. MatchOption found
             (Settles self.now.schema.now (pass_of self.now.pass) fields (λ x y. Contains first.now x × (Contains fields y × (has_name ParentType parent.now y ≡ true))) (lists_at waiting.old.items) (lists_at waiting.new.items))
             (Finds self.now.schema.now (pass_of self.now.pass) fields fields)) }
+        ensures most { most_of work.new ≡ most_of work.old }
+        ensures passed { IsErrOf result OutOfWork → IsPassed work.new }
     {
         match groups.get(&parent) {
-            Some(second) => self.look_at_two_parents(waiting, first, second),
+            Some(second) => self.look_at_two_parents(waiting, work, first, second),
             None => Ok(None),
         }
     }
@@ -341,13 +409,16 @@ impl<'s, 'doc> PairPass<'s, 'doc> {
     fn look_at_two_parents(
         &self,
         waiting: &mut Waiting,
+        work: &mut PairWork,
         first: &[NumberedField<'doc>],
         second: &[NumberedField<'doc>],
-    ) -> Result<Option<Conflict<'doc>>, ValidationError>
+    ) -> Result<Option<Conflict<'doc>>, Interruption>
         requires { pass_of self.now.pass ≡ field_pass }
-        ensures { (fields : List NumberedField) → AreComparable fields → IsGroupOf ParentType fields first.now → IsGroupOf ParentType fields second.now → IfOk result (λ found. MatchOption found
+        ensures found { (fields : List NumberedField) → AreComparable fields → IsGroupOf ParentType fields first.now → IsGroupOf ParentType fields second.now → IfOk result (λ found. MatchOption found
             (Settles self.now.schema.now (pass_of self.now.pass) fields (λ x y. Contains first.now x × Contains second.now y) (lists_at waiting.old.items) (lists_at waiting.new.items))
             (Finds self.now.schema.now (pass_of self.now.pass) fields fields)) }
+        ensures most { most_of work.new ≡ most_of work.old }
+        ensures passed { IsErrOf result OutOfWork → IsPassed work.new }
     {
         let (Some(one), Some(other)) = (first.first(), second.first()) else {
             return Ok(None);
@@ -357,25 +428,37 @@ impl<'s, 'doc> PairPass<'s, 'doc> {
         }
         let mut both = Vec::from_slice(self.alloc, first)?;
         both.extend_from_slice(second)?;
-        self.look_at_fields(waiting, &both)
+        self.look_at_fields(waiting, work, &both)
     }
 
     /// Compares fields of which each two come together, and adds the list of their sets.
     fn look_at_fields(
         &self,
         waiting: &mut Waiting,
+        work: &mut PairWork,
         fields: &[NumberedField<'doc>],
-    ) -> Result<Option<Conflict<'doc>>, ValidationError>
-        ensures { AreTogether self.now.schema.now (pass_of self.now.pass) fields.now → HaveNumbers fields.now → IfOk result (λ found. MatchOption found
+    ) -> Result<Option<Conflict<'doc>>, Interruption>
+        ensures found { AreTogether self.now.schema.now (pass_of self.now.pass) fields.now → HaveNumbers fields.now → IfOk result (λ found. MatchOption found
             (Settles self.now.schema.now (pass_of self.now.pass) fields.now (Both fields.now) (lists_at waiting.old.items) (lists_at waiting.new.items))
             (Finds self.now.schema.now (pass_of self.now.pass) fields.now fields.now)) }
+        ensures most { most_of work.new ≡ most_of work.old }
+        ensures passed { IsErrOf result OutOfWork → IsPassed work.new }
     {
+        work.spend(self.count_comparisons(fields))?;
         if let Some(conflict) = self.conflict_among(fields)? {
             return Ok(Some(conflict));
         }
         let below = self.sets_below(fields)?;
         waiting.push(below)?;
         Ok(None)
+    }
+
+    /// How often one of these fields is compared with one of them.
+    fn count_comparisons(&self, fields: &[NumberedField]) -> usize {
+        match fields.first() {
+            Some(first) if !self.decides_alone(*first) => fields.len().saturating_mul(fields.len()),
+            _ => fields.len(),
+        }
     }
 
     /// The sets of those fields that select something.

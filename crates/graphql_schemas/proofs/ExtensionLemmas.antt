@@ -1,15 +1,20 @@
 -- Extensions that are gathered part by part.
-use Rattle.std.proofs.Common.{◌≡◌, ℕ, ◌+◌, ◌<◌, List, [], ◌∷◌, ◌++◌, get_or, length, map, sym, ap, take, ◌∙◌}
+use Rattle.std.proofs.Common.{◌≡◌, ℕ, ◌+◌, ◌<◌, List, [], ◌∷◌, ◌++◌, get_or, length, map, refl, sym, subst, ap, take, ◌∙◌}
 use Rattle.std.proofs.lemmas.List.{append_assoc, map-append}
 use Rattle.std.proofs.lemmas.List.Elements.{filter_map-append}
+use Rattle.std.proofs.lemmas.List.Folds.{list_any-append}
 use Rattle.std.proofs.lemmas.List.Sums.{fold-append}
+use Rattle.std.specs.Bool.{OnFalse}
 use Rattle.std.specs.List.{list_any}
-use Rattle.std.specs.Prelude.{◌==◌, false, true, fold, filter_map, if◌then◌else◌}
+use Rattle.std.specs.HashSet.{Updates, contains}
+use Rattle.std.specs.Prelude.{◌==◌, ◌||◌, Bool, cond, false, true, fold, filter_map, if◌then◌else◌, nat_eq, not}
 use Rattle.graphql_documents.specs.Extensions.{extension_in, extensions_among, extensions_in, with_extension}
 use Rattle.graphql_documents.specs.declared.documents.components.ComponentOrigin.TheVariants as origin
 use Rattle.graphql_documents.specs.declared.documents.components.ComponentOrigin.{ComponentOrigin}
 use Rattle.graphql_documents.specs.declared.documents.components.ExtensionId.{ExtensionId}
 use Rattle.graphql_documents.proofs.ListLemmas.{more_is}
+use Rattle.graphql_schemas.specs.FoundExtensions.{HasTheirNumbers}
+use Rattle.graphql_schemas.specs.declared.extensions.FoundExtensions.{FoundExtensions}
 
 -- those of some parts, and then of more
 pub among_then : (known : List ExtensionId) (xs ys : List ComponentOrigin) →
@@ -52,3 +57,41 @@ pub gathered_three : (a b c : List ComponentOrigin) {start first second found : 
 gathered_three a b c none one two three =
     three ∙ ap (λ known. extensions_among known c) (gathered_two a b none one two) ∙ among_then [] (a ++ b) c ∙
     ap extensions_in (append_assoc a b c)
+
+-- whether the number of an extension was there, from what the set answers
+module _ (found : FoundExtensions) (e : ExtensionId) (is_new : Bool) (has : HasTheirNumbers found) (added : is_new ≡ not (contains nat_eq found.numbers e.number)) where
+  pub is_none : is_new ≡ true → list_any (λ (k : ExtensionId). k.number == e.number) found.extensions.items ≡ false
+  is_none is = sym (has.each e.number) ∙ turned (contains nat_eq found.numbers e.number) (sym added ∙ is) where
+    turned : (b : Bool) → not b ≡ true → b ≡ false
+    turned true h = sym h
+    turned false h = refl
+
+  pub is_among : is_new ≡ false → list_any (λ (k : ExtensionId). k.number == e.number) found.extensions.items ≡ true
+  is_among is = sym (has.each e.number) ∙ turned (contains nat_eq found.numbers e.number) (sym added ∙ is) where
+    turned : (b : Bool) → not b ≡ false → b ≡ true
+    turned true h = refl
+    turned false h = sym h
+
+-- an extension more, and its number
+pub numbers_more : (old new : FoundExtensions) (e : ExtensionId) → HasTheirNumbers old → Updates nat_eq old.numbers new.numbers e.number true →
+    new.extensions.items ≡ old.extensions.items ++ e ∷ [] → HasTheirNumbers new
+numbers_more old new e has updates more = record {
+  each = λ number.
+      updates.0 number ∙ ap (cond (e.number == number) true) (has.each number) ∙
+      sym (ap (list_any (is number)) more ∙ list_any-append (is number) old.extensions.items (e ∷ []) ∙ either (list_any (is number) old.extensions.items) (e.number == number));
+} where
+  is : ℕ → ExtensionId → Bool
+  is number k = k.number == number
+
+  either : (a b : Bool) → (a || (b || false)) ≡ cond b true a
+  either true true = refl
+  either true false = refl
+  either false true = refl
+  either false false = refl
+
+-- a number that was there
+pub numbers_same : (old new : FoundExtensions) (is_new : Bool) → HasTheirNumbers old → OnFalse is_new (new.numbers.keys ≡ old.numbers.keys) → is_new ≡ false →
+    new.extensions.items ≡ old.extensions.items → HasTheirNumbers new
+numbers_same old new is_new has unchanged is items = record {
+  each = λ number. ap (list_any (nat_eq number)) (subst (λ b. OnFalse b (new.numbers.keys ≡ old.numbers.keys)) is unchanged) ∙ has.each number ∙ sym (ap (list_any (λ (k : ExtensionId). k.number == number)) items);
+}

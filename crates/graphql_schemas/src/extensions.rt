@@ -1,9 +1,9 @@
 //! The extensions that make up a type definition.
 
-ghost use Rattle.std.specs.Prelude.{◌≡◌, ◌==◌, ◌∷◌, [], IfOk, OnOk, map};
-ghost use Rattle.std.specs.List.{list_any};
+ghost use Rattle.std.specs.Prelude.{◌≡◌, ◌∷◌, [], IfOk, OnOk, map};
 ghost use Rattle.graphql_documents.specs.Extensions.{extensions_among, extensions_in, origins_of};
 ghost use Rattle.graphql_documents.specs.declared.documents.schemas.ExtendedType.TheVariants as types;
+ghost use Rattle.graphql_schemas.specs.FoundExtensions.{HasTheirNumbers};
 
 use graphql_documents::documents::{
     Component, ComponentName, ComponentOrigin, EnumType, ExtendedType, ExtensionId,
@@ -12,6 +12,27 @@ use graphql_documents::documents::{
 use graphql_nodes::{Name, Node, SourceSpan, ValidationError};
 use indexmap::IndexMap;
 use std::alloc::Global;
+use std::collections::HashSet;
+
+/// Extensions that were found, each once, and the set of their numbers.
+#[derive(Drop)]
+struct FoundExtensions {
+    extensions: Vec<ExtensionId>,
+    numbers: HashSet<u32>,
+}
+
+impl FoundExtensions {
+    /// None. This takes no memory.
+    fn none(alloc: Global) -> FoundExtensions
+        ensures extensions { result.extensions.items ≡ [] }
+        ensures numbers { HasTheirNumbers result }
+    {
+        FoundExtensions {
+            extensions: Vec::new(alloc),
+            numbers: HashSet::new(alloc),
+        }
+    }
+}
 
 /// The different extensions in which the directives of a type, its interfaces and its contents were written,
 /// in that order. The only error is a failed allocation.
@@ -54,9 +75,9 @@ fn scalar_extensions(
 ) -> Result<Vec<ExtensionId>, ValidationError>
     ensures { IfOk result (λ found. found.items ≡ extensions_in (origins_of (types.Scalar scalar.now))) }
 {
-    let mut found = Vec::new(alloc);
+    let mut found = FoundExtensions::none(alloc);
     add_components(&mut found, &scalar.value.directives)?;
-    Ok(found)
+    Ok(found.extensions)
 }
 
 /// The extensions that make up an object. The only error is a failed allocation.
@@ -68,11 +89,11 @@ pub fn object_extensions(
 ) -> Result<Vec<ExtensionId>, ValidationError>
     ensures { IfOk result (λ found. found.items ≡ extensions_in (origins_of (types.Object object.now))) }
 {
-    let mut found = Vec::new(alloc);
+    let mut found = FoundExtensions::none(alloc);
     add_components(&mut found, &object.value.directives)?;
     add_names(&mut found, object.value.implements_interfaces.as_slice())?;
     add_entries(&mut found, &object.value.fields)?;
-    Ok(found)
+    Ok(found.extensions)
 }
 
 /// The extensions that make up an interface. The only error is a failed allocation.
@@ -84,11 +105,11 @@ pub fn interface_extensions(
 ) -> Result<Vec<ExtensionId>, ValidationError>
     ensures { IfOk result (λ found. found.items ≡ extensions_in (origins_of (types.Interface interface.now))) }
 {
-    let mut found = Vec::new(alloc);
+    let mut found = FoundExtensions::none(alloc);
     add_components(&mut found, &interface.value.directives)?;
     add_names(&mut found, interface.value.implements_interfaces.as_slice())?;
     add_entries(&mut found, &interface.value.fields)?;
-    Ok(found)
+    Ok(found.extensions)
 }
 
 /// The extensions that make up a union. The only error is a failed allocation.
@@ -100,10 +121,10 @@ pub fn union_extensions(
 ) -> Result<Vec<ExtensionId>, ValidationError>
     ensures { IfOk result (λ found. found.items ≡ extensions_in (origins_of (types.Union union.now))) }
 {
-    let mut found = Vec::new(alloc);
+    let mut found = FoundExtensions::none(alloc);
     add_components(&mut found, &union.value.directives)?;
     add_names(&mut found, union.value.members.as_slice())?;
-    Ok(found)
+    Ok(found.extensions)
 }
 
 /// The extensions that make up an enum. The only error is a failed allocation.
@@ -115,10 +136,10 @@ pub fn enum_extensions(
 ) -> Result<Vec<ExtensionId>, ValidationError>
     ensures { IfOk result (λ found. found.items ≡ extensions_in (origins_of (types.Enum enum_type.now))) }
 {
-    let mut found = Vec::new(alloc);
+    let mut found = FoundExtensions::none(alloc);
     add_components(&mut found, &enum_type.value.directives)?;
     add_entries(&mut found, &enum_type.value.values)?;
-    Ok(found)
+    Ok(found.extensions)
 }
 
 /// The extensions that make up an input object. The only error is a failed allocation.
@@ -130,18 +151,20 @@ pub fn input_object_extensions(
 ) -> Result<Vec<ExtensionId>, ValidationError>
     ensures { IfOk result (λ found. found.items ≡ extensions_in (origins_of (types.InputObject input_object.now))) }
 {
-    let mut found = Vec::new(alloc);
+    let mut found = FoundExtensions::none(alloc);
     add_components(&mut found, &input_object.value.directives)?;
     add_entries(&mut found, &input_object.value.fields)?;
-    Ok(found)
+    Ok(found.extensions)
 }
 
 /// Adds the extensions in which components of a list were written, unless they are there.
 fn add_components<T: Drop>(
-    found: &mut Vec<ExtensionId>,
+    found: &mut FoundExtensions,
     components: &[Component<T>],
 ) -> Result<(), ValidationError>
-    ensures { OnOk result (found.new.items ≡ extensions_among found.old.items (map (λ c. c.origin) components.now)) }
+    requires { HasTheirNumbers found.old }
+    ensures extensions { OnOk result (found.new.extensions.items ≡ extensions_among found.old.extensions.items (map (λ c. c.origin) components.now)) }
+    ensures numbers { OnOk result (HasTheirNumbers found.new) }
 {
     for component in components {
         add_extension(found, &component.origin)?;
@@ -150,8 +173,10 @@ fn add_components<T: Drop>(
 }
 
 /// The same of names in a list.
-fn add_names(found: &mut Vec<ExtensionId>, names: &[ComponentName]) -> Result<(), ValidationError>
-    ensures { OnOk result (found.new.items ≡ extensions_among found.old.items (map (λ c. c.origin) names.now)) }
+fn add_names(found: &mut FoundExtensions, names: &[ComponentName]) -> Result<(), ValidationError>
+    requires { HasTheirNumbers found.old }
+    ensures extensions { OnOk result (found.new.extensions.items ≡ extensions_among found.old.extensions.items (map (λ c. c.origin) names.now)) }
+    ensures numbers { OnOk result (HasTheirNumbers found.new) }
 {
     for name in names {
         add_extension(found, &name.origin)?;
@@ -161,10 +186,12 @@ fn add_names(found: &mut Vec<ExtensionId>, names: &[ComponentName]) -> Result<()
 
 /// The same of components that are under names.
 fn add_entries<T: Drop>(
-    found: &mut Vec<ExtensionId>,
+    found: &mut FoundExtensions,
     entries: &IndexMap<Name, Component<T>>,
 ) -> Result<(), ValidationError>
-    ensures { OnOk result (found.new.items ≡ extensions_among found.old.items (map (λ e. e.1.origin) entries.now.entries)) }
+    requires { HasTheirNumbers found.old }
+    ensures extensions { OnOk result (found.new.extensions.items ≡ extensions_among found.old.extensions.items (map (λ e. e.1.origin) entries.now.entries)) }
+    ensures numbers { OnOk result (HasTheirNumbers found.new) }
 {
     for (_, component) in entries {
         add_extension(found, &component.origin)?;
@@ -174,23 +201,19 @@ fn add_entries<T: Drop>(
 
 /// Adds the extension in which a part was written, if there is one, unless it is there.
 fn add_extension(
-    found: &mut Vec<ExtensionId>,
+    found: &mut FoundExtensions,
     origin: &ComponentOrigin,
 ) -> Result<(), ValidationError>
-    ensures { OnOk result (found.new.items ≡ extensions_among found.old.items (origin.now ∷ [])) }
+    requires { HasTheirNumbers found.old }
+    ensures extensions { OnOk result (found.new.extensions.items ≡ extensions_among found.old.extensions.items (origin.now ∷ [])) }
+    ensures numbers { OnOk result (HasTheirNumbers found.new) }
 {
     let ComponentOrigin::Extension(extension) = origin else {
         return Ok(());
     };
-    if !is_known(found, extension.number) {
-        found.push(*extension)?;
+    let is_new = found.numbers.insert(extension.number)?;
+    if is_new {
+        found.extensions.push(*extension)?;
     }
     Ok(())
-}
-
-/// Whether an extension of this number is there.
-fn is_known(found: &[ExtensionId], number: u32) -> bool
-    ensures { result ≡ list_any (λ known. known.number == number) found.now }
-{
-    found.iter().any(|known| known.number == number)
 }

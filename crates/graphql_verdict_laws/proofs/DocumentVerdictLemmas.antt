@@ -10,10 +10,10 @@ use Rattle.graphql_document_building.specs.Trees.{anonymous_operations_in, fragm
 use Rattle.graphql_documents.specs.Contents.{SameIfAny}
 use Rattle.graphql_documents.specs.declared.documents.executables.ExecutableDocument.{ExecutableDocument}
 use Rattle.graphql_documents.specs.declared.documents.schemas.Schema.{Schema}
-use Rattle.graphql_frontend.specs.Documents.{EveryRuleHolds, IsBuiltFor, IsReachReport, JudgesDocument, JudgesTree, ReachesWithinBounds, ValidatesDocument, ValidatesDocuments, are_documents, are_not_all_documents, bytes_of, counted_bytes, does_not_build, is_built, is_document, is_no_document, most_reached, passes_its_bytes, passes_the_bounds, reaches_its_bytes, reaches_more}
+use Rattle.graphql_frontend.specs.Documents.{EveryRuleHolds, IsBuiltFor, IsReachReport, JudgesDocument, JudgesTree, ReachesWithinBounds, ValidatesDocument, ValidatesDocuments, are_documents, are_not_all_documents, breaks_more, bytes_of, counted_bytes, does_not_build, is_built, is_document, is_no_document, most_reached, passes_its_bytes, passes_the_bounds, reaches_its_bytes, reaches_more}
 use Rattle.graphql_frontend.specs.Texts.{IsDocumentOf}
 use Rattle.graphql_frontend.specs.declared.reports.Reports.{Reports}
-use Rattle.graphql_frontend.specs.declared.reports.Reports.TheVariants.{Syntax, Building, Nesting, Reach, SchemaRules, DocumentRules}
+use Rattle.graphql_frontend.specs.declared.reports.Reports.TheVariants.{Syntax, Building, FirstBuilding, Nesting, Reach, Work, SchemaRules, FirstSchemaRules, DocumentRules, FirstDocumentRules}
 use Rattle.graphql_frontend.specs.declared.texts.SourceText.{SourceText}
 use Rattle.graphql_nodes.specs.Names.{AreDistinct}
 use Rattle.graphql_nesting.proofs.ExclusionLemmas.{report_excludes}
@@ -67,6 +67,7 @@ record ValidTree (bounds : Bounds) (bytes : ℕ) (schema : Option Schema) (tree 
 module _ (bounds : Bounds) (bytes : ℕ) where
   valid_tree : (schema : Option Schema) (tree : Document) (o : Option Reports) → JudgesTree bounds bytes schema tree o → o ≡ None → ValidTree bounds bytes schema tree
   valid_tree schema tree o (does_not_build no_build some each) e = absurd (let no : ⊥ = cc in no)
+  valid_tree schema tree o (breaks_more first) e = absurd (let no : ⊥ = cc in no)
   valid_tree schema tree o (is_built built builds says for judges) e =
       let judged = subst (JudgesDocument bounds bytes schema built) e judges in
       record { built = built; builds = builds; says = says; nests = judged.0; reaches = judged.1; rules = judged.2 for }
@@ -92,9 +93,15 @@ module _ (bounds : Bounds) (bytes : ℕ) where
       nothing_reported d says for (Syntax reports) no_limit h = h
       nothing_reported d says for (Building reports) no_limit h = h
       nothing_reported d says for (SchemaRules reports) no_limit h = h
+      nothing_reported d says for (FirstBuilding list) no_limit h = no_limit
+      nothing_reported d says for (FirstSchemaRules list) no_limit h = no_limit
+      nothing_reported d says for (FirstDocumentRules list) no_limit h = no_limit
+      nothing_reported d says for (Work report) no_limit h = no_limit
 
       tree_not_rejected : (o : Option Reports) → JudgesTree bounds bytes b u o → (reports : Reports) → ReportsNoLimit reports → o ≡ Some reports → ⊥
       tree_not_rejected o (does_not_build no_build some each) reports no_limit e = no_build (builds_by_definitions b t u same (builds_too a b schemas t v.builds))
+      tree_not_rejected o (breaks_more {list = list} first) reports no_limit e =
+          subst ReportsNoLimit (let same : reports ≡ FirstBuilding list = cc in same) no_limit
       tree_not_rejected o (is_built d builds says for judges) reports no_limit e =
           nothing_reported d says for reports no_limit (subst (JudgesDocument bounds bytes b d) e judges)
 

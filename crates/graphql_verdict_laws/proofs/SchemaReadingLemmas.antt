@@ -6,10 +6,10 @@ use Rattle.graphql_building_laws.proofs.SameSchemaLemmas.{schema_is_same}
 use Rattle.graphql_building_laws.specs.SameSchemas.{SameSchema}
 use Rattle.graphql_diagnostics.specs.Diagnostics.{IsLimitEntry}
 use Rattle.graphql_documents.specs.declared.documents.schemas.Schema.{Schema}
-use Rattle.graphql_frontend.specs.Schemas.{IsAccepted, Judges, JudgesTrees, ReadsSchema, are_documents, does_not_build, is_built, not_all_are_documents}
+use Rattle.graphql_frontend.specs.Schemas.{IsAccepted, Judges, JudgesTrees, ReadsSchema, are_documents, breaks_more, does_not_build, is_built, not_all_are_documents}
 use Rattle.graphql_frontend.specs.Texts.{IsDocumentOf}
 use Rattle.graphql_frontend.specs.declared.reports.Reports.{Reports}
-use Rattle.graphql_frontend.specs.declared.reports.Reports.TheVariants.{Syntax, Building, Nesting, Reach, SchemaRules, DocumentRules}
+use Rattle.graphql_frontend.specs.declared.reports.Reports.TheVariants.{Syntax, Building, FirstBuilding, Nesting, Reach, Work, SchemaRules, FirstSchemaRules, DocumentRules, FirstDocumentRules}
 use Rattle.graphql_frontend.specs.declared.schemas.SchemaReading.{SchemaReading}
 use Rattle.graphql_frontend.specs.declared.schemas.SchemaReading.TheVariants.{Accepted, LacksIntrospection, Rejected}
 use Rattle.graphql_frontend.specs.declared.texts.SourceText.{SourceText}
@@ -32,16 +32,17 @@ module _ (bounds : Bounds) (sources : List SourceText) where
     says : SchemaSays trees said
     is_accepted : IsAccepted said accepted
 
-  tree_reading : (trees : List Document) → AllZip (IsDocumentOf bounds) sources trees → (r : SchemaReading) → JudgesTrees trees r → (accepted : Schema) →
+  tree_reading : (trees : List Document) → AllZip (IsDocumentOf bounds) sources trees → (r : SchemaReading) → JudgesTrees bounds trees r → (accepted : Schema) →
       r ≡ Accepted accepted → AcceptedReading accepted
   tree_reading trees are r (does_not_build no_build some each) accepted e = absurd (let no : ⊥ = cc in no)
+  tree_reading trees are r (breaks_more first) accepted e = absurd (let no : ⊥ = cc in no)
   tree_reading trees are r (is_built said builds says judges) accepted e = record {
     trees = trees;
     said = said;
     are_documents = are;
     builds = builds;
     says = says;
-    is_accepted = subst (Judges said) e judges;
+    is_accepted = subst (Judges bounds said) e judges;
   }
 
   accepted_reading : (r : SchemaReading) → ReadsSchema bounds sources r → (accepted : Schema) → r ≡ Accepted accepted → AcceptedReading accepted
@@ -54,7 +55,7 @@ module _ (bounds : Bounds) (sources : List SourceText) where
     same_said trees other are says =
         schema_is_same v.trees v.said other v.says (subst (λ ts. SchemaSays ts other) (one_trees bounds sources trees v.trees are v.are_documents) says)
 
-    nothing_reported : (other : Schema) → SameSchema v.said other → (reports : Reports) → ReportsNoLimit reports → Judges other (Rejected reports) → ⊥
+    nothing_reported : (other : Schema) → SameSchema v.said other → (reports : Reports) → ReportsNoLimit reports → Judges bounds other (Rejected reports) → ⊥
     nothing_reported other same (SchemaRules reports) no_limit (some, retained, retains, are) =
         let too = accepted_too v.said other accepted retained same v.is_accepted retains in
         let unlimited : All (λ e. ¬ IsLimitEntry e) are.rules.added = subst (All (λ e. ¬ IsLimitEntry e)) are.rules.appended no_limit in
@@ -64,22 +65,29 @@ module _ (bounds : Bounds) (sources : List SourceText) where
     nothing_reported other same (Nesting reports) no_limit h = h
     nothing_reported other same (Reach reports) no_limit h = h
     nothing_reported other same (DocumentRules reports) no_limit h = h
+    nothing_reported other same (FirstBuilding list) no_limit h = no_limit
+    nothing_reported other same (FirstSchemaRules list) no_limit h = no_limit
+    nothing_reported other same (FirstDocumentRules list) no_limit h = no_limit
+    nothing_reported other same (Work report) no_limit h = no_limit
 
-    trees_not_rejected : (trees : List Document) → AllZip (IsDocumentOf bounds) sources trees → (r : SchemaReading) → JudgesTrees trees r → (reports : Reports) →
+    trees_not_rejected : (trees : List Document) → AllZip (IsDocumentOf bounds) sources trees → (r : SchemaReading) → JudgesTrees bounds trees r → (reports : Reports) →
         ReportsNoLimit reports → r ≡ Rejected reports → ⊥
     trees_not_rejected trees are r (does_not_build no_build some each) reports no_limit e =
         no_build (subst SchemaBuilds (one_trees bounds sources v.trees trees v.are_documents are) v.builds)
+    trees_not_rejected trees are r (breaks_more {list = list} first) reports no_limit e =
+        subst ReportsNoLimit (let same : reports ≡ FirstBuilding list = cc in same) no_limit
     trees_not_rejected trees are r (is_built other builds says judges) reports no_limit e =
-        nothing_reported other (same_said trees other are says) reports no_limit (subst (Judges other) e judges)
+        nothing_reported other (same_said trees other are says) reports no_limit (subst (Judges bounds other) e judges)
 
     not_rejected : (r : SchemaReading) → ReadsSchema bounds sources r → (reports : Reports) → ReportsNoLimit reports → r ≡ Rejected reports → ⊥
     not_rejected r (not_all_are_documents trees parses some) reports no_limit e = some (no_errors bounds parses v.trees v.are_documents)
     not_rejected r (are_documents trees are judges) reports no_limit e = trees_not_rejected trees are r judges reports no_limit e
 
-    trees_have_introspection : (trees : List Document) → AllZip (IsDocumentOf bounds) sources trees → (r : SchemaReading) → JudgesTrees trees r → r ≡ LacksIntrospection → ⊥
+    trees_have_introspection : (trees : List Document) → AllZip (IsDocumentOf bounds) sources trees → (r : SchemaReading) → JudgesTrees bounds trees r → r ≡ LacksIntrospection → ⊥
     trees_have_introspection trees are r (does_not_build no_build some each) e = let no : ⊥ = cc in no
+    trees_have_introspection trees are r (breaks_more first) e = let no : ⊥ = cc in no
     trees_have_introspection trees are r (is_built other builds says judges) e =
-        let lacks = subst (Judges other) e judges in
+        let lacks = subst (Judges bounds other) e judges in
         let too = accepted_too v.said other accepted lacks.0 (same_said trees other are says) v.is_accepted lacks.1 in
         lacks.2 too.meta_fields
 

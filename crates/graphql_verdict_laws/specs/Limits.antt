@@ -2,16 +2,20 @@
 use Rattle.std.specs.Prelude.{All}
 use Rattle.graphql_diagnostics.specs.Diagnostics.{IsLimitEntry, entries}
 use Rattle.graphql_frontend.specs.declared.reports.Reports.{Reports}
-use Rattle.graphql_frontend.specs.declared.reports.Reports.TheVariants.{DocumentRules, SchemaRules}
+use Rattle.graphql_frontend.specs.declared.reports.Reports.TheVariants.{DocumentRules, FirstBuilding, FirstDocumentRules, FirstSchemaRules, SchemaRules, Work}
 use Rattle.graphql_frontend.specs.declared.schemas.SchemaReading.{SchemaReading}
 use Rattle.graphql_frontend.specs.declared.schemas.SchemaReading.TheVariants.{Rejected}
 use Rattle.graphql_frontend.specs.declared.verdicts.Verdict.{Verdict}
 use Rattle.graphql_frontend.specs.declared.verdicts.Verdict.TheVariants.{DocumentRejected, SchemaRejected}
 
--- none of the diagnostics is of a limit
+-- none of the diagnostics is of a limit, there is no more to report than is kept, and the work is within its bound
 abbrev pub ReportsNoLimit : Reports → Type 0
 ReportsNoLimit (SchemaRules reports) = All (λ e. ¬ IsLimitEntry e) (entries reports.rules)
 ReportsNoLimit (DocumentRules reports) = All (λ e. ¬ IsLimitEntry e) (entries reports.rules)
+ReportsNoLimit (FirstBuilding list) = ⊥
+ReportsNoLimit (FirstSchemaRules list) = ⊥
+ReportsNoLimit (FirstDocumentRules list) = ⊥
+ReportsNoLimit (Work report) = ⊥
 ReportsNoLimit _ = Unit {0}
 
 -- what is reported of a schema is of no limit

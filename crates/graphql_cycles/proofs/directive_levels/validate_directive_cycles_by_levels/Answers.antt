@@ -3,5 +3,5 @@ use Rattle.graphql_diagnostics.proofs.ReportLemmas.{holds}
 use Rattle.graphql_diagnostics.proofs.ReportWithinLemmas.{within}
 use Rattle.graphql_cycles.proofs.directive_levels.validate_directive_cycles_by_levels.Goals as goal
 
-pub returns-then-is_known : goal.returns-then-is_known
-returns-then-is_known c = within IsLimitEntry (holds _ _ _ (c.in_ok-is_known.ensures.no_cycle c.if-is_known.true))
+pub returns-then-on_no_cycle : goal.returns-then-on_no_cycle
+returns-then-on_no_cycle c = within IsLimitEntry (holds _ _ _ (c.in_ok-on_no_cycle.ensures c.if-on_no_cycle.true))

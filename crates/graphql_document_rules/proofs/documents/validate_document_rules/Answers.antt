@@ -1,4 +1,5 @@
 use Rattle.std.proofs.Common.{◌++◌, Some}
+use Rattle.std.proofs.lemmas.Result.{IfOk-weaker}
 use Rattle.graphql_diagnostics.specs.Diagnostics.{IsLimitEntry}
 use Rattle.graphql_diagnostics.proofs.ReportLemmas.{appended_then, both_nil, kept_then, kept_wider, on_ok}
 use Rattle.graphql_diagnostics.proofs.ReportWithinLemmas.{both_within, in_words_within, kept_within}
@@ -17,10 +18,10 @@ returns-in_err-validate_with_or_without_schema-clause-limits c =
 
 pub returns-clause-silence : goal.returns-clause-silence
 returns-clause-silence c built =
-    on_ok c.validate_operations.result _ _
-    (λ r.
+    IfOk-weaker c.validate_operations.result _ _
+    (λ decided r was.
     let all = in_words_within IsLimitEntry (document_holds c.args.schema.now c.args.document.now)
-    (both_within IsLimitEntry (c.in_ok-validate_with_or_without_schema.ensures) r) in
+    (both_within IsLimitEntry (c.in_ok-validate_with_or_without_schema.ensures) (r was)) in
     record { added = all.added; appended = all.appended; are = all.silent })
     (c.validate_operations.ensures.holds built)
 

@@ -1,18 +1,19 @@
 -- Each exit of the walk over the operations, each of its turns, and what pairs decide behind it.
 use Rattle.std.proofs.Common.{◌≡◌, ◌++◌, ◌∷◌, [], Bor, Contains, List, Some, ap, drop, map, subst, sym, take, ◌∙◌, ◌+◌}
 use Rattle.std.proofs.lemmas.List.{map-append, take_all}
+use Rattle.std.proofs.lemmas.Result.{IfOk-weaker}
 use Rattle.graphql_diagnostics.specs.Diagnostics.{IsLimitEntry, entries}
 use Rattle.graphql_documents.specs.Executables.{operations_of}
 use Rattle.graphql_documents.specs.declared.documents.executables.Operation.{Operation}
 use Rattle.graphql_nodes.specs.declared.nodes.Node.{Node}
-use Rattle.graphql_diagnostics.proofs.ReportLemmas.{kept, kept_then, kept_wider, on_ok}
+use Rattle.graphql_diagnostics.proofs.ReportLemmas.{kept, kept_then, kept_wider}
 use Rattle.graphql_documents.proofs.ListLemmas.{more_is}
 use Rattle.graphql_diagnostics.proofs.ReportWithinLemmas.{kept_within, wider_within}
 use Rattle.graphql_merging.specs.MergedOperations.{MergesOneMore}
 use Rattle.graphql_merging.specs.Mergers.{is_interrupted, merger_of, merging_of}
 use Rattle.graphql_variables.proofs.ReferenceLemmas.{stands_referred}
 use Rattle.graphql_validation.proofs.MergingStepLemmas.{call_kept, merged_of, no_operations, nothing_left, open_before, pairs_decided, reports_as, split_at}
-use Rattle.graphql_document_rules.proofs.OperationStepLemmas.{MergedSoFar, kept_so_far, left_own, merged_kept, merged_more, merged_none, merged_open, operations_so_far, pairs_kept, subscriptions_so_far, validated_all}
+use Rattle.graphql_document_rules.proofs.OperationStepLemmas.{MergedSoFar, if_ok, kept_so_far, left_own, merged_kept, merged_more, merged_none, merged_open, operations_so_far, pairs_kept, subscriptions_so_far, validated_all}
 use Rattle.graphql_document_rules.proofs.RuleReportLemmas.{RuleEntryReport, of_a_root}
 use Rattle.graphql_document_rules.proofs.operations.validate_and_merge.Goals as goal
 use Rattle.graphql_document_rules.proofs.operations.validate_and_merge.Goals.{then-not-decided+in_ok-push, else-not-decided}
@@ -120,7 +121,7 @@ loop-operation-preserved c =
     }
 
 pub returns-then-is_empty-clause-holds : goal.returns-then-is_empty-clause-holds
-returns-then-is_empty-clause-holds c built =
+returns-then-is_empty-clause-holds c built _ =
     let S = c.args.schema.now in
     let D = c.args.document.now in
     let xs = c.args.operations.now in
@@ -161,10 +162,10 @@ returns-clause-holds c built =
     let all = ap now' (take_all c.loop-operation.operation-index xs c.loop-operation-test.false) ∙ c.requires in
     let so_far = subst (λ l. MergedSoFar S D l (now' c.loop-operation.undecided.items) (is_interrupted w) (merging_of (merger_of w)) (entries c.args.diagnostics.now) (entries c.loop-operation.diagnostics)) all c.loop-operation.invariant.so_far in
     let left = subst (λ l. MergedSoFar S D (operations_of D) (now' l) (is_interrupted w) (merging_of (merger_of w)) (entries c.args.diagnostics.now) (entries c.loop-operation.diagnostics)) (sym c.deref.ensures.value) so_far in
-    let kept' = pairs_kept S D c.deref.result.now (left_own S D c.deref.result.now left) c.merge_by_pairs.ensures.truth in
-    on_ok c.merge_by_pairs.result _ _
-    (λ pairs. validated_all S D built left (pairs_decided S D c.deref.result.now pairs) kept')
-    c.merge_by_pairs.ensures.decides
+    let kept' = pairs_kept S D c.deref.result.now (left_own S D c.deref.result.now left) c.merge_by_pairs_within.ensures.truth in
+    IfOk-weaker c.merge_by_pairs_within.result _ _
+    (λ decided pairs all. validated_all S D built left (pairs_decided S D c.deref.result.now (pairs all)) kept')
+    c.merge_by_pairs_within.ensures.decides
 
 pub returns-clause-truth : goal.returns-clause-truth
 returns-clause-truth c =
@@ -176,7 +177,7 @@ returns-clause-truth c =
     let all = ap now' (take_all c.loop-operation.operation-index xs c.loop-operation-test.false) ∙ c.requires in
     let so_far = subst (λ l. MergedSoFar S D l (now' c.loop-operation.undecided.items) (is_interrupted w) (merging_of (merger_of w)) (entries c.args.diagnostics.now) (entries c.loop-operation.diagnostics)) all c.loop-operation.invariant.so_far in
     let left = subst (λ l. MergedSoFar S D (operations_of D) (now' l) (is_interrupted w) (merging_of (merger_of w)) (entries c.args.diagnostics.now) (entries c.loop-operation.diagnostics)) (sym c.deref.ensures.value) so_far in
-    kept_then (kept_so_far S D left.so_far) (pairs_kept S D c.deref.result.now (left_own S D c.deref.result.now left) c.merge_by_pairs.ensures.truth)
+    kept_then (kept_so_far S D left.so_far) (pairs_kept S D c.deref.result.now (left_own S D c.deref.result.now left) c.merge_by_pairs_within.ensures.truth)
 
 pub returns-clause-subscriptions : goal.returns-clause-subscriptions
 returns-clause-subscriptions c =
@@ -187,6 +188,4 @@ returns-clause-subscriptions c =
     let w = c.loop-operation.merging in
     let all = ap now' (take_all c.loop-operation.operation-index xs c.loop-operation-test.false) ∙ c.requires in
     let so_far = subst (λ l. MergedSoFar S D l (now' c.loop-operation.undecided.items) (is_interrupted w) (merging_of (merger_of w)) (entries c.args.diagnostics.now) (entries c.loop-operation.diagnostics)) all c.loop-operation.invariant.so_far in
-    on_ok c.merge_by_pairs.result _ _
-    (λ pairs. subscriptions_so_far S D so_far.so_far c.merge_by_pairs.ensures.truth)
-    c.merge_by_pairs.ensures.decides
+    if_ok c.merge_by_pairs_within.result (subscriptions_so_far S D so_far.so_far c.merge_by_pairs_within.ensures.truth)

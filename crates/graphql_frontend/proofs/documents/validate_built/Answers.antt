@@ -12,4 +12,4 @@ returns-in-None c =
     let none : c.in_ok-report.field-0 ≡ None = search rules in
     let nests = subst (λ found. MatchOption found (NestsWithin bounds.depth d) (IsNestingReportOf bounds.depth d)) none c.in_ok-report.ensures.found in
     let reaches = subst (λ found. MatchOption found (ReachesWithinBounds bounds bytes d) (IsReachReport bounds bytes d)) c.in-None.is c.in_ok-check_bytes_reached.ensures in
-    c.validate_within.ensures bounds bytes nests reaches
+    c.validate_within.ensures nests reaches

@@ -2,26 +2,30 @@ use Rattle.std.proofs.Common.{◌≡◌, ◌≢◌, [], Some, rules}
 use Rattle.graphql_building_reports.specs.Checks.{reports_of}
 use Rattle.graphql_document_building.proofs.BuiltLemmas.{document_is_built}
 use Rattle.graphql_frontend.specs.Documents.{JudgesDocument, JudgesTree, does_not_build, is_built}
-use Rattle.graphql_frontend.proofs.ReportLemmas.{broken, each_true, if_ok, silent}
+use Rattle.graphql_frontend.proofs.ReportLemmas.{broken, each_true, if_ok, kept, silent}
 use Rattle.graphql_frontend.proofs.documents.validate_tree.Goals as goal
 
 pub build_document-requires : goal.build_document-requires
 build_document-requires c =
     let none : reports_of c.check_document.new.reports ≡ [] = search rules in
-    silent _ _ _ _ c.in_ok-check_document.ensures c.with_hash_seed-reports.ensures.empty none
+    silent _ _ _ _ c.in-Ok.ensures c.with_bound-reports.ensures.empty none
 
-pub returns-in_ok-document : goal.returns-in_ok-document
-returns-in_ok-document c =
+pub returns-in_ok-document-in-Ok : goal.returns-in_ok-document-in-Ok
+returns-in_ok-document-in-Ok c =
     let none : reports_of c.check_document.new.reports ≡ [] = search rules in
-    let document = c.in_ok-document.document in
-    let says = c.in_ok-document.ensures.says in
+    let document = c.in_ok-document-in-Ok.document in
+    let says = c.in_ok-document-in-Ok.ensures.says in
     if_ok (JudgesDocument c.args.bounds c.args.bytes (Some c.args.schema.now) document) (JudgesTree c.args.bounds c.args.bytes (Some c.args.schema.now) c.args.tree.now)
-    (λ reports judged. is_built document (silent _ _ _ _ c.in_ok-check_document.ensures c.with_hash_seed-reports.ensures.empty none) says
+    (λ reports judged. is_built document (silent _ _ _ _ c.in-Ok.ensures c.with_bound-reports.ensures.empty none) says
     (document_is_built c.args.schema.now c.args.tree.now document says c.requires.names c.requires.output_fields) judged)
     c.validate_built.result c.validate_built.ensures
 
 pub returns-else-is_empty : goal.returns-else-is_empty
 returns-else-is_empty c =
     let some : reports_of c.check_document.new.reports ≢ [] = search rules in
-    does_not_build (broken _ _ _ _ c.in_ok-check_document.ensures c.with_hash_seed-reports.ensures.empty some) some
-    (each_true _ _ _ _ c.in_ok-check_document.ensures c.with_hash_seed-reports.ensures.empty)
+    does_not_build (broken _ _ _ _ c.in-Ok.ensures c.with_bound-reports.ensures.empty some) some
+    (each_true _ _ _ _ c.in-Ok.ensures c.with_bound-reports.ensures.empty)
+
+pub returns-in-Err : goal.returns-in-Err
+returns-in-Err c =
+    c.first_building_reports.ensures c.args.bytes (Some c.args.schema.now) c.args.tree.now (kept _ _ _ c.in-Err.ensures c.with_bound-reports.ensures.empty)

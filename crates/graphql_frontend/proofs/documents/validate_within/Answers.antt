@@ -1,20 +1,17 @@
-use Rattle.std.proofs.Common.{◌∙◌, All, subst, sym, true≢false}
-use Rattle.std.proofs.lemmas.List.Elements.{All-nil}
-use Rattle.graphql_diagnostics.specs.Diagnostics.{IsLimitEntry}
-use Rattle.graphql_diagnostics.specs.declared.lists.DiagnosticEntry.{DiagnosticEntry}
+use Rattle.std.proofs.Common.{subst}
+use Rattle.std.specs.Option.{option_copied}
+use Rattle.graphql_frontend.specs.RuleReadings.{ReadsRules}
 use Rattle.graphql_frontend.proofs.documents.validate_within.Goals as goal
 
-pub returns-then-is_empty : goal.returns-then-is_empty
-returns-then-is_empty c = λ bounds bytes nests reaches. (
-  nests,
-  reaches,
-  λ built.
-      let nothing = c.is_empty.ensures.0 c.if-is_empty.true in
-      let no_limit =
-      subst (All (λ (e : DiagnosticEntry). ¬ IsLimitEntry e)) (sym nothing.0) (All-nil (λ (e : DiagnosticEntry). ¬ IsLimitEntry e)) in
-      (c.in_ok-reports.ensures.decides built no_limit).0 nothing,
-)
+pub returns-in-All : goal.returns-in-All
+returns-in-All c = λ nests reaches.
+    let read = subst (ReadsRules c.args.bounds (option_copied c.args.schema) c.args.document.now) c.in-All.is c.in_ok-rules.ensures in
+    c.validate_beside.ensures read c.args.bounds c.args.bytes nests reaches
 
-pub returns-else-is_empty : goal.returns-else-is_empty
-returns-else-is_empty c = λ bounds bytes nests reaches.
-    (nests, reaches, λ nothing. true≢false (sym (c.is_empty.ensures.1 nothing) ∙ c.if-is_empty.false), c.in_ok-reports.ensures)
+pub returns-in-First : goal.returns-in-First
+returns-in-First c = λ nests reaches.
+    (nests, reaches, subst (ReadsRules c.args.bounds (option_copied c.args.schema) c.args.document.now) c.in-First.is c.in_ok-rules.ensures)
+
+pub returns-in-Work : goal.returns-in-Work
+returns-in-Work c = λ nests reaches.
+    (nests, reaches, subst (ReadsRules c.args.bounds (option_copied c.args.schema) c.args.document.now) c.in-Work.is c.in_ok-rules.ensures)

@@ -11,7 +11,7 @@ pub returns-then-is_empty-clause-reads : goal.returns-then-is_empty-clause-reads
 returns-then-is_empty-clause-reads c =
     let trees = c.deref.result.now in
     let none = no_items c.in_ok-documents.field-0.errors c.is_empty.result c.is_empty.ensures c.if-is_empty.true in
-    if_ok (JudgesTrees trees) (ReadsSchema c.args.bounds c.args.sources.now)
+    if_ok (JudgesTrees c.args.bounds trees) (ReadsSchema c.args.bounds c.args.sources.now)
     (λ reading judged. are_documents trees
     (subst (AllZip (IsDocumentOf c.args.bounds) c.args.sources.now) (sym c.deref.ensures.value) (without_errors c.args.bounds c.in_ok-documents.ensures none)) judged)
     c.schema_of_documents.result c.schema_of_documents.ensures
@@ -19,7 +19,7 @@ returns-then-is_empty-clause-reads c =
 pub returns-then-is_empty-clause-usable : goal.returns-then-is_empty-clause-usable
 returns-then-is_empty-clause-usable c =
     let trees = c.deref.result.now in
-    if_ok (JudgesTrees trees) AcceptsOnlyUsableSchemas (usable trees) c.schema_of_documents.result c.schema_of_documents.ensures
+    if_ok (JudgesTrees c.args.bounds trees) AcceptsOnlyUsableSchemas (usable c.args.bounds trees) c.schema_of_documents.result c.schema_of_documents.ensures
 
 pub returns-clause-reads : goal.returns-clause-reads
 returns-clause-reads c =

@@ -1,34 +1,11 @@
-use Rattle.std.proofs.Common.{◌≡◌, ◌∙◌, false, refl, rules, sym, true, true≢false}
-use Rattle.graphql_building_laws.specs.MetaFieldTypes.{HasTypesOfMetaFields}
-use Rattle.graphql_frontend.proofs.ReportLemmas.{silent, silent_within}
+use Rattle.std.proofs.Common.{subst}
+use Rattle.graphql_frontend.specs.SchemaRuleReadings.{ReadsSchemaRules}
 use Rattle.graphql_frontend.proofs.schemas.validated.Goals as goal
 
-pub returns-then-not-is_empty : goal.returns-then-not-is_empty
-returns-then-not-is_empty c =
-    let filled : c.is_empty.result ≡ false = search rules in (
-      λ nothing. true≢false (sym (c.is_empty.ensures.1 nothing) ∙ filled),
-      c.schema_reports.new.schema,
-      c.in_ok-reports.ensures.0,
-      c.in_ok-reports.ensures.1,
-    )
+pub returns-in-All : goal.returns-in-All
+returns-in-All c =
+    let read = subst (ReadsSchemaRules c.args.bounds c.args.schema c.schema_reports.new.schema) c.in-All.is c.in_ok-reports.ensures in
+    c.reading_of.ensures c.args.bounds c.args.schema read.0 read.1
 
-pub returns-then-has_types_of_meta_fields : goal.returns-then-has_types_of_meta_fields
-returns-then-has_types_of_meta_fields c =
-    let empty : c.is_empty.result ≡ true = search rules in
-    let nothing = c.is_empty.ensures.0 empty in
-    let reports = c.in_ok-reports.ensures.1 in
-    let both = silent_within _ _ _ _ _ reports.rules refl nothing.0 in
-    let types : HasTypesOfMetaFields c.schema_reports.new.schema = c.has_types_of_meta_fields.ensures.0 c.if-has_types_of_meta_fields.true in
-    record {
-      holds = both.0;
-      input_fields = silent _ _ _ _ reports.input_fields refl nothing.1;
-      retains = c.in_ok-reports.ensures.0;
-      defaults = both.1;
-      meta_fields = types;
-    }
-
-pub returns-else-has_types_of_meta_fields : goal.returns-else-has_types_of_meta_fields
-returns-else-has_types_of_meta_fields c =
-    let lacks : ¬ HasTypesOfMetaFields c.schema_reports.new.schema =
-    λ types. true≢false (sym (c.has_types_of_meta_fields.ensures.1 types) ∙ c.if-has_types_of_meta_fields.false) in
-    (c.schema_reports.new.schema, c.in_ok-reports.ensures.0, lacks)
+pub returns-in-First : goal.returns-in-First
+returns-in-First c = subst (ReadsSchemaRules c.args.bounds c.args.schema c.schema_reports.new.schema) c.in-First.is c.in_ok-reports.ensures

@@ -1,7 +1,7 @@
 use Rattle.std.proofs.Common.{◌≡◌, [], ◌∷◌, subst, take}
 use Rattle.std.proofs.lemmas.Result.{on_ok_weaker}
 use Rattle.graphql_building_reports.specs.Checks.{reports_of}
-use Rattle.graphql_frontend.specs.Shown.{Shows, ShowsBuilding, ShowsMore, ShowsNesting, ShowsReach, ShowsSyntax, building, nesting, reach, syntax}
+use Rattle.graphql_frontend.specs.Shown.{Shows, ShowsBuilding, ShowsEntry, ShowsMore, ShowsNesting, ShowsReach, ShowsSyntax, ShowsWork, building, nesting, reach, syntax, validation, work}
 use Rattle.graphql_frontend.proofs.ShownLemmas.{alone}
 use Rattle.graphql_frontend.proofs.shown.push_reports.Goals as goal
 
@@ -49,3 +49,21 @@ returns-in-SchemaRules c = rw c.in-SchemaRules.is (c.push_schema.ensures c.args.
 
 pub returns-in-DocumentRules : goal.returns-in-DocumentRules
 returns-in-DocumentRules c = rw c.in-DocumentRules.is (c.push_document.ensures c.args.sources.now c.args.bounds)
+
+pub returns-in-Work : goal.returns-in-Work
+returns-in-Work c =
+    let one = c.in-Work.report ∷ [] in
+    let old = c.args.shown.now.items in
+    let new = c.push_work.new.shown.items in
+    rw c.in-Work.is (on_ok_weaker {P = ShowsMore ShowsWork (take c.args.most one) old new} c.push_work.result
+    (λ so. alone work (Shows c.args.sources.now c.args.bounds) c.args.most one old new so)
+    c.push_work.ensures)
+
+pub returns-in-FirstBuilding : goal.returns-in-FirstBuilding
+returns-in-FirstBuilding c = rw c.in-FirstBuilding.is (c.push_first_building.ensures c.args.sources.now c.args.bounds)
+
+pub returns-in-FirstSchemaRules : goal.returns-in-FirstSchemaRules
+returns-in-FirstSchemaRules c = rw c.in-FirstSchemaRules.is (c.push_first_rules.ensures c.args.sources.now c.args.bounds)
+
+pub returns-in-FirstDocumentRules : goal.returns-in-FirstDocumentRules
+returns-in-FirstDocumentRules c = rw c.in-FirstDocumentRules.is (c.push_first_rules-in-FirstDocumentRules.ensures c.args.sources.now c.args.bounds)

@@ -16,13 +16,14 @@ loop-component-preserved g c =
       is_finite = tt;
       done = done ++ x ∷ [];
       all = done_next _ done c.loop-component.component-iterator c.next.new.self x c.loop-component.invariant.all c.in-Some.ensures.steps;
-      added = c.in_ok-add_extension.ensures ∙
+      added = c.in_ok-add_extension.ensures.extensions ∙
           ap (λ known. extensions_among known (c.in-Some.component.now.origin ∷ [])) c.loop-component.invariant.added ∙
-          among_done (λ (e : NameText × Component g.row.T.Denot). e.1.origin) c.args.found.now.items done x;
+          among_done (λ (e : NameText × Component g.row.T.Denot). e.1.origin) c.args.found.now.extensions.items done x;
+      numbers = c.in_ok-add_extension.ensures.numbers;
     }
 
-pub returns : goal.returns
-returns g c =
+pub returns-clause-extensions : goal.returns-clause-extensions
+returns-clause-extensions g c =
     c.loop-component.invariant.added ∙
-    ap (λ entries. extensions_among c.args.found.now.items (map (λ (e : NameText × Component g.row.T.Denot). e.1.origin) entries))
+    ap (λ entries. extensions_among c.args.found.now.extensions.items (map (λ (e : NameText × Component g.row.T.Denot). e.1.origin) entries))
     (sym (c.loop-component.invariant.all ∙ ap (λ l. c.loop-component.invariant.done ++ l) c.in-None.ensures.steps.0 ∙ append-nil c.loop-component.invariant.done))

@@ -6,7 +6,10 @@ use Rattle.graphql_schemas.proofs.extensions.add_names.Goals as goal
 
 pub loop-name-preserved : goal.loop-name-preserved
 loop-name-preserved c =
-    c.in_ok-add_extension.ensures ∙
-    ap (λ known. extensions_among known (c.name-item.result.origin ∷ [])) c.loop-name.invariant ∙
-    among_more (λ (x : ComponentName). x.origin) c.args.found.now.items c.args.names.now c.loop-name.name-index
-    c.name-item.result c.loop-name-test.true c.name-item.is
+    record {
+      added = c.in_ok-add_extension.ensures.extensions ∙
+          ap (λ known. extensions_among known (c.name-item.result.origin ∷ [])) c.loop-name.invariant.added ∙
+          among_more (λ (x : ComponentName). x.origin) c.args.found.now.extensions.items c.args.names.now c.loop-name.name-index
+          c.name-item.result c.loop-name-test.true c.name-item.is;
+      numbers = c.in_ok-add_extension.ensures.numbers;
+    }

@@ -12,4 +12,4 @@ returns c =
     let d = c.args.input_object.now.value.value in
     let directives : c.deref-2.result.now ≡ d.directives.items = c.deref-2.ensures.value ∙ ap (λ (t : InputObjectType). t.directives.items) c.deref.ensures in
     gathered_two (map (λ (x : Component Directive). x.origin) d.directives.items) (map (λ (e : NameText × Component InputValueDefinition). e.1.origin) d.fields.entries)
-    c.new-found.ensures.items (rw directives at c.in_ok-add_components.ensures) (rw c.deref-3.ensures at c.in_ok-add_entries.ensures)
+    c.none-found.ensures.extensions (rw directives at c.in_ok-add_components.ensures.extensions) (rw c.deref-3.ensures at c.in_ok-add_entries.ensures.extensions)

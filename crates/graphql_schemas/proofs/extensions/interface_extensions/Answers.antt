@@ -14,4 +14,4 @@ returns c =
     let directives : c.deref-2.result.now ≡ d.directives.items = c.deref-2.ensures.value ∙ ap (λ (t : InterfaceType). t.directives.items) c.deref.ensures in
     let names : c.as_slice.result.now ≡ d.implements_interfaces.keys = c.as_slice.ensures.keys ∙ ap (λ (t : InterfaceType). t.implements_interfaces.keys) c.deref-3.ensures in
     gathered_three (map (λ (x : Component Directive). x.origin) d.directives.items) (map (λ (x : ComponentName). x.origin) d.implements_interfaces.keys) (map (λ (e : NameText × Component FieldDefinition). e.1.origin) d.fields.entries)
-    c.new-found.ensures.items (rw directives at c.in_ok-add_components.ensures) (rw names at c.in_ok-add_names.ensures) (rw c.deref-4.ensures at c.in_ok-add_entries.ensures)
+    c.none-found.ensures.extensions (rw directives at c.in_ok-add_components.ensures.extensions) (rw names at c.in_ok-add_names.ensures.extensions) (rw c.deref-4.ensures at c.in_ok-add_entries.ensures.extensions)

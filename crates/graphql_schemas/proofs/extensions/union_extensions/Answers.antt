@@ -12,4 +12,4 @@ returns c =
     let directives : c.deref-2.result.now ≡ d.directives.items = c.deref-2.ensures.value ∙ ap (λ (t : UnionType). t.directives.items) c.deref.ensures in
     let names : c.as_slice.result.now ≡ d.members.keys = c.as_slice.ensures.keys ∙ ap (λ (t : UnionType). t.members.keys) c.deref-3.ensures in
     gathered_two (map (λ (x : Component Directive). x.origin) d.directives.items) (map (λ (x : ComponentName). x.origin) d.members.keys)
-    c.new-found.ensures.items (rw directives at c.in_ok-add_components.ensures) (rw names at c.in_ok-add_names.ensures)
+    c.none-found.ensures.extensions (rw directives at c.in_ok-add_components.ensures.extensions) (rw names at c.in_ok-add_names.ensures.extensions)

@@ -1,4 +1,4 @@
-use Rattle.std.proofs.Common.{◌<◌, All, length, subst, sym, ◌∙◌}
+use Rattle.std.proofs.Common.{◌<◌, All, length, refl, subst, sym, ◌∙◌}
 use Rattle.std.specs.Prelude.{⊤, MatchOption}
 use Rattle.graphql_merging.specs.Groups.{pass_of}
 use Rattle.graphql_number_sets.specs.NumberSets.{AreExact, numbers_of}
@@ -17,6 +17,7 @@ loop-looked-init c =
       cliques = c.in_ok-looked.ensures.cliques;
       walks = walks_begin self.schema.now (pass_of self.pass) self.sets.now c.args.starts.now c.requires.linked c.requires.within c.in_ok-looked.looked (lists_at c.in_ok-waiting.waiting.items)
           c.in_ok-looked.ensures.empty c.in_ok-waiting.ensures;
+      most = refl;
     }
 
 pub next_unlooked-requires-clause-cliques : goal.next_unlooked-requires-clause-cliques
@@ -31,8 +32,8 @@ next_unlooked-requires-clause-within c =
     waiting_within self.schema.now (pass_of self.pass) self.sets.now c.args.starts.now c.requires.linked c.requires.within c.loop-looked.looked (lists_at c.loop-looked.waiting.items)
     c.loop-looked.invariant.walks
 
-pub returns-in-Some-2 : goal.returns-in-Some-2
-returns-in-Some-2 c =
+pub returns-in-Some-2-clause-found : goal.returns-in-Some-2-clause-found
+returns-in-Some-2-clause-found c =
     let self = c.args.self.now in
     let schema = self.schema.now in
     let pass = pass_of self.pass in
@@ -42,7 +43,7 @@ returns-in-Some-2 c =
     let after = lists_at c.look_at.new.waiting.items in
     let joined = c.in-Some.joined in
     let taken = subst (λ o. MatchOption o (All (WereLookedAt c.loop-looked.looked) old) (λ (j : JoinedSets). Takes sets c.loop-looked.looked old mid (numbers_of j.all) (numbers_of j.ends))) c.in-Some.is c.in_ok-joined.ensures.taken in
-    let found = subst (λ o. MatchOption o (LooksAt schema pass sets (numbers_of joined.ends) (numbers_of joined.all) mid after) (FindsIn schema pass sets (numbers_of joined.all))) c.in-Some-2.is c.in_ok-conflict.ensures in
+    let found = subst (λ o. MatchOption o (LooksAt schema pass sets (numbers_of joined.ends) (numbers_of joined.all) mid after) (FindsIn schema pass sets (numbers_of joined.all))) c.in-Some-2.is c.in_ok-conflict.ensures.found in
     found_below schema pass sets c.args.starts.now c.requires.linked c.requires.within c.loop-looked.looked old mid (numbers_of joined.all) (numbers_of joined.ends) c.in-Some-2.conflict taken
     found c.loop-looked.invariant.walks
 
@@ -103,7 +104,7 @@ loop-looked-smaller c =
     let after = lists_at c.look_at.new.waiting.items in
     let joined = c.in-Some.joined in
     let taken = subst (λ o. MatchOption o (All (WereLookedAt c.loop-looked.looked) old) (λ (j : JoinedSets). Takes sets c.loop-looked.looked old mid (numbers_of j.all) (numbers_of j.ends))) c.in-Some.is c.in_ok-joined.ensures.taken in
-    let looks = subst (λ o. MatchOption o (LooksAt schema pass sets (numbers_of joined.ends) (numbers_of joined.all) mid after) (FindsIn schema pass sets (numbers_of joined.all))) c.in_default-2.is c.in_ok-conflict.ensures in
+    let looks = subst (λ o. MatchOption o (LooksAt schema pass sets (numbers_of joined.ends) (numbers_of joined.all) mid after) (FindsIn schema pass sets (numbers_of joined.all))) c.in_default-2.is c.in_ok-conflict.ensures.found in
     fewer_left schema pass sets c.args.starts.now c.requires.linked c.requires.within c.loop-looked.looked c.add_to.new.looked old mid after (numbers_of joined.all) (numbers_of joined.ends) taken
     looks c.in_ok-add_to.ensures.added c.loop-looked.invariant.walks
 
@@ -118,16 +119,17 @@ loop-looked-preserved c =
     let after = lists_at c.look_at.new.waiting.items in
     let joined = c.in-Some.joined in
     let taken = subst (λ o. MatchOption o (All (WereLookedAt c.loop-looked.looked) old) (λ (j : JoinedSets). Takes sets c.loop-looked.looked old mid (numbers_of j.all) (numbers_of j.ends))) c.in-Some.is c.in_ok-joined.ensures.taken in
-    let looks = subst (λ o. MatchOption o (LooksAt schema pass sets (numbers_of joined.ends) (numbers_of joined.all) mid after) (FindsIn schema pass sets (numbers_of joined.all))) c.in_default-2.is c.in_ok-conflict.ensures in
+    let looks = subst (λ o. MatchOption o (LooksAt schema pass sets (numbers_of joined.ends) (numbers_of joined.all) mid after) (FindsIn schema pass sets (numbers_of joined.all))) c.in_default-2.is c.in_ok-conflict.ensures.found in
     record {
       count = c.add_to.ensures.count ∙ c.loop-looked.invariant.count;
       cliques = c.add_to.ensures.cliques;
       walks = walks_on schema pass sets c.args.starts.now c.requires.linked c.requires.within c.loop-looked.looked c.add_to.new.looked old mid after (numbers_of joined.all) (numbers_of joined.ends) taken
           looks c.in_ok-add_to.ensures.added c.loop-looked.invariant.walks;
+      most = c.look_at.ensures.most ∙ c.next_unlooked.ensures.most ∙ c.loop-looked.invariant.most;
     }
 
-pub returns : goal.returns
-returns c =
+pub returns-clause-found : goal.returns-clause-found
+returns-clause-found c =
     let self = c.args.self.now in
     let sets = self.sets.now in
     let old = lists_at c.loop-looked.waiting.items in

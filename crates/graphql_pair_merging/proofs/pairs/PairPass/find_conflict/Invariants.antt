@@ -4,6 +4,7 @@ use Rattle.graphql_merging.specs.Groups.{pass_of}
 use Rattle.graphql_number_sets.proofs.CountLemmas.{count_pairs}
 use Rattle.graphql_number_sets.specs.NumberSets.{KeepsCliques, has_pair}
 use Rattle.graphql_pair_merging.specs.Pairs.{lists_at}
+use Rattle.graphql_pair_merging.specs.Works.{most_of}
 use Rattle.graphql_pair_merging.proofs.WalkLemmas.{Walks}
 use Rattle.graphql_pair_merging.proofs.pairs.PairPass.find_conflict.Given as goal
 
@@ -12,6 +13,7 @@ invariant-loop-looked l = record {
   count : vec_len l.looked.rows ≡ length l.self.sets.now;
   cliques : KeepsCliques l.looked;
   walks : Walks l.self.schema.now (pass_of l.self.pass) l.self.sets.now l.starts l.looked (lists_at l.waiting.items);
+  most : most_of l.work ≡ most_of l.initial.work;
 }
 
 abbrev pub decreases-loop-looked : goal.decreases-loop-looked

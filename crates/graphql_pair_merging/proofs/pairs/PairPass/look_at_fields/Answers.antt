@@ -6,16 +6,16 @@ use Rattle.graphql_pair_merging.specs.Pairs.{AllAgree, DisagreeAmong, lists_at}
 use Rattle.graphql_pair_merging.proofs.SettleLemmas.{finds_together, settles_all}
 use Rattle.graphql_pair_merging.proofs.pairs.PairPass.look_at_fields.Goals as goal
 
-pub returns-in-Some : goal.returns-in-Some
-returns-in-Some c together numbers =
+pub returns-in-Some-clause-found : goal.returns-in-Some-clause-found
+returns-in-Some-clause-found c together numbers =
     let schema = c.args.self.now.schema.now in
     let pass = pass_of c.args.self.now.pass in
     let fields = c.args.fields.now in
     finds_together schema pass fields c.in-Some.conflict together
     (subst (λ o. MatchOption o (AllAgree schema pass fields) (DisagreeAmong schema pass fields fields)) c.in-Some.is (c.in_ok-conflict.ensures numbers))
 
-pub returns : goal.returns
-returns c together numbers =
+pub returns-clause-found : goal.returns-clause-found
+returns-clause-found c together numbers =
     let schema = c.args.self.now.schema.now in
     let pass = pass_of c.args.self.now.pass in
     let fields = c.args.fields.now in

@@ -9,8 +9,8 @@ use Rattle.graphql_pair_merging.proofs.PlaceLemmas.{stands_at}
 use Rattle.graphql_pair_merging.proofs.SettleLemmas.{apart, of_group, settled_named, settles_nothing, together_alone}
 use Rattle.graphql_pair_merging.proofs.pairs.PairPass.look_at_one_parent.Goals as goal
 
-pub returns-then-not-parents_may_overlap : goal.returns-then-not-parents_may_overlap
-returns-then-not-parents_may_overlap c all key is =
+pub returns-then-not-parents_may_overlap-clause-found : goal.returns-then-not-parents_may_overlap-clause-found
+returns-then-not-parents_may_overlap-clause-found c all key is =
     let schema = c.args.self.now.schema.now in
     let fields = c.args.fields.now in
     let one = c.in-Some.one.now in
@@ -20,14 +20,14 @@ returns-then-not-parents_may_overlap c all key is =
     (λ overlap. let e = c.parents_may_overlap.ensures.1 overlap in let f = c.if-not-parents_may_overlap.true in let no : ⊥ = cc in no) x y both
     (subst (λ p. ArePutTogether schema p (field_of x) (field_of y)) c.requires put))
 
-pub returns : goal.returns
-returns c all key is =
+pub returns-clause-found : goal.returns-clause-found
+returns-clause-found c all key is =
     let schema = c.args.self.now.schema.now in
     let pass = pass_of c.args.self.now.pass in
     let fields = c.args.fields.now in
     let one = c.in-Some.one.now in
     settled_named schema pass c.look_at_fields.result all fields (Both fields) (lists_at c.args.waiting.now.items) (lists_at c.look_at_fields.new.waiting.items)
     (of_group ParentType all fields is) (λ x y both put. both)
-    (c.look_at_fields.ensures (subst (λ p. AreTogether schema p fields) (sym c.requires)
+    (c.look_at_fields.ensures.found (subst (λ p. AreTogether schema p fields) (sym c.requires)
     (together_alone schema all fields key.one_key is one (stands_at fields 0 one (sym c.in-Some.ensures.value)) (c.parents_may_overlap.ensures.0 c.if-not-parents_may_overlap.false)))
     (numbers_among all fields (of_group ParentType all fields is) key.numbers))

@@ -10,8 +10,8 @@ use Rattle.graphql_pair_merging.proofs.PlaceLemmas.{stands_at}
 use Rattle.graphql_pair_merging.proofs.SettleLemmas.{apart, in_both, of_group, settled_two, settles_nothing, together}
 use Rattle.graphql_pair_merging.proofs.pairs.PairPass.look_at_two_parents.Goals as goal
 
-pub returns-then-not-parents_may_overlap : goal.returns-then-not-parents_may_overlap
-returns-then-not-parents_may_overlap c fields key a b =
+pub returns-then-not-parents_may_overlap-clause-found : goal.returns-then-not-parents_may_overlap-clause-found
+returns-then-not-parents_may_overlap-clause-found c fields key a b =
     let schema = c.args.self.now.schema.now in
     let first = c.args.first.now in
     let second = c.args.second.now in
@@ -22,8 +22,8 @@ returns-then-not-parents_may_overlap c fields key a b =
     (λ overlap. let e = c.parents_may_overlap.ensures.1 overlap in let f = c.if-not-parents_may_overlap.true in let no : ⊥ = cc in no) x y both
     (subst (λ p. ArePutTogether schema p (field_of x) (field_of y)) c.requires put))
 
-pub returns : goal.returns
-returns c fields key a b =
+pub returns-clause-found : goal.returns-clause-found
+returns-clause-found c fields key a b =
     let schema = c.args.self.now.schema.now in
     let pass = pass_of c.args.self.now.pass in
     let first = c.args.first.now in
@@ -39,6 +39,6 @@ returns c fields key a b =
     ] in
     settled_two schema pass c.look_at_fields.result fields all first second (lists_at c.args.waiting.now.items) (lists_at c.look_at_fields.new.waiting.items) is
     among
-    (c.look_at_fields.ensures (subst (λ p. AreTogether schema p all) (sym c.requires)
+    (c.look_at_fields.ensures.found (subst (λ p. AreTogether schema p all) (sym c.requires)
     (together schema fields first second key.one_key a b one other (stands_at first 0 one (sym c.in-Some-Some.ensures.value)) (stands_at second 0 other (sym c.in-Some-Some.ensures'.value)) all is
     (c.parents_may_overlap.ensures.0 c.if-not-parents_may_overlap.false))) (numbers_among fields all among key.numbers))

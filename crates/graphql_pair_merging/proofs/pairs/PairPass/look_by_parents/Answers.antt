@@ -1,4 +1,4 @@
-use Rattle.std.proofs.Common.{Contains, ◌≡◌, ◌+◌, inl, inr, subst, take, true, ap, ◌∙◌}
+use Rattle.std.proofs.Common.{Contains, ◌≡◌, ◌+◌, inl, inr, refl, subst, take, true, ap, ◌∙◌}
 use Rattle.std.specs.Prelude.{MatchOption}
 use Rattle.std.proofs.lemmas.List.{take_all}
 use Rattle.graphql_documents.proofs.ListLemmas.{more_is}
@@ -16,39 +16,46 @@ use Rattle.graphql_pair_merging.proofs.TurnLemmas.{in_turn}
 use Rattle.graphql_pair_merging.proofs.pairs.PairPass.look_by_parents.Goals as goal
 
 pub loop-parent-init : goal.loop-parent-init
-loop-parent-init c fields key grouped named =
+loop-parent-init c =
     let schema = c.args.self.now.schema.now in
-    settles_nothing schema (pass_of c.args.self.now.pass) fields (λ x y. Both fields x y × IsInTurn schema x y × (is_among ParentType (take 0 c.args.parents.now) x ≡ true)) (lists_at c.args.waiting.now.items)
-    (λ x y p put. none_among ParentType x p.2)
+    record {
+      settles = λ fields key grouped named.
+          settles_nothing schema (pass_of c.args.self.now.pass) fields (λ x y. Both fields x y × IsInTurn schema x y × (is_among ParentType (take 0 c.args.parents.now) x ≡ true)) (lists_at c.args.waiting.now.items)
+          (λ x y p put. none_among ParentType x p.2);
+      most = refl;
+    }
 
-pub returns-in-Some : goal.returns-in-Some
-returns-in-Some c fields key grouped named =
+pub returns-in-Some-clause-found : goal.returns-in-Some-clause-found
+returns-in-Some-clause-found c fields key grouped named =
     let schema = c.args.self.now.schema.now in
     let pass = pass_of c.args.self.now.pass in
     subst (λ o. MatchOption o
     (Settles schema pass fields (λ x y. Both fields x y × IsInTurn schema x y × (has_name ParentType c.parent-item.result.now x ≡ true)) (lists_at c.loop-parent.waiting.items) (lists_at c.look_from_parent.new.waiting.items)) (Finds schema pass fields fields))
-    c.in-Some.is (c.in_ok-conflict.ensures fields key grouped named)
+    c.in-Some.is (c.in_ok-conflict.ensures.found fields key grouped named)
 
 pub loop-parent-preserved : goal.loop-parent-preserved
-loop-parent-preserved c fields key grouped named =
-    let schema = c.args.self.now.schema.now in
-    let pass = pass_of c.args.self.now.pass in
-    let names = c.args.parents.now in
-    let i = c.loop-parent.parent-index in
-    let name = c.parent-item.result in
-    let mid = lists_at c.loop-parent.waiting.items in
-    let new = lists_at c.look_from_parent.new.waiting.items in
-    let step = subst (λ o. MatchOption o (Settles schema pass fields (λ x y. Both fields x y × IsInTurn schema x y × (has_name ParentType name.now x ≡ true)) mid new) (Finds schema pass fields fields)) c.in_default.is
-    (c.in_ok-conflict.ensures fields key grouped named) in
-    settles_next schema pass fields (λ x y. Both fields x y × IsInTurn schema x y × (is_among ParentType (take i names) x ≡ true)) (λ x y. Both fields x y × IsInTurn schema x y × (has_name ParentType name.now x ≡ true))
-    (λ x y. Both fields x y × IsInTurn schema x y × (is_among ParentType (take (i + 1) names) x ≡ true)) (lists_at c.args.waiting.now.items) mid new (c.loop-parent.invariant fields key grouped named) step
-    (λ x y p put. elim (among_more ParentType (take i names) (take (i + 1) names) name x (more_is names i name c.loop-parent-test.true c.parent-item.is) p.2) [
-      | inl before ↦ inl (p.0, p.1, before)
-      | inr here ↦ inr (p.0, p.1, here)
-    ])
+loop-parent-preserved c = record {
+  settles = λ fields key grouped named.
+      let schema = c.args.self.now.schema.now in
+      let pass = pass_of c.args.self.now.pass in
+      let names = c.args.parents.now in
+      let i = c.loop-parent.parent-index in
+      let name = c.parent-item.result in
+      let mid = lists_at c.loop-parent.waiting.items in
+      let new = lists_at c.look_from_parent.new.waiting.items in
+      let step = subst (λ o. MatchOption o (Settles schema pass fields (λ x y. Both fields x y × IsInTurn schema x y × (has_name ParentType name.now x ≡ true)) mid new) (Finds schema pass fields fields)) c.in_default.is
+      (c.in_ok-conflict.ensures.found fields key grouped named) in
+      settles_next schema pass fields (λ x y. Both fields x y × IsInTurn schema x y × (is_among ParentType (take i names) x ≡ true)) (λ x y. Both fields x y × IsInTurn schema x y × (has_name ParentType name.now x ≡ true))
+      (λ x y. Both fields x y × IsInTurn schema x y × (is_among ParentType (take (i + 1) names) x ≡ true)) (lists_at c.args.waiting.now.items) mid new (c.loop-parent.invariant.settles fields key grouped named) step
+      (λ x y p put. elim (among_more ParentType (take i names) (take (i + 1) names) name x (more_is names i name c.loop-parent-test.true c.parent-item.is) p.2) [
+        | inl before ↦ inl (p.0, p.1, before)
+        | inr here ↦ inr (p.0, p.1, here)
+      ]);
+  most = c.look_from_parent.ensures.most ∙ c.loop-parent.invariant.most;
+}
 
-pub returns : goal.returns
-returns c fields key grouped named =
+pub returns-clause-found : goal.returns-clause-found
+returns-clause-found c fields key grouped named =
     let schema = c.args.self.now.schema.now in
     let pass = pass_of c.args.self.now.pass in
     let names = take c.loop-parent.parent-index c.args.parents.now in
@@ -59,4 +66,4 @@ returns c fields key grouped named =
     (λ x y both put. elim (in_turn schema x y (subst (λ p. ArePutTogether schema p (field_of x) (field_of y)) c.requires put).1) [
       | inl first ↦ inl (both, first, among x both.0)
       | inr second ↦ inr ((both.1, both.0), second, among y both.1)
-    ]) (c.loop-parent.invariant fields key grouped named)
+    ]) (c.loop-parent.invariant.settles fields key grouped named)

@@ -12,26 +12,26 @@ use Rattle.graphql_pair_merging.proofs.SettleLemmas.{into_group, settled_words, 
 use Rattle.graphql_pair_merging.proofs.TurnLemmas.{others_alike}
 use Rattle.graphql_pair_merging.proofs.pairs.PairPass.look_from_parent.Goals as goal
 
-pub returns-in_default : goal.returns-in_default
-returns-in_default c fields key grouped named =
+pub returns-in_default-clause-found : goal.returns-in_default-clause-found
+returns-in_default-clause-found c fields key grouped named =
     let schema = c.args.self.now.schema.now in
     let name = c.args.parent.now in
     let none : [] ≡ filter (has_name ParentType name) fields = ap fields_in c.in_default.ensures.value ∙ grouped name in
     settles_nothing schema (pass_of c.args.self.now.pass) fields (λ x y. Both fields x y × IsInTurn schema x y × (has_name ParentType name x ≡ true)) (lists_at c.args.waiting.now.items)
     (λ x y p put. none_stands x (subst (λ l. Contains l x) (sym none) (kept_by_filter (has_name ParentType name) fields x p.0.0 p.2)))
 
-pub returns-then-may_overlap_others : goal.returns-then-may_overlap_others
-returns-then-may_overlap_others c fields key grouped named =
+pub returns-then-may_overlap_others-clause-found : goal.returns-then-may_overlap_others-clause-found
+returns-then-may_overlap_others-clause-found c fields key grouped named =
     let schema = c.args.self.now.schema.now in
     let pass = pass_of c.args.self.now.pass in
     let name = c.args.parent.now in
     let group = c.deref.result.now in
     let is : IsGroupOf ParentType fields group = (name, c.deref.ensures.value ∙ ap fields_in c.in-Some.ensures.value ∙ grouped name) in
     settled_words schema pass c.look_with_parents.result fields (λ x y. Contains group x × Contains fields y) (λ x y. Both fields x y × IsInTurn schema x y × (has_name ParentType name x ≡ true))
-    (lists_at c.args.waiting.now.items) (lists_at c.look_with_parents.new.waiting.items) (λ x y p put. (into_group ParentType fields group is x p.0.0 p.2, p.0.1)) (c.look_with_parents.ensures fields key grouped is named)
+    (lists_at c.args.waiting.now.items) (lists_at c.look_with_parents.new.waiting.items) (λ x y p put. (into_group ParentType fields group is x p.0.0 p.2, p.0.1)) (c.look_with_parents.ensures.found fields key grouped is named)
 
-pub returns : goal.returns
-returns c fields key grouped named =
+pub returns-clause-found : goal.returns-clause-found
+returns-clause-found c fields key grouped named =
     let schema = c.args.self.now.schema.now in
     let pass = pass_of c.args.self.now.pass in
     let name = c.args.parent.now in
@@ -45,4 +45,4 @@ returns c fields key grouped named =
     settled_words schema pass c.look_at_one_parent.result fields (Both group) (λ x y. Both fields x y × IsInTurn schema x y × (has_name ParentType name x ≡ true)) (lists_at c.args.waiting.now.items)
     (lists_at c.look_at_one_parent.new.waiting.items)
     (λ x y p put. (into_group ParentType fields group is x p.0.0 p.2, into_group ParentType fields group is y p.0.1 (also x y p.1 p.2)))
-    (c.look_at_one_parent.ensures fields key is)
+    (c.look_at_one_parent.ensures.found fields key is)

@@ -8,8 +8,8 @@ use Rattle.graphql_pair_merging.specs.declared.field_groups.GroupedBy.TheVariant
 use Rattle.graphql_pair_merging.proofs.SettleLemmas.{into_group, settled_words, settles_nothing}
 use Rattle.graphql_pair_merging.proofs.pairs.PairPass.look_with_parent.Goals as goal
 
-pub returns-in-Some : goal.returns-in-Some
-returns-in-Some c fields key grouped first_is =
+pub returns-in-Some-clause-found : goal.returns-in-Some-clause-found
+returns-in-Some-clause-found c fields key grouped first_is =
     let schema = c.args.self.now.schema.now in
     let pass = pass_of c.args.self.now.pass in
     let first = c.args.first.now in
@@ -17,10 +17,10 @@ returns-in-Some c fields key grouped first_is =
     let group = c.deref.result.now in
     let is : IsGroupOf ParentType fields group = (name, c.deref.ensures.value ∙ ap fields_in c.in-Some.ensures.value ∙ grouped name) in
     settled_words schema pass c.look_at_two_parents.result fields (λ x y. Contains first x × Contains group y) (λ x y. Contains first x × (Contains fields y × (has_name ParentType name y ≡ true))) (lists_at c.args.waiting.now.items)
-    (lists_at c.look_at_two_parents.new.waiting.items) (λ x y p put. (p.0, into_group ParentType fields group is y p.1.0 p.1.1)) (c.look_at_two_parents.ensures fields key first_is is)
+    (lists_at c.look_at_two_parents.new.waiting.items) (λ x y p put. (p.0, into_group ParentType fields group is y p.1.0 p.1.1)) (c.look_at_two_parents.ensures.found fields key first_is is)
 
-pub returns-in-None : goal.returns-in-None
-returns-in-None c fields key grouped first_is =
+pub returns-in-None-clause-found : goal.returns-in-None-clause-found
+returns-in-None-clause-found c fields key grouped first_is =
     let first = c.args.first.now in
     let name = c.args.parent.now in
     let none : [] ≡ filter (has_name ParentType name) fields = ap fields_in c.in-None.ensures.value ∙ grouped name in

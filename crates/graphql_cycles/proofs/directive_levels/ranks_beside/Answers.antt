@@ -1,0 +1,5 @@
+use Rattle.graphql_cycles.proofs.DirectiveRankLemmas.{ranks_of_levels}
+use Rattle.graphql_cycles.proofs.directive_levels.ranks_beside.Goals as goal
+
+pub returns : goal.returns
+returns c = ranks_of_levels (c.unknown.ensures c.args.schema.now)

@@ -1,0 +1,15 @@
+use Rattle.std.proofs.Common.{◌≡◌, ◌++◌, All, List}
+use Rattle.graphql_nodes.specs.Names.{NameText}
+use Rattle.graphql_documents.specs.declared.documents.schemas.ExtendedType.{ExtendedType}
+use Rattle.graphql_cycles.specs.DirectiveRanks.{TypeEntryLeadsNoHigher}
+use Rattle.graphql_cycles.proofs.directive_ranks.types_lead_no_higher.Given as goal
+
+-- those so far lead no higher
+abbrev pub invariant-loop-name : goal.invariant-loop-name
+invariant-loop-name l = record {
+  can_next : (goal.iterator-loop-name).can_next l.name-iterator;
+  is_finite : (goal.iterator-loop-name).is_finite l.name-iterator;
+  done : List (NameText × ExtendedType);
+  all : l.schema.types.entries ≡ done ++ l.name-iterator;
+  leads : All (TypeEntryLeadsNoHigher l.ranks) done;
+}

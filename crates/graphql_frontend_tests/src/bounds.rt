@@ -1,0 +1,162 @@
+use crate::documents::{reported, sources};
+use graphql_frontend::{Reports, SourceText, validate_standalone_document};
+use graphql_hash_seeds::HashSeed;
+use graphql_nodes::FileId;
+use graphql_parser::Bounds;
+use std::alloc::Global;
+use std::fmt::Write;
+use std::hash::BuildHasher;
+use std::process::Abort;
+
+const SCHEMA: &str = "type Query { a: Int q: Query }";
+
+/// Texts of a schema and of a document, how many reports are kept, how many bytes their messages may have, and what is reported.
+const REPORTS: &[(&str, &str, usize, usize, &str)] = &[
+    (
+        SCHEMA,
+        "{ x y z }",
+        3,
+        1_000,
+        "1:2 UndefinedField\n1:4 UndefinedField\n1:6 UndefinedField\n",
+    ),
+    (
+        SCHEMA,
+        "{ x y z }",
+        2,
+        1_000,
+        "1:2 UndefinedField\n1:4 UndefinedField\nMoreReports\n",
+    ),
+    (
+        SCHEMA,
+        "{ x y z }",
+        0,
+        1_000,
+        "1:2 UndefinedField\nMoreReports\n",
+    ),
+    (
+        SCHEMA,
+        "{ x y z }",
+        3,
+        1,
+        "1:2 UndefinedField\nMoreReports\n",
+    ),
+    (
+        SCHEMA,
+        "query ($a: Int, $b: Int) { a }",
+        2,
+        1_000,
+        "1:7 UnusedVariable\n1:16 UnusedVariable\n",
+    ),
+    (
+        SCHEMA,
+        "query ($a: Int, $b: Int) { a }",
+        1,
+        1_000,
+        "1:7 UnusedVariable\nMoreReports\n",
+    ),
+    (
+        SCHEMA,
+        "query ($a: Int, $b: Int) { a }",
+        2,
+        0,
+        "1:7 UnusedVariable\nMoreReports\n",
+    ),
+    (
+        "type Query { a: X b: Y }",
+        "{ a }",
+        2,
+        1_000,
+        "9:16 UndefinedDefinition\n9:21 UndefinedDefinition\n",
+    ),
+    (
+        "type Query { a: X b: Y }",
+        "{ a }",
+        1,
+        1_000,
+        "9:16 UndefinedDefinition\nMoreReports\n",
+    ),
+    (
+        "type Query { a: Int a: Int a: Int }",
+        "{ a }",
+        1,
+        1_000,
+        "9:20 MemberNameCollision 13\nMoreReports\n",
+    ),
+];
+
+fn bounds(reports: usize, report_bytes: usize) -> Bounds {
+    Bounds {
+        tokens: usize::MAX,
+        depth: 500,
+        reach: 4,
+        work: 1_000_000,
+        reports,
+        report_bytes,
+    }
+}
+
+#[test]
+fn the_first_reports_are_kept(rt: HostRuntime) {
+    let alloc = rt.alloc();
+    for (schema, document, reports, bytes, expected) in REPORTS {
+        let sources = sources(&rt, alloc, document, "");
+        let found = reported(&rt, alloc, schema, &sources, bounds(*reports, *bytes));
+        assert_eq!(rt;
+            found.as_str(),
+            *expected,
+            "{schema} {document} {reports} {bytes}"
+        );
+    }
+}
+
+/// A query of so many keys, each of which spreads one fragment of twice as many sets: all sets of the fragment come together with
+/// that of each key.
+fn keys_of_one_fragment(rt: &impl Abort, alloc: Global, keys: u32) -> String {
+    let mut text = String::new(alloc);
+    text.push_str("query Q {").expect(rt, "memory for a text");
+    for k in 0..keys {
+        write!(&mut text, " k{k}: q {{ ...F }}").expect(rt, "memory for a text");
+    }
+    let sets = "... { a } ".repeat(alloc, (keys as usize).saturating_mul(2));
+    let sets = sets.expect(rt, "memory for sets");
+    write!(&mut text, " }} fragment F on Query {{ {sets} }}").expect(rt, "memory for a text");
+    text
+}
+
+/// How much work may be done, and what is reported.
+const WORK: &[(usize, &str)] = &[(10_000_000, ""), (10, "1:0 TakesTooMuch\n")];
+
+#[test]
+fn fields_are_compared_within_a_bound_of_work(rt: HostRuntime) {
+    let alloc = rt.alloc();
+    let text = keys_of_one_fragment(&rt, alloc, 400);
+    for (work, expected) in WORK {
+        let sources = sources(&rt, alloc, text.as_str(), "");
+        let within = Bounds {
+            work: *work,
+            ..Bounds::DEFAULT
+        };
+        let found = reported(&rt, alloc, SCHEMA, &sources, within);
+        assert_eq!(rt; found.as_str(), *expected, "{work}");
+    }
+}
+
+#[test]
+fn names_are_hashed_by_a_seed_of_the_text(rt: HostRuntime) {
+    let alloc = rt.alloc();
+    for text in &["query ($a: Int) { a }", "query ($b: Int) { a }"] {
+        let source = SourceText {
+            file_id: FileId(1),
+            text: *text,
+        };
+        let found = validate_standalone_document(alloc, source, Bounds::DEFAULT);
+        match found.expect(&rt, "memory for reports") {
+            Some(Reports::DocumentRules(reports)) => {
+                let seed = reports.rules.hash_seed();
+                let expected = HashSeed::of_text(text);
+                assert_eq!(rt; seed.hash_one("name"), expected.hash_one("name"));
+            }
+            _ => panic!(rt; "no rule is reported"),
+        }
+    }
+}
