@@ -85,16 +85,6 @@ impl Reports {
                 .saturating_add(reports.usages.len()),
         }
     }
-
-    /// Whether there is more to report than is kept.
-    pub fn has_more(&self) -> bool {
-        matches!(
-            self,
-            Reports::FirstBuilding(_)
-                | Reports::FirstSchemaRules(_)
-                | Reports::FirstDocumentRules(_)
-        )
-    }
 }
 
 impl SchemaReports {
