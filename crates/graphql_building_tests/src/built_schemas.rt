@@ -4,6 +4,7 @@ ghost use Rattle.graphql_schema_checking.specs.SchemaBuilds.{SchemaBuilds};
 use crate::texts::tree;
 use graphql_building_reports::BuildingReportList;
 use graphql_documents::documents::{ComponentName, ComponentOrigin, ExtendedType, Schema};
+use graphql_hash_seeds::HashSeed;
 use graphql_nodes::Name;
 use graphql_schema_building::{BUILT_IN_DEFINITIONS, build_schema};
 use graphql_schema_checking::check_schema;
@@ -40,7 +41,7 @@ pub(crate) fn built(rt: &impl Abort, alloc: Global, text: &str) -> Schema {
     if !builds(alloc, &trees) {
         panic!(rt; "no schema")
     }
-    build_schema(alloc, &trees).expect(rt, "memory for the schema")
+    build_schema(alloc, HashSeed::default(), &trees).expect(rt, "memory for the schema")
 }
 
 fn name(rt: &impl Abort, alloc: Global, text: &str) -> Name {

@@ -43,8 +43,8 @@ impl<'schema> DirectiveLevels<'schema> {
     {
         DirectiveLevels {
             schema,
-            levels: PartLevels::unknown(alloc),
-            ranks: PartLevels::unknown(alloc),
+            levels: PartLevels::unknown(alloc, schema.hash_seed()),
+            ranks: PartLevels::unknown(alloc, schema.hash_seed()),
         }
     }
 
@@ -141,7 +141,7 @@ pub fn validate_directive_cycles_by_levels(
 fn find_levels(alloc: Global, schema: &Schema) -> Result<PartLevels<'_>, ValidationError>
     ensures { IfOk result (λ levels. ArePartLevels schema.now levels 32) }
 {
-    let mut levels = PartLevels::unknown(alloc);
+    let mut levels = PartLevels::unknown(alloc, schema.hash_seed());
     for level in 0..LEVELS {
         let directives = levels.next_directives(alloc, schema, level)?;
         let types = levels.next_types(alloc, schema, level)?;
@@ -165,17 +165,17 @@ fn ranks_beside<'schema>(
     if levels.directives.len() < schema.directive_definitions.len() {
         return find_ranks(alloc, schema);
     }
-    Ok(PartLevels::unknown(alloc))
+    Ok(PartLevels::unknown(alloc, schema.hash_seed()))
 }
 
 impl<'schema> PartLevels<'schema> {
-    /// No levels.
-    pub(super) fn unknown(alloc: Global) -> PartLevels<'schema>
+    /// No levels, in maps of this seed.
+    pub(super) fn unknown(alloc: Global, hash_seed: HashSeed) -> PartLevels<'schema>
         ensures { (schema : Schema) → ArePartLevels schema result 0 }
     {
         PartLevels {
-            directives: Levels::with_hasher(alloc, HashSeed::default()),
-            types: Levels::with_hasher(alloc, HashSeed::default()),
+            directives: Levels::with_hasher(alloc, hash_seed),
+            types: Levels::with_hasher(alloc, hash_seed),
         }
     }
 

@@ -23,7 +23,7 @@ pub(super) fn find_ranks(alloc: Global, schema: &Schema) -> Result<PartLevels<'_
     if are_ranks {
         Ok(ranks)
     } else {
-        Ok(PartLevels::unknown(alloc))
+        Ok(PartLevels::unknown(alloc, schema.hash_seed()))
     }
 }
 
@@ -119,8 +119,8 @@ fn ranks_by_search(alloc: Global, schema: &Schema) -> Result<PartLevels<'_>, Val
     let mut ranking = Ranking {
         alloc,
         schema,
-        places: PartLevels::unknown(alloc),
-        ranks: PartLevels::unknown(alloc),
+        places: PartLevels::unknown(alloc, schema.hash_seed()),
+        ranks: PartLevels::unknown(alloc, schema.hash_seed()),
         unranked: Vec::new(alloc),
         entered: Vec::new(alloc),
         references: Vec::new(alloc),

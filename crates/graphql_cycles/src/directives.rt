@@ -13,6 +13,7 @@ use super::steps::{mark, trace_step};
 use graphql_diagnostics::{Details, DiagnosticData, DiagnosticList};
 use graphql_documents::documents::{Directive, DirectiveDefinition, ExtendedType, Schema};
 use graphql_guards::{CycleError, RecursionStack};
+use graphql_hash_seeds::HashSeed;
 use graphql_nodes::{Name, NamedType, Node, SourceSpan, ValidationError};
 use indexmap::IndexSet;
 use std::alloc::Global;
@@ -53,7 +54,8 @@ fn search_from(
     let Ok(references) = references_of_directive(alloc, definition) else {
         return Err(CycleError::Memory);
     };
-    let Ok(mut progress) = Progress::from_root(alloc, &definition.value.name) else {
+    let Ok(mut progress) = Progress::from_root(alloc, schema.hash_seed(), &definition.value.name)
+    else {
         return Err(CycleError::Memory);
     };
     let search = DirectiveSearch {
@@ -126,21 +128,25 @@ struct DirectiveSearch<'schema> {
 struct Progress<'schema> {
     directive_path: RecursionStack,
     type_path: RecursionStack,
-    seen_directives: IndexSet<&'schema Name>,
-    seen_types: IndexSet<&'schema NamedType>,
+    seen_directives: IndexSet<&'schema Name, HashSeed>,
+    seen_types: IndexSet<&'schema NamedType, HashSeed>,
 }
 
 impl Progress<'_> {
     /// The beginning of a search: its root is on the path of directives, and nothing was visited.
-    fn from_root<'schema>(alloc: Global, root: &Name) -> Result<Progress<'schema>, ValidationError>
+    fn from_root<'schema>(
+        alloc: Global,
+        hash_seed: HashSeed,
+        root: &Name,
+    ) -> Result<Progress<'schema>, ValidationError>
         ensures { IfOk result (IsBeginning root.now) }
     {
         let directive_path = RecursionStack::with_root(alloc, root.clone()?)?;
         Ok(Progress {
             directive_path,
             type_path: RecursionStack::new(alloc),
-            seen_directives: IndexSet::new(alloc),
-            seen_types: IndexSet::new(alloc),
+            seen_directives: IndexSet::with_hasher(alloc, hash_seed),
+            seen_types: IndexSet::with_hasher(alloc, hash_seed),
         })
     }
 }

@@ -12,7 +12,6 @@ use graphql_diagnostics::DiagnosticList;
 use graphql_documents::documents::{
     ExtendedType, InputObjectType, InputValueDefinition, Schema, Type,
 };
-use graphql_hash_seeds::HashSeed;
 use graphql_name_tables::places::place_of;
 use graphql_nodes::{Name, Node, ValidationError};
 use std::alloc::Global;
@@ -33,7 +32,7 @@ impl<'schema> InputObjectLevels<'schema> {
     {
         InputObjectLevels {
             schema,
-            levels: Levels::with_hasher(alloc, HashSeed::default()),
+            levels: Levels::with_hasher(alloc, schema.hash_seed()),
         }
     }
 
@@ -90,7 +89,7 @@ pub fn validate_input_object_cycles_by_levels(
 fn find_levels(alloc: Global, schema: &Schema) -> Result<Levels<'_>, ValidationError>
     ensures { IfOk result (λ levels. AreInputObjectLevels levels schema.now 32) }
 {
-    let mut levels = Levels::with_hasher(alloc, HashSeed::default());
+    let mut levels = Levels::with_hasher(alloc, schema.hash_seed());
     for level in 0..LEVELS {
         let next = next_input_objects(alloc, schema, &levels, level)?;
         if next.is_empty() {

@@ -12,6 +12,7 @@ use super::steps::{mark, trace_step};
 use graphql_diagnostics::{Details, DiagnosticData, DiagnosticList};
 use graphql_documents::documents::{InputObjectType, InputValueDefinition, Schema, Type};
 use graphql_guards::{CycleError, RecursionStack};
+use graphql_hash_seeds::HashSeed;
 use graphql_nodes::{Name, Node, ValidationError};
 use indexmap::IndexSet;
 use std::alloc::Global;
@@ -36,7 +37,7 @@ pub fn validate_input_object_cycles(
     let alloc = diagnostics.allocator();
     let root = &input_object.value.name;
     let mut path = RecursionStack::with_root(alloc, root.clone()?)?;
-    let mut seen = IndexSet::new(alloc);
+    let mut seen = IndexSet::with_hasher(alloc, schema.hash_seed());
     let search = InputObjectSearch {
         alloc,
         schema,
@@ -105,7 +106,7 @@ impl<'schema> InputObjectSearch<'schema> {
         &self,
         input_object: &'schema Node<InputObjectType>,
         path: &mut RecursionStack,
-        seen: &mut IndexSet<&'schema Name>,
+        seen: &mut IndexSet<&'schema Name, HashSeed>,
     ) -> Result<(), CycleError<InputValueDefinition>>
         requires { BeginsAt self.now path.old seen.old.keys }
         ensures searches { SearchesFor self.now (map (λ entry. entry.1.node) input_object.now.value.value.fields.entries) path.old seen.old.keys seen.new.keys result }
@@ -124,7 +125,7 @@ impl<'schema> InputObjectSearch<'schema> {
         &self,
         field: &'schema Node<InputValueDefinition>,
         path: &mut RecursionStack,
-        seen: &mut IndexSet<&'schema Name>,
+        seen: &mut IndexSet<&'schema Name, HashSeed>,
     ) -> Result<(), CycleError<InputValueDefinition>>
         requires { BeginsAt self.now path.old seen.old.keys }
         ensures searches { SearchesFor self.now (field.now ∷ []) path.old seen.old.keys seen.new.keys result }

@@ -6,6 +6,7 @@ use graphql_documents::documents::{
     Component, Directive, DirectiveDefinition, EnumValueDefinition, ExtendedType,
     InputValueDefinition,
 };
+use graphql_hash_seeds::HashSeed;
 use graphql_nodes::{Name, NamedType, Node, ValidationError};
 use indexmap::IndexMap;
 use std::alloc::Global;
@@ -100,7 +101,7 @@ fn add_directives<'schema>(
 /// Adds the directives of the values of an enum.
 fn add_values<'schema>(
     found: &mut Vec<Reference<'schema>>,
-    values: &'schema IndexMap<Name, Component<EnumValueDefinition>>,
+    values: &'schema IndexMap<Name, Component<EnumValueDefinition>, HashSeed>,
 ) -> Result<(), ValidationError>
     ensures { OnOk result (map reference_of found.new.items ≡ map reference_of found.old.items ++
         flat_map (λ entry. map by_directive entry.1.node.value.value.directives.items) values.now.entries) }
@@ -114,7 +115,7 @@ fn add_values<'schema>(
 /// Adds the references of the fields of an input object.
 fn add_fields<'schema>(
     found: &mut Vec<Reference<'schema>>,
-    fields: &'schema IndexMap<Name, Component<InputValueDefinition>>,
+    fields: &'schema IndexMap<Name, Component<InputValueDefinition>, HashSeed>,
 ) -> Result<(), ValidationError>
     ensures { OnOk result (map reference_of found.new.items ≡ map reference_of found.old.items ++
         input_references (map (λ entry. entry.1.node) fields.now.entries)) }

@@ -18,7 +18,7 @@ ghost use Rattle.graphql_frontend.specs.Schemas.{IsUsable};
 use crate::document_rules::{RuleReports, document_reports, rule_reports};
 use crate::first_reports::{is_full_of_building_rules, report_bound};
 use crate::reports::Reports;
-use crate::texts::{Parsed, SourceText, SyntaxReport, is_out_of_memory, parse_texts};
+use crate::texts::{Parsed, SourceText, SyntaxReport, hash_seed_of, is_out_of_memory, parse_texts};
 use graphql_building_reports::BuildingReportList;
 use graphql_diagnostics::DiagnosticList;
 use graphql_document_building::{build_document, build_standalone_document};
@@ -32,7 +32,6 @@ use graphql_reach::{ReachReport, check_reach};
 use graphql_trees::Document;
 use sqlite_items::Items;
 use std::alloc::Global;
-use std::hash::{DefaultHasher, Hasher};
 
 /// How many bytes count at least, where those that operations may reach go by the bytes of the texts: what a short document
 /// reaches is soon validated.
@@ -159,15 +158,6 @@ fn bytes_of(sources: &[SourceText<'_>]) -> Result<usize, ValidationError>
         };
     }
     Ok(bytes)
-}
-
-/// The seed that is drawn from the texts, one behind another.
-fn hash_seed_of(sources: &[SourceText<'_>]) -> HashSeed {
-    let mut digest = DefaultHasher::new();
-    for source in sources {
-        digest.write(source.text.as_bytes());
-    }
-    HashSeed::new(digest.finish())
 }
 
 /// The document that has the definitions of these, in their order.

@@ -7,7 +7,6 @@ use crate::first_reports::{is_full_of_rules, report_bound};
 use crate::reports::SchemaReports;
 use graphql_diagnostics::DiagnosticList;
 use graphql_documents::documents::Schema;
-use graphql_hash_seeds::HashSeed;
 use graphql_input_rules::check_schema_input_fields;
 use graphql_nodes::ValidationError;
 use graphql_parser::Bounds;
@@ -34,7 +33,7 @@ pub(crate) fn schema_reports(
 {
     let mut input_fields = Vec::new(alloc);
     check_schema_input_fields(&mut input_fields, schema)?;
-    let mut rules = DiagnosticList::with_bound(alloc, HashSeed::default(), report_bound(bounds));
+    let mut rules = DiagnosticList::with_bound(alloc, schema.hash_seed(), report_bound(bounds));
     match validate_schema(&mut rules, schema) {
         Ok(()) => Ok(SchemaRuleReports::All(SchemaReports {
             rules,

@@ -13,7 +13,7 @@ use crate::first_reports::{is_full_of_building_rules, report_bound};
 use crate::meta_fields::has_types_of_meta_fields;
 use crate::reports::{Reports, SchemaReports};
 use crate::schema_rules::{SchemaRuleReports, schema_reports};
-use crate::texts::{Parsed, SourceText, parse_texts};
+use crate::texts::{Parsed, SourceText, hash_seed_of, parse_texts};
 use graphql_building_reports::BuildingReportList;
 use graphql_documents::documents::Schema;
 use graphql_hash_seeds::HashSeed;
@@ -52,26 +52,26 @@ pub fn read_schema(
 {
     let Parsed { documents, errors } = parse_texts(alloc, sources, bounds)?;
     if errors.is_empty() {
-        schema_of_documents(alloc, &documents, bounds)
+        schema_of_documents(alloc, hash_seed_of(sources), &documents, bounds)
     } else {
         Ok(SchemaReading::Rejected(Reports::Syntax(errors)))
     }
 }
 
-/// The schema that these documents make, if they make one that holds.
+/// The schema that these documents make, if they make one that holds. Its maps hash names by this seed.
 fn schema_of_documents(
     alloc: Global,
+    hash_seed: HashSeed,
     documents: &[Document],
     bounds: Bounds,
 ) -> Result<SchemaReading, ValidationError>
     ensures { IfOk result (JudgesTrees bounds documents.now) }
 {
-    let seed = HashSeed::default();
-    let mut reports = BuildingReportList::with_bound(alloc, seed, report_bound(bounds));
+    let mut reports = BuildingReportList::with_bound(alloc, hash_seed, report_bound(bounds));
     match check_schema(&mut reports, documents) {
         Ok(()) => {
             if reports.is_empty() {
-                let schema = build_schema(alloc, documents)?;
+                let schema = build_schema(alloc, hash_seed, documents)?;
                 validated(alloc, schema, bounds)
             } else {
                 Ok(SchemaReading::Rejected(Reports::Building(reports)))

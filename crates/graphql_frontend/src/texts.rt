@@ -3,10 +3,12 @@
 ghost use Rattle.std.specs.Prelude.{◌≡◌, ◌↔◌, ◌++◌, ◌∷◌, [], IfOk, IsTrue, OnOk};
 ghost use Rattle.graphql_frontend.specs.Texts.{ParsesOneMore, ParsesTexts};
 
+use graphql_hash_seeds::HashSeed;
 use graphql_nodes::{FileId, ValidationError};
 use graphql_parser::{Bounds, SyntaxError, parse_document};
 use graphql_trees::Document;
 use std::alloc::Global;
+use std::hash::{DefaultHasher, Hasher};
 
 /// A text, with the number of its file, which its reports name.
 #[derive(Clone, Copy)]
@@ -27,6 +29,15 @@ pub struct SyntaxReport {
 pub(crate) struct Parsed {
     pub(crate) documents: Vec<Document>,
     pub(crate) errors: Vec<SyntaxReport>,
+}
+
+/// The seed that is drawn from the texts, one after another.
+pub(crate) fn hash_seed_of(sources: &[SourceText<'_>]) -> HashSeed {
+    let mut digest = DefaultHasher::new();
+    for source in sources {
+        digest.write(source.text.as_bytes());
+    }
+    HashSeed::new(digest.finish())
 }
 
 /// Parses texts. The only error is a failed allocation.

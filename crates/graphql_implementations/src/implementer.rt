@@ -1,4 +1,5 @@
 use graphql_documents::documents::{Component, ComponentName, FieldDefinition, Schema};
+use graphql_hash_seeds::HashSeed;
 use graphql_nodes::{Name, SourceSpan};
 use indexmap::{IndexMap, IndexSet};
 
@@ -7,8 +8,8 @@ use indexmap::{IndexMap, IndexSet};
 pub(super) struct Implementer<'a> {
     pub schema: &'a Schema,
     pub name: &'a Name,
-    pub fields: &'a IndexMap<Name, Component<FieldDefinition>>,
-    pub interfaces: &'a IndexSet<ComponentName>,
+    pub fields: &'a IndexMap<Name, Component<FieldDefinition>, HashSeed>,
+    pub interfaces: &'a IndexSet<ComponentName, HashSeed>,
 }
 
 /// A field of an interface that a type lists, and the type's own field under its name.

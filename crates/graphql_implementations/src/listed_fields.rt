@@ -12,6 +12,7 @@ use super::implementer::{FieldRule, Implementer, ImplementingField, OwnFieldRule
 use super::types::check_type;
 use graphql_diagnostics::DiagnosticList;
 use graphql_documents::documents::{Component, ComponentName, FieldDefinition, Schema};
+use graphql_hash_seeds::HashSeed;
 use graphql_nodes::{Name, SourceSpan, ValidationError};
 use indexmap::{IndexMap, IndexSet};
 
@@ -24,8 +25,8 @@ pub fn validate_interface_fields(
     schema: &Schema,
     name: &Name,
     location: Option<SourceSpan>,
-    fields: &IndexMap<Name, Component<FieldDefinition>>,
-    interfaces: &IndexSet<ComponentName>,
+    fields: &IndexMap<Name, Component<FieldDefinition>, HashSeed>,
+    interfaces: &IndexSet<ComponentName, HashSeed>,
 ) -> Result<(), ValidationError>
     ensures { Checks result (HasInterfaceFields schema.now fields.now.entries interfaces.now.keys)
         (IsDiagnostic (InterfaceFieldsReport schema.now name.now location fields.now.entries interfaces.now.keys)) diagnostics.old diagnostics.new }
@@ -47,8 +48,8 @@ pub fn validate_implementation_field_types(
     diagnostics: &mut DiagnosticList,
     schema: &Schema,
     name: &Name,
-    fields: &IndexMap<Name, Component<FieldDefinition>>,
-    interfaces: &IndexSet<ComponentName>,
+    fields: &IndexMap<Name, Component<FieldDefinition>, HashSeed>,
+    interfaces: &IndexSet<ComponentName, HashSeed>,
 ) -> Result<(), ValidationError>
     ensures { Checks result (FieldTypesImplement schema.now fields.now.entries interfaces.now.keys)
         (IsDiagnostic (ImplementationFieldTypesReport schema.now name.now fields.now.entries interfaces.now.keys)) diagnostics.old diagnostics.new }
@@ -76,8 +77,8 @@ pub fn validate_implementation_field_arguments(
     diagnostics: &mut DiagnosticList,
     schema: &Schema,
     name: &Name,
-    fields: &IndexMap<Name, Component<FieldDefinition>>,
-    interfaces: &IndexSet<ComponentName>,
+    fields: &IndexMap<Name, Component<FieldDefinition>, HashSeed>,
+    interfaces: &IndexSet<ComponentName, HashSeed>,
 ) -> Result<(), ValidationError>
     ensures { Checks result (FieldArgumentsImplement schema.now fields.now.entries interfaces.now.keys)
         (IsDiagnostic (ImplementationFieldArgumentsReport schema.now name.now fields.now.entries interfaces.now.keys)) diagnostics.old diagnostics.new }

@@ -9,6 +9,7 @@ ghost use Rattle.graphql_implementations.specs.ImplementationSteps.{ListingRepor
 
 use graphql_diagnostics::{Details, DiagnosticData, DiagnosticList};
 use graphql_documents::documents::{ComponentName, Schema};
+use graphql_hash_seeds::HashSeed;
 use graphql_nodes::{Name, SourceSpan, ValidationError};
 use indexmap::IndexSet;
 
@@ -18,7 +19,7 @@ struct ListedInterfaces<'a> {
     schema: &'a Schema,
     owner: &'a Name,
     location: Option<SourceSpan>,
-    names: &'a IndexSet<ComponentName>,
+    names: &'a IndexSet<ComponentName, HashSeed>,
 }
 
 /// Validates the names of interfaces that a type lists, which has this name and location: first that each is
@@ -31,7 +32,7 @@ pub fn validate_implements_interfaces(
     schema: &Schema,
     name: &Name,
     location: Option<SourceSpan>,
-    interfaces: &IndexSet<ComponentName>,
+    interfaces: &IndexSet<ComponentName, HashSeed>,
 ) -> Result<(), ValidationError>
     ensures { Checks result
         (ListedInterfacesAreDefined schema.now interfaces.now.keys × ListsTransitiveInterfaces schema.now interfaces.now.keys)

@@ -45,7 +45,7 @@ pub(crate) fn check_argument_definitions(
 pub(crate) fn check_input_field_definitions(
     reports: &mut Vec<InputFieldRepetition>,
     hash_seed: HashSeed,
-    fields: &IndexMap<Name, Component<InputValueDefinition>>,
+    fields: &IndexMap<Name, Component<InputValueDefinition>, HashSeed>,
 ) -> Result<(), ValidationError>
     ensures { Checks result (FieldsAreUnique (InputFieldsWrite (values fields.now))) (FieldReport (InputFieldsWrite (values fields.now))) reports.old reports.new }
 {
@@ -70,7 +70,7 @@ fn check_input_value(
 pub(crate) fn check_field_definitions(
     reports: &mut Vec<InputFieldRepetition>,
     hash_seed: HashSeed,
-    fields: &IndexMap<Name, Component<FieldDefinition>>,
+    fields: &IndexMap<Name, Component<FieldDefinition>, HashSeed>,
 ) -> Result<(), ValidationError>
     ensures { Checks result (FieldsAreUnique (FieldsWrite (values fields.now))) (FieldReport (FieldsWrite (values fields.now))) reports.old reports.new }
 {
@@ -95,7 +95,7 @@ fn check_field_definition(
 pub(crate) fn check_enum_values(
     reports: &mut Vec<InputFieldRepetition>,
     hash_seed: HashSeed,
-    enum_values: &IndexMap<Name, Component<EnumValueDefinition>>,
+    enum_values: &IndexMap<Name, Component<EnumValueDefinition>, HashSeed>,
 ) -> Result<(), ValidationError>
     ensures { Checks result (FieldsAreUnique (EnumValuesWrite (values enum_values.now))) (FieldReport (EnumValuesWrite (values enum_values.now))) reports.old reports.new }
 {

@@ -33,7 +33,7 @@ pub fn check_schema_input_fields(
 ) -> Result<(), ValidationError>
     ensures { Checks result (SchemaInputFieldsAreUnique schema.now) (SchemaInputFieldReport schema.now) reports.old reports.new }
 {
-    let hash_seed = HashSeed::default();
+    let hash_seed = schema.hash_seed();
     check_applied_directives(
         reports,
         hash_seed,
@@ -46,7 +46,7 @@ pub fn check_schema_input_fields(
 fn check_directive_definitions(
     reports: &mut Vec<InputFieldRepetition>,
     hash_seed: HashSeed,
-    definitions: &IndexMap<Name, Node<DirectiveDefinition>>,
+    definitions: &IndexMap<Name, Node<DirectiveDefinition>, HashSeed>,
 ) -> Result<(), ValidationError>
     ensures { Checks result (FieldsAreUnique (DirectiveDefinitionsWrite (values definitions.now))) (FieldReport (DirectiveDefinitionsWrite (values definitions.now))) reports.old reports.new }
 {
@@ -59,7 +59,7 @@ fn check_directive_definitions(
 fn check_types(
     reports: &mut Vec<InputFieldRepetition>,
     hash_seed: HashSeed,
-    types: &IndexMap<Name, ExtendedType>,
+    types: &IndexMap<Name, ExtendedType, HashSeed>,
 ) -> Result<(), ValidationError>
     ensures { Checks result (FieldsAreUnique (TypesWrite (values types.now))) (FieldReport (TypesWrite (values types.now))) reports.old reports.new }
 {
@@ -115,7 +115,7 @@ fn check_type_with_fields(
     reports: &mut Vec<InputFieldRepetition>,
     hash_seed: HashSeed,
     directives: &[Component<Directive>],
-    fields: &IndexMap<Name, Component<FieldDefinition>>,
+    fields: &IndexMap<Name, Component<FieldDefinition>, HashSeed>,
 ) -> Result<(), ValidationError>
     ensures { Checks result (FieldsAreUnique (λ v. InAppliedDirectives directives.now v ⊎ FieldsWrite (values fields.now) v)) (FieldReport (λ v. InAppliedDirectives directives.now v ⊎ FieldsWrite (values fields.now) v)) reports.old reports.new }
 {

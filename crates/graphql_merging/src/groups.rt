@@ -231,7 +231,7 @@ fn push_unless_empty<'doc>(
 /// Adds the fields on each object type as a group, each with these further fields.
 fn push_each_with<'doc>(
     groups: &mut Vec<Vec<NumberedField<'doc>>>,
-    on_objects: IndexMap<&Name, Vec<NumberedField<'doc>>>,
+    on_objects: IndexMap<&Name, Vec<NumberedField<'doc>>, HashSeed>,
     further: &[NumberedField<'doc>],
 ) -> Result<(), ValidationError>
     ensures groups { OnOk result (lists_of groups.new.items ≡
@@ -262,7 +262,7 @@ fn push_with<'doc>(
 /// and unions.
 #[derive(Drop)]
 struct FieldsOnTypes<'schema, 'doc> {
-    on_objects: IndexMap<&'schema Name, Vec<NumberedField<'doc>>>,
+    on_objects: IndexMap<&'schema Name, Vec<NumberedField<'doc>>, HashSeed>,
     on_abstract: Vec<NumberedField<'doc>>,
 }
 
@@ -278,7 +278,7 @@ impl<'schema, 'doc> FieldsOnTypes<'schema, 'doc> {
             IfOk result (λ found. AreEntriesNumbered contents found.on_objects.entries × AreNumberedIn contents found.on_abstract.items) }
     {
         let mut fields_on_types = FieldsOnTypes {
-            on_objects: IndexMap::new(alloc),
+            on_objects: IndexMap::with_hasher(alloc, schema.hash_seed()),
             on_abstract: Vec::new(alloc),
         };
         for field in fields {

@@ -8,6 +8,7 @@ ghost use Rattle.graphql_documents.specs.declared.documents.schemas.Schema.{Sche
 ghost use Rattle.graphql_operations.specs.PossibleTypes.{object_names};
 
 use graphql_documents::documents::{ComponentName, ExtendedType, Implementers, Schema};
+use graphql_hash_seeds::HashSeed;
 use graphql_nodes::{Name, ValidationError};
 use indexmap::{IndexMap, IndexSet};
 use std::alloc::Global;
@@ -18,7 +19,7 @@ use std::alloc::Global;
 #[derive(Drop)]
 pub(crate) struct PossibleTypes<'a> {
     schema: &'a Schema,
-    implementers: IndexMap<&'a Name, Implementers<'a>>,
+    implementers: IndexMap<&'a Name, Implementers<'a>, HashSeed>,
     ghost made: { implementer_entries implementers.entries ≡ implementers_map schema.now },
 }
 
@@ -56,8 +57,8 @@ fn is_object_of(object: &ExtendedType, ty: &ExtendedType) -> bool
 enum ObjectNames<'a> {
     Nothing,
     Own(&'a Name),
-    Implementers(&'a IndexSet<&'a Name>),
-    Members(&'a IndexSet<ComponentName>),
+    Implementers(&'a IndexSet<&'a Name, HashSeed>),
+    Members(&'a IndexSet<ComponentName, HashSeed>),
 }
 
 impl<'a> PossibleTypes<'a> {

@@ -7,6 +7,7 @@ ghost use Rattle.graphql_trees.specs.declared.type_system.DirectiveDefinition as
 ghost use Rattle.graphql_schema_building.specs.SchemaSays.{DirectivesStand};
 
 use graphql_documents::documents::DirectiveDefinition;
+use graphql_hash_seeds::HashSeed;
 use graphql_leaf_building::build_directive_definition;
 use graphql_nodes::{Name, Node, ValidationError};
 use graphql_trees::DirectiveDefinition as DirectiveDefinitionTree;
@@ -19,12 +20,13 @@ use std::alloc::Global;
 /// Specification: 3.13 Directives.
 pub fn build_directive_definitions(
     alloc: Global,
+    hash_seed: HashSeed,
     trees: &[&DirectiveDefinitionTree],
-) -> Result<IndexMap<Name, Node<DirectiveDefinition>>, ValidationError>
+) -> Result<IndexMap<Name, Node<DirectiveDefinition>, HashSeed>, ValidationError>
     requires { AreDistinct (map (λ d. d.name) (nows trees.now)) }
     ensures { IfOk result (λ built. DirectivesStand (nows trees.now) built.entries) }
 {
-    let mut built = IndexMap::new(alloc);
+    let mut built = IndexMap::with_hasher(alloc, hash_seed);
     for tree in trees {
         add_directive_definition(&mut built, alloc, *tree)?;
     }
@@ -32,7 +34,7 @@ pub fn build_directive_definitions(
 }
 
 fn add_directive_definition(
-    built: &mut IndexMap<Name, Node<DirectiveDefinition>>,
+    built: &mut IndexMap<Name, Node<DirectiveDefinition>, HashSeed>,
     alloc: Global,
     tree: &DirectiveDefinitionTree,
 ) -> Result<(), ValidationError>

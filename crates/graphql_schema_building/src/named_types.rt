@@ -15,6 +15,7 @@ ghost use Rattle.graphql_schema_building.specs.TypesSay.{PartsAreDistinct};
 use crate::type_parts::{extensions_by_name, parts_of};
 use crate::types::{TypePart, build_type};
 use graphql_documents::documents::ExtendedType;
+use graphql_hash_seeds::HashSeed;
 use graphql_nodes::{Name, ValidationError};
 use graphql_schema_checking::kinds::type_name;
 use graphql_trees::TypeDefinition;
@@ -27,16 +28,17 @@ use std::alloc::Global;
 /// Specification: 3.4 Types.
 pub fn build_types<'a>(
     alloc: Global,
+    hash_seed: HashSeed,
     types: &[&'a TypeDefinition],
     extensions: &[TypePart<'a>],
-) -> Result<IndexMap<Name, ExtendedType>, ValidationError>
+) -> Result<IndexMap<Name, ExtendedType, HashSeed>, ValidationError>
     requires names { AreDistinct (map name_of (nows types.now)) }
     requires parts { All (λ d. PartsAreDistinct (parts_with (originated extensions.now) d)) (nows types.now) }
     ensures { (definitions : List Definition) → originated extensions.now ≡ type_extension_parts definitions →
         IfOk result (λ built. TypesStand definitions (nows types.now) built.entries) }
 {
-    let found = extensions_by_name(alloc, extensions)?;
-    let mut built = IndexMap::new(alloc);
+    let found = extensions_by_name(alloc, hash_seed, extensions)?;
+    let mut built = IndexMap::with_hasher(alloc, hash_seed);
     for definition in types {
         add_type(&mut built, alloc, *definition, &found)?;
     }
@@ -44,10 +46,10 @@ pub fn build_types<'a>(
 }
 
 fn add_type<'a>(
-    built: &mut IndexMap<Name, ExtendedType>,
+    built: &mut IndexMap<Name, ExtendedType, HashSeed>,
     alloc: Global,
     definition: &'a TypeDefinition,
-    found: &IndexMap<&'a Name, Vec<TypePart<'a>>>,
+    found: &IndexMap<&'a Name, Vec<TypePart<'a>>, HashSeed>,
 ) -> Result<(), ValidationError>
     requires { (extensions : List (Originated type_tree.TypeDefinition)) × FindsParts found.now extensions ×
         PartsAreDistinct (parts_with extensions definition.now) }
@@ -56,7 +58,7 @@ fn add_type<'a>(
         TypesStand definitions written built.old.entries → TypesStand definitions (written ++ definition.now ∷ []) built.new.entries) }
 {
     let parts = parts_of(alloc, definition, found)?;
-    let built_type = build_type(alloc, definition, &parts)?;
+    let built_type = build_type(alloc, *built.hasher(), definition, &parts)?;
     let name = type_name(definition).clone_in(alloc)?;
     built.insert(name, built_type)?;
     Ok(())

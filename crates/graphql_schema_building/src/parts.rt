@@ -14,6 +14,7 @@ use graphql_documents::documents::{
     Component, ComponentName, ComponentOrigin, Directive, EnumValueDefinition, FieldDefinition,
     InputValueDefinition,
 };
+use graphql_hash_seeds::HashSeed;
 use graphql_leaf_building::{
     build_directives, build_enum_value, build_field_definition, build_input_value,
 };
@@ -59,7 +60,7 @@ fn push_directives(
 ///
 /// Specification: 3.6 Objects; 3.7 Interfaces.
 pub fn add_fields(
-    fields: &mut IndexMap<Name, Component<FieldDefinition>>,
+    fields: &mut IndexMap<Name, Component<FieldDefinition>, HashSeed>,
     alloc: Global,
     origin: ComponentOrigin,
     trees: &[FieldDefinitionTree],
@@ -74,7 +75,7 @@ pub fn add_fields(
 }
 
 fn add_field(
-    fields: &mut IndexMap<Name, Component<FieldDefinition>>,
+    fields: &mut IndexMap<Name, Component<FieldDefinition>, HashSeed>,
     alloc: Global,
     origin: ComponentOrigin,
     tree: &FieldDefinitionTree,
@@ -93,7 +94,7 @@ fn add_field(
 ///
 /// Specification: 3.10 Input Objects.
 pub fn add_input_fields(
-    input_fields: &mut IndexMap<Name, Component<InputValueDefinition>>,
+    input_fields: &mut IndexMap<Name, Component<InputValueDefinition>, HashSeed>,
     alloc: Global,
     origin: ComponentOrigin,
     trees: &[InputValueTree],
@@ -108,7 +109,7 @@ pub fn add_input_fields(
 }
 
 fn add_input_field(
-    input_fields: &mut IndexMap<Name, Component<InputValueDefinition>>,
+    input_fields: &mut IndexMap<Name, Component<InputValueDefinition>, HashSeed>,
     alloc: Global,
     origin: ComponentOrigin,
     tree: &InputValueTree,
@@ -127,7 +128,7 @@ fn add_input_field(
 ///
 /// Specification: 3.9 Enums.
 pub fn add_values(
-    values: &mut IndexMap<Name, Component<EnumValueDefinition>>,
+    values: &mut IndexMap<Name, Component<EnumValueDefinition>, HashSeed>,
     alloc: Global,
     origin: ComponentOrigin,
     trees: &[EnumValueTree],
@@ -142,7 +143,7 @@ pub fn add_values(
 }
 
 fn add_value(
-    values: &mut IndexMap<Name, Component<EnumValueDefinition>>,
+    values: &mut IndexMap<Name, Component<EnumValueDefinition>, HashSeed>,
     alloc: Global,
     origin: ComponentOrigin,
     tree: &EnumValueTree,
@@ -161,7 +162,7 @@ fn add_value(
 ///
 /// Specification: 3.6 Objects; 3.7 Interfaces; 3.8 Unions.
 pub fn add_names(
-    names: &mut IndexSet<ComponentName>,
+    names: &mut IndexSet<ComponentName, HashSeed>,
     alloc: Global,
     origin: ComponentOrigin,
     trees: &[Name],
@@ -176,7 +177,7 @@ pub fn add_names(
 }
 
 fn add_name(
-    names: &mut IndexSet<ComponentName>,
+    names: &mut IndexSet<ComponentName, HashSeed>,
     alloc: Global,
     origin: ComponentOrigin,
     tree: &Name,

@@ -8,6 +8,7 @@ ghost use Rattle.graphql_repetitions.specs.References.{nows};
 ghost use Rattle.graphql_schema_building.specs.SchemaSays.{directives_with, in_place_of, is_built_in_directive};
 ghost use Rattle.graphql_schema_building.specs.Steps.{FindsFirst};
 
+use graphql_hash_seeds::HashSeed;
 use graphql_nodes::{Name, ValidationError};
 use graphql_schema_checking::names::is_built_in;
 use graphql_trees::DirectiveDefinition;
@@ -20,14 +21,15 @@ use std::alloc::Global;
 /// Specification: 3.13 Directives.
 pub(crate) fn directives_of_schema<'a>(
     alloc: Global,
+    hash_seed: HashSeed,
     directives: &[&'a DirectiveDefinition],
 ) -> Result<Vec<&'a DirectiveDefinition>, ValidationError>
     ensures { IfOk result (λ said. nows said.items ≡ directives_with (filter is_built_in_directive (nows directives.now))
         (filter (λ d. not (is_built_in_directive d)) (nows directives.now))) }
 {
     let sorted = SortedDirectives::of(alloc, directives)?;
-    let own = directives_by_name(alloc, &sorted.own)?;
-    let built_in = directives_by_name(alloc, &sorted.built_in)?;
+    let own = directives_by_name(alloc, hash_seed, &sorted.own)?;
+    let built_in = directives_by_name(alloc, hash_seed, &sorted.built_in)?;
     let mut said = Vec::new(alloc);
     add_in_place(&mut said, &sorted.built_in, &own)?;
     add_others(&mut said, &sorted.own, &built_in)?;
@@ -38,7 +40,7 @@ pub(crate) fn directives_of_schema<'a>(
 fn add_in_place<'a>(
     said: &mut Vec<&'a DirectiveDefinition>,
     built_in: &[&'a DirectiveDefinition],
-    own: &IndexMap<&'a Name, &'a DirectiveDefinition>,
+    own: &IndexMap<&'a Name, &'a DirectiveDefinition, HashSeed>,
 ) -> Result<(), ValidationError>
     ensures { OnOk result ((all : List directive_tree.DirectiveDefinition) → FindsFirst own.now all →
         nows said.new.items ≡ nows said.old.items ++ map (in_place_of all) (nows built_in.now)) }
@@ -52,7 +54,7 @@ fn add_in_place<'a>(
 /// What a text defines in the place of a built-in directive, or else the directive itself.
 fn in_place_of<'a>(
     directive: &'a DirectiveDefinition,
-    own: &IndexMap<&'a Name, &'a DirectiveDefinition>,
+    own: &IndexMap<&'a Name, &'a DirectiveDefinition, HashSeed>,
 ) -> &'a DirectiveDefinition
     ensures { (all : List directive_tree.DirectiveDefinition) → FindsFirst own.now all → result.now ≡ in_place_of all directive.now }
 {
@@ -66,7 +68,7 @@ fn in_place_of<'a>(
 fn add_others<'a>(
     said: &mut Vec<&'a DirectiveDefinition>,
     own: &[&'a DirectiveDefinition],
-    built_in: &IndexMap<&'a Name, &'a DirectiveDefinition>,
+    built_in: &IndexMap<&'a Name, &'a DirectiveDefinition, HashSeed>,
 ) -> Result<(), ValidationError>
     ensures { OnOk result ((all : List directive_tree.DirectiveDefinition) → FindsFirst built_in.now all →
         nows said.new.items ≡ nows said.old.items ++ filter (λ o. not (list_any (λ d. same_name d.name o.name) all)) (nows own.now)) }
@@ -80,7 +82,7 @@ fn add_others<'a>(
 fn add_other<'a>(
     said: &mut Vec<&'a DirectiveDefinition>,
     directive: &'a DirectiveDefinition,
-    built_in: &IndexMap<&'a Name, &'a DirectiveDefinition>,
+    built_in: &IndexMap<&'a Name, &'a DirectiveDefinition, HashSeed>,
 ) -> Result<(), ValidationError>
     ensures { OnOk result ((all : List directive_tree.DirectiveDefinition) → FindsFirst built_in.now all →
         nows said.new.items ≡ nows said.old.items ++ filter (λ o. not (list_any (λ d. same_name d.name o.name) all)) (directive.now ∷ [])) }
@@ -94,11 +96,12 @@ fn add_other<'a>(
 /// The first directive of each name. The only error is a failed allocation.
 fn directives_by_name<'a>(
     alloc: Global,
+    hash_seed: HashSeed,
     directives: &[&'a DirectiveDefinition],
-) -> Result<IndexMap<&'a Name, &'a DirectiveDefinition>, ValidationError>
+) -> Result<IndexMap<&'a Name, &'a DirectiveDefinition, HashSeed>, ValidationError>
     ensures { IfOk result (λ found. FindsFirst found (nows directives.now)) }
 {
-    let mut found = IndexMap::new(alloc);
+    let mut found = IndexMap::with_hasher(alloc, hash_seed);
     for directive in directives {
         add_if_new(&mut found, *directive)?;
     }
@@ -107,7 +110,7 @@ fn directives_by_name<'a>(
 
 /// Adds a directive, unless one of its name is there.
 fn add_if_new<'a>(
-    found: &mut IndexMap<&'a Name, &'a DirectiveDefinition>,
+    found: &mut IndexMap<&'a Name, &'a DirectiveDefinition, HashSeed>,
     directive: &'a DirectiveDefinition,
 ) -> Result<(), ValidationError>
     ensures { OnOk result ((before : List directive_tree.DirectiveDefinition) → FindsFirst found.old before →

@@ -10,6 +10,7 @@ use crate::numbered::NumberedExtensions;
 use crate::redefined::directives_of_schema;
 use crate::schema_definitions::build_schema_definition;
 use graphql_documents::documents::{MetaFields, Schema};
+use graphql_hash_seeds::HashSeed;
 use graphql_nodes::ValidationError;
 use graphql_schema_checking::definitions::SortedDefinitions;
 use graphql_trees::Document;
@@ -20,16 +21,20 @@ use std::alloc::Global;
 /// 2^32 definitions or more, among which extensions have no numbers.
 ///
 /// Specification: 3 Type System.
-pub fn build_schema(alloc: Global, trees: &[Document]) -> Result<Schema, ValidationError>
+pub fn build_schema(
+    alloc: Global,
+    hash_seed: HashSeed,
+    trees: &[Document],
+) -> Result<Schema, ValidationError>
     requires { SchemaBuilds trees.now }
     ensures { IfOk result (λ schema. SchemaSays trees.now schema) }
 {
     let sorted = SortedDefinitions::of(alloc, trees)?;
     let extensions = NumberedExtensions::of(alloc, trees)?;
     let schema_definition = build_schema_definition(alloc, &sorted, &extensions.schemas)?;
-    let directives = directives_of_schema(alloc, &sorted.directives)?;
-    let directive_definitions = build_directive_definitions(alloc, &directives)?;
-    let types = build_types(alloc, &sorted.types, &extensions.types)?;
+    let directives = directives_of_schema(alloc, hash_seed, &sorted.directives)?;
+    let directive_definitions = build_directive_definitions(alloc, hash_seed, &directives)?;
+    let types = build_types(alloc, hash_seed, &sorted.types, &extensions.types)?;
     let meta_fields = MetaFields::new(alloc)?;
     Ok(Schema {
         schema_definition,

@@ -10,6 +10,7 @@ ghost use Rattle.graphql_schema_building.specs.TypeParts.{originated};
 
 use crate::types::TypePart;
 use graphql_documents::documents::ComponentOrigin;
+use graphql_hash_seeds::HashSeed;
 use graphql_nodes::{Name, ValidationError};
 use graphql_schema_checking::kinds::{same_kind, type_kind, type_name};
 use graphql_trees::TypeDefinition;
@@ -19,11 +20,12 @@ use std::alloc::Global;
 /// The extensions of each name, in order. The only error is a failed allocation.
 pub(crate) fn extensions_by_name<'a>(
     alloc: Global,
+    hash_seed: HashSeed,
     extensions: &[TypePart<'a>],
-) -> Result<IndexMap<&'a Name, Vec<TypePart<'a>>>, ValidationError>
+) -> Result<IndexMap<&'a Name, Vec<TypePart<'a>>, HashSeed>, ValidationError>
     ensures { IfOk result (λ found. FindsParts found (originated extensions.now)) }
 {
-    let mut found = IndexMap::new(alloc);
+    let mut found = IndexMap::with_hasher(alloc, hash_seed);
     for extension in extensions {
         add_extension(&mut found, alloc, *extension)?;
     }
@@ -32,7 +34,7 @@ pub(crate) fn extensions_by_name<'a>(
 
 /// Puts the extension behind those of its name.
 fn add_extension<'a>(
-    found: &mut IndexMap<&'a Name, Vec<TypePart<'a>>>,
+    found: &mut IndexMap<&'a Name, Vec<TypePart<'a>>, HashSeed>,
     alloc: Global,
     extension: TypePart<'a>,
 ) -> Result<(), ValidationError>
@@ -57,7 +59,7 @@ fn add_extension<'a>(
 pub(crate) fn parts_of<'a>(
     alloc: Global,
     definition: &'a TypeDefinition,
-    found: &IndexMap<&Name, Vec<TypePart<'a>>>,
+    found: &IndexMap<&Name, Vec<TypePart<'a>>, HashSeed>,
 ) -> Result<Vec<TypePart<'a>>, ValidationError>
     ensures { (extensions : List (Originated type_tree.TypeDefinition)) → FindsParts found.now extensions →
         IfOk result (λ parts. originated parts.items ≡ parts_with extensions definition.now) }

@@ -15,6 +15,7 @@ use graphql_documents::documents::{
     ExtendedType, FieldDefinition, InputObjectType, InputValueDefinition, InterfaceType,
     ObjectType, ScalarType, UnionType,
 };
+use graphql_hash_seeds::HashSeed;
 use graphql_nodes::{Name, Node, ValidationError};
 use graphql_schema_checking::kinds::{type_name, type_span};
 use graphql_trees::{
@@ -94,6 +95,7 @@ fn written_directives(definition: &TypeDefinition) -> &[DirectiveTree]
 /// Specification: 3.9 Enums.
 pub fn build_enum(
     alloc: Global,
+    hash_seed: HashSeed,
     definition: &TypeDefinition,
     parts: &[TypePart<'_>],
 ) -> Result<Node<EnumType>, ValidationError>
@@ -102,7 +104,7 @@ pub fn build_enum(
 {
     let name = type_name(definition).clone_in(alloc)?;
     let directives = directives_of(alloc, parts)?;
-    let values = values_of(alloc, parts)?;
+    let values = values_of(alloc, hash_seed, parts)?;
     let built = EnumType {
         name,
         directives,
@@ -117,6 +119,7 @@ pub fn build_enum(
 /// Specification: 3.10 Input Objects.
 pub fn build_input_object(
     alloc: Global,
+    hash_seed: HashSeed,
     definition: &TypeDefinition,
     parts: &[TypePart<'_>],
 ) -> Result<Node<InputObjectType>, ValidationError>
@@ -125,7 +128,7 @@ pub fn build_input_object(
 {
     let name = type_name(definition).clone_in(alloc)?;
     let directives = directives_of(alloc, parts)?;
-    let fields = input_fields_of(alloc, parts)?;
+    let fields = input_fields_of(alloc, hash_seed, parts)?;
     let built = InputObjectType {
         name,
         directives,
@@ -141,12 +144,13 @@ pub fn build_input_object(
 /// Specification: 3.6 Objects; 3.7 Interfaces.
 pub fn fields_of(
     alloc: Global,
+    hash_seed: HashSeed,
     parts: &[TypePart<'_>],
-) -> Result<IndexMap<Name, Component<FieldDefinition>>, ValidationError>
+) -> Result<IndexMap<Name, Component<FieldDefinition>, HashSeed>, ValidationError>
     requires { AreDistinct (written_names (λ x. x.name) (listed_by written_fields (originated parts.now))) }
     ensures { IfOk result (λ fields. EntriesSay (λ x. x.name) FieldDefinitionSays (listed_by written_fields (originated parts.now)) fields.entries) }
 {
-    let mut fields = IndexMap::new(alloc);
+    let mut fields = IndexMap::with_hasher(alloc, hash_seed);
     for part in parts {
         add_fields(
             &mut fields,
@@ -175,12 +179,13 @@ fn written_fields(definition: &TypeDefinition) -> &[FieldDefinitionTree]
 /// Specification: 3.10 Input Objects.
 pub fn input_fields_of(
     alloc: Global,
+    hash_seed: HashSeed,
     parts: &[TypePart<'_>],
-) -> Result<IndexMap<Name, Component<InputValueDefinition>>, ValidationError>
+) -> Result<IndexMap<Name, Component<InputValueDefinition>, HashSeed>, ValidationError>
     requires { AreDistinct (written_names (λ x. x.name) (listed_by written_input_fields (originated parts.now))) }
     ensures { IfOk result (λ input_fields. EntriesSay (λ x. x.name) InputValueSays (listed_by written_input_fields (originated parts.now)) input_fields.entries) }
 {
-    let mut input_fields = IndexMap::new(alloc);
+    let mut input_fields = IndexMap::with_hasher(alloc, hash_seed);
     for part in parts {
         add_input_fields(
             &mut input_fields,
@@ -208,12 +213,13 @@ fn written_input_fields(definition: &TypeDefinition) -> &[InputValueTree]
 /// Specification: 3.9 Enums.
 pub fn values_of(
     alloc: Global,
+    hash_seed: HashSeed,
     parts: &[TypePart<'_>],
-) -> Result<IndexMap<Name, Component<EnumValueDefinition>>, ValidationError>
+) -> Result<IndexMap<Name, Component<EnumValueDefinition>, HashSeed>, ValidationError>
     requires { AreDistinct (written_names (λ x. x.name) (listed_by written_values (originated parts.now))) }
     ensures { IfOk result (λ values. EntriesSay (λ x. x.name) EnumValueSays (listed_by written_values (originated parts.now)) values.entries) }
 {
-    let mut values = IndexMap::new(alloc);
+    let mut values = IndexMap::with_hasher(alloc, hash_seed);
     for part in parts {
         add_values(
             &mut values,
@@ -240,6 +246,7 @@ fn written_values(definition: &TypeDefinition) -> &[EnumValueTree]
 /// Specification: 3.6 Objects.
 pub fn build_object(
     alloc: Global,
+    hash_seed: HashSeed,
     definition: &TypeDefinition,
     parts: &[TypePart<'_>],
 ) -> Result<Node<ObjectType>, ValidationError>
@@ -248,9 +255,9 @@ pub fn build_object(
     ensures { IfOk result (λ built. ObjectSays definition.now (originated parts.now) built) }
 {
     let name = type_name(definition).clone_in(alloc)?;
-    let implements_interfaces = interfaces_of(alloc, parts)?;
+    let implements_interfaces = interfaces_of(alloc, hash_seed, parts)?;
     let directives = directives_of(alloc, parts)?;
-    let fields = fields_of(alloc, parts)?;
+    let fields = fields_of(alloc, hash_seed, parts)?;
     let built = ObjectType {
         name,
         implements_interfaces,
@@ -266,6 +273,7 @@ pub fn build_object(
 /// Specification: 3.7 Interfaces.
 pub fn build_interface(
     alloc: Global,
+    hash_seed: HashSeed,
     definition: &TypeDefinition,
     parts: &[TypePart<'_>],
 ) -> Result<Node<InterfaceType>, ValidationError>
@@ -274,9 +282,9 @@ pub fn build_interface(
     ensures { IfOk result (λ built. InterfaceSays definition.now (originated parts.now) built) }
 {
     let name = type_name(definition).clone_in(alloc)?;
-    let implements_interfaces = interfaces_of(alloc, parts)?;
+    let implements_interfaces = interfaces_of(alloc, hash_seed, parts)?;
     let directives = directives_of(alloc, parts)?;
-    let fields = fields_of(alloc, parts)?;
+    let fields = fields_of(alloc, hash_seed, parts)?;
     let built = InterfaceType {
         name,
         implements_interfaces,
@@ -292,6 +300,7 @@ pub fn build_interface(
 /// Specification: 3.8 Unions.
 pub fn build_union(
     alloc: Global,
+    hash_seed: HashSeed,
     definition: &TypeDefinition,
     parts: &[TypePart<'_>],
 ) -> Result<Node<UnionType>, ValidationError>
@@ -300,7 +309,7 @@ pub fn build_union(
 {
     let name = type_name(definition).clone_in(alloc)?;
     let directives = directives_of(alloc, parts)?;
-    let members = members_of(alloc, parts)?;
+    let members = members_of(alloc, hash_seed, parts)?;
     let built = UnionType {
         name,
         directives,
@@ -315,12 +324,13 @@ pub fn build_union(
 /// Specification: 3.6 Objects; 3.7 Interfaces.
 pub fn interfaces_of(
     alloc: Global,
+    hash_seed: HashSeed,
     parts: &[TypePart<'_>],
-) -> Result<IndexSet<ComponentName>, ValidationError>
+) -> Result<IndexSet<ComponentName, HashSeed>, ValidationError>
     requires { AreDistinct (written_names (λ x. x) (listed_by interface_names (originated parts.now))) }
     ensures { IfOk result (λ names. names.keys ≡ names_said (listed_by interface_names (originated parts.now))) }
 {
-    let mut names = IndexSet::new(alloc);
+    let mut names = IndexSet::with_hasher(alloc, hash_seed);
     for part in parts {
         add_names(
             &mut names,
@@ -348,12 +358,13 @@ fn written_interfaces(definition: &TypeDefinition) -> &[Name]
 /// Specification: 3.8 Unions.
 pub fn members_of(
     alloc: Global,
+    hash_seed: HashSeed,
     parts: &[TypePart<'_>],
-) -> Result<IndexSet<ComponentName>, ValidationError>
+) -> Result<IndexSet<ComponentName, HashSeed>, ValidationError>
     requires { AreDistinct (written_names (λ x. x) (listed_by written_members (originated parts.now))) }
     ensures { IfOk result (λ names. names.keys ≡ names_said (listed_by written_members (originated parts.now))) }
 {
-    let mut names = IndexSet::new(alloc);
+    let mut names = IndexSet::with_hasher(alloc, hash_seed);
     for part in parts {
         add_names(
             &mut names,
@@ -380,6 +391,7 @@ fn written_members(definition: &TypeDefinition) -> &[Name]
 /// Specification: 3.4 Types.
 pub fn build_type(
     alloc: Global,
+    hash_seed: HashSeed,
     definition: &TypeDefinition,
     parts: &[TypePart<'_>],
 ) -> Result<ExtendedType, ValidationError>
@@ -391,17 +403,19 @@ pub fn build_type(
             Ok(ExtendedType::Scalar(build_scalar(alloc, definition, parts)?))
         }
         TypeDefinition::Object(_) => {
-            Ok(ExtendedType::Object(build_object(alloc, definition, parts)?))
+            Ok(ExtendedType::Object(build_object(alloc, hash_seed, definition, parts)?))
         }
         TypeDefinition::Interface(_) => Ok(ExtendedType::Interface(build_interface(
-            alloc, definition, parts,
+            alloc, hash_seed, definition, parts,
         )?)),
         TypeDefinition::Union(_) => {
-            Ok(ExtendedType::Union(build_union(alloc, definition, parts)?))
+            Ok(ExtendedType::Union(build_union(alloc, hash_seed, definition, parts)?))
         }
-        TypeDefinition::Enum(_) => Ok(ExtendedType::Enum(build_enum(alloc, definition, parts)?)),
+        TypeDefinition::Enum(_) => Ok(ExtendedType::Enum(build_enum(
+            alloc, hash_seed, definition, parts,
+        )?)),
         TypeDefinition::InputObject(_) => Ok(ExtendedType::InputObject(build_input_object(
-            alloc, definition, parts,
+            alloc, hash_seed, definition, parts,
         )?)),
     }
 }

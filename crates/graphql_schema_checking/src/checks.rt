@@ -121,7 +121,7 @@ fn check_scalar(
 /// is a failed allocation.
 pub(crate) fn check_type_extensions(
     reports: &mut BuildingReportList,
-    first: &IndexMap<&Name, &TypeDefinition>,
+    first: &IndexMap<&Name, &TypeDefinition, HashSeed>,
     extensions: &[&TypeDefinition],
 ) -> Result<(), ValidationError>
     ensures { (types : List TypeDefinition) → AreFirst first.now types →
@@ -135,7 +135,7 @@ pub(crate) fn check_type_extensions(
 
 fn check_type_extension(
     reports: &mut BuildingReportList,
-    first: &IndexMap<&Name, &TypeDefinition>,
+    first: &IndexMap<&Name, &TypeDefinition, HashSeed>,
     extension: &TypeDefinition,
 ) -> Result<(), ValidationError>
     ensures { (types all : List TypeDefinition) → AreFirst first.now types → Contains all extension.now →
@@ -218,7 +218,7 @@ fn report_orphan(
 /// Reports each of these names that is that of a defined type which is no interface. The only error is a failed allocation.
 pub(crate) fn check_implemented(
     reports: &mut BuildingReportList,
-    first: &IndexMap<&Name, &TypeDefinition>,
+    first: &IndexMap<&Name, &TypeDefinition, HashSeed>,
     names: &[&Name],
 ) -> Result<(), ValidationError>
     ensures { (types : List TypeDefinition) → AreFirst first.now types →
@@ -232,7 +232,7 @@ pub(crate) fn check_implemented(
 
 fn check_interface(
     reports: &mut BuildingReportList,
-    first: &IndexMap<&Name, &TypeDefinition>,
+    first: &IndexMap<&Name, &TypeDefinition, HashSeed>,
     name: &Name,
 ) -> Result<(), ValidationError>
     ensures { (types : List TypeDefinition) (all : List NameText) → AreFirst first.now types → Contains all name.now →
@@ -285,7 +285,7 @@ fn report_non_interface(
 pub(crate) fn check_all_parts(
     reports: &mut BuildingReportList,
     first: &[&TypeDefinition],
-    found: &IndexMap<&Name, Vec<&TypeDefinition>>,
+    found: &IndexMap<&Name, Vec<&TypeDefinition>, HashSeed>,
 ) -> Result<(), ValidationError>
     ensures { (definitions : List Definition) → All (Contains (types definitions)) (nows first.now) → FindsAll found.now (type_extensions definitions) →
         Checks result (All (HasDistinctParts definitions) (nows first.now)) (DefinitionsReport definitions) reports.old reports.new }
@@ -298,7 +298,7 @@ pub(crate) fn check_all_parts(
 
 fn check_type(
     reports: &mut BuildingReportList,
-    found: &IndexMap<&Name, Vec<&TypeDefinition>>,
+    found: &IndexMap<&Name, Vec<&TypeDefinition>, HashSeed>,
     definition: &TypeDefinition,
 ) -> Result<(), ValidationError>
     ensures { (definitions : List Definition) → FindsAll found.now (type_extensions definitions) →

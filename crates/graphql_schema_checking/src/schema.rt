@@ -108,7 +108,7 @@ fn check_types(
     ensures { (definitions : List Definition) → AreSorted definitions sorted.now →
         Checks result (TypeRules definitions) (DefinitionsReport definitions) reports.old reports.new }
 {
-    let first = first_definitions(reports.allocator(), &sorted.types)?;
+    let first = first_definitions(reports.allocator(), reports.hash_seed(), &sorted.types)?;
     check_type_extensions(reports, &first, &sorted.type_extensions)?;
     let implemented = implemented_names(
         reports.allocator(),
@@ -117,6 +117,10 @@ fn check_types(
     )?;
     check_implemented(reports, &first, &implemented)?;
     let definitions = in_order(reports.allocator(), first)?;
-    let found = extensions_by_name(reports.allocator(), &sorted.type_extensions)?;
+    let found = extensions_by_name(
+        reports.allocator(),
+        reports.hash_seed(),
+        &sorted.type_extensions,
+    )?;
     check_all_parts(reports, &definitions, &found)
 }

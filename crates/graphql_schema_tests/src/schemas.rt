@@ -1,5 +1,6 @@
 use super::fixtures::{is_text, schema_of};
 use graphql_documents::documents::MetaFields;
+use graphql_hash_seeds::HashSeed;
 use graphql_nodes::Name;
 use indexmap::IndexSet;
 use std::fmt::Write;
@@ -14,7 +15,7 @@ fn meta_fields_are_made(rt: HostRuntime) {
 }
 
 /// Adds names behind one another.
-fn show(rt: &impl Abort, text: &mut String, names: &IndexSet<&Name>) {
+fn show(rt: &impl Abort, text: &mut String, names: &IndexSet<&Name, HashSeed>) {
     for name in names {
         write!(text, " {name}").expect(rt, "memory for a name");
     }

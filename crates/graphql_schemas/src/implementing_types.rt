@@ -6,6 +6,7 @@ ghost use Rattle.graphql_schemas.specs.TypeSteps.{AreOf};
 
 use graphql_diagnostics::DiagnosticList;
 use graphql_documents::documents::{Component, ComponentName, FieldDefinition, Schema};
+use graphql_hash_seeds::HashSeed;
 use graphql_implementations::{
     validate_implementation_field_arguments, validate_implementation_field_types,
     validate_implements_interfaces, validate_interface_fields,
@@ -22,8 +23,8 @@ pub(crate) fn validate_implementations(
     schema: &Schema,
     name: &Name,
     location: Option<SourceSpan>,
-    fields: &IndexMap<Name, Component<FieldDefinition>>,
-    interfaces: &IndexSet<ComponentName>,
+    fields: &IndexMap<Name, Component<FieldDefinition>, HashSeed>,
+    interfaces: &IndexSet<ComponentName, HashSeed>,
 ) -> Result<(), ValidationError>
     ensures { (d : ExtendedType) → AreOf d name.now location fields.now.entries interfaces.now.keys →
         Checks result (ImplementationsHold schema.now fields.now.entries interfaces.now.keys)

@@ -8,6 +8,7 @@ use graphql_documents::documents::{
     Component, DirectiveDefinition, EnumValueDefinition, ExtendedType, FieldDefinition,
     InputValueDefinition, Schema,
 };
+use graphql_hash_seeds::HashSeed;
 use graphql_nodes::{Name, Node};
 use indexmap::IndexMap;
 
@@ -19,7 +20,7 @@ pub(super) fn stands_under_own_names(schema: &Schema) -> bool
         && directives_stand_under_own_names(&schema.directive_definitions)
 }
 
-fn types_stand_under_own_names(types: &IndexMap<Name, ExtendedType>) -> bool
+fn types_stand_under_own_names(types: &IndexMap<Name, ExtendedType, HashSeed>) -> bool
     ensures { IsTrue result ↔ All (λ entry. TypeStandsUnderItsName entry.0 entry.1) types.now.entries }
 {
     types.iter().all(|(key, definition)| type_stands_under_its_name(key, definition))
@@ -48,16 +49,8 @@ fn type_stands_under_its_name(key: &Name, definition: &ExtendedType) -> bool
     }
 }
 
-fn fields_stand_under_own_names(fields: &IndexMap<Name, Component<FieldDefinition>>) -> bool
-    ensures { IsTrue result ↔ All (λ entry. SameName entry.0 entry.1.node.value.value.name) fields.now.entries }
-{
-    fields
-        .iter()
-        .all(|(key, field)| *key == field.node.value.name)
-}
-
-fn input_fields_stand_under_own_names(
-    fields: &IndexMap<Name, Component<InputValueDefinition>>,
+fn fields_stand_under_own_names(
+    fields: &IndexMap<Name, Component<FieldDefinition>, HashSeed>,
 ) -> bool
     ensures { IsTrue result ↔ All (λ entry. SameName entry.0 entry.1.node.value.value.name) fields.now.entries }
 {
@@ -66,7 +59,19 @@ fn input_fields_stand_under_own_names(
         .all(|(key, field)| *key == field.node.value.name)
 }
 
-fn values_stand_under_own_names(values: &IndexMap<Name, Component<EnumValueDefinition>>) -> bool
+fn input_fields_stand_under_own_names(
+    fields: &IndexMap<Name, Component<InputValueDefinition>, HashSeed>,
+) -> bool
+    ensures { IsTrue result ↔ All (λ entry. SameName entry.0 entry.1.node.value.value.name) fields.now.entries }
+{
+    fields
+        .iter()
+        .all(|(key, field)| *key == field.node.value.name)
+}
+
+fn values_stand_under_own_names(
+    values: &IndexMap<Name, Component<EnumValueDefinition>, HashSeed>,
+) -> bool
     ensures { IsTrue result ↔ All (λ entry. SameName entry.0 entry.1.node.value.value.value) values.now.entries }
 {
     values
@@ -74,7 +79,9 @@ fn values_stand_under_own_names(values: &IndexMap<Name, Component<EnumValueDefin
         .all(|(key, definition)| *key == definition.node.value.value)
 }
 
-fn directives_stand_under_own_names(definitions: &IndexMap<Name, Node<DirectiveDefinition>>) -> bool
+fn directives_stand_under_own_names(
+    definitions: &IndexMap<Name, Node<DirectiveDefinition>, HashSeed>,
+) -> bool
     ensures { IsTrue result ↔ All (λ entry. SameName entry.0 entry.1.value.value.name) definitions.now.entries }
 {
     definitions

@@ -3,6 +3,7 @@ ghost use Rattle.graphql_documents.specs.Implementers.{implementer_entries, impl
 ghost use Rattle.graphql_documents.specs.Schemas.{implementers_map};
 
 use super::schemas::{ExtendedType, Schema};
+use graphql_hash_seeds::HashSeed;
 use graphql_nodes::{Name, ValidationError};
 use indexmap::{IndexMap, IndexSet};
 use std::alloc::Global;
@@ -12,8 +13,8 @@ use std::alloc::Global;
 /// Specification: 3.7 Interfaces.
 #[derive(Debug, Drop)]
 pub struct Implementers<'a> {
-    pub objects: IndexSet<&'a Name>,
-    pub interfaces: IndexSet<&'a Name>,
+    pub objects: IndexSet<&'a Name, HashSeed>,
+    pub interfaces: IndexSet<&'a Name, HashSeed>,
 }
 
 impl<'a> Implementers<'a> {
@@ -42,10 +43,10 @@ impl Schema {
     pub fn implementers_map(
         &self,
         alloc: Global,
-    ) -> Result<IndexMap<&Name, Implementers<'_>>, ValidationError>
+    ) -> Result<IndexMap<&Name, Implementers<'_>, HashSeed>, ValidationError>
         ensures { IfOk result (λ implementers. implementer_entries implementers.entries ≡ implementers_map self.now) }
     {
-        let mut implementers = IndexMap::new(alloc);
+        let mut implementers = IndexMap::with_hasher(alloc, self.hash_seed());
         for (_, definition) in &self.types {
             add_type(&mut implementers, alloc, definition)?;
         }
@@ -55,7 +56,7 @@ impl Schema {
 
 /// Adds the type to the implementers of each interface that it lists.
 fn add_type<'a>(
-    implementers: &mut IndexMap<&'a Name, Implementers<'a>>,
+    implementers: &mut IndexMap<&'a Name, Implementers<'a>, HashSeed>,
     alloc: Global,
     definition: &'a ExtendedType,
 ) -> Result<(), ValidationError>
@@ -70,7 +71,7 @@ fn add_type<'a>(
 
 /// Adds the type to the implementers of an interface that it lists.
 fn add_implementer<'a>(
-    implementers: &mut IndexMap<&'a Name, Implementers<'a>>,
+    implementers: &mut IndexMap<&'a Name, Implementers<'a>, HashSeed>,
     alloc: Global,
     interface: &'a Name,
     definition: &'a ExtendedType,
@@ -82,8 +83,8 @@ fn add_implementer<'a>(
         Some(known) => known.add(definition)?,
         None => {
             let mut first = Implementers {
-                objects: IndexSet::new(alloc),
-                interfaces: IndexSet::new(alloc),
+                objects: IndexSet::with_hasher(alloc, *implementers.hasher()),
+                interfaces: IndexSet::with_hasher(alloc, *implementers.hasher()),
             };
             first.add(definition)?;
             implementers.insert(interface, first)?;

@@ -4,6 +4,7 @@ use super::definitions::{
 };
 use super::directives::Directive;
 use super::meta_fields::MetaFields;
+use graphql_hash_seeds::HashSeed;
 use graphql_nodes::{FileId, Name, NamedType, Node, SourceSpan};
 use indexmap::{IndexMap, IndexSet};
 
@@ -22,9 +23,9 @@ pub struct ScalarType {
 #[derive(Debug, Drop, PartialEq, Eq)]
 pub struct ObjectType {
     pub name: Name,
-    pub implements_interfaces: IndexSet<ComponentName>,
+    pub implements_interfaces: IndexSet<ComponentName, HashSeed>,
     pub directives: Vec<Component<Directive>>,
-    pub fields: IndexMap<Name, Component<FieldDefinition>>,
+    pub fields: IndexMap<Name, Component<FieldDefinition>, HashSeed>,
 }
 
 /// An interface type.
@@ -33,9 +34,9 @@ pub struct ObjectType {
 #[derive(Debug, Drop, PartialEq, Eq)]
 pub struct InterfaceType {
     pub name: Name,
-    pub implements_interfaces: IndexSet<ComponentName>,
+    pub implements_interfaces: IndexSet<ComponentName, HashSeed>,
     pub directives: Vec<Component<Directive>>,
-    pub fields: IndexMap<Name, Component<FieldDefinition>>,
+    pub fields: IndexMap<Name, Component<FieldDefinition>, HashSeed>,
 }
 
 /// A union type.
@@ -45,7 +46,7 @@ pub struct InterfaceType {
 pub struct UnionType {
     pub name: Name,
     pub directives: Vec<Component<Directive>>,
-    pub members: IndexSet<ComponentName>,
+    pub members: IndexSet<ComponentName, HashSeed>,
 }
 
 /// An enum type.
@@ -55,7 +56,7 @@ pub struct UnionType {
 pub struct EnumType {
     pub name: Name,
     pub directives: Vec<Component<Directive>>,
-    pub values: IndexMap<Name, Component<EnumValueDefinition>>,
+    pub values: IndexMap<Name, Component<EnumValueDefinition>, HashSeed>,
 }
 
 /// An input object type.
@@ -65,7 +66,7 @@ pub struct EnumType {
 pub struct InputObjectType {
     pub name: Name,
     pub directives: Vec<Component<Directive>>,
-    pub fields: IndexMap<Name, Component<InputValueDefinition>>,
+    pub fields: IndexMap<Name, Component<InputValueDefinition>, HashSeed>,
 }
 
 /// A type definition with its extensions.
@@ -98,8 +99,8 @@ pub struct SchemaDefinition {
 #[derive(Debug, Drop, PartialEq, Eq)]
 pub struct Schema {
     pub schema_definition: Node<SchemaDefinition>,
-    pub directive_definitions: IndexMap<Name, Node<DirectiveDefinition>>,
-    pub types: IndexMap<Name, ExtendedType>,
+    pub directive_definitions: IndexMap<Name, Node<DirectiveDefinition>, HashSeed>,
+    pub types: IndexMap<Name, ExtendedType, HashSeed>,
     pub meta_fields: MetaFields,
 }
 
@@ -231,6 +232,15 @@ impl ExtendedType {
 }
 
 impl Schema {
+    ghost use Rattle.indexmap.specs.IndexMap.{hasher_of};
+
+    /// The seed of the map of types, by which maps of other names of the schema are to hash too.
+    pub fn hash_seed(&self) -> HashSeed
+        ensures { result ≡ hasher_of self.now.types }
+    {
+        *self.types.hasher()
+    }
+
     ghost use Rattle.std.specs.Prelude.{◌≡◌, ◌↔◌, IsTrue, MatchResult, Ok, Err};
     ghost use Rattle.std.specs.Option.{option_copied};
     ghost use Rattle.graphql_documents.specs.Schemas.{input_object_named, Implements, IsSubtype, interface_named, type_field, meta_field, is_query_root};

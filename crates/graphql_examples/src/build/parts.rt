@@ -3,6 +3,7 @@
 use super::reader::{LONGEST, Reader};
 use crate::errors::ExampleError;
 use graphql_documents::documents::{Component, ComponentOrigin};
+use graphql_hash_seeds::HashSeed;
 use graphql_nodes::{Name, Node};
 use indexmap::IndexMap;
 use std::hash::BuildHasher;
@@ -55,7 +56,7 @@ pub(super) fn listed<T: Part>(
 /// Reads parts in braces, if there are any, and puts each under its name.
 pub(super) fn add_members<T: Member>(
     reader: &mut Reader<'_>,
-    members: &mut IndexMap<Name, Component<T>>,
+    members: &mut IndexMap<Name, Component<T>, HashSeed>,
     origin: ComponentOrigin,
 ) -> Result<(), ExampleError> {
     if !reader.takes("{") {
@@ -72,7 +73,7 @@ pub(super) fn add_members<T: Member>(
 
 fn add_member<T: Member>(
     reader: &mut Reader<'_>,
-    members: &mut IndexMap<Name, Component<T>>,
+    members: &mut IndexMap<Name, Component<T>, HashSeed>,
     origin: ComponentOrigin,
 ) -> Result<(), ExampleError> {
     let node = located::<T>(reader)?;

@@ -8,6 +8,7 @@ use graphql_documents::documents::{
     ComponentName, ComponentOrigin, DirectiveDefinition, ExtendedType, MetaFields, Schema,
     SchemaDefinition, Valid,
 };
+use graphql_hash_seeds::HashSeed;
 use graphql_nodes::{FileId, Name, Node, SourceSpan};
 use indexmap::IndexMap;
 use std::alloc::Global;
@@ -49,11 +50,11 @@ fn whole_schema(reader: Reader<'_>) -> Result<Valid<Schema>, ExampleError> {
 }
 
 fn empty_schema(alloc: Global) -> Result<Schema, ExampleError> {
-    let no_types = IndexMap::new(alloc);
+    let no_types = IndexMap::with_hasher(alloc, HashSeed::default());
     let (schema_definition, meta_fields) = both(named_roots(alloc, &no_types), meta_fields(alloc))?;
     Ok(Schema {
         schema_definition,
-        directive_definitions: IndexMap::new(alloc),
+        directive_definitions: IndexMap::with_hasher(alloc, HashSeed::default()),
         types: no_types,
         meta_fields,
     })
@@ -106,7 +107,7 @@ fn add_definition(reader: &mut Reader<'_>, schema: &mut Schema) -> Result<(), Ex
 
 fn add_directive(
     reader: &mut Reader<'_>,
-    directives: &mut IndexMap<Name, Node<DirectiveDefinition>>,
+    directives: &mut IndexMap<Name, Node<DirectiveDefinition>, HashSeed>,
     key: Option<Reader<'_>>,
     start: usize,
 ) -> Result<(), ExampleError> {
@@ -119,7 +120,7 @@ fn add_directive(
 
 fn add_type(
     reader: &mut Reader<'_>,
-    types: &mut IndexMap<Name, ExtendedType>,
+    types: &mut IndexMap<Name, ExtendedType, HashSeed>,
     keyword: &str,
     key: Option<Reader<'_>>,
     start: usize,
@@ -140,7 +141,7 @@ fn add_named_roots(alloc: Global, schema: &mut Schema) -> Result<(), ExampleErro
 
 fn named_roots(
     alloc: Global,
-    types: &IndexMap<Name, ExtendedType>,
+    types: &IndexMap<Name, ExtendedType, HashSeed>,
 ) -> Result<Node<SchemaDefinition>, ExampleError> {
     let query = named_root(alloc, types, "Query");
     let mutation = named_root(alloc, types, "Mutation");
@@ -157,7 +158,7 @@ fn named_roots(
 
 fn named_root(
     alloc: Global,
-    types: &IndexMap<Name, ExtendedType>,
+    types: &IndexMap<Name, ExtendedType, HashSeed>,
     text: &str,
 ) -> Result<Option<ComponentName>, ExampleError> {
     let name = Reader::new(alloc, text, Place::Nowhere).name()?;

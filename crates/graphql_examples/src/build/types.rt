@@ -8,6 +8,7 @@ use graphql_documents::documents::{
     FieldDefinition, InputObjectType, InterfaceType, ObjectType, ScalarType, SchemaDefinition,
     UnionType,
 };
+use graphql_hash_seeds::HashSeed;
 use graphql_nodes::{Name, Node, OperationType};
 use indexmap::{IndexMap, IndexSet};
 use std::alloc::Global;
@@ -136,9 +137,9 @@ impl NamedType for ObjectType {
     fn new(alloc: Global, name: Name) -> ObjectType {
         ObjectType {
             name,
-            implements_interfaces: IndexSet::new(alloc),
+            implements_interfaces: IndexSet::with_hasher(alloc, HashSeed::default()),
             directives: Vec::new(alloc),
-            fields: IndexMap::new(alloc),
+            fields: IndexMap::with_hasher(alloc, HashSeed::default()),
         }
     }
 }
@@ -159,9 +160,9 @@ impl NamedType for InterfaceType {
     fn new(alloc: Global, name: Name) -> InterfaceType {
         InterfaceType {
             name,
-            implements_interfaces: IndexSet::new(alloc),
+            implements_interfaces: IndexSet::with_hasher(alloc, HashSeed::default()),
             directives: Vec::new(alloc),
-            fields: IndexMap::new(alloc),
+            fields: IndexMap::with_hasher(alloc, HashSeed::default()),
         }
     }
 }
@@ -183,7 +184,7 @@ impl NamedType for UnionType {
         UnionType {
             name,
             directives: Vec::new(alloc),
-            members: IndexSet::new(alloc),
+            members: IndexSet::with_hasher(alloc, HashSeed::default()),
         }
     }
 }
@@ -207,7 +208,7 @@ impl NamedType for EnumType {
         EnumType {
             name,
             directives: Vec::new(alloc),
-            values: IndexMap::new(alloc),
+            values: IndexMap::with_hasher(alloc, HashSeed::default()),
         }
     }
 }
@@ -228,7 +229,7 @@ impl NamedType for InputObjectType {
         InputObjectType {
             name,
             directives: Vec::new(alloc),
-            fields: IndexMap::new(alloc),
+            fields: IndexMap::with_hasher(alloc, HashSeed::default()),
         }
     }
 }
@@ -269,7 +270,7 @@ fn add_directives(
 /// Reads `implements A & B`, if it comes next.
 fn add_interfaces(
     reader: &mut Reader<'_>,
-    interfaces: &mut IndexSet<ComponentName>,
+    interfaces: &mut IndexSet<ComponentName, HashSeed>,
     origin: ComponentOrigin,
 ) -> Result<(), ExampleError> {
     if reader.takes_word("implements") {
@@ -281,7 +282,7 @@ fn add_interfaces(
 /// Reads names with this sign between them.
 fn add_names(
     reader: &mut Reader<'_>,
-    names: &mut IndexSet<ComponentName>,
+    names: &mut IndexSet<ComponentName, HashSeed>,
     sign: &str,
     origin: ComponentOrigin,
 ) -> Result<(), ExampleError> {
