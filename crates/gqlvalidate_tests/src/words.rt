@@ -8,7 +8,7 @@ const READ: &[(&[&str], &str)] = &[
     (&["syntax", "a", "-"], "Syntax { files: [\"a\", \"-\"] }"),
     (
         &["check", "--schema", "s", "a", "--schema=t", "b"],
-        "Check { schema: [\"s\", \"t\"], documents: [\"a\", \"b\"], one_document: false, limits: Limits { depth: 500, reach: 64, work: 10000000 }, reporting: Reporting { format: Text, color: Auto, max_reports: 100 } }",
+        "Check { schema: [\"s\", \"t\"], documents: [\"a\", \"b\"], one_document: false, limits: Limits { depth: 500, reach: 64, work: 160000000 }, reporting: Reporting { format: Text, color: Auto, max_reports: 100 } }",
     ),
     (
         &["schema", "--format", "json", "--max-reports", "7", "s"],
@@ -44,7 +44,7 @@ const READ: &[(&[&str], &str)] = &[
     ),
     (
         &["serve", "--schema", "s"],
-        "Serve { schema: [\"s\"], limits: Limits { depth: 500, reach: 4, work: 10000000 }, max_line: 8388608, max_reports: 1000 }",
+        "Serve { schema: [\"s\"], limits: Limits { depth: 500, reach: 4, work: 160000000 }, max_line: 8388608, max_reports: 1000 }",
     ),
     (
         &[
@@ -56,7 +56,7 @@ const READ: &[(&[&str], &str)] = &[
             "--schema",
             "s",
         ],
-        "Serve { schema: [\"s\"], limits: Limits { depth: 3, reach: 2, work: 10000000 }, max_line: 9, max_reports: 8 }",
+        "Serve { schema: [\"s\"], limits: Limits { depth: 3, reach: 2, work: 160000000 }, max_line: 9, max_reports: 8 }",
     ),
     (
         &["serve", "--schema", "-"],

@@ -201,7 +201,7 @@ fn max_work<'a>(alloc: Global) -> Arg<'a> {
         .value_name("N")
         .help("Steps to compare the fields of a document that come together")
         .value_parser(value_parser!(usize))
-        .default_value("10000000")
+        .default_value("160000000")
         .action(ArgAction::Set)
 }
 

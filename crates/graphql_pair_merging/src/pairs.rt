@@ -40,6 +40,12 @@ pub(crate) struct PairPass<'s, 'doc> {
     pub(crate) pass: Pass,
 }
 
+/// A row of bits counts one unit for so many sets of the document.
+const SETS_OF_A_ROW: usize = 1_024;
+
+/// The units that a field counts: to list, group or compare one takes as long as so many steps from set to set.
+const FIELD_UNITS: usize = 16;
+
 /// Lists of sets that come together, by their numbers, each still to be looked at.
 type Waiting = Vec<Vec<usize>>;
 
@@ -117,26 +123,32 @@ impl<'s, 'doc> PairPass<'s, 'doc> {
         Ok(None)
     }
 
-    /// How many sets these are, and how many fragments are in them.
+    /// The units of these sets, and of the fragments in them.
     fn count_steps(&self, numbers: &DistinctNumbers) -> usize {
-        let mut steps = 0_usize;
+        let mut units = self.count_rows(numbers);
         for number in numbers.as_slice() {
             if let Some(set) = self.sets.get(*number) {
-                steps = steps.saturating_add(1).saturating_add(set.fragments.len());
+                units = units.saturating_add(set.fragments.len());
             }
         }
-        steps
+        units
     }
 
-    /// How many sets these are, and how many fields are in them.
+    /// The units of these sets, and of the fields in them.
     fn count_fields(&self, numbers: &DistinctNumbers) -> usize {
-        let mut fields = 0_usize;
+        let mut units = self.count_rows(numbers);
         for number in numbers.as_slice() {
             if let Some(set) = self.sets.get(*number) {
-                fields = fields.saturating_add(1).saturating_add(set.fields.len());
+                units = units.saturating_add(units_of(set.fields.len()));
             }
         }
-        fields
+        units
+    }
+
+    /// The units of these sets alone: the rows of bits that are read or written for each.
+    fn count_rows(&self, numbers: &DistinctNumbers) -> usize {
+        let rows = (self.sets.len() / SETS_OF_A_ROW).saturating_add(1);
+        numbers.as_slice().len().saturating_mul(rows)
     }
 
     /// Looks at each of the ends with each of the sets: compares their fields, and adds lists of the sets below those that
@@ -160,7 +172,7 @@ impl<'s, 'doc> PairPass<'s, 'doc> {
         work.spend(self.count_fields(&joined.ends))?;
         work.spend(self.count_fields(&joined.all))?;
         let fields = self.fields_around(joined.ends.as_slice(), joined.all.as_slice())?;
-        work.spend(fields.len())?;
+        work.spend(units_of(fields.len()))?;
         let groups = group_fields(self.alloc, self.hash_seed, &fields, GroupedBy::ResponseKey)?;
         let keys = names_of(self.alloc, &groups)?;
         self.look_by_keys(waiting, work, &groups, &keys)
@@ -272,7 +284,7 @@ impl<'s, 'doc> PairPass<'s, 'doc> {
         match self.pass {
             Pass::Shapes => self.look_at_fields(waiting, work, fields),
             Pass::NamesAndArguments => {
-                work.spend(fields.len())?;
+                work.spend(units_of(fields.len()))?;
                 let groups = group_fields(
                     self.alloc,
                     self.hash_seed,
@@ -374,7 +386,7 @@ impl<'s, 'doc> PairPass<'s, 'doc> {
         ensures most { most_of work.new ≡ most_of work.old }
         ensures passed { IsErrOf result OutOfWork → IsPassed work.new }
     {
-        work.spend(parents.len())?;
+        work.spend(units_of(parents.len()))?;
         for parent in parents {
             if let Some(conflict) = self.look_with_parent(waiting, work, first, groups, *parent)? {
                 return Ok(Some(conflict));
@@ -444,7 +456,7 @@ impl<'s, 'doc> PairPass<'s, 'doc> {
         ensures most { most_of work.new ≡ most_of work.old }
         ensures passed { IsErrOf result OutOfWork → IsPassed work.new }
     {
-        work.spend(self.count_comparisons(fields))?;
+        work.spend(units_of(self.count_comparisons(fields)))?;
         if let Some(conflict) = self.conflict_among(fields)? {
             return Ok(Some(conflict));
         }
@@ -564,4 +576,9 @@ impl<'s, 'doc> PairPass<'s, 'doc> {
             None => Ok(None),
         }
     }
+}
+
+/// The units of so many fields, or pairs of types on which fields are.
+fn units_of(fields: usize) -> usize {
+    fields.saturating_mul(FIELD_UNITS)
 }

@@ -7,8 +7,9 @@ ghost use Rattle.graphql_pair_merging.specs.declared.work.Interruption.TheVarian
 use graphql_nodes::ValidationError;
 use std::alloc::{AllocError, AllocFailed};
 
-/// How much work merging by pairs has counted, and how much it may count. One unit is a selection set of those that come
-/// together, a fragment in such a set, a field that is listed, grouped or compared, or a pair of types on which fields are.
+/// How much work merging by pairs has counted, and how much it may count. A selection set of those that come together counts one
+/// unit, as does a fragment in such a set, and a row of bits for each 1,024 sets. A field counts 16 each time that it is listed,
+/// grouped or compared, as does a pair of types on which fields are: that takes about as long.
 #[derive(Clone, Copy, Debug, PartialEq, Eq)]
 pub struct PairWork {
     counted: usize,

@@ -25,7 +25,7 @@ impl Bounds {
         tokens: usize::MAX,
         depth: 500,
         reach: 4,
-        work: 10_000_000,
+        work: 160_000_000,
         reports: 1_000,
         report_bytes: 1_000_000,
     };
