@@ -176,7 +176,7 @@ ShowsRepetition repetition shown = IsShownAs repetition.location (codes "UniqueI
 
 abbrev pub ShowsMisuse : VariableMisuse → ShownReport → Type 0
 ShowsMisuse misuse shown =
-    IsShownAs misuse.location (codes "DisallowedVariableUsage") (misuse_message misuse.name misuse.variable_type misuse.location_type) misuse.definition_location shown
+    IsShownAs misuse.location (codes "DisallowedVariableUsage") (misuse_message misuse.name misuse.variable_type.value.value misuse.location_type) misuse.definition_location shown
 
 -- that there are more reports than are kept
 abbrev pub ShowsThatMore : Unit {0} → ShownReport → Type 0

@@ -45,7 +45,7 @@ pub record MisuseReport (variables : List (Node VariableDefinition)) (IsUsed : U
   pub is_variable : variable_named usage.name variables ≡ Some v
   pub disallowed : ¬ IsAllowedAt v.value.value usage.location
   pub name_is : report.name ≡ usage.name
-  pub variable_type_is : IsTypeCopy v.value.value.ty.value.value report.variable_type
+  pub variable_type_is : SameNode v.value.value.ty report.variable_type
   pub location_type_is : IsTypeCopy usage.location.ty report.location_type
   pub definition_location_is : report.definition_location ≡ v.location
   pub location_is : report.location ≡ usage.place

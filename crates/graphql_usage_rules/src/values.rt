@@ -162,7 +162,7 @@ fn report_misuse(
 {
     let definition_location = variable.location;
     let name = name.clone()?;
-    let variable_type = (*variable.value.ty.value).clone()?;
+    let variable_type = variable.value.ty.clone()?;
     let location_type = location.ty.clone()?;
     reports.push(VariableMisuse {
         name,
