@@ -1,5 +1,8 @@
 use crate::documents::{reported, sources};
-use graphql_frontend::{Reports, SourceText, validate_standalone_document};
+use graphql_frontend::{
+    BUILT_IN_DEFINITIONS, Reports, SchemaReading, SourceText, read_schema,
+    validate_standalone_document,
+};
 use graphql_hash_seeds::HashSeed;
 use graphql_nodes::FileId;
 use graphql_parser::Bounds;
@@ -124,7 +127,7 @@ fn keys_of_one_fragment(rt: &impl Abort, alloc: Global, keys: u32) -> String {
 }
 
 /// How much work may be done, and what is reported.
-const WORK: &[(usize, &str)] = &[(10_000_000, ""), (10, "1:0 TakesTooMuch\n")];
+const WORK: &[(usize, &str)] = &[(160_000_000, ""), (10, "1:0 TakesTooMuch\n")];
 
 #[test]
 fn fields_are_compared_within_a_bound_of_work(rt: HostRuntime) {
@@ -157,6 +160,35 @@ fn names_are_hashed_by_a_seed_of_the_text(rt: HostRuntime) {
                 assert_eq!(rt; seed.hash_one("name"), expected.hash_one("name"));
             }
             _ => panic!(rt; "no rule is reported"),
+        }
+    }
+}
+
+#[test]
+fn names_of_a_schema_are_hashed_by_a_seed_of_its_texts(rt: HostRuntime) {
+    let alloc = rt.alloc();
+    for text in &["type Query { a: Int }", "type Query { b: Int }"] {
+        let mut both = String::new(alloc);
+        write!(both, "{BUILT_IN_DEFINITIONS}{text}").expect(&rt, "memory for a text");
+        let sources = [
+            SourceText {
+                file_id: FileId::BUILT_IN,
+                text: BUILT_IN_DEFINITIONS,
+            },
+            SourceText {
+                file_id: FileId(1),
+                text: *text,
+            },
+        ];
+        match read_schema(alloc, &sources, Bounds::DEFAULT).expect(&rt, "memory for a schema") {
+            SchemaReading::Accepted(schema) => {
+                let expected = HashSeed::of_text(&both);
+                assert_eq!(rt;
+                    schema.hash_seed().hash_one("name"),
+                    expected.hash_one("name")
+                );
+            }
+            _ => panic!(rt; "the schema is not accepted"),
         }
     }
 }

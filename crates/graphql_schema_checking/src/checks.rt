@@ -16,6 +16,7 @@ use crate::kinds::{is_interface, same_kind, type_kind, type_name, type_span};
 use crate::members::{interface_names, member_names, parts_of_kind};
 use crate::names::{is_built_in, redefines_scalar};
 use graphql_building_reports::{BuildingReportList, BuildingRule, ExecutableKind};
+use graphql_hash_seeds::HashSeed;
 use graphql_nodes::{Name, ValidationError};
 use graphql_repetitions::{Repeated, check_repetitions};
 use graphql_trees::{Definition, SchemaDefinition, TypeDefinition};

@@ -10,6 +10,7 @@ use graphql_diagnostics::DiagnosticList;
 use graphql_documents::documents::{
     Component, ExtendedType, FieldDefinition, InputValueDefinition, Schema,
 };
+use graphql_hash_seeds::HashSeed;
 use graphql_nodes::{Name, Node, ValidationError};
 use graphql_values::value::value_of_correct_type;
 use indexmap::IndexMap;
@@ -74,7 +75,7 @@ fn validate_type(
 fn validate_fields(
     diagnostics: &mut DiagnosticList,
     schema: &Schema,
-    fields: &IndexMap<Name, Component<FieldDefinition>>,
+    fields: &IndexMap<Name, Component<FieldDefinition>, HashSeed>,
 ) -> Result<(), ValidationError>
     ensures { ChecksDefaults result schema.now (flat_map (λ entry. entry.1.node.value.value.arguments.items) fields.now.entries) diagnostics.old diagnostics.new }
 {
@@ -100,7 +101,7 @@ fn validate_arguments(
 fn validate_input_fields(
     diagnostics: &mut DiagnosticList,
     schema: &Schema,
-    fields: &IndexMap<Name, Component<InputValueDefinition>>,
+    fields: &IndexMap<Name, Component<InputValueDefinition>, HashSeed>,
 ) -> Result<(), ValidationError>
     ensures { ChecksDefaults result schema.now (map (λ entry. entry.1.node) fields.now.entries) diagnostics.old diagnostics.new }
 {

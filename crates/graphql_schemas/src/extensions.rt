@@ -9,6 +9,7 @@ use graphql_documents::documents::{
     Component, ComponentName, ComponentOrigin, EnumType, ExtendedType, ExtensionId,
     InputObjectType, InterfaceType, ObjectType, ScalarType, UnionType,
 };
+use graphql_hash_seeds::HashSeed;
 use graphql_nodes::{Name, Node, SourceSpan, ValidationError};
 use indexmap::IndexMap;
 use std::alloc::Global;
@@ -187,7 +188,7 @@ fn add_names(found: &mut FoundExtensions, names: &[ComponentName]) -> Result<(),
 /// The same of components that are under names.
 fn add_entries<T: Drop>(
     found: &mut FoundExtensions,
-    entries: &IndexMap<Name, Component<T>>,
+    entries: &IndexMap<Name, Component<T>, HashSeed>,
 ) -> Result<(), ValidationError>
     requires { HasTheirNumbers found.old }
     ensures extensions { OnOk result (found.new.extensions.items ≡ extensions_among found.old.extensions.items (map (λ e. e.1.origin) entries.now.entries)) }

@@ -16,6 +16,7 @@ use crate::names::validate_type_system_name;
 use crate::referred_types::report_undefined_type;
 use graphql_diagnostics::{Details, DiagnosticData, DiagnosticList};
 use graphql_documents::documents::{Component, ExtendedType, FieldDefinition, Schema};
+use graphql_hash_seeds::HashSeed;
 use graphql_nodes::{DirectiveLocation, Name, Node, ValidationError};
 use indexmap::IndexMap;
 
@@ -59,7 +60,7 @@ pub fn validate_field_definitions(
     diagnostics: &mut DiagnosticList,
     schema: &Schema,
     built_in_scalars: &mut BuiltInScalars,
-    fields: &IndexMap<Name, Component<FieldDefinition>>,
+    fields: &IndexMap<Name, Component<FieldDefinition>, HashSeed>,
 ) -> Result<(), ValidationError>
     ensures checks { Checks result (FieldDefinitionsHold schema.now fields.now.entries)
         (IsDiagnostic (FieldDefinitionsReport schema.now fields.now.entries)) diagnostics.old diagnostics.new }

@@ -19,6 +19,7 @@ use graphql_cycles::input_object_levels::{
 };
 use graphql_diagnostics::{Details, DiagnosticData, DiagnosticList};
 use graphql_documents::documents::{Component, InputObjectType, InputValueDefinition, Schema};
+use graphql_hash_seeds::HashSeed;
 use graphql_nodes::{DirectiveLocation, Name, Node, ValidationError};
 use indexmap::IndexMap;
 use std::alloc::Global;
@@ -96,7 +97,7 @@ fn validate_input_fields(
 /// The fields, each as a reference, in order.
 fn field_nodes(
     alloc: Global,
-    fields: &IndexMap<Name, Component<InputValueDefinition>>,
+    fields: &IndexMap<Name, Component<InputValueDefinition>, HashSeed>,
 ) -> Result<Vec<&Node<InputValueDefinition>>, ValidationError>
     ensures { IfOk result (λ nodes. map (λ d. d.now) nodes.items ≡ map (λ entry. entry.1.node) fields.now.entries) }
 {

@@ -14,6 +14,7 @@ ghost use Rattle.graphql_schemas.specs.TypeMapChanges.{AddsMissing, CanUndo, Fit
 
 use crate::built_in_scalars::BuiltInScalars;
 use graphql_documents::documents::{ExtendedType, ScalarType};
+use graphql_hash_seeds::HashSeed;
 use graphql_nodes::{FileId, Name, Node, SourceSpan, ValidationError};
 use indexmap::IndexMap;
 use std::alloc::Global;
@@ -39,7 +40,7 @@ pub struct TypeMapChanges {
 ///
 /// Specification: 3.5 Scalars, Built-in Scalars.
 pub fn retain_used_built_in_scalars(
-    types: &mut IndexMap<Name, ExtendedType>,
+    types: &mut IndexMap<Name, ExtendedType, HashSeed>,
     built_in_scalars: &BuiltInScalars,
 ) -> Result<TypeMapChanges, ValidationError>
     ensures retained { IfOk result (λ changes. Retains (holds_text built_in_scalars.now) changes types.old.entries types.new.entries (spare types.new)) }
@@ -58,7 +59,7 @@ pub fn retain_used_built_in_scalars(
 
 impl TypeMapChanges {
     /// Gives a map of types that was retained its former entries, in their order. This takes no memory.
-    pub fn undo(self, types: &mut IndexMap<Name, ExtendedType>)
+    pub fn undo(self, types: &mut IndexMap<Name, ExtendedType, HashSeed>)
         requires { (before : List (NameText × Definition)) × CanUndo self types.old.entries (spare types.old) before }
         ensures { types.new.entries ≡ restored self.removed.items (take self.kept types.old.entries) }
     {
@@ -68,7 +69,7 @@ impl TypeMapChanges {
 }
 
 /// Puts removed types back at their indices, the last one first.
-fn put_back(types: &mut IndexMap<Name, ExtendedType>, mut removed: Vec<RemovedType>)
+fn put_back(types: &mut IndexMap<Name, ExtendedType, HashSeed>, mut removed: Vec<RemovedType>)
     requires fit { FitBack removed.items types.old.entries }
     requires distinct { IsDistinct same_name (keys_of (restored removed.items types.old.entries)) }
     requires room { length removed.items ≤ spare types.old }
@@ -81,7 +82,7 @@ fn put_back(types: &mut IndexMap<Name, ExtendedType>, mut removed: Vec<RemovedTy
 
 /// Puts a type at this index of a map that has room for it, and no type under its name.
 fn put_at(
-    types: &mut IndexMap<Name, ExtendedType>,
+    types: &mut IndexMap<Name, ExtendedType, HashSeed>,
     index: usize,
     name: Name,
     definition: ExtendedType,
@@ -97,7 +98,7 @@ fn put_at(
 
 /// Takes out the built-in definitions under the names of built-in scalars that are not used.
 fn remove_unused(
-    types: &mut IndexMap<Name, ExtendedType>,
+    types: &mut IndexMap<Name, ExtendedType, HashSeed>,
     built_in_scalars: &BuiltInScalars,
     removed: &mut Vec<RemovedType>,
 )
@@ -115,7 +116,11 @@ fn remove_unused(
 }
 
 /// Takes the type at this index out of a map.
-fn take_out(types: &mut IndexMap<Name, ExtendedType>, index: usize, removed: &mut Vec<RemovedType>)
+fn take_out(
+    types: &mut IndexMap<Name, ExtendedType, HashSeed>,
+    index: usize,
+    removed: &mut Vec<RemovedType>,
+)
     requires within { index < index_map_len types.old }
     requires capacity { vec_len removed.old < vec_capacity removed.old }
     ensures kept { types.new.entries ≡ remove types.old.entries index }
@@ -136,7 +141,10 @@ fn take_out(types: &mut IndexMap<Name, ExtendedType>, index: usize, removed: &mu
 }
 
 /// How many built-in definitions are listed under the names of built-in scalars that are not used.
-fn count_unused(types: &IndexMap<Name, ExtendedType>, built_in_scalars: &BuiltInScalars) -> usize
+fn count_unused(
+    types: &IndexMap<Name, ExtendedType, HashSeed>,
+    built_in_scalars: &BuiltInScalars,
+) -> usize
     ensures counted { result ≡ count_by (is_unused (holds_text built_in_scalars.now)) types.now.entries }
     ensures small { result < 2 ^ 63 }
 {
@@ -148,7 +156,7 @@ fn count_unused(types: &IndexMap<Name, ExtendedType>, built_in_scalars: &BuiltIn
 
 /// The index of the first of them.
 fn first_unused(
-    types: &IndexMap<Name, ExtendedType>,
+    types: &IndexMap<Name, ExtendedType, HashSeed>,
     built_in_scalars: &BuiltInScalars,
 ) -> Option<usize>
     ensures { result ≡ position (is_unused (holds_text built_in_scalars.now)) types.now.entries }
@@ -164,7 +172,10 @@ fn is_unused(built_in_scalars: &BuiltInScalars, name: &Name, definition: &Extend
 }
 
 /// Adds scalars to a map of types, behind the types that it has.
-fn insert_scalars(types: &mut IndexMap<Name, ExtendedType>, missing: Vec<(Name, ExtendedType)>)
+fn insert_scalars(
+    types: &mut IndexMap<Name, ExtendedType, HashSeed>,
+    missing: Vec<(Name, ExtendedType)>,
+)
     requires distinct { IsDistinct same_name (keys_of (types.old.entries ++ missing.items)) }
     requires room { length missing.items ≤ spare types.old }
     ensures entries { types.new.entries ≡ types.old.entries ++ missing.items }
@@ -178,7 +189,7 @@ fn insert_scalars(types: &mut IndexMap<Name, ExtendedType>, missing: Vec<(Name, 
 /// The built-in scalars that are used and under whose names no type is, in order.
 fn missing_scalars(
     alloc: Global,
-    types: &IndexMap<Name, ExtendedType>,
+    types: &IndexMap<Name, ExtendedType, HashSeed>,
     built_in_scalars: &BuiltInScalars,
 ) -> Result<Vec<(Name, ExtendedType)>, ValidationError>
     ensures { IfOk result (λ missing. AddsMissing (holds_text built_in_scalars.now) types.now.entries built_in_scalar_names [] missing.items) }
@@ -195,7 +206,7 @@ fn missing_scalars(
 /// Adds the built-in scalar of this name, if it is used and no type is listed under the name.
 fn add_if_missing(
     missing: &mut Vec<(Name, ExtendedType)>,
-    types: &IndexMap<Name, ExtendedType>,
+    types: &IndexMap<Name, ExtendedType, HashSeed>,
     built_in_scalars: &BuiltInScalars,
     text: &str,
 ) -> Result<(), ValidationError>

@@ -21,4 +21,4 @@ returns-in_ok-insert-in-None c =
     inserted_as_names c.args.implementers.now.entries c.args.interface c.args.definition.now c.add-in-None.new.self
     (sym c.in-None.ensures.value)
     (c.in_ok-add-in-None.ensures ∙
-    ap (λ known. with_own_name known c.args.definition.now) (names_are (ap names c.new.ensures.empty) (ap names c.new-in-None.ensures.empty)))
+    ap (λ known. with_own_name known c.args.definition.now) (names_are (ap names c.with_hasher.ensures.empty) (ap names c.with_hasher-in-None.ensures.empty)))
