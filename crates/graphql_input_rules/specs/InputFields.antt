@@ -1,12 +1,11 @@
 -- Object values that give an input field more than once. Specification: 5.6.3 Input Object Field Uniqueness.
-use Rattle.std.specs.Prelude.{◌≡◌, ℕ, List, ◌++◌, codes, Result, MatchResult, Vec, map}
+use Rattle.std.specs.Prelude.{◌≡◌, ℕ, List, ◌++◌, codes, Vec, map}
 use Rattle.std.specs.declared.alloc.Global.{Global}
 use Rattle.graphql_nodes.specs.Names.{AreDistinct, NameText}
 use Rattle.graphql_nodes.specs.declared.nodes.Node.{Node}
 use Rattle.graphql_documents.specs.declared.documents.executables.ExecutableDocument.{ExecutableDocument}
 use Rattle.graphql_documents.specs.declared.documents.values.Value.{Value}
 use Rattle.graphql_documents.specs.declared.documents.values.Value.TheVariants as literal
-use Rattle.graphql_diagnostics.specs.Reports.{KeepsReports, Reports}
 use Rattle.graphql_repetitions.specs.Repetitions.{Repeats}
 use Rattle.graphql_input_rules.specs.ValuesWritten.{DocumentWrites}
 use Rattle.graphql_input_rules.specs.declared.reports.InputFieldRepetition.{InputFieldRepetition}
@@ -42,14 +41,6 @@ pub record FieldReport (IsWritten : Value → Type 0) (report : InputFieldRepeti
 -- the report is true of the document
 abbrev pub InputFieldReport : ExecutableDocument → InputFieldRepetition → Type 0
 InputFieldReport document = FieldReport (DocumentWrites document)
-
--- a call that checks a rule: where it answers, it reports nothing exactly where the rule holds; in any case the old reports
--- stay, and each further one is true
-abbrev pub Checks : {T E : Type 0} → Result T E → Type 0 → (InputFieldRepetition → Type 0) → Vec InputFieldRepetition Global → Vec InputFieldRepetition Global → Type 0
-Checks result Holds IsTrueReport old new =
-    MatchResult result
-    (λ _. Reports Holds IsTrueReport old.items new.items)
-    (λ _. KeepsReports IsTrueReport old.items new.items)
 
 -- the text of the message
 abbrev pub repetition_message : NameText → List ℕ

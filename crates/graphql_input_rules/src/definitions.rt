@@ -1,7 +1,8 @@
 //! The object values in the parts of definitions: in applied directives, arguments, fields, enum values and input fields.
 
 ghost use Rattle.indexmap.specs.IndexMap.{values};
-ghost use Rattle.graphql_input_rules.specs.InputFields.{Checks, FieldReport, FieldsAreUnique};
+ghost use Rattle.graphql_input_rules.specs.InputFields.{FieldReport, FieldsAreUnique};
+ghost use Rattle.graphql_reporting.specs.Lists.{Checks};
 ghost use Rattle.graphql_input_rules.specs.SchemaValues.{ArgumentsWrite, EnumValuesWrite, FieldDefinitionWrites, FieldsWrite, InAppliedDirectives, InputFieldsWrite, InputValueWrites};
 
 use crate::reports::InputFieldRepetition;
@@ -11,11 +12,12 @@ use graphql_documents::documents::{
 };
 use graphql_hash_seeds::HashSeed;
 use graphql_nodes::{Name, Node, ValidationError};
+use graphql_reporting::ReportList;
 use indexmap::IndexMap;
 
 /// Reports the input fields that object values repeat in the arguments of directives, of a definition or of its extensions.
 pub(crate) fn check_applied_directives(
-    reports: &mut Vec<InputFieldRepetition>,
+    reports: &mut ReportList<InputFieldRepetition>,
     hash_seed: HashSeed,
     directives: &[Component<Directive>],
 ) -> Result<(), ValidationError>
@@ -29,7 +31,7 @@ pub(crate) fn check_applied_directives(
 
 /// The same in the arguments of a field or of a directive definition.
 pub(crate) fn check_argument_definitions(
-    reports: &mut Vec<InputFieldRepetition>,
+    reports: &mut ReportList<InputFieldRepetition>,
     hash_seed: HashSeed,
     arguments: &[Node<InputValueDefinition>],
 ) -> Result<(), ValidationError>
@@ -43,7 +45,7 @@ pub(crate) fn check_argument_definitions(
 
 /// The same in the input fields of an input object.
 pub(crate) fn check_input_field_definitions(
-    reports: &mut Vec<InputFieldRepetition>,
+    reports: &mut ReportList<InputFieldRepetition>,
     hash_seed: HashSeed,
     fields: &IndexMap<Name, Component<InputValueDefinition>, HashSeed>,
 ) -> Result<(), ValidationError>
@@ -56,7 +58,7 @@ pub(crate) fn check_input_field_definitions(
 }
 
 fn check_input_value(
-    reports: &mut Vec<InputFieldRepetition>,
+    reports: &mut ReportList<InputFieldRepetition>,
     hash_seed: HashSeed,
     definition: &InputValueDefinition,
 ) -> Result<(), ValidationError>
@@ -68,7 +70,7 @@ fn check_input_value(
 
 /// The same in the fields of an object or interface.
 pub(crate) fn check_field_definitions(
-    reports: &mut Vec<InputFieldRepetition>,
+    reports: &mut ReportList<InputFieldRepetition>,
     hash_seed: HashSeed,
     fields: &IndexMap<Name, Component<FieldDefinition>, HashSeed>,
 ) -> Result<(), ValidationError>
@@ -81,7 +83,7 @@ pub(crate) fn check_field_definitions(
 }
 
 fn check_field_definition(
-    reports: &mut Vec<InputFieldRepetition>,
+    reports: &mut ReportList<InputFieldRepetition>,
     hash_seed: HashSeed,
     field: &FieldDefinition,
 ) -> Result<(), ValidationError>
@@ -93,7 +95,7 @@ fn check_field_definition(
 
 /// The same in the values of an enum.
 pub(crate) fn check_enum_values(
-    reports: &mut Vec<InputFieldRepetition>,
+    reports: &mut ReportList<InputFieldRepetition>,
     hash_seed: HashSeed,
     enum_values: &IndexMap<Name, Component<EnumValueDefinition>, HashSeed>,
 ) -> Result<(), ValidationError>

@@ -3,7 +3,8 @@
 ghost use Rattle.std.specs.Prelude.{Any, option_to_list};
 ghost use Rattle.indexmap.specs.IndexMap.{values};
 ghost use Rattle.graphql_input_rules.specs.Selections.{FieldWrites, InlineFragmentWrites, OperationsWrite, SelectionWrites};
-ghost use Rattle.graphql_input_rules.specs.InputFields.{Checks, FieldReport, FieldsAreUnique, InputFieldReport, InputFieldsAreUnique};
+ghost use Rattle.graphql_input_rules.specs.InputFields.{FieldReport, FieldsAreUnique, InputFieldReport, InputFieldsAreUnique};
+ghost use Rattle.graphql_reporting.specs.Lists.{Checks};
 ghost use Rattle.graphql_input_rules.specs.ValuesWritten.{FragmentWrites, OperationWrites, SetWrites, VariableWrites};
 
 use crate::reports::InputFieldRepetition;
@@ -14,6 +15,7 @@ use graphql_documents::documents::{
 };
 use graphql_hash_seeds::HashSeed;
 use graphql_nodes::{Name, Node, ValidationError};
+use graphql_reporting::ReportList;
 use indexmap::IndexMap;
 
 /// Reports each input field that an object value in the document gives again: in the arguments of fields and directives and in
@@ -25,7 +27,7 @@ use indexmap::IndexMap;
 ///
 /// Specification: 5.6.3 Input Object Field Uniqueness.
 pub fn check_input_fields(
-    reports: &mut Vec<InputFieldRepetition>,
+    reports: &mut ReportList<InputFieldRepetition>,
     document: &ExecutableDocument,
 ) -> Result<(), ValidationError>
     ensures { Checks result (InputFieldsAreUnique document.now) (InputFieldReport document.now) reports.old reports.new }
@@ -36,7 +38,7 @@ pub fn check_input_fields(
 }
 
 fn check_operations(
-    reports: &mut Vec<InputFieldRepetition>,
+    reports: &mut ReportList<InputFieldRepetition>,
     hash_seed: HashSeed,
     operations: &OperationMap,
 ) -> Result<(), ValidationError>
@@ -47,7 +49,7 @@ fn check_operations(
 }
 
 fn check_anonymous_operation(
-    reports: &mut Vec<InputFieldRepetition>,
+    reports: &mut ReportList<InputFieldRepetition>,
     hash_seed: HashSeed,
     operation: &Option<Node<Operation>>,
 ) -> Result<(), ValidationError>
@@ -60,7 +62,7 @@ fn check_anonymous_operation(
 }
 
 fn check_named_operations(
-    reports: &mut Vec<InputFieldRepetition>,
+    reports: &mut ReportList<InputFieldRepetition>,
     hash_seed: HashSeed,
     operations: &IndexMap<Name, Node<Operation>, HashSeed>,
 ) -> Result<(), ValidationError>
@@ -73,7 +75,7 @@ fn check_named_operations(
 }
 
 fn check_fragments(
-    reports: &mut Vec<InputFieldRepetition>,
+    reports: &mut ReportList<InputFieldRepetition>,
     hash_seed: HashSeed,
     fragments: &IndexMap<Name, Node<Fragment>, HashSeed>,
 ) -> Result<(), ValidationError>
@@ -86,7 +88,7 @@ fn check_fragments(
 }
 
 fn check_operation(
-    reports: &mut Vec<InputFieldRepetition>,
+    reports: &mut ReportList<InputFieldRepetition>,
     hash_seed: HashSeed,
     operation: &Operation,
 ) -> Result<(), ValidationError>
@@ -98,7 +100,7 @@ fn check_operation(
 }
 
 fn check_fragment(
-    reports: &mut Vec<InputFieldRepetition>,
+    reports: &mut ReportList<InputFieldRepetition>,
     hash_seed: HashSeed,
     fragment: &Fragment,
 ) -> Result<(), ValidationError>
@@ -109,7 +111,7 @@ fn check_fragment(
 }
 
 fn check_variables(
-    reports: &mut Vec<InputFieldRepetition>,
+    reports: &mut ReportList<InputFieldRepetition>,
     hash_seed: HashSeed,
     variables: &[Node<VariableDefinition>],
 ) -> Result<(), ValidationError>
@@ -122,7 +124,7 @@ fn check_variables(
 }
 
 fn check_variable(
-    reports: &mut Vec<InputFieldRepetition>,
+    reports: &mut ReportList<InputFieldRepetition>,
     hash_seed: HashSeed,
     variable: &VariableDefinition,
 ) -> Result<(), ValidationError>
@@ -134,7 +136,7 @@ fn check_variable(
 
 #[cycle(selection)]
 fn check_selection_set(
-    reports: &mut Vec<InputFieldRepetition>,
+    reports: &mut ReportList<InputFieldRepetition>,
     hash_seed: HashSeed,
     set: &SelectionSet,
 ) -> Result<(), ValidationError>
@@ -148,7 +150,7 @@ fn check_selection_set(
 
 #[cycle(selection)]
 fn check_selection(
-    reports: &mut Vec<InputFieldRepetition>,
+    reports: &mut ReportList<InputFieldRepetition>,
     hash_seed: HashSeed,
     selection: &Selection,
 ) -> Result<(), ValidationError>
@@ -171,7 +173,7 @@ fn check_selection(
 
 #[cycle(selection)]
 fn check_field(
-    reports: &mut Vec<InputFieldRepetition>,
+    reports: &mut ReportList<InputFieldRepetition>,
     hash_seed: HashSeed,
     field: &Field,
 ) -> Result<(), ValidationError>
@@ -184,7 +186,7 @@ fn check_field(
 
 #[cycle(selection)]
 fn check_inline_fragment(
-    reports: &mut Vec<InputFieldRepetition>,
+    reports: &mut ReportList<InputFieldRepetition>,
     hash_seed: HashSeed,
     fragment: &InlineFragment,
 ) -> Result<(), ValidationError>

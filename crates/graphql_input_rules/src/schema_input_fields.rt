@@ -2,7 +2,8 @@
 
 ghost use Rattle.std.specs.Prelude.{◌⊎◌};
 ghost use Rattle.indexmap.specs.IndexMap.{values};
-ghost use Rattle.graphql_input_rules.specs.InputFields.{Checks, FieldReport, FieldsAreUnique};
+ghost use Rattle.graphql_input_rules.specs.InputFields.{FieldReport, FieldsAreUnique};
+ghost use Rattle.graphql_reporting.specs.Lists.{Checks};
 ghost use Rattle.graphql_input_rules.specs.SchemaValues.{DirectiveDefinitionsWrite, EnumValuesWrite, FieldsWrite, InAppliedDirectives, InputFieldsWrite, SchemaInputFieldReport, SchemaInputFieldsAreUnique, TypeWrites, TypesWrite};
 
 use crate::definitions::{
@@ -16,6 +17,7 @@ use graphql_documents::documents::{
 };
 use graphql_hash_seeds::HashSeed;
 use graphql_nodes::{Name, Node, ValidationError};
+use graphql_reporting::ReportList;
 use indexmap::IndexMap;
 
 /// Reports each input field that an object value in the schema gives again: in the default values of arguments and input fields
@@ -28,7 +30,7 @@ use indexmap::IndexMap;
 ///
 /// Specification: 5.6.3 Input Object Field Uniqueness.
 pub fn check_schema_input_fields(
-    reports: &mut Vec<InputFieldRepetition>,
+    reports: &mut ReportList<InputFieldRepetition>,
     schema: &Schema,
 ) -> Result<(), ValidationError>
     ensures { Checks result (SchemaInputFieldsAreUnique schema.now) (SchemaInputFieldReport schema.now) reports.old reports.new }
@@ -44,7 +46,7 @@ pub fn check_schema_input_fields(
 }
 
 fn check_directive_definitions(
-    reports: &mut Vec<InputFieldRepetition>,
+    reports: &mut ReportList<InputFieldRepetition>,
     hash_seed: HashSeed,
     definitions: &IndexMap<Name, Node<DirectiveDefinition>, HashSeed>,
 ) -> Result<(), ValidationError>
@@ -57,7 +59,7 @@ fn check_directive_definitions(
 }
 
 fn check_types(
-    reports: &mut Vec<InputFieldRepetition>,
+    reports: &mut ReportList<InputFieldRepetition>,
     hash_seed: HashSeed,
     types: &IndexMap<Name, ExtendedType, HashSeed>,
 ) -> Result<(), ValidationError>
@@ -70,7 +72,7 @@ fn check_types(
 }
 
 fn check_type(
-    reports: &mut Vec<InputFieldRepetition>,
+    reports: &mut ReportList<InputFieldRepetition>,
     hash_seed: HashSeed,
     definition: &ExtendedType,
 ) -> Result<(), ValidationError>
@@ -112,7 +114,7 @@ fn check_type(
 
 /// The same in an object or interface.
 fn check_type_with_fields(
-    reports: &mut Vec<InputFieldRepetition>,
+    reports: &mut ReportList<InputFieldRepetition>,
     hash_seed: HashSeed,
     directives: &[Component<Directive>],
     fields: &IndexMap<Name, Component<FieldDefinition>, HashSeed>,
@@ -124,7 +126,7 @@ fn check_type_with_fields(
 }
 
 fn check_enum(
-    reports: &mut Vec<InputFieldRepetition>,
+    reports: &mut ReportList<InputFieldRepetition>,
     hash_seed: HashSeed,
     definition: &EnumType,
 ) -> Result<(), ValidationError>
@@ -135,7 +137,7 @@ fn check_enum(
 }
 
 fn check_input_object(
-    reports: &mut Vec<InputFieldRepetition>,
+    reports: &mut ReportList<InputFieldRepetition>,
     hash_seed: HashSeed,
     definition: &InputObjectType,
 ) -> Result<(), ValidationError>

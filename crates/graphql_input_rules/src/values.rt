@@ -4,19 +4,21 @@ ghost use Rattle.std.specs.Prelude.{◌≡◌, ◌∷◌, ◌++◌, [], Any, Lis
 ghost use Rattle.graphql_nodes.specs.Names.{AreDistinct, NameText, same_name};
 ghost use Rattle.graphql_variables.specs.FirstPlaces.{IsNext, Remembers};
 ghost use Rattle.graphql_repetitions.specs.Repetitions.{met_name};
-ghost use Rattle.graphql_input_rules.specs.InputFields.{Checks, FieldReport, FieldsAreUnique, RepetitionReport, entry_names};
+ghost use Rattle.graphql_input_rules.specs.InputFields.{FieldReport, FieldsAreUnique, RepetitionReport, entry_names};
+ghost use Rattle.graphql_reporting.specs.Lists.{Checks};
 ghost use Rattle.graphql_input_rules.specs.ValuesWritten.{DefaultWrites, InArguments, InDirectives, ValueWritten};
 
 use crate::reports::InputFieldRepetition;
 use graphql_documents::documents::{Argument, Directive, Value};
 use graphql_hash_seeds::HashSeed;
 use graphql_nodes::{Name, Node, SourceSpan, ValidationError};
+use graphql_reporting::ReportList;
 use graphql_variables::first_places::{FirstPlaces, first_place};
 
 /// Reports the input fields that the object values in a value repeat.
 #[cycle(value)]
 fn check_value(
-    reports: &mut Vec<InputFieldRepetition>,
+    reports: &mut ReportList<InputFieldRepetition>,
     hash_seed: HashSeed,
     value: &Value,
 ) -> Result<(), ValidationError>
@@ -34,7 +36,7 @@ fn check_value(
 
 #[cycle(value)]
 fn check_items(
-    reports: &mut Vec<InputFieldRepetition>,
+    reports: &mut ReportList<InputFieldRepetition>,
     hash_seed: HashSeed,
     items: &[Node<Value>],
 ) -> Result<(), ValidationError>
@@ -48,7 +50,7 @@ fn check_items(
 
 #[cycle(value)]
 fn check_entries(
-    reports: &mut Vec<InputFieldRepetition>,
+    reports: &mut ReportList<InputFieldRepetition>,
     hash_seed: HashSeed,
     entries: &[(Name, Node<Value>)],
 ) -> Result<(), ValidationError>
@@ -62,13 +64,13 @@ fn check_entries(
 
 /// Reports each name that repeats an earlier one, with the place of the first of that name.
 fn check_names(
-    reports: &mut Vec<InputFieldRepetition>,
+    reports: &mut ReportList<InputFieldRepetition>,
     hash_seed: HashSeed,
     entries: &[(Name, Node<Value>)],
 ) -> Result<(), ValidationError>
     ensures { Checks result (AreDistinct (entry_names entries.now)) (RepetitionReport (entry_names entries.now)) reports.old reports.new }
 {
-    let mut seen = FirstPlaces::with_hasher(*reports.allocator(), hash_seed);
+    let mut seen = FirstPlaces::with_hasher(reports.allocator(), hash_seed);
     for (name, _) in entries {
         check_name(reports, &mut seen, name)?;
     }
@@ -77,7 +79,7 @@ fn check_names(
 
 /// Reports a name that repeats one of those before it.
 fn check_name<'a>(
-    reports: &mut Vec<InputFieldRepetition>,
+    reports: &mut ReportList<InputFieldRepetition>,
     seen: &mut FirstPlaces<'a>,
     name: &'a Name,
 ) -> Result<(), ValidationError>
@@ -93,7 +95,7 @@ fn check_name<'a>(
 }
 
 fn report_repetition(
-    reports: &mut Vec<InputFieldRepetition>,
+    reports: &mut ReportList<InputFieldRepetition>,
     name: &Name,
     original: Option<SourceSpan>,
 ) -> Result<(), ValidationError>
@@ -103,17 +105,19 @@ fn report_repetition(
 {
     let location = name.location();
     let name = name.clone()?;
-    reports.push(InputFieldRepetition {
+    let repetition = InputFieldRepetition {
         name,
         original,
         location,
-    })?;
+    };
+    reports.admit(&repetition)?;
+    reports.push(repetition)?;
     Ok(())
 }
 
 /// The same in the values of arguments.
 pub(crate) fn check_arguments(
-    reports: &mut Vec<InputFieldRepetition>,
+    reports: &mut ReportList<InputFieldRepetition>,
     hash_seed: HashSeed,
     arguments: &[Node<Argument>],
 ) -> Result<(), ValidationError>
@@ -127,7 +131,7 @@ pub(crate) fn check_arguments(
 
 /// The same in the arguments of directives.
 pub(crate) fn check_directives(
-    reports: &mut Vec<InputFieldRepetition>,
+    reports: &mut ReportList<InputFieldRepetition>,
     hash_seed: HashSeed,
     directives: &[Node<Directive>],
 ) -> Result<(), ValidationError>
@@ -141,7 +145,7 @@ pub(crate) fn check_directives(
 
 /// The same in a default value, where there is one.
 pub(crate) fn check_default_value(
-    reports: &mut Vec<InputFieldRepetition>,
+    reports: &mut ReportList<InputFieldRepetition>,
     hash_seed: HashSeed,
     default_value: &Option<Node<Value>>,
 ) -> Result<(), ValidationError>

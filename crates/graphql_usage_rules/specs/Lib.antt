@@ -1,4 +1,3 @@
-pub mod Checks
 pub mod Parts
 pub mod Scopes
 pub mod UndefinedVariables

@@ -1,7 +1,7 @@
 -- Usages of variables that are allowed, and what is reported of the others. Specification: 5.8.5 All Variable Usages Are Allowed.
-use Rattle.std.specs.Prelude.{◌≡◌, ◌⊎◌, ◌&&◌, ◌++◌, All, Any, IsTrue, List, MatchBool, Result, Some, Vec, codes, not, ℕ}
-use Rattle.std.specs.declared.alloc.Global.{Global}
+use Rattle.std.specs.Prelude.{◌≡◌, ◌⊎◌, ◌&&◌, ◌++◌, All, Any, IsTrue, List, MatchBool, Result, Some, codes, not, ℕ}
 use Rattle.graphql_nodes.specs.Names.{NameText}
+use Rattle.graphql_nodes.specs.Nodes.{SameNode}
 use Rattle.graphql_nodes.specs.declared.nodes.Node.{Node}
 use Rattle.graphql_documents.specs.Definitions.{variable_named}
 use Rattle.graphql_documents.specs.Executables.{operations_of}
@@ -12,9 +12,10 @@ use Rattle.graphql_documents.specs.declared.documents.executables.ExecutableDocu
 use Rattle.graphql_documents.specs.declared.documents.executables.Operation.{Operation}
 use Rattle.graphql_documents.specs.declared.documents.schemas.Schema.{Schema}
 use Rattle.graphql_documents.specs.declared.documents.type_references.Type.{«Type»}
-use Rattle.graphql_usage_rules.specs.Checks.{Checks}
+use Rattle.graphql_reporting.specs.Lists.{Checks}
 use Rattle.graphql_specification.specs.VariableUsages.{HasNonNullDefault}
 use Rattle.graphql_usage_rules.specs.Usages.{Location, Usage, UsedInScope}
+use Rattle.graphql_reporting.specs.declared.lists.ReportList.{ReportList}
 use Rattle.graphql_usage_rules.specs.declared.reports.VariableMisuse.{VariableMisuse}
 
 -- IsVariableUsageAllowed: where null is expected nowhere but the variable may be null, one of the two has a default, for the variable one that is not
@@ -59,7 +60,7 @@ abbrev pub DocumentMisuseReport : Schema → ExecutableDocument → VariableMisu
 DocumentMisuseReport schema document report = Any (λ o. OperationMisuseReport schema document o.value.value report) (operations_of document)
 
 -- a call that checks these usages
-abbrev pub ChecksUsages : {T E : Type 0} → Result T E → List (Node VariableDefinition) → (Usage → Type 0) → Vec VariableMisuse Global → Vec VariableMisuse Global → Type 0
+abbrev pub ChecksUsages : {T E : Type 0} → Result T E → List (Node VariableDefinition) → (Usage → Type 0) → ReportList VariableMisuse → ReportList VariableMisuse → Type 0
 ChecksUsages result variables IsUsed old new = Checks result (UsagesAreAllowed variables IsUsed) (MisuseReport variables IsUsed) old new
 
 -- the text of the message

@@ -10,11 +10,12 @@ use graphql_documents::documents::{
 };
 use graphql_hash_seeds::HashSeed;
 use graphql_nodes::ValidationError;
+use graphql_reporting::ReportList;
 use graphql_variables::VariablesByName;
 
 /// Reports the variables that may not be where they are used, in the definition of a fragment.
 pub(crate) fn check_fragment(
-    reports: &mut Vec<VariableMisuse>,
+    reports: &mut ReportList<VariableMisuse>,
     schema: &Schema,
     hash_seed: HashSeed,
     variables: &VariablesByName,
@@ -35,7 +36,7 @@ pub(crate) fn check_fragment(
 /// The same in the selections of a set, at any depth. Spreads are not followed.
 #[cycle(selection)]
 pub(crate) fn check_selection_set(
-    reports: &mut Vec<VariableMisuse>,
+    reports: &mut ReportList<VariableMisuse>,
     schema: &Schema,
     hash_seed: HashSeed,
     variables: &VariablesByName,
@@ -51,7 +52,7 @@ pub(crate) fn check_selection_set(
 
 #[cycle(selection)]
 fn check_selection(
-    reports: &mut Vec<VariableMisuse>,
+    reports: &mut ReportList<VariableMisuse>,
     schema: &Schema,
     hash_seed: HashSeed,
     variables: &VariablesByName,
@@ -78,7 +79,7 @@ fn check_selection(
 
 #[cycle(selection)]
 fn check_field(
-    reports: &mut Vec<VariableMisuse>,
+    reports: &mut ReportList<VariableMisuse>,
     schema: &Schema,
     hash_seed: HashSeed,
     variables: &VariablesByName,
@@ -101,7 +102,7 @@ fn check_field(
 
 #[cycle(selection)]
 fn check_inline_fragment(
-    reports: &mut Vec<VariableMisuse>,
+    reports: &mut ReportList<VariableMisuse>,
     schema: &Schema,
     hash_seed: HashSeed,
     variables: &VariablesByName,

@@ -5,13 +5,14 @@ ghost use Rattle.indexmap.specs.IndexMap.{values};
 ghost use Rattle.graphql_documents.specs.Definitions.{variable_named};
 ghost use Rattle.graphql_documents.specs.Selections.{fragments_of};
 ghost use Rattle.graphql_documents.specs.declared.documents.values.Value.TheVariants as literal;
-ghost use Rattle.graphql_usage_rules.specs.Checks.{Checks};
+ghost use Rattle.graphql_reporting.specs.Lists.{Checks};
 ghost use Rattle.graphql_usage_rules.specs.UndefinedVariables.{DocumentUndefinedReport, IsDefinedAmong, IsUndefinedReport, OperationUndefinedReport, UsedVariablesAreDefined, VariableUsesAreDefined};
 
 use crate::scopes::variables_in_scope;
 use graphql_diagnostics::{Details, DiagnosticData, DiagnosticEntry};
 use graphql_documents::documents::{ExecutableDocument, Operation, Value};
 use graphql_nodes::{Name, Node, SourceSpan, ValidationError};
+use graphql_reporting::ReportList;
 use graphql_variables::VariablesByName;
 
 /// Reports each variable that an operation uses and does not define: in its directives, in the selections that it reaches and
@@ -25,7 +26,7 @@ use graphql_variables::VariablesByName;
 ///
 /// Specification: 5.8.3 All Variable Uses Defined.
 pub fn check_undefined_variables(
-    reports: &mut Vec<DiagnosticEntry>,
+    reports: &mut ReportList<DiagnosticEntry>,
     document: &ExecutableDocument,
 ) -> Result<(), ValidationError>
     ensures { Checks result (VariableUsesAreDefined document.now) (DocumentUndefinedReport document.now) reports.old reports.new }
@@ -35,7 +36,7 @@ pub fn check_undefined_variables(
 }
 
 fn check_anonymous_operation(
-    reports: &mut Vec<DiagnosticEntry>,
+    reports: &mut ReportList<DiagnosticEntry>,
     document: &ExecutableDocument,
 ) -> Result<(), ValidationError>
     ensures { Checks result
@@ -50,7 +51,7 @@ fn check_anonymous_operation(
 }
 
 fn check_named_operations(
-    reports: &mut Vec<DiagnosticEntry>,
+    reports: &mut ReportList<DiagnosticEntry>,
     document: &ExecutableDocument,
 ) -> Result<(), ValidationError>
     ensures { Checks result
@@ -66,13 +67,13 @@ fn check_named_operations(
 
 /// Reports the variables in the scope of an operation that it does not define.
 fn check_operation(
-    reports: &mut Vec<DiagnosticEntry>,
+    reports: &mut ReportList<DiagnosticEntry>,
     document: &ExecutableDocument,
     operation: &Operation,
 ) -> Result<(), ValidationError>
     ensures { Checks result (UsedVariablesAreDefined (fragments_of document.now) operation.now) (OperationUndefinedReport (fragments_of document.now) operation.now) reports.old reports.new }
 {
-    let alloc = *reports.allocator();
+    let alloc = reports.allocator();
     let defined = VariablesByName::new(alloc, document.hash_seed(), &operation.variables)?;
     let used = variables_in_scope(alloc, document, operation)?;
     check_variables(reports, &defined, &used)
@@ -80,7 +81,7 @@ fn check_operation(
 
 /// Reports those of these variables that are not defined.
 fn check_variables(
-    reports: &mut Vec<DiagnosticEntry>,
+    reports: &mut ReportList<DiagnosticEntry>,
     defined: &VariablesByName,
     used: &[&Node<Value>],
 ) -> Result<(), ValidationError>
@@ -93,7 +94,7 @@ fn check_variables(
 }
 
 fn check_variable(
-    reports: &mut Vec<DiagnosticEntry>,
+    reports: &mut ReportList<DiagnosticEntry>,
     defined: &VariablesByName,
     value: &Node<Value>,
 ) -> Result<(), ValidationError>
@@ -110,7 +111,7 @@ fn check_variable(
 
 /// Reports a variable that is not defined, at its place.
 fn report_undefined(
-    reports: &mut Vec<DiagnosticEntry>,
+    reports: &mut ReportList<DiagnosticEntry>,
     defined: &VariablesByName,
     value: &Node<Value>,
     name: &Name,
@@ -120,9 +121,11 @@ fn report_undefined(
     ensures { Checks result (IsDefinedAmong defined.now value.now) (IsUndefinedReport defined.now value.now) reports.old reports.new }
 {
     let name = name.clone()?;
+    let details = Details::Diagnostic(DiagnosticData::UndefinedVariable { name });
+    reports.admit(&details)?;
     reports.push(DiagnosticEntry {
         location: value.location,
-        details: Details::Diagnostic(DiagnosticData::UndefinedVariable { name }),
+        details,
     })?;
     Ok(())
 }

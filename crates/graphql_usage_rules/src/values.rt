@@ -8,7 +8,7 @@ ghost use Rattle.graphql_documents.specs.Definitions.{variable_named};
 ghost use Rattle.graphql_documents.specs.declared.documents.definitions.VariableDefinition.{VariableDefinition};
 ghost use Rattle.graphql_usage_rules.specs.Parts.{InFound, UsedInArgument, UsedInDirective, UsedInEntry, UsedInField, UsedInItem, UsedInList, UsedInObject, location_at};
 ghost use Rattle.graphql_usage_rules.specs.Usages.{UsedIn, UsedInArguments, UsedInDirectives};
-ghost use Rattle.graphql_usage_rules.specs.Checks.{Checks};
+ghost use Rattle.graphql_reporting.specs.Lists.{Checks};
 ghost use Rattle.graphql_usage_rules.specs.VariableMisuses.{ChecksUsages, IsAllowedAt, MisuseReport};
 
 use crate::allowed::is_allowed_at;
@@ -20,12 +20,13 @@ use graphql_documents::documents::{
 use graphql_hash_seeds::HashSeed;
 use graphql_name_tables::ByName;
 use graphql_nodes::{Name, Node, SourceSpan, ValidationError};
+use graphql_reporting::ReportList;
 use graphql_variables::VariablesByName;
 
 /// Reports the variables in a value that may not be where they are used.
 #[cycle(value)]
 pub(crate) fn check_value(
-    reports: &mut Vec<VariableMisuse>,
+    reports: &mut ReportList<VariableMisuse>,
     schema: &Schema,
     variables: &VariablesByName,
     location: UsageLocation<'_>,
@@ -46,7 +47,7 @@ pub(crate) fn check_value(
 /// Specification: 3.11 List.
 #[cycle(value)]
 fn check_list(
-    reports: &mut Vec<VariableMisuse>,
+    reports: &mut ReportList<VariableMisuse>,
     schema: &Schema,
     variables: &VariablesByName,
     location: UsageLocation<'_>,
@@ -62,7 +63,7 @@ fn check_list(
 
 #[cycle(value)]
 fn check_items(
-    reports: &mut Vec<VariableMisuse>,
+    reports: &mut ReportList<VariableMisuse>,
     schema: &Schema,
     variables: &VariablesByName,
     location: UsageLocation<'_>,
@@ -81,7 +82,7 @@ fn check_items(
 /// Specification: 3.10 Input Objects.
 #[cycle(value)]
 fn check_object(
-    reports: &mut Vec<VariableMisuse>,
+    reports: &mut ReportList<VariableMisuse>,
     schema: &Schema,
     variables: &VariablesByName,
     location: UsageLocation<'_>,
@@ -97,7 +98,7 @@ fn check_object(
 
 #[cycle(value)]
 fn check_entries(
-    reports: &mut Vec<VariableMisuse>,
+    reports: &mut ReportList<VariableMisuse>,
     schema: &Schema,
     variables: &VariablesByName,
     input_object: &Node<InputObjectType>,
@@ -113,7 +114,7 @@ fn check_entries(
 
 #[cycle(value)]
 fn check_entry(
-    reports: &mut Vec<VariableMisuse>,
+    reports: &mut ReportList<VariableMisuse>,
     schema: &Schema,
     variables: &VariablesByName,
     input_object: &Node<InputObjectType>,
@@ -133,7 +134,7 @@ fn check_entry(
 
 /// Reports a variable if it is defined and may not be used here.
 fn check_usage(
-    reports: &mut Vec<VariableMisuse>,
+    reports: &mut ReportList<VariableMisuse>,
     variables: &VariablesByName,
     location: UsageLocation<'_>,
     name: &Name,
@@ -150,7 +151,7 @@ fn check_usage(
 }
 
 fn report_misuse(
-    reports: &mut Vec<VariableMisuse>,
+    reports: &mut ReportList<VariableMisuse>,
     variable: &Node<VariableDefinition>,
     location: UsageLocation<'_>,
     name: &Name,
@@ -164,19 +165,21 @@ fn report_misuse(
     let name = name.clone()?;
     let variable_type = variable.value.ty.clone()?;
     let location_type = location.ty.clone()?;
-    reports.push(VariableMisuse {
+    let misuse = VariableMisuse {
         name,
         variable_type,
         location_type,
         definition_location,
         location: place,
-    })?;
+    };
+    reports.admit(&misuse)?;
+    reports.push(misuse)?;
     Ok(())
 }
 
 /// The same in the values of arguments with these definitions. Nothing is said of an argument that is not defined.
 pub(crate) fn check_arguments(
-    reports: &mut Vec<VariableMisuse>,
+    reports: &mut ReportList<VariableMisuse>,
     schema: &Schema,
     hash_seed: HashSeed,
     variables: &VariablesByName,
@@ -186,7 +189,7 @@ pub(crate) fn check_arguments(
     ensures { ChecksUsages result variables.now (UsedInArguments schema.now definitions.now arguments.now) reports.old reports.new }
 {
     let definitions_by_name = ByName::new(
-        *reports.allocator(),
+        reports.allocator(),
         hash_seed,
         definitions,
         arguments.len(),
@@ -204,7 +207,7 @@ pub(crate) fn check_arguments(
 }
 
 fn check_argument(
-    reports: &mut Vec<VariableMisuse>,
+    reports: &mut ReportList<VariableMisuse>,
     schema: &Schema,
     variables: &VariablesByName,
     definitions: &ByName<Node<InputValueDefinition>>,
@@ -223,7 +226,7 @@ fn check_argument(
 
 /// The same in the arguments of directives. Nothing is said of a directive that is not defined.
 pub(crate) fn check_directives(
-    reports: &mut Vec<VariableMisuse>,
+    reports: &mut ReportList<VariableMisuse>,
     schema: &Schema,
     hash_seed: HashSeed,
     variables: &VariablesByName,
@@ -238,7 +241,7 @@ pub(crate) fn check_directives(
 }
 
 fn check_directive(
-    reports: &mut Vec<VariableMisuse>,
+    reports: &mut ReportList<VariableMisuse>,
     schema: &Schema,
     hash_seed: HashSeed,
     variables: &VariablesByName,

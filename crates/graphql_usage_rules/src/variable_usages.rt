@@ -5,7 +5,7 @@ ghost use Rattle.indexmap.specs.IndexMap.{values};
 ghost use Rattle.graphql_documents.specs.Selections.{fragments_of};
 ghost use Rattle.graphql_usage_rules.specs.Parts.{UsedInFragment, UsedInFragments, UsedInParts};
 ghost use Rattle.graphql_reach.specs.Reached.{names_at};
-ghost use Rattle.graphql_usage_rules.specs.Checks.{Checks};
+ghost use Rattle.graphql_reporting.specs.Lists.{Checks};
 ghost use Rattle.graphql_usage_rules.specs.VariableMisuses.{ChecksUsages, DocumentMisuseReport, OperationMisuseReport, OperationUsagesAreAllowed, VariableUsagesAreAllowed};
 
 use crate::reports::VariableMisuse;
@@ -15,6 +15,7 @@ use graphql_documents::documents::{ExecutableDocument, Operation, Schema};
 use graphql_hash_seeds::HashSeed;
 use graphql_nodes::{Name, ValidationError};
 use graphql_reach::reached_fragments;
+use graphql_reporting::ReportList;
 use graphql_variables::VariablesByName;
 use indexmap::IndexSet;
 
@@ -29,7 +30,7 @@ use indexmap::IndexSet;
 ///
 /// Specification: 5.8.5 All Variable Usages Are Allowed.
 pub fn check_variable_usages(
-    reports: &mut Vec<VariableMisuse>,
+    reports: &mut ReportList<VariableMisuse>,
     schema: &Schema,
     document: &ExecutableDocument,
 ) -> Result<(), ValidationError>
@@ -40,7 +41,7 @@ pub fn check_variable_usages(
 }
 
 fn check_anonymous_operation(
-    reports: &mut Vec<VariableMisuse>,
+    reports: &mut ReportList<VariableMisuse>,
     schema: &Schema,
     document: &ExecutableDocument,
 ) -> Result<(), ValidationError>
@@ -56,7 +57,7 @@ fn check_anonymous_operation(
 }
 
 fn check_named_operations(
-    reports: &mut Vec<VariableMisuse>,
+    reports: &mut ReportList<VariableMisuse>,
     schema: &Schema,
     document: &ExecutableDocument,
 ) -> Result<(), ValidationError>
@@ -73,14 +74,14 @@ fn check_named_operations(
 
 /// Reports the variables that may not be where they are used, in the scope of an operation.
 fn check_operation(
-    reports: &mut Vec<VariableMisuse>,
+    reports: &mut ReportList<VariableMisuse>,
     schema: &Schema,
     document: &ExecutableDocument,
     operation: &Operation,
 ) -> Result<(), ValidationError>
     ensures { Checks result (OperationUsagesAreAllowed schema.now document.now operation.now) (OperationMisuseReport schema.now document.now operation.now) reports.old reports.new }
 {
-    let alloc = *reports.allocator();
+    let alloc = reports.allocator();
     let variables = VariablesByName::new(alloc, document.hash_seed(), &operation.variables)?;
     let reached = reached_fragments(alloc, document, &operation.selection_set)?;
     check_scope(reports, schema, &variables, document, operation, &reached)
@@ -88,7 +89,7 @@ fn check_operation(
 
 /// The same, where the variables and the fragments that the operation reaches are given.
 fn check_scope(
-    reports: &mut Vec<VariableMisuse>,
+    reports: &mut ReportList<VariableMisuse>,
     schema: &Schema,
     variables: &VariablesByName,
     document: &ExecutableDocument,
@@ -111,7 +112,7 @@ fn check_scope(
 
 /// The same in the definitions of the fragments of these names.
 fn check_fragments(
-    reports: &mut Vec<VariableMisuse>,
+    reports: &mut ReportList<VariableMisuse>,
     schema: &Schema,
     variables: &VariablesByName,
     document: &ExecutableDocument,
@@ -126,7 +127,7 @@ fn check_fragments(
 }
 
 fn check_fragment_named(
-    reports: &mut Vec<VariableMisuse>,
+    reports: &mut ReportList<VariableMisuse>,
     schema: &Schema,
     variables: &VariablesByName,
     document: &ExecutableDocument,

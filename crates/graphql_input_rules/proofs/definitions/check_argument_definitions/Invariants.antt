@@ -8,4 +8,4 @@ use Rattle.graphql_input_rules.proofs.definitions.check_argument_definitions.Giv
 abbrev pub invariant-loop-argument : goal.invariant-loop-argument
 invariant-loop-argument l =
     WalkedTo (λ (a : Node InputValueDefinition). InputValueWrites a.value.value) l.arguments (take l.argument-index l.arguments)
-    l.initial.reports.items l.reports.items
+    l.initial.reports.kept.items l.reports.kept.items

@@ -9,5 +9,5 @@ abbrev pub invariant-loop-field : goal.invariant-loop-field
 invariant-loop-field l = record {
   can_next : (goal.iterator-loop-field).can_next l.field-iterator;
   is_finite : (goal.iterator-loop-field).is_finite l.field-iterator;
-  walk : Walking (λ (f : Component InputValueDefinition). InputValueWrites f.node.value.value) (values l.fields) l.field-iterator l.initial.reports.items l.reports.items;
+  walk : Walking (λ (f : Component InputValueDefinition). InputValueWrites f.node.value.value) (values l.fields) l.field-iterator l.initial.reports.kept.items l.reports.kept.items;
 }

@@ -8,8 +8,8 @@ use Rattle.graphql_input_rules.proofs.input_fields.check_anonymous_operation.Goa
 pub returns-in-Some : goal.returns-in-Some
 returns-in-Some c =
     let r = c.check_operation.result in
-    let old = c.args.reports.now.items in
-    let new = c.check_operation.new.reports.items in
+    let old = c.args.reports.now.kept.items in
+    let new = c.check_operation.new.reports.kept.items in
     one_operation r c.args.operation.now c.in-Some.operation old new c.in-Some.is
     (subst (λ o. Checked r (OperationWrites o) old new) c.deref.ensures c.check_operation.ensures)
 

@@ -16,28 +16,28 @@ pub loop-fragment-init : goal.loop-fragment-init
 loop-fragment-init c =
     let all = values c.args.fragments.now in
     let same : all ≡ c.into_iter-fragment-iterator.result = cc in
-    record { can_next = tt; is_finite = tt; walk = walk_begins In all c.into_iter-fragment-iterator.result c.args.reports.now.items same }
+    record { can_next = tt; is_finite = tt; walk = walk_begins In all c.into_iter-fragment-iterator.result c.args.reports.now.kept.items same }
 
 pub loop-fragment-preserved : goal.loop-fragment-preserved
 loop-fragment-preserved c =
     let all = values c.args.fragments.now in
-    let mid = c.loop-fragment.reports.items in
-    let new = c.check_fragment.new.reports.items in
+    let mid = c.loop-fragment.reports.kept.items in
+    let new = c.check_fragment.new.reports.kept.items in
     record {
       can_next = tt;
       is_finite = tt;
-      walk = walk_goes_on In all c.loop-fragment.fragment-iterator c.next.new.self c.in-Some.fragment.now c.args.reports.now.items mid new c.in-Some.ensures.steps c.loop-fragment.invariant.walk
+      walk = walk_goes_on In all c.loop-fragment.fragment-iterator c.next.new.self c.in-Some.fragment.now c.args.reports.now.kept.items mid new c.in-Some.ensures.steps c.loop-fragment.invariant.walk
           (subst (λ x. Reported (FragmentWrites x) mid new) (c.deref.ensures) c.in_ok-check_fragment.ensures);
     }
 
 pub returns-in_err-check_fragment : goal.returns-in_err-check_fragment
 returns-in_err-check_fragment c =
     let all = values c.args.fragments.now in
-    let mid = c.loop-fragment.reports.items in
-    let new = c.check_fragment.new.reports.items in
-    walk_refused In all c.loop-fragment.fragment-iterator c.next.new.self c.in-Some.fragment.now c.args.reports.now.items mid new c.in-Some.ensures.steps c.loop-fragment.invariant.walk
+    let mid = c.loop-fragment.reports.kept.items in
+    let new = c.check_fragment.new.reports.kept.items in
+    walk_refused In all c.loop-fragment.fragment-iterator c.next.new.self c.in-Some.fragment.now c.args.reports.now.kept.items mid new c.in-Some.ensures.steps c.loop-fragment.invariant.walk
     c.from_residual.result c.from_residual.ensures.0
     (subst (λ x. KeepsReports (FieldReport (FragmentWrites x)) mid new) (c.deref.ensures) c.in_err-check_fragment.ensures)
 
 pub returns : goal.returns
-returns c = walk_ends In (values c.args.fragments.now) c.loop-fragment.fragment-iterator c.args.reports.now.items c.loop-fragment.reports.items c.in-None.ensures.steps.0 c.loop-fragment.invariant.walk
+returns c = walk_ends In (values c.args.fragments.now) c.loop-fragment.fragment-iterator c.args.reports.now.kept.items c.loop-fragment.reports.kept.items c.in-None.ensures.steps.0 c.loop-fragment.invariant.walk

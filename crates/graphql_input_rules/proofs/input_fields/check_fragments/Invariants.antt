@@ -9,5 +9,5 @@ abbrev pub invariant-loop-fragment : goal.invariant-loop-fragment
 invariant-loop-fragment l = record {
   can_next : (goal.iterator-loop-fragment).can_next l.fragment-iterator;
   is_finite : (goal.iterator-loop-fragment).is_finite l.fragment-iterator;
-  walk : Walking (λ (x : Node Fragment). FragmentWrites x.value.value) (values l.fragments) l.fragment-iterator l.initial.reports.items l.reports.items;
+  walk : Walking (λ (x : Node Fragment). FragmentWrites x.value.value) (values l.fragments) l.fragment-iterator l.initial.reports.kept.items l.reports.kept.items;
 }

@@ -21,15 +21,15 @@ InFragment x v = FragmentWrites x.value.value v
 pub returns-in_err-check_operations : goal.returns-in_err-check_operations
 returns-in_err-check_operations c =
     let d = c.args.document.now in
-    first_refused c.from_residual.result (Among InOperation (operations_of d)) (Among InFragment (values d.fragments)) c.args.reports.now.items
-    c.check_operations.new.reports.items c.from_residual.ensures.0
+    first_refused c.from_residual.result (Among InOperation (operations_of d)) (Among InFragment (values d.fragments)) c.args.reports.now.kept.items
+    c.check_operations.new.reports.kept.items c.from_residual.ensures.0
     (kept_wider (moved (λ v w. (operations_among d v).0 w)) c.in_err-check_operations.ensures)
 
 pub returns : goal.returns
 returns c =
     let d = c.args.document.now in
-    let old = c.args.reports.now.items in
-    let mid = c.check_operations.new.reports.items in
-    then_checked c.check_fragments.result (Among InOperation (operations_of d)) (Among InFragment (values d.fragments)) old mid c.check_fragments.new.reports.items
+    let old = c.args.reports.now.kept.items in
+    let mid = c.check_operations.new.reports.kept.items in
+    then_checked c.check_fragments.result (Among InOperation (operations_of d)) (Among InFragment (values d.fragments)) old mid c.check_fragments.new.reports.kept.items
     (reported_in (OperationsWrite d.operations) (Among InOperation (operations_of d)) old mid (λ v w. (operations_among d v).0 w)
     (λ e w. (operations_among d (literal.Object e)).1 w) c.in_ok-check_operations.ensures) c.check_fragments.ensures

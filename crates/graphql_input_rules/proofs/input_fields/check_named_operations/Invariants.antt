@@ -9,5 +9,5 @@ abbrev pub invariant-loop-operation : goal.invariant-loop-operation
 invariant-loop-operation l = record {
   can_next : (goal.iterator-loop-operation).can_next l.operation-iterator;
   is_finite : (goal.iterator-loop-operation).is_finite l.operation-iterator;
-  walk : Walking (λ (x : Node Operation). OperationWrites x.value.value) (values l.operations) l.operation-iterator l.initial.reports.items l.reports.items;
+  walk : Walking (λ (x : Node Operation). OperationWrites x.value.value) (values l.operations) l.operation-iterator l.initial.reports.kept.items l.reports.kept.items;
 }

@@ -17,17 +17,17 @@ InVariable x v = VariableWrites x.value.value v
 pub returns-in_err-check_variables : goal.returns-in_err-check_variables
 returns-in_err-check_variables c =
     let o = c.args.operation.now in
-    let old = c.args.reports.now.items in
-    let new = c.check_variables.new.reports.items in
+    let old = c.args.reports.now.kept.items in
+    let new = c.check_variables.new.reports.kept.items in
     first_refused c.from_residual.result (Among InVariable o.variables.items) (λ v. InDirectives o.directives.items v ⊎ SetWrites o.selection_set v) old new
     c.from_residual.ensures.0 (subst (λ l. KeepsReports (FieldReport (Among InVariable l)) old new) c.deref.ensures.value c.in_err-check_variables.ensures)
 
 pub returns-in_err-check_directives : goal.returns-in_err-check_directives
 returns-in_err-check_directives c =
     let o = c.args.operation.now in
-    let old = c.args.reports.now.items in
-    let mid = c.check_variables.new.reports.items in
-    let new = c.check_directives.new.reports.items in
+    let old = c.args.reports.now.kept.items in
+    let mid = c.check_variables.new.reports.kept.items in
+    let new = c.check_directives.new.reports.kept.items in
     second_refused c.from_residual-in_err-check_directives.result (Among InVariable o.variables.items)
     (λ v. InDirectives o.directives.items v ⊎ SetWrites o.selection_set v) old mid new c.from_residual-in_err-check_directives.ensures.0
     (subst (λ l. Reported (Among InVariable l) old mid) c.deref.ensures.value c.in_ok-check_variables.ensures)
@@ -38,10 +38,10 @@ pub returns : goal.returns
 returns c =
     let o = c.args.operation.now in
     let r = c.check_selection_set.result in
-    let old = c.args.reports.now.items in
-    let first = c.check_variables.new.reports.items in
-    let second = c.check_directives.new.reports.items in
-    let new = c.check_selection_set.new.reports.items in
+    let old = c.args.reports.now.kept.items in
+    let first = c.check_variables.new.reports.kept.items in
+    let second = c.check_directives.new.reports.kept.items in
+    let new = c.check_selection_set.new.reports.kept.items in
     then_checked r (Among InVariable o.variables.items) (λ v. InDirectives o.directives.items v ⊎ SetWrites o.selection_set v) old first new
     (subst (λ l. Reported (Among InVariable l) old first) c.deref.ensures.value c.in_ok-check_variables.ensures)
     (then_checked r (InDirectives o.directives.items) (SetWrites o.selection_set) first second new

@@ -13,11 +13,11 @@ In x v = OperationWrites x.value.value v
 pub returns-in_err-check_anonymous_operation : goal.returns-in_err-check_anonymous_operation
 returns-in_err-check_anonymous_operation c =
     let o = c.args.operations.now in
-    first_refused c.from_residual.result (Among In (option_to_list o.anonymous)) (Among In (values o.named)) c.args.reports.now.items
-    c.check_anonymous_operation.new.reports.items c.from_residual.ensures.0 c.in_err-check_anonymous_operation.ensures
+    first_refused c.from_residual.result (Among In (option_to_list o.anonymous)) (Among In (values o.named)) c.args.reports.now.kept.items
+    c.check_anonymous_operation.new.reports.kept.items c.from_residual.ensures.0 c.in_err-check_anonymous_operation.ensures
 
 pub returns : goal.returns
 returns c =
     let o = c.args.operations.now in
-    then_checked c.check_named_operations.result (Among In (option_to_list o.anonymous)) (Among In (values o.named)) c.args.reports.now.items
-    c.check_anonymous_operation.new.reports.items c.check_named_operations.new.reports.items c.in_ok-check_anonymous_operation.ensures c.check_named_operations.ensures
+    then_checked c.check_named_operations.result (Among In (option_to_list o.anonymous)) (Among In (values o.named)) c.args.reports.now.kept.items
+    c.check_anonymous_operation.new.reports.kept.items c.check_named_operations.new.reports.kept.items c.in_ok-check_anonymous_operation.ensures c.check_named_operations.ensures

@@ -17,19 +17,19 @@ returns-in_err-check_variable c =
     let xs = c.args.variables.now in
     let i = c.loop-variable.variable-index in
     let x = c.variable-item.result in
-    let mid = c.loop-variable.reports.items in
-    let new = c.check_variable.new.reports.items in
-    place_refused In xs c.from_residual.result _ x c.args.reports.now.items mid new c.from_residual.ensures.0
+    let mid = c.loop-variable.reports.kept.items in
+    let new = c.check_variable.new.reports.kept.items in
+    place_refused In xs c.from_residual.result _ x c.args.reports.now.kept.items mid new c.from_residual.ensures.0
     (next_stands (next_at xs i x c.loop-variable-test.true c.variable-item.is)) c.loop-variable.invariant
     (subst (λ x. KeepsReports (FieldReport (VariableWrites x)) mid new) c.deref.ensures c.in_err-check_variable.ensures)
 
 pub loop-variable-preserved : goal.loop-variable-preserved
 loop-variable-preserved c =
-    let mid = c.loop-variable.reports.items in
-    let new = c.check_variable.new.reports.items in
-    places_more In c.args.variables.now c.loop-variable.variable-index c.variable-item.result c.args.reports.now.items mid new c.loop-variable-test.true c.variable-item.is
+    let mid = c.loop-variable.reports.kept.items in
+    let new = c.check_variable.new.reports.kept.items in
+    places_more In c.args.variables.now c.loop-variable.variable-index c.variable-item.result c.args.reports.now.kept.items mid new c.loop-variable-test.true c.variable-item.is
     c.loop-variable.invariant (subst (λ x. Reported (VariableWrites x) mid new) c.deref.ensures c.in_ok-check_variable.ensures)
 
 pub returns : goal.returns
 returns c =
-    places_all In c.args.variables.now c.loop-variable.variable-index c.args.reports.now.items c.loop-variable.reports.items c.loop-variable-test.false c.loop-variable.invariant
+    places_all In c.args.variables.now c.loop-variable.variable-index c.args.reports.now.kept.items c.loop-variable.reports.kept.items c.loop-variable-test.false c.loop-variable.invariant

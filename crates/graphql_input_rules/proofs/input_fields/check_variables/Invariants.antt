@@ -8,4 +8,4 @@ use Rattle.graphql_input_rules.proofs.input_fields.check_variables.Given as goal
 abbrev pub invariant-loop-variable : goal.invariant-loop-variable
 invariant-loop-variable l =
     WalkedTo (λ (x : Node VariableDefinition). VariableWrites x.value.value) l.variables (take l.variable-index l.variables)
-    l.initial.reports.items l.reports.items
+    l.initial.reports.kept.items l.reports.kept.items

@@ -24,8 +24,8 @@ Behind s v = DirectiveDefinitionsWrite (values s.directive_definitions) v ⊎ In
 pub returns-in_err-check_applied_directives : goal.returns-in_err-check_applied_directives
 returns-in_err-check_applied_directives c =
     let s = c.args.schema.now in
-    let old = c.args.reports.now.items in
-    let new = c.check_applied_directives.new.reports.items in
+    let old = c.args.reports.now.kept.items in
+    let new = c.check_applied_directives.new.reports.kept.items in
     first_refused c.from_residual.result (InAppliedDirectives s.schema_definition.value.value.directives.items)
     (Behind s) old new c.from_residual.ensures.0
     (subst (λ l. KeepsReports (FieldReport (InAppliedDirectives l)) old new) (c.deref-2.ensures.value ∙ ap (λ (d : SchemaDefinition). d.directives.items) c.deref.ensures) c.in_err-check_applied_directives.ensures)
@@ -33,9 +33,9 @@ returns-in_err-check_applied_directives c =
 pub returns-in_err-check_directive_definitions : goal.returns-in_err-check_directive_definitions
 returns-in_err-check_directive_definitions c =
     let s = c.args.schema.now in
-    let old = c.args.reports.now.items in
-    let mid = c.check_applied_directives.new.reports.items in
-    let new = c.check_directive_definitions.new.reports.items in
+    let old = c.args.reports.now.kept.items in
+    let mid = c.check_applied_directives.new.reports.kept.items in
+    let new = c.check_directive_definitions.new.reports.kept.items in
     second_refused c.from_residual-in_err-check_directive_definitions.result (InAppliedDirectives s.schema_definition.value.value.directives.items)
     (Behind s) old mid new
     c.from_residual-in_err-check_directive_definitions.ensures.0
@@ -46,10 +46,10 @@ pub returns : goal.returns
 returns c =
     let s = c.args.schema.now in
     let r = c.check_types.result in
-    let old = c.args.reports.now.items in
-    let first = c.check_applied_directives.new.reports.items in
-    let second = c.check_directive_definitions.new.reports.items in
-    let new = c.check_types.new.reports.items in
+    let old = c.args.reports.now.kept.items in
+    let first = c.check_applied_directives.new.reports.kept.items in
+    let second = c.check_directive_definitions.new.reports.kept.items in
+    let new = c.check_types.new.reports.kept.items in
     then_checked r (InAppliedDirectives s.schema_definition.value.value.directives.items)
     (Behind s) old first new
     (subst (λ l. Reported (InAppliedDirectives l) old first) (c.deref-2.ensures.value ∙ ap (λ (d : SchemaDefinition). d.directives.items) c.deref.ensures) c.in_ok-check_applied_directives.ensures)

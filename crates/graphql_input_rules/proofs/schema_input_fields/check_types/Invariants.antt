@@ -8,5 +8,5 @@ abbrev pub invariant-loop-definition : goal.invariant-loop-definition
 invariant-loop-definition l = record {
   can_next : (goal.iterator-loop-definition).can_next l.definition-iterator;
   is_finite : (goal.iterator-loop-definition).is_finite l.definition-iterator;
-  walk : Walking (λ (t : ExtendedType). TypeWrites t) (values l.types) l.definition-iterator l.initial.reports.items l.reports.items;
+  walk : Walking (λ (t : ExtendedType). TypeWrites t) (values l.types) l.definition-iterator l.initial.reports.kept.items l.reports.kept.items;
 }

@@ -17,7 +17,7 @@ pub check_value-returns-in_err-check_names-in-Object :
     goal.check_value-returns-in_err-check_names-in-Object
 check_value-returns-in_err-check_names-in-Object t c =
     let entries = c.in-Object.entries in
-    checks-err c.from_residual.result _ _ c.args.reports.now.items c.check_names.new.reports.items c.from_residual.ensures.0
+    checks-err c.from_residual.result _ _ c.args.reports.now.kept.items c.check_names.new.reports.kept.items c.from_residual.ensures.0
     (kept_wider (λ x q.
     subst (λ v. FieldReport (ValueWritten v) x) (sym c.in-Object.is)
     (own_report entries x (subst (λ l. RepetitionReport (entry_names l) x) c.deref-in-Object.ensures.value q)))
@@ -25,8 +25,8 @@ check_value-returns-in_err-check_names-in-Object t c =
 
 pub check_value-returns-in-List : goal.check_value-returns-in-List
 check_value-returns-in-List t c =
-    let old = c.args.reports.now.items in
-    let new = c.check_items.new.reports.items in
+    let old = c.args.reports.now.kept.items in
+    let new = c.check_items.new.reports.kept.items in
     subst (λ v. Checked c.check_items.result (ValueWritten v) old new) (sym c.in-List.is)
     (list_checked c.check_items.result c.in-List.items old new
     (subst (λ l. Checked c.check_items.result (InItems l) old new) c.deref.ensures.value c.check_items.ensures))
@@ -34,9 +34,9 @@ check_value-returns-in-List t c =
 pub check_value-returns-in_ok-check_names-in-Object :
     goal.check_value-returns-in_ok-check_names-in-Object
 check_value-returns-in_ok-check_names-in-Object t c =
-    let old = c.args.reports.now.items in
-    let mid = c.check_names.new.reports.items in
-    let new = c.check_entries.new.reports.items in
+    let old = c.args.reports.now.kept.items in
+    let mid = c.check_names.new.reports.kept.items in
+    let new = c.check_entries.new.reports.kept.items in
     subst (λ v. Checked c.check_entries.result (ValueWritten v) old new) (sym c.in-Object.is)
     (object_checked c.check_entries.result c.in-Object.entries old mid new
     (subst (λ l. Reports (AreDistinct (entry_names l)) (RepetitionReport (entry_names l)) old mid) c.deref-in-Object.ensures.value c.in_ok-check_names-in-Object.ensures)
@@ -58,41 +58,41 @@ check_entries-returns-in_err-check_value t c =
     let xs = c.args.entries.now in
     let i = c.loop-entry.entry-index in
     let x = c.loop-entry-item.result in
-    let mid = c.loop-entry.reports.items in
-    let new = c.check_value.new.reports.items in
-    place_refused InEntry xs c.from_residual.result _ x c.args.reports.now.items mid new c.from_residual.ensures.0
+    let mid = c.loop-entry.reports.kept.items in
+    let new = c.check_value.new.reports.kept.items in
+    place_refused InEntry xs c.from_residual.result _ x c.args.reports.now.kept.items mid new c.from_residual.ensures.0
     (next_stands (next_at xs i x c.loop-entry-test.true c.loop-entry-item.is)) c.loop-entry.invariant
     (subst (λ v. KeepsReports (FieldReport (ValueWritten v)) mid new) c.deref.ensures c.in_err-check_value.ensures)
 
 pub check_entries-loop-entry-preserved : goal.check_entries-loop-entry-preserved
 check_entries-loop-entry-preserved t c =
-    let mid = c.loop-entry.reports.items in
-    let new = c.check_value.new.reports.items in
-    places_more InEntry c.args.entries.now c.loop-entry.entry-index c.loop-entry-item.result c.args.reports.now.items mid new c.loop-entry-test.true c.loop-entry-item.is
+    let mid = c.loop-entry.reports.kept.items in
+    let new = c.check_value.new.reports.kept.items in
+    places_more InEntry c.args.entries.now c.loop-entry.entry-index c.loop-entry-item.result c.args.reports.now.kept.items mid new c.loop-entry-test.true c.loop-entry-item.is
     c.loop-entry.invariant (subst (λ v. Reported (ValueWritten v) mid new) c.deref.ensures c.in_ok-check_value.ensures)
 
 pub check_entries-returns : goal.check_entries-returns
 check_entries-returns t c =
-    places_all InEntry c.args.entries.now c.loop-entry.entry-index c.args.reports.now.items c.loop-entry.reports.items c.loop-entry-test.false c.loop-entry.invariant
+    places_all InEntry c.args.entries.now c.loop-entry.entry-index c.args.reports.now.kept.items c.loop-entry.reports.kept.items c.loop-entry-test.false c.loop-entry.invariant
 
 pub check_items-returns-in_err-check_value : goal.check_items-returns-in_err-check_value
 check_items-returns-in_err-check_value t c =
     let xs = c.args.items.now in
     let i = c.loop-item.item-index in
     let x = c.item-item.result in
-    let mid = c.loop-item.reports.items in
-    let new = c.check_value.new.reports.items in
-    place_refused InItem xs c.from_residual.result _ x c.args.reports.now.items mid new c.from_residual.ensures.0
+    let mid = c.loop-item.reports.kept.items in
+    let new = c.check_value.new.reports.kept.items in
+    place_refused InItem xs c.from_residual.result _ x c.args.reports.now.kept.items mid new c.from_residual.ensures.0
     (next_stands (next_at xs i x c.loop-item-test.true c.item-item.is)) c.loop-item.invariant
     (subst (λ v. KeepsReports (FieldReport (ValueWritten v)) mid new) c.deref.ensures c.in_err-check_value.ensures)
 
 pub check_items-loop-item-preserved : goal.check_items-loop-item-preserved
 check_items-loop-item-preserved t c =
-    let mid = c.loop-item.reports.items in
-    let new = c.check_value.new.reports.items in
-    places_more InItem c.args.items.now c.loop-item.item-index c.item-item.result c.args.reports.now.items mid new c.loop-item-test.true c.item-item.is
+    let mid = c.loop-item.reports.kept.items in
+    let new = c.check_value.new.reports.kept.items in
+    places_more InItem c.args.items.now c.loop-item.item-index c.item-item.result c.args.reports.now.kept.items mid new c.loop-item-test.true c.item-item.is
     c.loop-item.invariant (subst (λ v. Reported (ValueWritten v) mid new) c.deref.ensures c.in_ok-check_value.ensures)
 
 pub check_items-returns : goal.check_items-returns
 check_items-returns t c =
-    places_all InItem c.args.items.now c.loop-item.item-index c.args.reports.now.items c.loop-item.reports.items c.loop-item-test.false c.loop-item.invariant
+    places_all InItem c.args.items.now c.loop-item.item-index c.args.reports.now.kept.items c.loop-item.reports.kept.items c.loop-item-test.false c.loop-item.invariant

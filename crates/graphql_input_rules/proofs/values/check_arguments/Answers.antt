@@ -17,18 +17,18 @@ returns-in_err-check_value c =
     let xs = c.args.arguments.now in
     let i = c.loop-argument.argument-index in
     let x = c.argument-item.result in
-    let mid = c.loop-argument.reports.items in
-    let new = c.check_value.new.reports.items in
-    place_refused In xs c.from_residual.result _ x c.args.reports.now.items mid new c.from_residual.ensures.0
+    let mid = c.loop-argument.reports.kept.items in
+    let new = c.check_value.new.reports.kept.items in
+    place_refused In xs c.from_residual.result _ x c.args.reports.now.kept.items mid new c.from_residual.ensures.0
     (next_stands (next_at xs i x c.loop-argument-test.true c.argument-item.is)) c.loop-argument.invariant
     (subst (λ v. KeepsReports (FieldReport (ValueWritten v)) mid new) (c.deref-in-loop-argument.ensures ∙ ap (λ (a : Argument). a.value.value.value) c.deref.ensures) c.in_err-check_value.ensures)
 
 pub loop-argument-preserved : goal.loop-argument-preserved
 loop-argument-preserved c =
-    let mid = c.loop-argument.reports.items in
-    let new = c.check_value.new.reports.items in
-    places_more In c.args.arguments.now c.loop-argument.argument-index c.argument-item.result c.args.reports.now.items mid new c.loop-argument-test.true c.argument-item.is
+    let mid = c.loop-argument.reports.kept.items in
+    let new = c.check_value.new.reports.kept.items in
+    places_more In c.args.arguments.now c.loop-argument.argument-index c.argument-item.result c.args.reports.now.kept.items mid new c.loop-argument-test.true c.argument-item.is
     c.loop-argument.invariant (subst (λ v. Reported (ValueWritten v) mid new) (c.deref-in-loop-argument.ensures ∙ ap (λ (a : Argument). a.value.value.value) c.deref.ensures) c.in_ok-check_value.ensures)
 
 pub returns : goal.returns
-returns c = places_all In c.args.arguments.now c.loop-argument.argument-index c.args.reports.now.items c.loop-argument.reports.items c.loop-argument-test.false c.loop-argument.invariant
+returns c = places_all In c.args.arguments.now c.loop-argument.argument-index c.args.reports.now.kept.items c.loop-argument.reports.kept.items c.loop-argument-test.false c.loop-argument.invariant

@@ -8,8 +8,8 @@ use Rattle.graphql_input_rules.proofs.values.check_default_value.Goals as goal
 pub returns-in-Some : goal.returns-in-Some
 returns-in-Some c =
     let r = c.check_value.result in
-    let old = c.args.reports.now.items in
-    let new = c.check_value.new.reports.items in
+    let old = c.args.reports.now.kept.items in
+    let new = c.check_value.new.reports.kept.items in
     default_checked r c.args.default_value.now c.in-Some.value old new c.in-Some.is
     (subst (λ v. Checked r (ValueWritten v) old new) c.deref.ensures c.check_value.ensures)
 

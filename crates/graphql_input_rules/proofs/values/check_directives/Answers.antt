@@ -17,18 +17,18 @@ returns-in_err-check_arguments c =
     let xs = c.args.directives.now in
     let i = c.loop-directive.directive-index in
     let x = c.directive-item.result in
-    let mid = c.loop-directive.reports.items in
-    let new = c.check_arguments.new.reports.items in
-    place_refused In xs c.from_residual.result _ x c.args.reports.now.items mid new c.from_residual.ensures.0
+    let mid = c.loop-directive.reports.kept.items in
+    let new = c.check_arguments.new.reports.kept.items in
+    place_refused In xs c.from_residual.result _ x c.args.reports.now.kept.items mid new c.from_residual.ensures.0
     (next_stands (next_at xs i x c.loop-directive-test.true c.directive-item.is)) c.loop-directive.invariant
     (subst (λ v. KeepsReports (FieldReport (InArguments v)) mid new) (c.deref-in-loop-directive.ensures.value ∙ ap (λ (d : Directive). d.arguments.items) c.deref.ensures) c.in_err-check_arguments.ensures)
 
 pub loop-directive-preserved : goal.loop-directive-preserved
 loop-directive-preserved c =
-    let mid = c.loop-directive.reports.items in
-    let new = c.check_arguments.new.reports.items in
-    places_more In c.args.directives.now c.loop-directive.directive-index c.directive-item.result c.args.reports.now.items mid new c.loop-directive-test.true c.directive-item.is
+    let mid = c.loop-directive.reports.kept.items in
+    let new = c.check_arguments.new.reports.kept.items in
+    places_more In c.args.directives.now c.loop-directive.directive-index c.directive-item.result c.args.reports.now.kept.items mid new c.loop-directive-test.true c.directive-item.is
     c.loop-directive.invariant (subst (λ v. Reported (InArguments v) mid new) (c.deref-in-loop-directive.ensures.value ∙ ap (λ (d : Directive). d.arguments.items) c.deref.ensures) c.in_ok-check_arguments.ensures)
 
 pub returns : goal.returns
-returns c = places_all In c.args.directives.now c.loop-directive.directive-index c.args.reports.now.items c.loop-directive.reports.items c.loop-directive-test.false c.loop-directive.invariant
+returns c = places_all In c.args.directives.now c.loop-directive.directive-index c.args.reports.now.kept.items c.loop-directive.reports.kept.items c.loop-directive-test.false c.loop-directive.invariant

@@ -8,4 +8,4 @@ use Rattle.graphql_input_rules.proofs.values.check_directives.Given as goal
 abbrev pub invariant-loop-directive : goal.invariant-loop-directive
 invariant-loop-directive l =
     WalkedTo (λ (d : Node Directive). InArguments d.value.value.arguments.items) l.directives (take l.directive-index l.directives)
-    l.initial.reports.items l.reports.items
+    l.initial.reports.kept.items l.reports.kept.items

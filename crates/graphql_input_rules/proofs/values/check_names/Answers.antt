@@ -44,7 +44,7 @@ loop-name-preserved c =
     sym (ap entry_names (more_is xs i x c.loop-name-test.true c.loop-name-item.is) ∙ map-append (λ e. e.0) (take i xs) (x ∷ [])) in
     record {
       reported =
-          subst (λ l. Reports (AreDistinct l) (RepetitionReport (entry_names xs)) c.args.reports.now.items c.check_name.new.reports.items) more
+          subst (λ l. Reports (AreDistinct l) (RepetitionReport (entry_names xs)) c.args.reports.now.kept.items c.check_name.new.reports.kept.items) more
           (in_words (distinct_more (λ n. n) before x.0)
           (both c.loop-name.invariant.reported (c.in_ok-check_name.ensures.checks (entry_names xs) before next c.loop-name.invariant.remembered)));
       remembered =

@@ -8,12 +8,12 @@ pub returns-in-Some : goal.returns-in-Some
 returns-in-Some c =
     let d = c.args.document.now in
     let r = c.check_operation.result in
-    let old = c.args.reports.now.items in
-    let new = c.check_operation.new.reports.items in
+    let old = c.args.reports.now.kept.items in
+    let new = c.check_operation.new.reports.kept.items in
     one_operation (UsedVariablesAreDefined (fragments_of d)) (OperationUndefinedReport (fragments_of d)) r d.operations.anonymous c.in-Some.operation old new c.in-Some.is
     (subst (λ o. CheckedOne (UsedVariablesAreDefined (fragments_of d)) (OperationUndefinedReport (fragments_of d)) r o old new) c.deref.ensures c.check_operation.ensures)
 
 pub returns-in-None : goal.returns-in-None
 returns-in-None c =
     let d = c.args.document.now in
-    no_operation (UsedVariablesAreDefined (fragments_of d)) (OperationUndefinedReport (fragments_of d)) c.args.document.now.operations.anonymous c.args.reports.now.items c.in-None.is
+    no_operation (UsedVariablesAreDefined (fragments_of d)) (OperationUndefinedReport (fragments_of d)) c.args.document.now.operations.anonymous c.args.reports.now.kept.items c.in-None.is

@@ -13,5 +13,5 @@ invariant-loop-operation l = record {
   is_finite : (goal.iterator-loop-operation).is_finite l.operation-iterator;
   done : List (Node Operation);
   all : values l.document.operations.named ≡ done ++ l.operation-iterator;
-  reported : Walked (UsedVariablesAreDefined (fragments_of l.document)) (OperationUndefinedReport (fragments_of l.document)) (values l.document.operations.named) done l.initial.reports.items l.reports.items;
+  reported : Walked (UsedVariablesAreDefined (fragments_of l.document)) (OperationUndefinedReport (fragments_of l.document)) (values l.document.operations.named) done l.initial.reports.kept.items l.reports.kept.items;
 }

@@ -8,11 +8,11 @@ use Rattle.graphql_usage_rules.proofs.undefined_variables.check_undefined_variab
 pub returns-in_err-check_anonymous_operation : goal.returns-in_err-check_anonymous_operation
 returns-in_err-check_anonymous_operation c =
     let d = c.args.document.now in
-    first_refused (UsedVariablesAreDefined (fragments_of d)) (OperationUndefinedReport (fragments_of d)) c.from_residual.result (option_to_list d.operations.anonymous) (values d.operations.named) c.args.reports.now.items
-    c.check_anonymous_operation.new.reports.items c.from_residual.ensures.0 c.in_err-check_anonymous_operation.ensures
+    first_refused (UsedVariablesAreDefined (fragments_of d)) (OperationUndefinedReport (fragments_of d)) c.from_residual.result (option_to_list d.operations.anonymous) (values d.operations.named) c.args.reports.now.kept.items
+    c.check_anonymous_operation.new.reports.kept.items c.from_residual.ensures.0 c.in_err-check_anonymous_operation.ensures
 
 pub returns : goal.returns
 returns c =
     let d = c.args.document.now in
-    both_checked (UsedVariablesAreDefined (fragments_of d)) (OperationUndefinedReport (fragments_of d)) c.check_named_operations.result (option_to_list d.operations.anonymous) (values d.operations.named) c.args.reports.now.items
-    c.check_anonymous_operation.new.reports.items c.check_named_operations.new.reports.items c.in_ok-check_anonymous_operation.ensures c.check_named_operations.ensures
+    both_checked (UsedVariablesAreDefined (fragments_of d)) (OperationUndefinedReport (fragments_of d)) c.check_named_operations.result (option_to_list d.operations.anonymous) (values d.operations.named) c.args.reports.now.kept.items
+    c.check_anonymous_operation.new.reports.kept.items c.check_named_operations.new.reports.kept.items c.in_ok-check_anonymous_operation.ensures c.check_named_operations.ensures

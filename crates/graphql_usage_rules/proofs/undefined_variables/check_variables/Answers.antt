@@ -16,7 +16,7 @@ loop-variable-preserved c =
     let i = c.loop-variable.variable-index in
     let v : Bor (Node Value) = c.variable-item.result in
     let IsReport : DiagnosticEntry → Type 0 = λ e. Any (λ (v : Bor (Node Value)). IsUndefinedReport defined v.now e) used in
-    walked_more (λ (v : Bor (Node Value)). IsDefinedAmong defined v.now) IsReport used i v c.args.reports.now.items c.loop-variable.reports.items c.check_variable.new.reports.items
+    walked_more (λ (v : Bor (Node Value)). IsDefinedAmong defined v.now) IsReport used i v c.args.reports.now.kept.items c.loop-variable.reports.kept.items c.check_variable.new.reports.kept.items
     c.loop-variable-test.true c.variable-item.is c.loop-variable.invariant
     (wider (λ e report. has_any (λ (v : Bor (Node Value)). IsUndefinedReport defined v.now e) used v (next_stands (next_at used i v c.loop-variable-test.true c.variable-item.is)) report)
     c.in_ok-check_variable.ensures)
@@ -27,7 +27,7 @@ returns-in_err-check_variable c =
     let used = c.args.used.now in
     let i = c.loop-variable.variable-index in
     let v : Bor (Node Value) = c.variable-item.result in
-    checks-err c.from_residual.result _ _ c.args.reports.now.items c.check_variable.new.reports.items c.from_residual.ensures.0
+    checks-err c.from_residual.result _ _ c.args.reports.now.kept.items c.check_variable.new.reports.kept.items c.from_residual.ensures.0
     (kept_then (kept_by c.loop-variable.invariant)
     (kept_wider (λ e report. has_any (λ (v : Bor (Node Value)). IsUndefinedReport defined v.now e) used v (next_stands (next_at used i v c.loop-variable-test.true c.variable-item.is)) report)
     c.in_err-check_variable.ensures))
@@ -37,5 +37,5 @@ returns c =
     let defined = c.args.defined.now in
     let used = c.args.used.now in
     let IsReport : DiagnosticEntry → Type 0 = λ e. Any (λ (v : Bor (Node Value)). IsUndefinedReport defined v.now e) used in
-    walked_all (λ (v : Bor (Node Value)). IsDefinedAmong defined v.now) IsReport used c.loop-variable.variable-index used c.args.reports.now.items c.loop-variable.reports.items refl
+    walked_all (λ (v : Bor (Node Value)). IsDefinedAmong defined v.now) IsReport used c.loop-variable.variable-index used c.args.reports.now.kept.items c.loop-variable.reports.kept.items refl
     c.loop-variable-test.false c.loop-variable.invariant

@@ -9,4 +9,4 @@ use Rattle.graphql_usage_rules.proofs.undefined_variables.check_variables.Given 
 abbrev pub invariant-loop-variable : goal.invariant-loop-variable
 invariant-loop-variable l =
     Reports (All (λ (v : Bor (Node Value)). IsDefinedAmong l.defined v.now) (take l.variable-index l.used)) (λ e. Any (λ (v : Bor (Node Value)). IsUndefinedReport l.defined v.now e) l.used)
-    l.initial.reports.items l.reports.items
+    l.initial.reports.kept.items l.reports.kept.items

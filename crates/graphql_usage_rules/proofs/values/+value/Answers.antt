@@ -17,8 +17,8 @@ check_value-returns-in-Variable t c =
     let v = c.args.variables.now in
     let at = location_at c.args.location in
     let value = c.args.value.now in
-    in_places v c.check_usage.result (IsThis v c.in-Variable.name value.location at) (UsedIn c.args.schema.now at value) c.args.reports.now.items
-    c.check_usage.new.reports.items (variable_words c.args.schema.now at value c.in-Variable.name (sym c.deref.ensures ∙ c.in-Variable.is)) c.check_usage.ensures
+    in_places v c.check_usage.result (IsThis v c.in-Variable.name value.location at) (UsedIn c.args.schema.now at value) c.args.reports.now.kept.items
+    c.check_usage.new.reports.kept.items (variable_words c.args.schema.now at value c.in-Variable.name (sym c.deref.ensures ∙ c.in-Variable.is)) c.check_usage.ensures
 
 pub check_value-returns-in-List : goal.check_value-returns-in-List
 check_value-returns-in-List t c =
@@ -27,8 +27,8 @@ check_value-returns-in-List t c =
     let r = c.check_list.result in
     let at = location_at c.args.location in
     let value = c.args.value.now in
-    let old = c.args.reports.now.items in
-    let new = c.check_list.new.reports.items in
+    let old = c.args.reports.now.kept.items in
+    let new = c.check_list.new.reports.kept.items in
     in_places v r (UsedInList s at c.in-List.items.items) (UsedIn s at value) old new (list_words s at value c.in-List.items (sym c.deref.ensures ∙ c.in-List.is))
     (subst (λ l. Checked v r (UsedInList s at l) old new) c.deref-in-List.ensures.value c.check_list.ensures)
 
@@ -39,8 +39,8 @@ check_value-returns-in-Object t c =
     let r = c.check_object.result in
     let at = location_at c.args.location in
     let value = c.args.value.now in
-    let old = c.args.reports.now.items in
-    let new = c.check_object.new.reports.items in
+    let old = c.args.reports.now.kept.items in
+    let new = c.check_object.new.reports.kept.items in
     in_places v r (UsedInObject s at c.in-Object.entries.items) (UsedIn s at value) old new
     (object_words s at value c.in-Object.entries (sym c.deref.ensures ∙ c.in-Object.is))
     (subst (λ l. Checked v r (UsedInObject s at l) old new) c.deref-in-Object.ensures.value c.check_object.ensures)
@@ -57,8 +57,8 @@ check_list-returns t c =
     let v = c.args.variables.now in
     let r = c.check_items.result in
     let at = location_at c.args.location in
-    let old = c.args.reports.now.items in
-    let new = c.check_items.new.reports.items in
+    let old = c.args.reports.now.kept.items in
+    let new = c.check_items.new.reports.kept.items in
     let listed : IsTrue (is_list at.ty) = sym c.is_list.ensures ∙ c.if-not-is_list.false in
     let checked = subst (λ l. Checked v r (Among v (UsedInItem c.args.schema.now l) c.args.items.now) old new) c.of_item.ensures c.check_items.ensures in
     in_places v r (Among v (UsedInItem c.args.schema.now (item_location at)) c.args.items.now) (UsedInList c.args.schema.now at c.args.items.now) old new
@@ -68,9 +68,9 @@ pub check_items-returns-in_err-check_value : goal.check_items-returns-in_err-che
 check_items-returns-in_err-check_value t c =
     let v = c.args.variables.now in
     let at = location_at c.args.location in
-    let mid = c.loop-item.reports.items in
-    let new = c.check_value.new.reports.items in
-    place_refused v (UsedInItem c.args.schema.now at) c.args.items.now c.from_residual.result c.loop-item.item-index c.item-item.result c.args.reports.now.items mid new
+    let mid = c.loop-item.reports.kept.items in
+    let new = c.check_value.new.reports.kept.items in
+    place_refused v (UsedInItem c.args.schema.now at) c.args.items.now c.from_residual.result c.loop-item.item-index c.item-item.result c.args.reports.now.kept.items mid new
     c.from_residual.ensures.0 c.loop-item-test.true c.item-item.is c.loop-item.invariant
     c.in_err-check_value.ensures
 
@@ -78,16 +78,16 @@ pub check_items-loop-item-preserved : goal.check_items-loop-item-preserved
 check_items-loop-item-preserved t c =
     let v = c.args.variables.now in
     let at = location_at c.args.location in
-    let mid = c.loop-item.reports.items in
-    let new = c.check_value.new.reports.items in
-    places_more v (UsedInItem c.args.schema.now at) c.args.items.now c.loop-item.item-index c.item-item.result c.args.reports.now.items mid new
+    let mid = c.loop-item.reports.kept.items in
+    let new = c.check_value.new.reports.kept.items in
+    places_more v (UsedInItem c.args.schema.now at) c.args.items.now c.loop-item.item-index c.item-item.result c.args.reports.now.kept.items mid new
     c.loop-item-test.true c.item-item.is c.loop-item.invariant
     c.in_ok-check_value.ensures
 
 pub check_items-returns : goal.check_items-returns
 check_items-returns t c =
-    places_all c.args.variables.now (UsedInItem c.args.schema.now (location_at c.args.location)) c.args.items.now c.loop-item.item-index c.args.reports.now.items
-    c.loop-item.reports.items c.loop-item-test.false c.loop-item.invariant
+    places_all c.args.variables.now (UsedInItem c.args.schema.now (location_at c.args.location)) c.args.items.now c.loop-item.item-index c.args.reports.now.kept.items
+    c.loop-item.reports.kept.items c.loop-item-test.false c.loop-item.invariant
 
 -- an object value
 pub check_object-returns-in-Some : goal.check_object-returns-in-Some
@@ -96,19 +96,19 @@ check_object-returns-in-Some t c =
     let is : input_object_named c.args.schema.now (inner_named_type at.ty) ≡ Some c.in-Some.input_object.now = search rules in
     found_checked c.args.variables.now c.check_entries.result (input_object_named c.args.schema.now (inner_named_type at.ty))
     (λ d. Among c.args.variables.now (UsedInEntry c.args.schema.now d) c.args.entries.now)
-    c.in-Some.input_object.now c.args.reports.now.items c.check_entries.new.reports.items is c.check_entries.ensures
+    c.in-Some.input_object.now c.args.reports.now.kept.items c.check_entries.new.reports.kept.items is c.check_entries.ensures
 
 pub check_object-returns-in-None : goal.check_object-returns-in-None
 check_object-returns-in-None t c =
     not_found c.args.variables.now (input_object_named c.args.schema.now (inner_named_type (location_at c.args.location).ty))
-    (λ d. Among c.args.variables.now (UsedInEntry c.args.schema.now d) c.args.entries.now) c.args.reports.now.items (search rules)
+    (λ d. Among c.args.variables.now (UsedInEntry c.args.schema.now d) c.args.entries.now) c.args.reports.now.kept.items (search rules)
 
 pub check_entry-returns-in-Some : goal.check_entry-returns-in-Some
 check_entry-returns-in-Some t c =
     let v = c.args.variables.now in
     let r = c.check_value.result in
-    let old = c.args.reports.now.items in
-    let new = c.check_value.new.reports.items in
+    let old = c.args.reports.now.kept.items in
+    let new = c.check_value.new.reports.kept.items in
     let field = c.in-Some.field.now in
     let is : get same_name c.args.input_object.now.value.value.fields c.args.name.now ≡ Some field = search rules in
     let place : location_at c.of-location.result ≡ location_of field.node.value.value = c.of-location.ensures ∙ ap (λ d. location_of d) c.deref-in-Some.ensures in
@@ -118,16 +118,16 @@ check_entry-returns-in-Some t c =
 pub check_entry-returns-in-None : goal.check_entry-returns-in-None
 check_entry-returns-in-None t c =
     not_found c.args.variables.now (get same_name c.args.input_object.now.value.value.fields c.args.name.now) (UsedInField c.args.schema.now c.args.value.now)
-    c.args.reports.now.items (search rules)
+    c.args.reports.now.kept.items (search rules)
 
 pub check_entries-returns-in_err-check_entry : goal.check_entries-returns-in_err-check_entry
 check_entries-returns-in_err-check_entry t c =
     let v = c.args.variables.now in
     let In = UsedInEntry c.args.schema.now c.args.input_object.now in
     let entry = c.loop-name-item.result in
-    let mid = c.loop-name.reports.items in
-    let new = c.check_entry.new.reports.items in
-    place_refused v In c.args.entries.now c.from_residual.result c.loop-name.name-index entry c.args.reports.now.items mid new
+    let mid = c.loop-name.reports.kept.items in
+    let new = c.check_entry.new.reports.kept.items in
+    place_refused v In c.args.entries.now c.from_residual.result c.loop-name.name-index entry c.args.reports.now.kept.items mid new
     c.from_residual.ensures.0 c.loop-name-test.true c.loop-name-item.is c.loop-name.invariant
     c.in_err-check_entry.ensures
 
@@ -136,13 +136,13 @@ check_entries-loop-name-preserved t c =
     let v = c.args.variables.now in
     let In = UsedInEntry c.args.schema.now c.args.input_object.now in
     let entry = c.loop-name-item.result in
-    let mid = c.loop-name.reports.items in
-    let new = c.check_entry.new.reports.items in
-    places_more v In c.args.entries.now c.loop-name.name-index entry c.args.reports.now.items mid new
+    let mid = c.loop-name.reports.kept.items in
+    let new = c.check_entry.new.reports.kept.items in
+    places_more v In c.args.entries.now c.loop-name.name-index entry c.args.reports.now.kept.items mid new
     c.loop-name-test.true c.loop-name-item.is c.loop-name.invariant
     c.in_ok-check_entry.ensures
 
 pub check_entries-returns : goal.check_entries-returns
 check_entries-returns t c =
-    places_all c.args.variables.now (UsedInEntry c.args.schema.now c.args.input_object.now) c.args.entries.now c.loop-name.name-index c.args.reports.now.items
-    c.loop-name.reports.items c.loop-name-test.false c.loop-name.invariant
+    places_all c.args.variables.now (UsedInEntry c.args.schema.now c.args.input_object.now) c.args.entries.now c.loop-name.name-index c.args.reports.now.kept.items
+    c.loop-name.reports.kept.items c.loop-name-test.false c.loop-name.invariant

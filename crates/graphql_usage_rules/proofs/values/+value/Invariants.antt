@@ -24,8 +24,8 @@ decreases-check_entry l = 4 * goal.size-check_entry l + 1
 
 abbrev pub invariant-check_entries-loop-name : goal.invariant-check_entries-loop-name
 invariant-check_entries-loop-name l =
-    WalkedTo l.variables (UsedInEntry l.schema l.input_object) l.entries (take l.name-index l.entries) l.initial.reports.items l.reports.items
+    WalkedTo l.variables (UsedInEntry l.schema l.input_object) l.entries (take l.name-index l.entries) l.initial.reports.kept.items l.reports.kept.items
 
 abbrev pub invariant-check_items-loop-item : goal.invariant-check_items-loop-item
 invariant-check_items-loop-item l =
-    WalkedTo l.variables (UsedInItem l.schema (location_at l.location)) l.items (take l.item-index l.items) l.initial.reports.items l.reports.items
+    WalkedTo l.variables (UsedInItem l.schema (location_at l.location)) l.items (take l.item-index l.items) l.initial.reports.kept.items l.reports.kept.items

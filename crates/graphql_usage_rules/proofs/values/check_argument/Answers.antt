@@ -11,8 +11,8 @@ pub returns-in-Some : goal.returns-in-Some
 returns-in-Some c =
     let v = c.args.variables.now in
     let r = c.check_value.result in
-    let old = c.args.reports.now.items in
-    let new = c.check_value.new.reports.items in
+    let old = c.args.reports.now.kept.items in
+    let new = c.check_value.new.reports.kept.items in
     let a = c.args.argument.now in
     let d = c.in-Some.definition.now in
     let In : Node InputValueDefinition → Usage → Type 0 = λ d. UsedIn c.args.schema.now (location_of d.value.value) a.value in
@@ -25,4 +25,4 @@ pub returns-in-None : goal.returns-in-None
 returns-in-None c =
     let a = c.args.argument.now in
     let In : Node InputValueDefinition → Usage → Type 0 = λ d. UsedIn c.args.schema.now (location_of d.value.value) a.value in
-    not_found c.args.variables.now (definition_named a.name c.args.definitions.now) In c.args.reports.now.items (search rules)
+    not_found c.args.variables.now (definition_named a.name c.args.definitions.now) In c.args.reports.now.kept.items (search rules)

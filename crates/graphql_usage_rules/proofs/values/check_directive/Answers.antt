@@ -10,8 +10,8 @@ pub returns-in-Some : goal.returns-in-Some
 returns-in-Some c =
     let v = c.args.variables.now in
     let r = c.check_arguments.result in
-    let old = c.args.reports.now.items in
-    let new = c.check_arguments.new.reports.items in
+    let old = c.args.reports.now.kept.items in
+    let new = c.check_arguments.new.reports.kept.items in
     let applied = c.args.directive.now in
     let d = c.in-Some.definition.now in
     let In : Node DirectiveDefinition → Usage → Type 0 = λ d. UsedInArguments c.args.schema.now d.value.value.arguments.items applied.arguments.items in
@@ -24,4 +24,4 @@ returns-in-Some c =
 pub returns-in-None : goal.returns-in-None
 returns-in-None c =
     let In : Node DirectiveDefinition → Usage → Type 0 = λ d. UsedInArguments c.args.schema.now d.value.value.arguments.items c.args.directive.now.arguments.items in
-    not_found c.args.variables.now (directive_definition c.args.schema.now c.args.directive.now.name) In c.args.reports.now.items (search rules)
+    not_found c.args.variables.now (directive_definition c.args.schema.now c.args.directive.now.name) In c.args.reports.now.kept.items (search rules)

@@ -11,7 +11,7 @@ returns-in-Some c =
     let is : variable_named c.args.name.now c.args.variables.now ≡ Some c.in-Some.variable.now = search rules in
     let not_allowed : ¬ IsAllowedAt c.in-Some.variable.now.value.value (location_at c.args.location) = search rules in
     disallowed c.args.variables.now c.args.name.now c.args.place (location_at c.args.location) c.in-Some.variable.now is not_allowed
-    c.report_misuse.result c.args.reports.now.items c.report_misuse.new.reports.items (c.report_misuse.ensures c.args.variables.now is)
+    c.report_misuse.result c.args.reports.now.kept.items c.report_misuse.new.reports.kept.items (c.report_misuse.ensures c.args.variables.now is)
 
 pub returns-in_default : goal.returns-in_default
 returns-in_default c =

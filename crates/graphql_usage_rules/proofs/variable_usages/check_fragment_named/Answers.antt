@@ -11,8 +11,8 @@ pub returns-in-Some : goal.returns-in-Some
 returns-in-Some c =
     let v = c.args.variables.now in
     let r = c.check_fragment.result in
-    let old = c.args.reports.now.items in
-    let new = c.check_fragment.new.reports.items in
+    let old = c.args.reports.now.kept.items in
+    let new = c.check_fragment.new.reports.kept.items in
     let d = c.in-Some.fragment.now in
     let In : Node Fragment → Usage → Type 0 = λ d. FragmentUses c.args.schema.now d.value.value in
     let is : fragments_of c.args.document.now c.args.name.now ≡ Some d = search rules in
@@ -22,4 +22,4 @@ returns-in-Some c =
 pub returns-in-None : goal.returns-in-None
 returns-in-None c =
     let In : Node Fragment → Usage → Type 0 = λ d. FragmentUses c.args.schema.now d.value.value in
-    not_found c.args.variables.now (fragments_of c.args.document.now c.args.name.now) In c.args.reports.now.items (search rules)
+    not_found c.args.variables.now (fragments_of c.args.document.now c.args.name.now) In c.args.reports.now.kept.items (search rules)

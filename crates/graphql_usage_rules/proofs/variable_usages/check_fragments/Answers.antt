@@ -18,7 +18,7 @@ loop-name-init c = record {
   done = [];
   all = let e : c.args.names.now.keys ≡ c.into_iter-name-iterator.result = cc in e;
   reported = nothing_done c.args.variables.now (λ (name : Bor NameText). UsedInFragment c.args.schema.now (fragments_of c.args.document.now) name.now) c.args.names.now.keys
-      c.args.reports.now.items;
+      c.args.reports.now.kept.items;
 }
 
 pub loop-name-preserved : goal.loop-name-preserved
@@ -34,7 +34,7 @@ loop-name-preserved c =
       is_finite = tt;
       done = done ++ x ∷ [];
       all = done_next all done c.loop-name.name-iterator c.next.new.self x c.loop-name.invariant.all next;
-      reported = place_done v In all done x c.args.reports.now.items c.loop-name.reports.items c.check_fragment_named.new.reports.items
+      reported = place_done v In all done x c.args.reports.now.kept.items c.loop-name.reports.kept.items c.check_fragment_named.new.reports.kept.items
           (stands_next all done c.loop-name.name-iterator c.next.new.self x c.loop-name.invariant.all next) c.loop-name.invariant.reported
           c.in_ok-check_fragment_named.ensures;
     }
@@ -47,11 +47,11 @@ returns-in_err-check_fragment_named c =
     let all = c.args.names.now.keys in
     let x : Bor NameText = c.in-Some.name.now in
     let done = c.loop-name.invariant.done in
-    let old = c.args.reports.now.items in
-    let new = c.check_fragment_named.new.reports.items in
+    let old = c.args.reports.now.kept.items in
+    let new = c.check_fragment_named.new.reports.kept.items in
     let next : c.loop-name.name-iterator ≡ x ∷ c.next.new.self = c.in-Some.ensures.steps in
     made_checked v text Used all c.from_residual.result old new
-    (done_refused v In all c.from_residual.result done x old c.loop-name.reports.items new c.from_residual.ensures.0
+    (done_refused v In all c.from_residual.result done x old c.loop-name.reports.kept.items new c.from_residual.ensures.0
     (stands_next all done c.loop-name.name-iterator c.next.new.self x c.loop-name.invariant.all next) c.loop-name.invariant.reported
     c.in_err-check_fragment_named.ensures)
 
@@ -63,5 +63,5 @@ returns c =
     let all = c.args.names.now.keys in
     let done : all ≡ c.loop-name.invariant.done =
     c.loop-name.invariant.all ∙ ap (λ l. c.loop-name.invariant.done ++ l) c.in-None.ensures.steps.0 ∙ append-nil c.loop-name.invariant.done in
-    made_reported v text Used all c.args.reports.now.items c.loop-name.reports.items
-    (all_done v In all c.loop-name.invariant.done c.args.reports.now.items c.loop-name.reports.items done c.loop-name.invariant.reported)
+    made_reported v text Used all c.args.reports.now.kept.items c.loop-name.reports.kept.items
+    (all_done v In all c.loop-name.invariant.done c.args.reports.now.kept.items c.loop-name.reports.kept.items done c.loop-name.invariant.reported)

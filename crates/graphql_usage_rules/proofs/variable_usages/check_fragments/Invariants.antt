@@ -11,5 +11,5 @@ invariant-loop-name l = record {
   is_finite : (goal.iterator-loop-name).is_finite l.name-iterator;
   done : List (Bor NameText);
   all : l.names.keys ≡ done ++ l.name-iterator;
-  reported : WalkedTo l.variables (λ (name : Bor NameText). UsedInFragment l.schema (fragments_of l.document) name.now) l.names.keys done l.initial.reports.items l.reports.items;
+  reported : WalkedTo l.variables (λ (name : Bor NameText). UsedInFragment l.schema (fragments_of l.document) name.now) l.names.keys done l.initial.reports.kept.items l.reports.kept.items;
 }

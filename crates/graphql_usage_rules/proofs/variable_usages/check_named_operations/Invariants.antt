@@ -12,5 +12,5 @@ invariant-loop-operation l = record {
   is_finite : (goal.iterator-loop-operation).is_finite l.operation-iterator;
   done : List (Node Operation);
   all : values l.document.operations.named ≡ done ++ l.operation-iterator;
-  reported : Walked (OperationUsagesAreAllowed l.schema l.document) (OperationMisuseReport l.schema l.document) (values l.document.operations.named) done l.initial.reports.items l.reports.items;
+  reported : Walked (OperationUsagesAreAllowed l.schema l.document) (OperationMisuseReport l.schema l.document) (values l.document.operations.named) done l.initial.reports.kept.items l.reports.kept.items;
 }

@@ -14,8 +14,8 @@ returns c =
     let o = c.args.operation.now in
     let r = c.check_scope.result in
     let names = names_at c.in_ok-reached.reached.keys in
-    let old = c.args.reports.now.items in
-    let new = c.check_scope.new.reports.items in
+    let old = c.args.reports.now.kept.items in
+    let new = c.check_scope.new.reports.kept.items in
     let variables : c.in_ok-variables.variables ≡ o.variables.items = c.in_ok-variables.ensures ∙ c.deref.ensures.value in
     in_places o.variables.items r (UsedInParts s (fragments_of d) o names) (UsedInScope s (fragments_of d) o) old new
     (scope_words s d o names c.in_ok-reached.ensures)

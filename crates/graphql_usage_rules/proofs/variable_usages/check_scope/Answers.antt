@@ -15,8 +15,8 @@ returns-in_err-check_directives c =
     let s = c.args.schema.now in
     let o = c.args.operation.now in
     let Rest : Usage → Type 0 = λ u. SetUses s o.selection_set u ⊎ UsedInFragments s (fragments_of c.args.document.now) (names_at c.args.reached.now.keys) u in
-    let old = c.args.reports.now.items in
-    let new = c.check_directives.new.reports.items in
+    let old = c.args.reports.now.kept.items in
+    let new = c.check_directives.new.reports.kept.items in
     first_refused v c.from_residual.result (UsedInDirectives s o.directives.items) Rest old new c.from_residual.ensures.0
     (subst (λ l. Kept v (UsedInDirectives s l) old new) c.deref.ensures.value c.in_err-check_directives.ensures)
 
@@ -26,9 +26,9 @@ returns-in_err-check_selection_set c =
     let s = c.args.schema.now in
     let o = c.args.operation.now in
     let Rest : Usage → Type 0 = λ u. SetUses s o.selection_set u ⊎ UsedInFragments s (fragments_of c.args.document.now) (names_at c.args.reached.now.keys) u in
-    let old = c.args.reports.now.items in
-    let mid = c.check_directives.new.reports.items in
-    let new = c.check_selection_set.new.reports.items in
+    let old = c.args.reports.now.kept.items in
+    let mid = c.check_directives.new.reports.kept.items in
+    let new = c.check_selection_set.new.reports.kept.items in
     second_refused v c.from_residual-in_err-check_selection_set.result (UsedInDirectives s o.directives.items) Rest old mid new
     c.from_residual-in_err-check_selection_set.ensures.0
     (subst (λ l. Reported v (UsedInDirectives s l) old mid) c.deref.ensures.value c.in_ok-check_directives.ensures)
@@ -41,10 +41,10 @@ returns c =
     let o = c.args.operation.now in
     let r = c.check_fragments.result in
     let Last : Usage → Type 0 = UsedInFragments s (fragments_of c.args.document.now) (names_at c.args.reached.now.keys) in
-    let old = c.args.reports.now.items in
-    let first = c.check_directives.new.reports.items in
-    let second = c.check_selection_set.new.reports.items in
-    let new = c.check_fragments.new.reports.items in
+    let old = c.args.reports.now.kept.items in
+    let first = c.check_directives.new.reports.kept.items in
+    let second = c.check_selection_set.new.reports.kept.items in
+    let new = c.check_fragments.new.reports.kept.items in
     then_checked v r (UsedInDirectives s o.directives.items) (λ u. SetUses s o.selection_set u ⊎ Last u) old first new
     (subst (λ l. Reported v (UsedInDirectives s l) old first) c.deref.ensures.value c.in_ok-check_directives.ensures)
     (then_checked v r (SetUses s o.selection_set) Last first second new c.in_ok-check_selection_set.ensures c.check_fragments.ensures)

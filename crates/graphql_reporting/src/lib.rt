@@ -1,0 +1,6 @@
+//! Lists of reports, of whatever is reported.
+#![tactic(auto)]
+
+pub mod lists;
+
+pub use lists::ReportList;
