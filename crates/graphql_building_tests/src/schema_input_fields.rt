@@ -1,5 +1,6 @@
 use crate::built_schemas::built;
 use graphql_input_rules::check_schema_input_fields;
+use graphql_reporting::ReportList;
 use std::alloc::Global;
 use std::process::Abort;
 
@@ -102,10 +103,10 @@ schema @d(i: {w: 1, w: 2}) { query: Query }";
 /// is first.
 fn repeated(rt: &impl Abort, alloc: Global, text: &str) -> String {
     let schema = built(rt, alloc, text);
-    let mut repetitions = Vec::new(alloc);
+    let mut repetitions = ReportList::new(alloc);
     check_schema_input_fields(&mut repetitions, &schema).expect(rt, "memory for repetitions");
     let mut lines = String::new(alloc);
-    for repetition in &repetitions {
+    for repetition in &repetitions.into_reports() {
         let name = &repetition.name;
         let again = repetition.location.expect(rt, "a place").start;
         let first = repetition.original.expect(rt, "a place").start;

@@ -1,5 +1,6 @@
 mod BesideLemmas
 mod DocumentLemmas
+mod FirstReportLemmas
 mod MetaFieldLemmas
 mod PlaceLemmas
 mod ReportLemmas

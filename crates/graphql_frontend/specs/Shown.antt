@@ -1,5 +1,5 @@
 -- Reports as they are shown: one for one, and in order.
-use Rattle.std.specs.Prelude.{◌≡◌, ◌==◌, ◌-◌, ◌^◌, ℕ, List, [], ◌∷◌, ◌++◌, Option, None, Some, codes, decimal, map, min, string_bytes, if◌then◌else◌}
+use Rattle.std.specs.Prelude.{◌≡◌, ◌==◌, ◌-◌, ◌^◌, ℕ, Bool, true, false, List, [], ◌∷◌, ◌++◌, Option, None, Some, codes, decimal, map, min, string_bytes, if◌then◌else◌}
 use Rattle.std.specs.List.{AllZip}
 use Rattle.std.specs.Str.{bytes_eq}
 use Rattle.graphql_building_reports.specs.Checks.{reports_of}
@@ -56,6 +56,11 @@ pub data Report : Type 0 where
   usage : VariableMisuse → Report
   more : Report
 
+-- once, if it is so
+abbrev pub once_if : Bool → List (Unit {0})
+once_if true = tt ∷ []
+once_if false = []
+
 -- the single reports, in order: of a schema or a document the rules of validation come first; of a document, undefined variables come next; then
 -- input fields; and last usages of variables. If there are more than are kept, the last report says so
 abbrev pub listed : Reports → List Report
@@ -67,9 +72,12 @@ listed (reports.Reach report) = reach report ∷ []
 listed (reports.Work report) = work report ∷ []
 listed (reports.FirstSchemaRules list) = map validation (entries list) ++ (more ∷ [])
 listed (reports.FirstDocumentRules list) = map validation (entries list) ++ (more ∷ [])
-listed (reports.SchemaRules found) = map validation (entries found.rules) ++ map input_field found.input_fields.items
+listed (reports.SchemaRules found) =
+    map validation (entries found.rules) ++ (map input_field found.input_fields.items ++ map (λ _. more) (once_if found.has_more))
 listed (reports.DocumentRules found) =
-    map validation (entries found.rules) ++ (map validation found.undefined_variables.items ++ (map input_field found.input_fields.items ++ map usage found.usages.items))
+    map validation (entries found.rules) ++
+    (map validation found.undefined_variables.items ++
+    (map input_field found.input_fields.items ++ (map usage found.usages.items ++ map (λ _. more) (once_if found.has_more))))
 
 -- the place, the name of the rule, the message and the other place are these
 pub record IsShownAs (location : Option SourceSpan) (rule text : List ℕ) (original : Option SourceSpan) (shown : ShownReport) : Type 0 where

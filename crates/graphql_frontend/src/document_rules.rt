@@ -16,7 +16,7 @@ ghost use Rattle.graphql_frontend.specs.RuleReadings.{ReadsRules};
 ghost use Rattle.graphql_frontend.specs.Work.{first_location};
 ghost use Rattle.graphql_frontend.specs.Places.{HasThese, end_of, is_place_among, undefined_place};
 
-use crate::first_reports::{is_full_of_rules, report_bound};
+use crate::first_reports::{is_full_of_rules, kept_reports, report_bound};
 use crate::reports::DocumentReports;
 use crate::work::WorkReport;
 use graphql_diagnostics::{Details, DiagnosticData, DiagnosticEntry, DiagnosticList};
@@ -28,6 +28,7 @@ use graphql_hash_seeds::HashSeed;
 use graphql_input_rules::{InputFieldRepetition, check_input_fields};
 use graphql_nodes::{SourceSpan, ValidationError};
 use graphql_parser::Bounds;
+use graphql_reporting::ReportList;
 use graphql_usage_rules::{VariableMisuse, check_undefined_variables, check_variable_usages};
 use std::alloc::Global;
 use std::collections::HashSet;
@@ -55,32 +56,43 @@ pub(crate) fn document_reports(
     alloc: Global,
     schema: Option<&Schema>,
     document: &ExecutableDocument,
+    bounds: Bounds,
     rules: DiagnosticList,
 ) -> Result<DocumentReports, ValidationError>
     ensures { AreRuleReports (option_copied schema.entry) document.now (entries rules) →
         IfOk result (AreReportsOf (option_copied schema.entry) document.now) }
 {
-    let undefined_variables = further_undefined_variables(alloc, document, &rules)?;
-    let input_fields = repeated_input_fields(alloc, document)?;
-    let usages = further_misuses(alloc, schema, document, &rules)?;
+    let mut has_more = false;
+    let undefined_variables = further_undefined_variables(
+        alloc,
+        document,
+        bounds,
+        &rules,
+        &mut has_more,
+    )?;
+    let input_fields = repeated_input_fields(alloc, document, bounds, &mut has_more)?;
+    let usages = further_misuses(alloc, schema, document, bounds, &rules, &mut has_more)?;
     Ok(DocumentReports {
         rules,
         undefined_variables,
         input_fields,
         usages,
+        has_more,
     })
 }
 
-/// The input fields that object values give again.
+/// The input fields that object values give again: the first ones, if there are more than the bounds keep.
 fn repeated_input_fields(
     alloc: Global,
     document: &ExecutableDocument,
+    bounds: Bounds,
+    has_more: &mut bool,
 ) -> Result<Vec<InputFieldRepetition>, ValidationError>
     ensures { IfOk result (λ fields. Reports (InputFieldsAreUnique document.now) (InputFieldReport document.now) [] fields.items) }
 {
-    let mut input_fields = Vec::new(alloc);
-    check_input_fields(&mut input_fields, document)?;
-    Ok(input_fields)
+    let mut input_fields = ReportList::with_bound(alloc, report_bound(bounds));
+    let checked = check_input_fields(&mut input_fields, document);
+    kept_reports(input_fields, checked, has_more)
 }
 
 /// What validation reports of a document, within the bounds. Its texts have so many bytes.
@@ -168,16 +180,19 @@ fn location_of_first(document: &ExecutableDocument) -> Option<SourceSpan>
 }
 
 /// The variables that operations use and do not define, without those that validation reports as undefined: it does not look
-/// into the object values of custom scalars.
+/// into the object values of custom scalars. They are among the first ones, if there are more than the bounds keep.
 fn further_undefined_variables(
     alloc: Global,
     document: &ExecutableDocument,
+    bounds: Bounds,
     rules: &DiagnosticList,
+    has_more: &mut bool,
 ) -> Result<Vec<DiagnosticEntry>, ValidationError>
     ensures { IfOk result (λ variables. AreFurtherUndefined document.now (entries rules.now) variables.items) }
 {
-    let mut variables = Vec::new(alloc);
-    check_undefined_variables(&mut variables, document)?;
+    let mut list = ReportList::with_bound(alloc, report_bound(bounds));
+    let checked = check_undefined_variables(&mut list, document);
+    let mut variables = kept_reports(list, checked, has_more)?;
     let reported = undefined_places(alloc, rules)?;
     keep_at_other_places(&mut variables, &reported);
     Ok(variables)
@@ -251,17 +266,20 @@ fn is_among(place: Option<SourceSpan>, places: &HashSet<SourceSpan, HashSeed>) -
 }
 
 /// The usages of variables that are not allowed, without those that end where a report of validation does: validation asks it
-/// of variables that are whole arguments, and of types inside lists. Without a schema none is known.
+/// of variables that are whole arguments, and of types inside lists. They are among the first ones, if there are more than the
+/// bounds keep. Without a schema none is known.
 fn further_misuses(
     alloc: Global,
     schema: Option<&Schema>,
     document: &ExecutableDocument,
+    bounds: Bounds,
     rules: &DiagnosticList,
+    has_more: &mut bool,
 ) -> Result<Vec<VariableMisuse>, ValidationError>
     ensures { IfOk result (λ usages. AreFurtherMisuses (option_copied schema.entry) document.now (entries rules.now) usages.items) }
 {
     match schema {
-        Some(schema) => misuses_beside(alloc, schema, document, rules),
+        Some(schema) => misuses_beside(alloc, schema, document, bounds, rules, has_more),
         None => no_misuses(alloc),
     }
 }
@@ -277,12 +295,15 @@ fn misuses_beside(
     alloc: Global,
     schema: &Schema,
     document: &ExecutableDocument,
+    bounds: Bounds,
     rules: &DiagnosticList,
+    has_more: &mut bool,
 ) -> Result<Vec<VariableMisuse>, ValidationError>
     ensures { IfOk result (λ usages. AreFurtherMisuses (Some schema.now) document.now (entries rules.now) usages.items) }
 {
-    let mut usages = Vec::new(alloc);
-    check_variable_usages(&mut usages, schema, document)?;
+    let mut list = ReportList::with_bound(alloc, report_bound(bounds));
+    let checked = check_variable_usages(&mut list, schema, document);
+    let mut usages = kept_reports(list, checked, has_more)?;
     let ends = reported_ends(alloc, rules)?;
     keep_ending_elsewhere(&mut usages, &ends);
     Ok(usages)

@@ -290,7 +290,7 @@ fn validate_within(
         IfOk result (JudgesDocument bounds bytes (option_copied schema.entry) document.now) }
 {
     match rule_reports(alloc, schema, document, bounds, bytes)? {
-        RuleReports::All(rules) => validate_beside(alloc, schema, document, rules),
+        RuleReports::All(rules) => validate_beside(alloc, schema, document, bounds, rules),
         RuleReports::First(rules) => Ok(Some(Reports::FirstDocumentRules(rules))),
         RuleReports::Work(report) => Ok(Some(Reports::Work(report))),
     }
@@ -301,13 +301,14 @@ fn validate_beside(
     alloc: Global,
     schema: Option<&Schema>,
     document: &ExecutableDocument,
+    bounds: Bounds,
     rules: DiagnosticList,
 ) -> Result<Option<Reports>, ValidationError>
     ensures { AreRuleReports (option_copied schema.entry) document.now (entries rules) →
-        (bounds : source_bounds.Bounds) (bytes : ℕ) → NestsWithin bounds.depth document.now → ReachesWithinBounds bounds bytes document.now →
+        (bytes : ℕ) → NestsWithin bounds.depth document.now → ReachesWithinBounds bounds bytes document.now →
         IfOk result (JudgesDocument bounds bytes (option_copied schema.entry) document.now) }
 {
-    let reports = document_reports(alloc, schema, document, rules)?;
+    let reports = document_reports(alloc, schema, document, bounds, rules)?;
     if reports.is_empty() {
         Ok(None)
     } else {

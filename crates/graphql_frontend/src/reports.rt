@@ -45,6 +45,8 @@ pub struct SchemaReports {
     pub rules: DiagnosticList,
     /// Input fields that object values give again.
     pub input_fields: Vec<InputFieldRepetition>,
+    /// Whether there are more of these input fields than the bounds keep.
+    pub has_more: bool,
 }
 
 /// What is reported of a document that was built.
@@ -58,6 +60,8 @@ pub struct DocumentReports {
     pub input_fields: Vec<InputFieldRepetition>,
     /// Usages of variables that are not allowed, without those that end where a report of validation ends.
     pub usages: Vec<VariableMisuse>,
+    /// Whether there are more undefined variables, input fields or usages than the bounds keep.
+    pub has_more: bool,
 }
 
 impl Reports {
@@ -76,13 +80,15 @@ impl Reports {
                     .rules
                     .len()
                     .saturating_add(reports.input_fields.len())
+                    .saturating_add(usize::from(reports.has_more))
             }
             Reports::DocumentRules(reports) => reports
                 .rules
                 .len()
                 .saturating_add(reports.undefined_variables.len())
                 .saturating_add(reports.input_fields.len())
-                .saturating_add(reports.usages.len()),
+                .saturating_add(reports.usages.len())
+                .saturating_add(usize::from(reports.has_more)),
         }
     }
 }

@@ -5,7 +5,7 @@ ghost use Rattle.std.specs.List.{AllZip};
 ghost use Rattle.graphql_parser.specs.declared.bounds.Bounds as source_bounds;
 ghost use Rattle.graphql_frontend.specs.declared.reports.Reports.TheVariants as all_reports;
 ghost use Rattle.graphql_frontend.specs.declared.texts.SourceText as source_text;
-ghost use Rattle.graphql_frontend.specs.Shown.{Shows, ShowsBuilding, ShowsEntry, ShowsMisuse, ShowsMore, ShowsNesting, ShowsReach, ShowsRepetition, ShowsSyntax, ShowsThatMore, ShowsWork, build_error_original, building_original, details_message, details_original, diagnostic_original, error_end, error_span, listed, narrow, path_limit, text_of, validation_message};
+ghost use Rattle.graphql_frontend.specs.Shown.{Shows, ShowsBuilding, ShowsEntry, ShowsMisuse, ShowsMore, ShowsNesting, ShowsReach, ShowsRepetition, ShowsSyntax, ShowsThatMore, ShowsWork, build_error_original, building_original, details_message, details_original, diagnostic_original, error_end, error_span, listed, narrow, once_if, path_limit, text_of, validation_message};
 
 use crate::build_error_messages::BuildErrorMessage;
 use crate::reports::{DocumentReports, Reports, SchemaReports};
@@ -114,7 +114,9 @@ fn push_schema(
     let rules = reports.rules.iter().as_slice();
     push_rules(alloc, first(rules, most), shown)?;
     let left = most.saturating_sub(rules.len());
-    push_repetitions(alloc, first(&reports.input_fields, left), shown)
+    push_repetitions(alloc, first(&reports.input_fields, left), shown)?;
+    let left = left.saturating_sub(reports.input_fields.len());
+    push_more_if(alloc, reports.has_more, left, shown)
 }
 
 /// Adds the first reports of a document, at most so many: the rules of validation first, then undefined variables, repeated
@@ -135,7 +137,9 @@ fn push_document(
     let left = left.saturating_sub(reports.undefined_variables.len());
     push_repetitions(alloc, first(&reports.input_fields, left), shown)?;
     let left = left.saturating_sub(reports.input_fields.len());
-    push_misuses(alloc, first(&reports.usages, left), shown)
+    push_misuses(alloc, first(&reports.usages, left), shown)?;
+    let left = left.saturating_sub(reports.usages.len());
+    push_more_if(alloc, reports.has_more, left, shown)
 }
 
 /// Adds the first rules that keep texts from making a schema or a document, and that there are more: at most so many reports.
@@ -181,6 +185,22 @@ fn push_more(
     }
     shown.push(shown_more(alloc)?)?;
     Ok(())
+}
+
+/// The same, if there are more.
+fn push_more_if(
+    alloc: Global,
+    has_more: bool,
+    most: usize,
+    shown: &mut Vec<ShownReport>,
+) -> Result<(), ValidationError>
+    ensures { OnOk result (ShowsMore ShowsThatMore (take most (once_if has_more)) shown.old.items shown.new.items) }
+{
+    if has_more {
+        push_more(alloc, most, shown)
+    } else {
+        Ok(())
+    }
 }
 
 /// Adds texts that are no documents.

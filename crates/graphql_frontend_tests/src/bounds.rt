@@ -13,6 +13,9 @@ use std::process::Abort;
 
 const SCHEMA: &str = "type Query { a: Int q: Query }";
 
+const VALUES: &str =
+    "scalar S input I { a: Int } input R { b: Int! c: Int! d: Int! } type Query { s(s: S): Int i(i: I): Int r(r: R): Int }";
+
 /// Texts of a schema and of a document, how many reports are kept, how many bytes their messages may have, and what is reported.
 const REPORTS: &[(&str, &str, usize, usize, &str)] = &[
     (
@@ -84,6 +87,48 @@ const REPORTS: &[(&str, &str, usize, usize, &str)] = &[
         1,
         1_000,
         "9:20 MemberNameCollision 13\nMoreReports\n",
+    ),
+    (
+        VALUES,
+        "{ s(s: {x: $x, y: $y, z: $z}) }",
+        2,
+        1_000,
+        "1:11 UndefinedVariable\n1:18 UndefinedVariable\nMoreReports\n",
+    ),
+    (
+        VALUES,
+        "{ s(s: {x: $x, y: $y}) }",
+        2,
+        1_000,
+        "1:11 UndefinedVariable\n1:18 UndefinedVariable\n",
+    ),
+    (
+        VALUES,
+        "{ i(i: {a: 1, a: 2, a: 3}) }",
+        1,
+        1_000,
+        "1:14 UniqueInputField 8\nMoreReports\n",
+    ),
+    (
+        VALUES,
+        "query ($s: Int) { r(r: {b: $s, c: $s, d: $s}) }",
+        2,
+        1_000,
+        "1:27 DisallowedVariableUsage 7\n1:34 DisallowedVariableUsage 7\nMoreReports\n",
+    ),
+    (
+        VALUES,
+        "query ($s: Int) { r(r: {b: $s, c: $s, d: $s}) }",
+        3,
+        10,
+        "1:27 DisallowedVariableUsage 7\nMoreReports\n",
+    ),
+    (
+        "type Query { a(i: I = {x: 1, x: 2, x: 3}): Int } input I { x: Int }",
+        "{ a }",
+        1,
+        1_000,
+        "9:29 UniqueInputField 23\nMoreReports\n",
     ),
 ];
 

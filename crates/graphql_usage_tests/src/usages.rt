@@ -1,6 +1,7 @@
 use graphql_documents::documents::Schema;
 use graphql_examples::build::{document_in_file, schema};
 use graphql_nodes::FileId;
+use graphql_reporting::ReportList;
 use graphql_usage_rules::{VariableMisuse, check_variable_usages};
 use std::alloc::Global;
 use std::process::Abort;
@@ -109,9 +110,9 @@ fn reported(rt: &impl Abort, alloc: Global, schema: &Schema, text: &str) -> Stri
     let Ok(document) = document_in_file(alloc, schema, text, FileId(1)) else {
         panic!(rt; "no document: {text}")
     };
-    let mut reports = Vec::new(alloc);
+    let mut reports = ReportList::new(alloc);
     check_variable_usages(&mut reports, schema, &document).expect(rt, "memory for reports");
-    lines(rt, alloc, &reports)
+    lines(rt, alloc, &reports.into_reports())
 }
 
 #[test]

@@ -1,3 +1,4 @@
+use Rattle.std.proofs.Common.{false}
 use Rattle.std.specs.Option.{option_copied}
 use Rattle.graphql_frontend.proofs.DocumentLemmas.{all_decide}
 use Rattle.graphql_frontend.proofs.document_rules.document_reports.Goals as goal
@@ -13,6 +14,6 @@ returns c = λ are.
       usages = c.in_ok-usages.ensures;
       decides = λ built no_limit.
           all_decide schema document
-          (record { rules = c.args.rules; undefined_variables = c.in_ok-undefined_variables.undefined_variables; input_fields = c.in_ok-input_fields.input_fields; usages = c.in_ok-usages.usages })
+          (record { rules = c.args.rules; undefined_variables = c.in_ok-undefined_variables.undefined_variables; input_fields = c.in_ok-input_fields.input_fields; usages = c.in_ok-usages.usages; has_more = false })
           (are.decides built no_limit) c.in_ok-undefined_variables.ensures c.in_ok-input_fields.ensures c.in_ok-usages.ensures;
     }

@@ -5,7 +5,7 @@ use Rattle.graphql_diagnostics.specs.declared.lists.DiagnosticEntry.{DiagnosticE
 use Rattle.graphql_frontend.proofs.documents.validate_beside.Goals as goal
 
 pub returns-then-is_empty : goal.returns-then-is_empty
-returns-then-is_empty c = λ are bounds bytes nests reaches. (
+returns-then-is_empty c = λ are bytes nests reaches. (
   nests,
   reaches,
   λ built.
@@ -16,5 +16,5 @@ returns-then-is_empty c = λ are bounds bytes nests reaches. (
 )
 
 pub returns-else-is_empty : goal.returns-else-is_empty
-returns-else-is_empty c = λ are bounds bytes nests reaches.
+returns-else-is_empty c = λ are bytes nests reaches.
     (nests, reaches, λ nothing. true≢false (sym (c.is_empty.ensures.1 nothing) ∙ c.if-is_empty.false), c.in_ok-reports.ensures are)

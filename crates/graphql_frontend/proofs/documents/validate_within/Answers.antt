@@ -6,7 +6,7 @@ use Rattle.graphql_frontend.proofs.documents.validate_within.Goals as goal
 pub returns-in-All : goal.returns-in-All
 returns-in-All c = λ nests reaches.
     let read = subst (ReadsRules c.args.bounds (option_copied c.args.schema) c.args.document.now) c.in-All.is c.in_ok-rules.ensures in
-    c.validate_beside.ensures read c.args.bounds c.args.bytes nests reaches
+    c.validate_beside.ensures read c.args.bytes nests reaches
 
 pub returns-in-First : goal.returns-in-First
 returns-in-First c = λ nests reaches.

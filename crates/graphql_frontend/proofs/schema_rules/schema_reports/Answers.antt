@@ -1,7 +1,6 @@
 use Rattle.std.proofs.Common.{subst}
 use Rattle.graphql_diagnostics.specs.Diagnostics.{IsLimitEntry, entries}
-use Rattle.graphql_diagnostics.specs.Reports.{Reports, ReportsWithin}
-use Rattle.graphql_input_rules.specs.SchemaValues.{SchemaInputFieldReport, SchemaInputFieldsAreUnique}
+use Rattle.graphql_diagnostics.specs.Reports.{ReportsWithin}
 use Rattle.graphql_schemas.specs.SchemaChecks.{SchemaEntryReport}
 use Rattle.graphql_specification.specs.DefaultValues.{DefaultValuesHold}
 use Rattle.graphql_specification.specs.Schemas.{SchemaHolds}
@@ -16,8 +15,7 @@ returns-in-Ok c =
       record {
         rules = subst (λ old. ReportsWithin IsLimitEntry (SchemaHolds schema × DefaultValuesHold retained) (SchemaEntryReport schema) old
             (entries c.validate_schema.new.diagnostics)) c.with_bound-rules.ensures.empty c.in-Ok.ensures.holds;
-        input_fields = subst (λ old. Reports (SchemaInputFieldsAreUnique schema) (SchemaInputFieldReport schema) old
-            c.check_schema_input_fields.new.reports.items) c.new-input_fields.ensures.items c.in_ok-check_schema_input_fields.ensures;
+        input_fields = c.in_ok-input_fields.ensures;
       },
     )
 

@@ -17,3 +17,7 @@ pub returns-clause-numbered : goal.returns-clause-numbered
 returns-clause-numbered c contents lists all =
     let held = c.in_ok-on_objects.ensures.numbered contents all in
     c.in_ok-push_each_with.ensures.numbered contents lists held.0 (subst (AreNumberedIn contents) (sym c.deref.ensures.value) held.1)
+
+pub returns-then-is_empty-clause-numbered : goal.returns-then-is_empty-clause-numbered
+returns-then-is_empty-clause-numbered c contents lists all =
+    c.in_ok-push_unless_empty.ensures.numbered contents lists (c.in_ok-on_objects.ensures.numbered contents all).1
