@@ -1,8 +1,8 @@
 -- The first reports of a check say that its rule is broken.
-use Rattle.std.proofs.Common.{◌≡◌, ◌≢◌, ◌++◌, ◌∷◌, [], All, Err, List, None, Ok, Option, Result, Some, absurd, map, refl, subst, sym}
-use Rattle.std.specs.Prelude.{IfOk, IsSome, MatchResult, OnErr, Vec, find}
+use Rattle.std.proofs.Common.{◌≡◌, ◌≢◌, ◌<◌, ◌∙◌, ◌++◌, ◌∷◌, ℕ, [], All, Err, List, None, Ok, Option, Result, Some, length, map, refl, subst, sym, true≢false}
+use Rattle.std.specs.Prelude.{IfOk, IsSome, MatchResult, OnErr, Vec, find, slice_index_or}
 use Rattle.std.specs.declared.alloc.Global.{Global}
-use Rattle.std.proofs.lemmas.List.Elements.{All-contains, All-head}
+use Rattle.std.proofs.lemmas.List.Elements.{All-head}
 use Rattle.std.proofs.lemmas.List.{append_assoc, map-id}
 use Rattle.graphql_diagnostics.specs.Reports.{KeepsReports, Reports}
 use Rattle.graphql_diagnostics.specs.declared.lists.DiagnosticEntry.{DiagnosticEntry}
@@ -20,8 +20,8 @@ use Rattle.graphql_nodes.specs.declared.nodes.Node.{Node}
 use Rattle.graphql_repetitions.specs.Repetitions.{Repeats}
 use Rattle.graphql_schema_building.proofs.DistinctLemmas.{distinct_front, last_is_new}
 use Rattle.graphql_usage_rules.proofs.VariableLemmas.{all_defined}
-use Rattle.graphql_usage_rules.specs.UndefinedVariables.{DocumentUndefinedReport, OperationUndefinedReport, UsedVariablesAreDefined, VariableUsesAreDefined}
-use Rattle.graphql_usage_rules.specs.VariableMisuses.{DocumentMisuseReport, OperationMisuseReport, OperationUsagesAreAllowed}
+use Rattle.graphql_usage_rules.specs.UndefinedVariables.{DocumentUndefinedReport, UsedVariablesAreDefined, VariableUsesAreDefined}
+use Rattle.graphql_usage_rules.specs.VariableMisuses.{OperationUsagesAreAllowed}
 use Rattle.graphql_usage_rules.specs.declared.reports.VariableMisuse.{VariableMisuse}
 use Rattle.graphql_frontend.specs.Documents.{IsMisuseReport, UsagesAreAllowed}
 use Rattle.graphql_frontend.proofs.ReportLemmas.{kept}
@@ -63,7 +63,8 @@ repeated names first again r distinct =
     let front : AreDistinct (map (λ (n : NameText). n) (r.before ++ again ∷ [])) =
     distinct_front (λ (n : NameText). n) (r.before ++ again ∷ []) r.after (subst AreDistinct (sym (map-id ((r.before ++ again ∷ []) ++ r.after))) split) in
     let none : find (λ n. same_name n again) r.before ≡ None = last_is_new (λ (n : NameText). n) r.before again front in
-    let no : ⊥ = cc {hints = r.first_is ∷ none ∷ []} in
+    let both = sym none ∙ r.first_is in
+    let no : ⊥ = cc in
     no
 
 -- a true report of a repeated input field excludes that input fields are unique
@@ -71,26 +72,30 @@ pub field_excludes : (IsWritten : Value → Type 0) (r : InputFieldRepetition) �
 field_excludes IsWritten r report unique =
     repeated _ report.repetition.first report.repetition.again report.repetition.repeats (unique report.entries report.written)
 
+-- what holds of all holds of one of them
+of_one : {X : Type 0} (Q : X → Type 0) (xs : List X) (k : ℕ) (x : X) → All Q xs → k < length xs → slice_index_or xs k x ≡ x → Q x
+of_one Q xs k x all within at = subst Q at (all k x within)
+
+-- something that is found is not nothing
+is_there : {X : Type 0} (found : Option X) → IsSome found → ¬ (found ≡ None)
+is_there found some none = true≢false (sym (subst IsSome none some))
+
 -- so does one of an undefined variable that all are defined
 pub undefined_excludes : (document : ExecutableDocument) (e : DiagnosticEntry) → DocumentUndefinedReport document e → ¬ VariableUsesAreDefined document
 undefined_excludes document e report all =
-    let o = report.0 in
+    let (k, o, within, at, said) = report in
     let operation = o.value.value in
     let defined : UsedVariablesAreDefined (fragments_of document) operation =
-    All-contains (λ (x : Node Operation). UsedVariablesAreDefined (fragments_of document) x.value.value) (operations_of document) o all report.1 in
-    let (variable, in_scope, undefined) = report.2 in
-    let there : IsSome (variable_named undefined.name operation.variables.items) = (all_defined (fragments_of document) operation).1 defined variable in_scope undefined.name undefined.is_variable in
-    no_longer (variable_named undefined.name operation.variables.items) there undefined.undefined where
-      no_longer : {X : Type 0} (found : Option X) → IsSome found → ¬ (found ≡ None)
-      no_longer (Some x) some none = absurd (let no : ⊥ = cc in no)
-      no_longer None some none = some
+    of_one (λ (x : Node Operation). UsedVariablesAreDefined (fragments_of document) x.value.value) (operations_of document) k o all within at in
+    let (variable, in_scope, undefined) = said in
+    is_there (variable_named undefined.name operation.variables.items)
+    ((all_defined (fragments_of document) operation).1 defined variable in_scope undefined.name undefined.is_variable) undefined.undefined
 
 -- and one of a usage that all are allowed
 pub misuse_excludes : (schema : Option Schema) (document : ExecutableDocument) (m : VariableMisuse) → IsMisuseReport schema document m → ¬ UsagesAreAllowed schema document
 misuse_excludes None document m report all = report
 misuse_excludes (Some schema) document m report all =
-    let o = report.0 in
+    let (k, o, within, at, misuse) = report in
     let allowed : OperationUsagesAreAllowed schema document o.value.value =
-    All-contains (λ (x : Node Operation). OperationUsagesAreAllowed schema document x.value.value) (operations_of document) o all report.1 in
-    let misuse : OperationMisuseReport schema document o.value.value m = report.2 in
+    of_one (λ (x : Node Operation). OperationUsagesAreAllowed schema document x.value.value) (operations_of document) k o all within at in
     misuse.disallowed (allowed misuse.usage misuse.used misuse.v misuse.is_variable)

@@ -17,7 +17,7 @@ returns c =
     let all = c.in_ok-variables.variables.items in
     record {
       all = all;
-      all_are = decided c.check_undefined_variables.result (VariableUsesAreDefined document) (DocumentUndefinedReport document) _ _ all c.check_undefined_variables.ensures
+      all_are = decided c.check_undefined_variables-checked.result (VariableUsesAreDefined document) (DocumentUndefinedReport document) _ _ all c.check_undefined_variables-checked.ensures
           c.with_bound-list.ensures.empty c.in_ok-variables.ensures.kept c.in_ok-variables.ensures.some (undefined_excludes document);
       beside = subst (Without (λ (e : DiagnosticEntry). IsReportedUndefined rules e.location) all) (sym c.keep_at_other_places.ensures)
           (without_filtered (λ (e : DiagnosticEntry). IsReportedUndefined rules e.location) (λ (e : DiagnosticEntry). is_place_among e.location places)

@@ -17,7 +17,7 @@ returns c =
     let all = c.in_ok-usages.usages.items in
     record {
       all = all;
-      all_are = decided c.check_variable_usages.result (UsagesAreAllowed schema document) (IsMisuseReport schema document) _ _ all c.check_variable_usages.ensures
+      all_are = decided c.check_variable_usages-checked.result (UsagesAreAllowed schema document) (IsMisuseReport schema document) _ _ all c.check_variable_usages-checked.ensures
           c.with_bound-list.ensures.empty c.in_ok-usages.ensures.kept c.in_ok-usages.ensures.some (misuse_excludes schema document);
       beside = subst (Without (λ (u : VariableMisuse). EndsWithOne rules u.location) all) (sym c.keep_ending_elsewhere.ensures)
           (without_filtered (λ (u : VariableMisuse). EndsWithOne rules u.location) (λ (u : VariableMisuse). is_place_among (end_of u.location) ends)

@@ -5,5 +5,5 @@ use Rattle.graphql_frontend.proofs.schema_rules.repeated_input_fields.Goals as g
 pub returns : goal.returns
 returns c =
     let schema = c.args.schema.now in
-    decides_if_ok c.check_schema_input_fields.result (SchemaInputFieldsAreUnique schema) (SchemaInputFieldReport schema) _ _ c.kept_reports.result c.check_schema_input_fields.ensures
+    decides_if_ok c.check_schema_input_fields-checked.result (SchemaInputFieldsAreUnique schema) (SchemaInputFieldReport schema) _ _ c.kept_reports.result c.check_schema_input_fields-checked.ensures
     c.with_bound-input_fields.ensures.empty c.kept_reports.ensures.kept c.kept_reports.ensures.some (field_excludes (SchemaWrites schema))

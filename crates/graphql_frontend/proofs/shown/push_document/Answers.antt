@@ -27,8 +27,8 @@ returns c = λ sources bounds.
     let fields_are : c.first-3.result.now ≡ take then_left fields = search rules in
     let usages_are : c.first-4.result.now ≡ take (then_left - length fields) usages = search rules in
     let last_left = then_left - length fields - length usages in
-    let left_is : c.saturating_sub-4.result ≡ last_left = search rules in
-    on_ok_weaker {P = ShowsMore ShowsThatMore (take c.saturating_sub-4.result told) behind_usages new} c.push_more_if.result
+    let left_is : c.saturating_sub-left-4.result ≡ last_left = search rules in
+    on_ok_weaker {P = ShowsMore ShowsThatMore (take c.saturating_sub-left-4.result told) behind_usages new} c.push_more_if.result
     (λ so. before_others validation R most found (map validation undefined ++ (map input_field fields ++ (map usage usages ++ map (λ _. more) told))) old behind_rules new
     (subst (λ l. ShowsMore ShowsEntry l old behind_rules) first_are c.in_ok-push_rules.ensures)
     (before_others validation R left undefined (map input_field fields ++ (map usage usages ++ map (λ _. more) told)) behind_rules behind_undefined new

@@ -19,8 +19,8 @@ returns c = λ sources bounds.
     let told = once_if c.args.reports.now.has_more in
     let first_are : c.first.result.now ≡ take most found = cc in
     let rest_are : c.first-2.result.now ≡ take (most - length found) fields = search rules in
-    let left_is : c.saturating_sub-2.result ≡ then_left = search rules in
-    on_ok_weaker {P = ShowsMore ShowsThatMore (take c.saturating_sub-2.result told) behind_fields new} c.push_more_if.result
+    let left_is : c.saturating_sub-left-2.result ≡ then_left = search rules in
+    on_ok_weaker {P = ShowsMore ShowsThatMore (take c.saturating_sub-left-2.result told) behind_fields new} c.push_more_if.result
     (λ so. before_others validation R most found (map input_field fields ++ map (λ _. more) told) old mid new
     (subst (λ l. ShowsMore ShowsEntry l old mid) first_are c.in_ok-push_rules.ensures)
     (before_others input_field R (most - length found) fields (map (λ _. more) told) mid behind_fields new
