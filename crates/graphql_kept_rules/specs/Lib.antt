@@ -1,0 +1,2 @@
+pub mod InputTypes
+pub mod SameTexts
