@@ -1,0 +1,3 @@
+mod SubscriptionLemmas
+mod TheoremLemmas
+mod VerdictLemmas
