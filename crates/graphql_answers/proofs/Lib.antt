@@ -1,1 +1,3 @@
 pub mod AnswerLemmas
+mod FileLemmas
+mod SessionLemmas

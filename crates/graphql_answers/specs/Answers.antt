@@ -1,5 +1,5 @@
 -- What is answered of bytes. Specification: 2.2 Document; 3 Type System; 5 Validation; 7.1.2 Errors.
-use Rattle.std.specs.Prelude.{◌≡◌, ◌-◌, ◌^◌, IsUtf8, ℕ, List, [], ◌∷◌, Bool, true, false, Contains, None, Option, Some, codes, map, take}
+use Rattle.std.specs.Prelude.{◌≡◌, IsUtf8, ℕ, List, [], ◌∷◌, Bool, true, false, Contains, None, Option, Some, codes, map, take}
 use Rattle.std.specs.List.{AllZip}
 use Rattle.json.specs.Print.{print}
 use Rattle.json.specs.Token.{Token}
@@ -23,6 +23,8 @@ use Rattle.graphql_answers.specs.declared.answers.Found.{Found}
 use Rattle.graphql_answers.specs.declared.answers.Found.TheVariants.{Nothing, InSchema, InDocuments}
 use Rattle.graphql_answers.specs.declared.answers.Refusal.{Refusal}
 use Rattle.graphql_answers.specs.declared.answers.Refusal.TheVariants.{OutOfMemory, NotUtf8}
+use Rattle.graphql_answers.specs.declared.limits.Limits.{Limits}
+use Rattle.graphql_answers.specs.declared.limits.TheConstants as constants
 
 -- a text that is of no file
 abbrev pub unnamed : SourceText → Text
@@ -37,11 +39,19 @@ abbrev pub schema_texts : List SourceText → List Text
 schema_texts (first ∷ own) = record { path = built_in_path; file_id = first.file_id; text = first.text.now } ∷ map unnamed own
 schema_texts [] = []
 
--- the object of all reports on these texts, and of this file, if they have no place. No memory holds more reports than are taken
-pub record AreErrorsOf (texts : List Text) (path : Option (List ℕ)) (sources : List SourceText) (reports : Reports) (object : List Token) : Type 0 where
+-- the object of the first reports on these texts, as many as an answer has at most, and of this file, if they have no place
+pub record AreFirstErrorsOf (limits : Limits) (texts : List Text) (path : Option (List ℕ)) (sources : List SourceText) (reports : Reports) (object : List Token) : Type 0 where
   pub shown : List ShownReport
-  pub shows : AllZip (Shows sources bounds.Bounds.DEFAULT) (take (2 ^ 64 - 1) (listed reports)) shown
+  pub shows : AllZip (Shows sources limits.bounds) (take limits.reports (listed reports)) shown
   pub object_is : object ≡ errors_object texts path shown
+
+-- the default bounds, and all reports that are kept
+abbrev pub default_limits : Limits
+default_limits = constants.Limits.DEFAULT
+
+-- the object of all reports that are kept, by the default bounds. No memory holds more reports than are taken
+abbrev pub AreErrorsOf : List Text → Option (List ℕ) → List SourceText → Reports → List Token → Type 0
+AreErrorsOf = AreFirstErrorsOf default_limits
 
 -- the object that says that the definitions are missing which every schema has
 pub record IsErrorOfLack (object : List Token) : Type 0 where
@@ -90,12 +100,16 @@ pub data FindsInSchema (schema : List ℕ) : Found → List ℕ → Type 0 where
       ReadsSchema bounds.Bounds.DEFAULT sources reading → IsObjectOfReading sources reading object → FindsInSchema schema (found_by_reading reading) (print object)
 
 -- whether something is reported of the text of these bytes, as a document, and the object of it
-pub data Checks (schema : Schema) (document : List ℕ) : Bool → List Token → Type 0 where
+pub data ChecksWithin (limits : Limits) (schema : Schema) (document : List ℕ) : Bool → List Token → Type 0 where
   reports_nothing : (source : SourceText) → IsTextOf document source →
-      ValidatesDocument bounds.Bounds.DEFAULT (Some schema) source None → Checks schema document false no_errors
+      ValidatesDocument limits.bounds (Some schema) source None → ChecksWithin limits schema document false no_errors
   reports_some : {reports : Reports} {object : List Token} (source : SourceText) → IsTextOf document source →
-      ValidatesDocument bounds.Bounds.DEFAULT (Some schema) source (Some reports) → AreErrorsOf (unnamed source ∷ []) None (source ∷ []) reports object →
-      Checks schema document true object
+      ValidatesDocument limits.bounds (Some schema) source (Some reports) → AreFirstErrorsOf limits (unnamed source ∷ []) None (source ∷ []) reports object →
+      ChecksWithin limits schema document true object
+
+-- the same by the default limits
+abbrev pub Checks : Schema → List ℕ → Bool → List Token → Type 0
+Checks = ChecksWithin default_limits
 
 -- why there is no answer
 pub data IsRefusalOf (texts : List (List ℕ)) : Refusal → Type 0 where

@@ -1,3 +1,6 @@
 pub mod Answers
 pub mod Batches
+pub mod Files
 pub mod Objects
+pub mod Sessions
+pub mod Written

@@ -31,6 +31,10 @@ pub enum Refusal {
     NotUtf8,
     /// A document ends before it begins, or behind the bytes that there are.
     BadEnds,
+    /// Options are shorter than this version of them.
+    ShortOptions,
+    /// No schema is kept.
+    NoSchema,
 }
 
 impl From<AllocError> for Refusal {

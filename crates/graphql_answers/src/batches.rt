@@ -7,6 +7,7 @@ ghost use Rattle.json.specs.Token.{Token};
 ghost use Rattle.graphql_frontend.specs.Schemas.{IsUsable};
 
 use crate::answers::{Answer, Found, Refusal};
+use crate::limits::Limits;
 use crate::objects::{add_document, add_nothing, lack_of_introspection, reports_of_schema};
 use crate::texts::text_of;
 use graphql_documents::documents::Schema;
@@ -112,7 +113,7 @@ fn add_one(json: &mut Writer, alloc: Global, schema: &Schema, text: &str) -> Res
             Ok(false)
         }
         Some(reports) => {
-            add_document(json, alloc, &reports, document)?;
+            add_document(json, alloc, &reports, document, Limits::DEFAULT)?;
             Ok(true)
         }
     }

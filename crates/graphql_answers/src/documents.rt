@@ -4,6 +4,7 @@ ghost use Rattle.std.specs.Prelude.{[], ◌∷◌, IfErr, IfOk, IsOkUnless};
 ghost use Rattle.graphql_answers.specs.Answers.{Finds, IsRefusalOf};
 
 use crate::answers::{Answer, Refusal};
+use crate::limits::Limits;
 use crate::objects::{lack_of_introspection, nothing, reports_of_document, reports_of_schema};
 use crate::texts::text_of;
 use graphql_frontend::{Verdict, document_source, schema_sources};
@@ -34,6 +35,8 @@ fn answer(alloc: Global, schema: &str, document: &str) -> Result<Answer, Refusal
         Verdict::Valid => nothing(alloc),
         Verdict::SchemaRejected(reports) => reports_of_schema(alloc, &reports, sources),
         Verdict::LacksIntrospection => lack_of_introspection(alloc),
-        Verdict::DocumentRejected(reports) => reports_of_document(alloc, &reports, document),
+        Verdict::DocumentRejected(reports) => {
+            reports_of_document(alloc, &reports, document, Limits::DEFAULT)
+        }
     }
 }

@@ -4,11 +4,17 @@
 pub mod answers;
 pub mod batches;
 pub mod documents;
+pub mod files;
+pub mod limits;
 mod objects;
 pub mod schemas;
+pub mod session_laws;
+pub mod sessions;
 mod texts;
 
 pub use answers::{Answer, Found, Refusal};
 pub use batches::{Batch, validate_each};
 pub use documents::validate;
+pub use files::SchemaFile;
+pub use limits::Limits;
 pub use schemas::validate_schema;

@@ -1,7 +1,7 @@
 //! Reports as JSON objects.
 
 ghost use Rattle.std.specs.Prelude.{◌≡◌, ◌++◌, [], ◌∷◌, IfOk, IsOkUnless, None, codes, map};
-ghost use Rattle.graphql_answers.specs.Answers.{AreErrorsOf, IsErrorOfLack, no_errors, schema_texts, unnamed};
+ghost use Rattle.graphql_answers.specs.Answers.{AreErrorsOf, AreFirstErrorsOf, IsErrorOfLack, no_errors, schema_texts, unnamed};
 ghost use Rattle.graphql_answers.specs.Objects.{AppendsOne, IsAnswer};
 ghost use Rattle.graphql_frontend.specs.Shown.{IsShownAs};
 ghost use Rattle.graphql_report_formats.specs.JsonReports.{Appends, errors_object};
@@ -9,9 +9,9 @@ ghost use Rattle.graphql_report_formats.specs.NamedTexts.{named_text, path_of};
 ghost use Rattle.json.specs.Print.{print};
 
 use crate::answers::{Answer, Found, Refusal};
+use crate::limits::Limits;
 use crate::texts::{schema_texts, unnamed};
 use graphql_frontend::{Reports, ShownReport, SourceText, shown_reports};
-use graphql_parser::Bounds;
 use graphql_report_formats::json_format;
 use graphql_report_formats::named_texts::{CountedSubject, Subject};
 use graphql_report_formats::schema_texts::BUILT_IN_TEXT;
@@ -47,14 +47,27 @@ pub(crate) fn reports_of_schema(
     ensures found { IfOk result (IsAnswer Found.InSchema (AreErrorsOf (schema_texts sources.entry) None sources.entry reports.now)) }
     ensures refused { IsOkUnless result Refusal.OutOfMemory }
 {
-    let mut json = Writer::new(Vec::new(alloc));
     let texts = schema_texts(sources);
     let subject = Subject {
         path: None,
         texts: texts.as_slice(),
         sources: sources.as_slice(),
     };
-    add_reports(&mut json, alloc, reports, subject)?;
+    reports_of_subject(alloc, reports, subject, Limits::DEFAULT)
+}
+
+/// The answer that these are reported of a schema, by the names of its texts.
+pub(crate) fn reports_of_subject(
+    alloc: Global,
+    reports: &Reports,
+    subject: Subject<'_>,
+    limits: Limits,
+) -> Result<Answer, Refusal>
+    ensures found { IfOk result (IsAnswer Found.InSchema (AreFirstErrorsOf limits (map named_text subject.entry.texts.now) (path_of subject.entry.path) subject.entry.sources.now reports.now)) }
+    ensures refused { IsOkUnless result Refusal.OutOfMemory }
+{
+    let mut json = Writer::new(Vec::new(alloc));
+    add_reports(&mut json, alloc, reports, subject, limits)?;
     Ok(answer(Found::InSchema, json))
 }
 
@@ -90,23 +103,25 @@ pub(crate) fn reports_of_document(
     alloc: Global,
     reports: &Reports,
     document: SourceText<'_>,
+    limits: Limits,
 ) -> Result<Answer, Refusal>
-    ensures found { IfOk result (IsAnswer Found.InDocuments (AreErrorsOf (unnamed document.entry ∷ []) None (document.entry ∷ []) reports.now)) }
+    ensures found { IfOk result (IsAnswer Found.InDocuments (AreFirstErrorsOf limits (unnamed document.entry ∷ []) None (document.entry ∷ []) reports.now)) }
     ensures refused { IsOkUnless result Refusal.OutOfMemory }
 {
     let mut json = Writer::new(Vec::new(alloc));
-    add_document(&mut json, alloc, reports, document)?;
+    add_document(&mut json, alloc, reports, document, limits)?;
     Ok(answer(Found::InDocuments, json))
 }
 
-/// Adds an object with the reports of a document.
+/// Adds an object with the first reports of a document.
 pub(crate) fn add_document(
     json: &mut Writer,
     alloc: Global,
     reports: &Reports,
     document: SourceText<'_>,
+    limits: Limits,
 ) -> Result<(), Refusal>
-    ensures added { AppendsOne result json.old json.new (AreErrorsOf (unnamed document.entry ∷ []) None (document.entry ∷ []) reports.now) }
+    ensures added { AppendsOne result json.old json.new (AreFirstErrorsOf limits (unnamed document.entry ∷ []) None (document.entry ∷ []) reports.now) }
     ensures refused { IsOkUnless result Refusal.OutOfMemory }
 {
     let texts = [unnamed(document)];
@@ -116,20 +131,25 @@ pub(crate) fn add_document(
         texts: texts.as_slice(),
         sources: sources.as_slice(),
     };
-    add_reports(json, alloc, reports, subject)
+    add_reports(json, alloc, reports, subject, limits)
 }
 
-/// Adds an object with these reports.
+/// Adds an object with the first of these reports.
 fn add_reports(
     json: &mut Writer,
     alloc: Global,
     reports: &Reports,
     subject: Subject<'_>,
+    limits: Limits,
 ) -> Result<(), Refusal>
-    ensures added { AppendsOne result json.old json.new (AreErrorsOf (map named_text subject.entry.texts.now) (path_of subject.entry.path) subject.entry.sources.now reports.now) }
+    ensures added { AppendsOne result json.old json.new (AreFirstErrorsOf limits (map named_text subject.entry.texts.now) (path_of subject.entry.path) subject.entry.sources.now reports.now) }
     ensures refused { IsOkUnless result Refusal.OutOfMemory }
 {
-    let shown = shown_reports(alloc, reports, subject.sources, Bounds::DEFAULT, usize::MAX)?;
+    let Limits {
+        bounds,
+        reports: most,
+    } = limits;
+    let shown = shown_reports(alloc, reports, subject.sources, bounds, most)?;
     add_shown(json, alloc, &shown, subject)
 }
 

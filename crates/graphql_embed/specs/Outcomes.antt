@@ -1,9 +1,10 @@
 -- Answers in numbers.
-use Rattle.std.specs.Prelude.{◌≡◌, ◌++◌, ℕ, List, drop, length, min, take}
+use Rattle.std.specs.Prelude.{◌≡◌, ℕ, List, length}
+use Rattle.graphql_answers.specs.Written.{written}
 use Rattle.graphql_answers.specs.declared.answers.Found.{Found}
 use Rattle.graphql_answers.specs.declared.answers.Found.TheVariants.{Nothing, InSchema, InDocuments}
 use Rattle.graphql_answers.specs.declared.answers.Refusal.{Refusal}
-use Rattle.graphql_answers.specs.declared.answers.Refusal.TheVariants.{OutOfMemory, NotUtf8, BadEnds}
+use Rattle.graphql_answers.specs.declared.answers.Refusal.TheVariants.{OutOfMemory, NotUtf8, BadEnds, ShortOptions, NoSchema}
 use Rattle.graphql_embed.specs.declared.outcomes.Outcome.{Outcome}
 
 abbrev pub status_of_found : Found → ℕ
@@ -18,12 +19,10 @@ number_of_found InDocuments = 2
 
 abbrev pub status_of_refusal : Refusal → ℕ
 status_of_refusal BadEnds = 2
+status_of_refusal ShortOptions = 2
 status_of_refusal OutOfMemory = 3
+status_of_refusal NoSchema = 4
 status_of_refusal NotUtf8 = 5
-
--- as much of the JSON as there is room for is written to the beginning, and the rest stays
-abbrev pub written : List ℕ → List ℕ → List ℕ
-written json old = let room = min (length old) (length json) in take room json ++ drop room old
 
 -- the outcome tells what was found and how long its JSON is, of which the beginning was written; or why there is no answer, and nothing was written
 pub data Tells (finds : Found → List ℕ → Type 0) (refuses : Refusal → Type 0) (outcome : Outcome) (old new : List ℕ) : Type 0 where

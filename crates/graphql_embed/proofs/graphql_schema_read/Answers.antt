@@ -1,0 +1,21 @@
+use Rattle.std.proofs.Common.{◌≡◌, subst}
+use Rattle.graphql_answers.specs.Files.{IsRefusalOfFiles}
+use Rattle.graphql_answers.specs.Sessions.{FindsInFiles, answer_in, schema_in}
+use Rattle.graphql_embed.specs.Options.{IsRefusalWith}
+use Rattle.graphql_embed.specs.Outcomes.{Tells}
+use Rattle.graphql_embed.proofs.OutcomeLemmas.{tells_short, tells_whole}
+use Rattle.graphql_embed.proofs.graphql_schema_read.Goals as goal
+
+pub returns-in-Ok-clause-tells : goal.returns-in-Ok-clause-tells
+returns-in-Ok-clause-tells c =
+    let options = c.args.options.now in
+    let files = c.args.files.now in
+    let kept = c.read_within.new.handle.kept in
+    subst (λ l. Tells (λ found json. FindsInFiles l files (schema_in kept) found json × (answer_in kept ≡ json)) (IsRefusalWith options (IsRefusalOfFiles files))
+    c.read_within.result c.args.out.now c.read_within.new.out) c.in-Ok.ensures
+    (tells_whole options c.read_within.result c.args.out.now c.read_within.new.out _ (IsRefusalOfFiles files) c.read_within.ensures.tells)
+
+pub returns-in-Err-clause-tells : goal.returns-in-Err-clause-tells
+returns-in-Err-clause-tells c =
+    tells_short c.args.options.now c.in-Err.refusal c.no_answer.result c.args.out.now _ (IsRefusalOfFiles c.args.files.now) c.in-Err.ensures.0 c.in-Err.ensures.1
+    c.no_answer.ensures.status c.no_answer.ensures.length
