@@ -2,7 +2,10 @@
 
    Each call is made once with all memory; then, for each of its requests, once with that one refused, and once with that
    and all further ones refused. It has to end with status 3, and `out` as it was, or with the same answer; and all that it
-   was given has to be given back. */
+   was given has to be given back.
+
+   Two calls are made on a handle. Without memory graphql_schema_read closes it, and graphql_schema_validate leaves its schema
+   as it was. */
 
 #include "graphql_validation.h"
 
@@ -65,6 +68,17 @@ static void read_file(text *into, const char *path) {
   fclose(file);
 }
 
+enum { READ_ACCEPTED = 6, READ_REPORTED = 7, VALIDATE_KEPT = 8 };
+
+static graphql_schema handle;
+
+static const graphql_options options = GRAPHQL_DEFAULT_OPTIONS;
+
+static graphql_outcome read_schema(const text *content, uint8_t *out) {
+  graphql_file file = {(const uint8_t *)"schema.graphql", 14, content->bytes, content->length};
+  return graphql_schema_read(&file, 1, &options, &handle, out, ROOM);
+}
+
 static graphql_outcome call(int which, uint8_t *out) {
   switch (which) {
   case 0:
@@ -77,30 +91,66 @@ static graphql_outcome call(int which, uint8_t *out) {
     return graphql_validate_schema(schema.bytes, schema.length, out, ROOM);
   case 4:
     return graphql_validate_schema(valid.bytes, valid.length, out, ROOM);
-  default:
+  case 5:
     return graphql_validate_all(schema.bytes, schema.length, both.bytes, both.length, ends, 2, out, ROOM);
+  case READ_ACCEPTED:
+    return read_schema(&schema, out);
+  case READ_REPORTED:
+    return read_schema(&valid, out);
+  default:
+    return graphql_schema_validate(&handle, faulty.bytes, faulty.length, &options, out, ROOM);
   }
 }
 
 /* The status that each call has with all memory. */
-static const uint32_t statuses[] = {0, 1, 1, 0, 1, 1};
+static const uint32_t statuses[] = {0, 1, 1, 0, 1, 1, 0, 1, 1};
 
 static uint8_t wanted[ROOM], got[ROOM], untouched[ROOM];
 
+/* Makes the handle as a call wants it. Which blocks the call may leave. */
+static long begin(int which) {
+  graphql_schema_free(&handle);
+  if (blocks != 0)
+    stop("a handle that is freed keeps memory");
+  refused_from = refused_to = 0;
+  if (which == VALIDATE_KEPT && read_schema(&schema, got).status != GRAPHQL_ACCEPTED)
+    stop("no schema is kept");
+  requests = 0;
+  return blocks;
+}
+
+/* The handle, after a call with status 3. */
+static void check_handle(int which) {
+  if (which == READ_ACCEPTED || which == READ_REPORTED) {
+    if (handle.at != NULL)
+      stop("something is kept without memory");
+  } else if (which == VALIDATE_KEPT) {
+    refused_from = refused_to = 0;
+    if (graphql_schema_answer(&handle, 0, got, ROOM) != 0)
+      stop("an answer is kept without memory");
+    graphql_outcome outcome = call(which, got);
+    if (outcome.status != GRAPHQL_REPORTED || memcmp(got, wanted, outcome.length) != 0)
+      stop("another schema is kept");
+  }
+}
+
 /* Makes a call with these requests refused. Whether it ended with status 3. */
 static int ends_well(int which, graphql_outcome whole, long from, long to) {
-  requests = 0;
+  long before = begin(which);
   refused_from = from;
   refused_to = to;
   memset(got, FILLING, ROOM);
   graphql_outcome outcome = call(which, got);
-  if (blocks != 0)
-    stop("memory is not given back");
   if (outcome.status == GRAPHQL_OUT_OF_MEMORY) {
+    if (blocks > before)
+      stop("memory is not given back");
     if (outcome.length != 0 || outcome.reported != 0 || memcmp(got, untouched, ROOM) != 0)
       stop("something is answered without memory");
+    check_handle(which);
     return 1;
   }
+  if (which < READ_ACCEPTED && blocks != 0)
+    stop("memory is not given back");
   if (memcmp(&outcome, &whole, sizeof whole) != 0 || memcmp(got, wanted, ROOM) != 0)
     stop("another answer");
   return 0;
@@ -120,15 +170,16 @@ int main(int count, char **words) {
   memset(untouched, FILLING, ROOM);
   long refused = 0, ended = 0;
   for (int which = 0; which < (int)(sizeof statuses / sizeof *statuses); which++) {
-    requests = refused_from = refused_to = 0;
+    begin(which);
     memset(wanted, FILLING, ROOM);
     graphql_outcome whole = call(which, wanted);
-    if (whole.status != statuses[which] || blocks != 0)
+    if (whole.status != statuses[which])
       stop("the call without refusals");
     long all = requests;
     for (long at = 1; at <= all; at++, refused += 2)
       ended += ends_well(which, whole, at, at) + ends_well(which, whole, at, all);
   }
+  begin(0);
   if (refused == 0 || ended == 0)
     stop("nothing was refused");
   printf("%ld calls with refused memory: %ld ended with status 3, the others with the same answer\n", refused, ended);
