@@ -3,10 +3,11 @@
 import sys
 from pathlib import Path
 
-from graphql_validation import validate_all
+from graphql_validation import Schema
 
-schema, *documents = (Path(path).read_bytes().decode() for path in sys.argv[1:])
-for reports in validate_all(schema, documents):
-    for report in reports:
-        place = report.locations[0]
-        print(f"{place.line}:{place.column}: {report.message}")
+text, *documents = (Path(path).read_bytes().decode() for path in sys.argv[1:])
+with Schema(text) as schema:
+    for document in documents:
+        for report in schema.validate(document):
+            place = report.locations[0]
+            print(f"{place.line}:{place.column}: {report.message}")

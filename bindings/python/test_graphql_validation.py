@@ -1,7 +1,16 @@
 import threading
 import unittest
 
-from graphql_validation import Location, Report, SchemaReported, validate, validate_all, validate_schema
+from graphql_validation import (
+    Location,
+    Options,
+    Report,
+    Schema,
+    SchemaReported,
+    validate,
+    validate_all,
+    validate_schema,
+)
 
 SCHEMA = "type Query { pet(id: ID!): Pet } type Pet { name: String }"
 VALID = "{ pet(id: 1) { name } }"
@@ -72,6 +81,80 @@ class Calls(unittest.TestCase):
         for thread in threads:
             thread.join()
         self.assertEqual(wrong, [])
+
+
+class Schemas(unittest.TestCase):
+    def test_documents_are_validated_as_often_as_wanted(self):
+        with Schema(SCHEMA) as schema:
+            for _ in range(100):
+                self.assertEqual(schema.validate(VALID), [])
+                self.assertEqual(schema.validate(REPEATED), validate(SCHEMA, REPEATED))
+
+    def test_answers_longer_than_the_room_are_whole(self):
+        document = "{" + " ".join(f"a{number}" for number in range(500)) + "}"
+        with Schema(SCHEMA) as schema:
+            self.assertEqual(schema.validate(document), validate(SCHEMA, document))
+
+    def test_a_schema_that_does_not_hold_is_raised(self):
+        with self.assertRaises(SchemaReported) as raised:
+            Schema("type Pet { name: String }")
+        self.assertEqual(raised.exception.reports, validate_schema("type Pet { name: String }"))
+
+    def test_reports_name_the_files_of_a_schema(self):
+        files = {"query.graphql": "type Query { a: Int }", "pet.graphql": "type Pet { a: Int } type Pet { b: Int }"}
+        with self.assertRaises(SchemaReported) as raised:
+            Schema(files=files)
+        [report] = raised.exception.reports
+        self.assertEqual((report.rule, report.file), ("TypeDefinitionCollision", "pet.graphql"))
+        files["pet.graphql"] = "extend type Query { b: Int }"
+        with Schema(files=files) as schema:
+            self.assertEqual(schema.validate("{ a b }"), [])
+
+    def test_options_are_bounds(self):
+        deep = "{ a { a { a { b } } } }"
+        text = "type Query { a: Query b: Int }"
+        with Schema(text) as schema, Schema(text, options=Options(depth=3)) as shallow:
+            self.assertEqual(schema.validate(deep), [])
+            [report] = shallow.validate(deep)
+            self.assertEqual(report.rule, "Syntax")
+            self.assertEqual(shallow.validate(deep, Options()), [])
+            wrong = "{ c d e }"
+            first = schema.validate(wrong)
+            self.assertEqual(len(first), 3)
+            self.assertEqual(schema.validate(wrong, Options(max_reports=2)), first[:2])
+
+    def test_a_schema_belongs_to_its_thread_until_it_is_closed(self):
+        schema = Schema(SCHEMA)
+        raised = []
+
+        def call():
+            try:
+                schema.validate(VALID)
+            except RuntimeError:
+                raised.append(True)
+
+        thread = threading.Thread(target=call)
+        thread.start()
+        thread.join()
+        self.assertEqual(raised, [True])
+        schema.close()
+        schema.close()
+        with self.assertRaises(ValueError):
+            schema.validate(VALID)
+
+    def test_threads_have_schemas_of_their_own(self):
+        counts = []
+
+        def call():
+            with Schema(SCHEMA) as schema:
+                counts.append(sum(len(schema.validate(REPEATED)) for _ in range(50)))
+
+        threads = [threading.Thread(target=call) for _ in range(8)]
+        for thread in threads:
+            thread.start()
+        for thread in threads:
+            thread.join()
+        self.assertEqual(counts, [50] * 8)
 
 
 if __name__ == "__main__":

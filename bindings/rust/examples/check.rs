@@ -6,6 +6,7 @@ fn main() -> Result<(), Box<dyn Error>> {
     let mut paths = std::env::args().skip(1);
     let schema = std::fs::read_to_string(paths.next().ok_or("a schema is needed")?)?;
     let document = std::fs::read_to_string(paths.next().ok_or("a document is needed")?)?;
-    print!("{}", graphql_validation::validate_json(&schema, &document)?);
+    let schema = graphql_validation::Schema::read(&schema)?;
+    print!("{}", schema.validate_json(&document)?);
     Ok(())
 }

@@ -1,43 +1,45 @@
-//! The calls of `include/graphql_validation.h`.
+//! The calls of `include/graphql_validation.h`. No other module has unsafe code.
 
-use crate::Report;
-use std::fmt;
-
-/// Why a call has no answer.
-#[derive(Clone, Debug, PartialEq, Eq)]
-pub enum Error {
-    OutOfMemory,
-    /// No document was looked at, since this is reported of the schema.
-    SchemaReported(Vec<Report>),
-    /// The library has another version of its calls than this crate.
-    OtherVersion,
-    /// The library answered what this crate does not know.
-    UnknownAnswer,
-}
-
-impl fmt::Display for Error {
-    fn fmt(&self, f: &mut fmt::Formatter<'_>) -> fmt::Result {
-        f.write_str(match self {
-            Error::OutOfMemory => "out of memory",
-            Error::SchemaReported(_) => "the schema is reported",
-            Error::OtherVersion => "the library has another version of its calls",
-            Error::UnknownAnswer => "the library answered in an unknown form",
-        })
-    }
-}
-
-impl std::error::Error for Error {}
+use crate::{Error, File, Options};
+use std::ffi::c_void;
+use std::ptr::null_mut;
 
 /// The version of the calls that are declared here.
-const VERSION: u32 = 1;
+const VERSION: u32 = 2;
 
 const IN_SCHEMA: u32 = 1;
+
+/// How many bytes an answer has, before more room is asked for.
+const ROOM: usize = 4096;
 
 #[repr(C)]
 struct Outcome {
     status: u32,
     reported: u32,
     length: usize,
+}
+
+#[repr(C)]
+struct SchemaHandle {
+    at: *mut c_void,
+}
+
+#[repr(C)]
+struct CFile {
+    name: *const u8,
+    name_length: usize,
+    text: *const u8,
+    text_length: usize,
+}
+
+#[repr(C)]
+struct COptions {
+    size: usize,
+    depth: usize,
+    tokens: usize,
+    reach: usize,
+    work: usize,
+    max_reports: usize,
 }
 
 extern "C" {
@@ -65,7 +67,124 @@ extern "C" {
         out: *mut u8,
         out_length: usize,
     ) -> Outcome;
+    fn graphql_schema_read(
+        files: *const CFile,
+        count: usize,
+        options: *const COptions,
+        schema: *mut SchemaHandle,
+        out: *mut u8,
+        out_length: usize,
+    ) -> Outcome;
+    fn graphql_schema_validate(
+        schema: *mut SchemaHandle,
+        document: *const u8,
+        document_length: usize,
+        options: *const COptions,
+        out: *mut u8,
+        out_length: usize,
+    ) -> Outcome;
+    fn graphql_schema_answer(
+        schema: *mut SchemaHandle,
+        from: usize,
+        out: *mut u8,
+        out_length: usize,
+    ) -> usize;
+    fn graphql_schema_free(schema: *mut SchemaHandle);
     fn graphql_abi_version() -> u32;
+}
+
+/// An answer, and whether it is about the schema.
+pub(crate) type Answer = (String, bool);
+
+/// What the library keeps of a schema. It has a pointer, so it stays on its thread.
+pub(crate) struct Kept {
+    handle: SchemaHandle,
+    out: Vec<u8>,
+}
+
+impl Kept {
+    /// Reads the schema of these files, and answers what is reported of it.
+    pub(crate) fn read(files: &[File<'_>], options: &Options) -> Result<(Kept, Answer), Error> {
+        check_version()?;
+        let given: Vec<CFile> = files.iter().map(c_file).collect();
+        let mut kept = Kept {
+            handle: SchemaHandle { at: null_mut() },
+            out: vec![0; ROOM],
+        };
+        // SAFETY: pointers and lengths are those of slices that are borrowed for the call; the handle is zeroed, and it and
+        // `out` are no part of the others.
+        let outcome = unsafe {
+            graphql_schema_read(
+                given.as_ptr(),
+                given.len(),
+                &c_options(options),
+                &mut kept.handle,
+                kept.out.as_mut_ptr(),
+                kept.out.len(),
+            )
+        };
+        let answer = kept.answer(outcome)?;
+        Ok((kept, answer))
+    }
+
+    /// Validates a document against the schema that is kept.
+    pub(crate) fn validate(&mut self, document: &str, options: &Options) -> Result<Answer, Error> {
+        // SAFETY: as in `read`; the handle was read on this thread, and is borrowed for this call alone.
+        let outcome = unsafe {
+            graphql_schema_validate(
+                &mut self.handle,
+                document.as_ptr(),
+                document.len(),
+                &c_options(options),
+                self.out.as_mut_ptr(),
+                self.out.len(),
+            )
+        };
+        self.answer(outcome)
+    }
+
+    /// The whole answer of the last call, of which the beginning was written.
+    fn answer(&mut self, outcome: Outcome) -> Result<Answer, Error> {
+        check_status(&outcome)?;
+        let written = outcome.length.min(self.out.len());
+        let mut answer = self.out[..written].to_vec();
+        answer.resize(outcome.length, 0);
+        let rest = &mut answer[written..];
+        if !rest.is_empty() {
+            // SAFETY: as in `validate`.
+            unsafe {
+                graphql_schema_answer(&mut self.handle, written, rest.as_mut_ptr(), rest.len());
+            }
+        }
+        text(answer, &outcome)
+    }
+}
+
+impl Drop for Kept {
+    fn drop(&mut self) {
+        // SAFETY: the handle is zeroed or was read on this thread, and no call uses it.
+        unsafe { graphql_schema_free(&mut self.handle) }
+    }
+}
+
+fn c_file(file: &File<'_>) -> CFile {
+    CFile {
+        name: file.name.as_ptr(),
+        name_length: file.name.len(),
+        text: file.text.as_ptr(),
+        text_length: file.text.len(),
+    }
+}
+
+fn c_options(options: &Options) -> COptions {
+    COptions {
+        size: std::mem::size_of::<COptions>(),
+        depth: options.depth,
+        tokens: options.tokens,
+        reach: options.reach,
+        work: options.work,
+        max_reports: options.max_reports,
+    }
 }
 
 /// The answer to `graphql_validate` as it is: a JSON object, `{"errors":[..]}`.
@@ -74,7 +193,7 @@ pub fn validate_json(schema: &str, document: &str) -> Result<String, Error> {
 }
 
 /// The answer on a document, and whether the schema is reported.
-pub(crate) fn document(schema: &str, document: &str) -> Result<(String, bool), Error> {
+pub(crate) fn document(schema: &str, document: &str) -> Result<Answer, Error> {
     // SAFETY: pointers and lengths are those of slices that are borrowed for the call; `out` is no part of the others.
     answer(|out| unsafe {
         graphql_validate(
@@ -89,7 +208,7 @@ pub(crate) fn document(schema: &str, document: &str) -> Result<(String, bool), E
 }
 
 /// The answer on a schema, and whether it is reported.
-pub(crate) fn schema(schema: &str) -> Result<(String, bool), Error> {
+pub(crate) fn schema(schema: &str) -> Result<Answer, Error> {
     // SAFETY: as in `document`.
     answer(|out| unsafe {
         graphql_validate_schema(
@@ -102,7 +221,7 @@ pub(crate) fn schema(schema: &str) -> Result<(String, bool), Error> {
 }
 
 /// The answer on documents, and whether the schema is reported.
-pub(crate) fn documents(schema: &str, documents: &[&str]) -> Result<(String, bool), Error> {
+pub(crate) fn documents(schema: &str, documents: &[&str]) -> Result<Answer, Error> {
     let whole = documents.concat();
     let ends: Vec<usize> = documents
         .iter()
@@ -127,24 +246,38 @@ pub(crate) fn documents(schema: &str, documents: &[&str]) -> Result<(String, boo
 }
 
 /// Calls with as much room as the answer needs.
-fn answer(call: impl Fn(&mut [u8]) -> Outcome) -> Result<(String, bool), Error> {
-    // SAFETY: the call takes nothing.
-    if unsafe { graphql_abi_version() } != VERSION {
-        return Err(Error::OtherVersion);
-    }
-    let mut out = vec![0; 4096];
+fn answer(call: impl Fn(&mut [u8]) -> Outcome) -> Result<Answer, Error> {
+    check_version()?;
+    let mut out = vec![0; ROOM];
     loop {
         let outcome = call(&mut out);
-        match outcome.status {
-            0 | 1 => {}
-            3 => return Err(Error::OutOfMemory),
-            _ => return Err(Error::UnknownAnswer),
-        }
+        check_status(&outcome)?;
         if outcome.length <= out.len() {
             out.truncate(outcome.length);
-            let text = String::from_utf8(out).map_err(|_| Error::UnknownAnswer)?;
-            return Ok((text, outcome.reported == IN_SCHEMA));
+            return text(out, &outcome);
         }
         out.resize(outcome.length, 0);
     }
+}
+
+fn check_version() -> Result<(), Error> {
+    // SAFETY: the call takes nothing.
+    if unsafe { graphql_abi_version() } == VERSION {
+        Ok(())
+    } else {
+        Err(Error::OtherVersion)
+    }
+}
+
+fn check_status(outcome: &Outcome) -> Result<(), Error> {
+    match outcome.status {
+        0 | 1 => Ok(()),
+        3 => Err(Error::OutOfMemory),
+        _ => Err(Error::UnknownAnswer),
+    }
+}
+
+fn text(answer: Vec<u8>, outcome: &Outcome) -> Result<Answer, Error> {
+    let text = String::from_utf8(answer).map_err(|_| Error::UnknownAnswer)?;
+    Ok((text, outcome.reported == IN_SCHEMA))
 }

@@ -1,16 +1,25 @@
 //! Validation of GraphQL schemas and documents.
 //!
-//! Each call wants 2 MiB of stack, which a thread of Rust has.
+//! `Schema` reads a schema once, and validates documents against it. The functions read a schema at each call. Each call
+//! needs 2 MiB of stack, which a thread of Rust has, or less with a lower depth (`Options`).
 
+#![deny(unsafe_code, missing_docs)]
+
+#[allow(unsafe_code)]
 mod calls;
+mod errors;
 mod json;
+mod schemas;
 
-pub use calls::{validate_json, Error};
+pub use calls::validate_json;
+pub use errors::Error;
 use json::Value;
+pub use schemas::{File, Options, Schema};
 
 /// What is wrong with a text.
 #[derive(Clone, Debug, PartialEq, Eq)]
 pub struct Report {
+    /// What is wrong.
     pub message: String,
     /// The name of the broken rule; `Syntax` where the text is no document.
     pub rule: String,
@@ -20,12 +29,16 @@ pub struct Report {
     pub span: Option<std::ops::Range<usize>>,
     /// Whether it is about the schema. No document was then looked at.
     pub in_schema: bool,
+    /// The file of the schema, if it has a name; `<built-in>` for the definitions that every schema has.
+    pub file: Option<String>,
 }
 
 /// A line and a column, from 1. A column counts characters.
 #[derive(Clone, Copy, Debug, PartialEq, Eq)]
 pub struct Location {
+    /// The line.
     pub line: usize,
+    /// The column.
     pub column: usize,
 }
 
@@ -79,6 +92,10 @@ fn report(error: &Value, in_schema: bool) -> Option<Report> {
             None => None,
         },
         in_schema,
+        file: extensions
+            .member("file")
+            .and_then(Value::text)
+            .map(str::to_owned),
     })
 }
 

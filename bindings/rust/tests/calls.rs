@@ -17,6 +17,7 @@ fn repeated() -> Report {
         ],
         span: Some(16..21),
         in_schema: false,
+        file: None,
     }
 }
 

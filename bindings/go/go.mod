@@ -1,0 +1,3 @@
+module graphqlvalidation
+
+go 1.19

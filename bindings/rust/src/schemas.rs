@@ -1,0 +1,86 @@
+//! Schemas that are read once.
+
+use crate::calls::Kept;
+use crate::{read, reports, Error, Report};
+use std::cell::RefCell;
+
+/// A schema that is read once, and documents against it.
+///
+/// It stays on the thread that read it; each thread reads one of its own. Calls need 2 MiB of stack, which a thread of Rust
+/// has, or less with a lower depth.
+///
+/// ```
+/// let schema = graphql_validation::Schema::read("type Query { a: Int }")?;
+/// assert!(schema.validate("{ a }")?.is_empty());
+/// assert_eq!(schema.validate("{ b }")?[0].rule, "UndefinedField");
+/// # Ok::<(), graphql_validation::Error>(())
+/// ```
+///
+/// ```compile_fail
+/// let schema = graphql_validation::Schema::read("type Query { a: Int }").unwrap();
+/// std::thread::spawn(move || schema.validate("{ a }"));
+/// ```
+pub struct Schema {
+    kept: RefCell<Kept>,
+    options: Options,
+}
+
+/// A file of a schema.
+#[derive(Clone, Copy, Debug)]
+pub struct File<'a> {
+    /// What reports call it. Reports do not name a file whose name is empty.
+    pub name: &'a str,
+    /// What it has.
+    pub text: &'a str,
+}
+
+/// What a call may take. 0 says the default, which `include/graphql_validation.h` states.
+#[derive(Clone, Copy, Debug, Default, PartialEq, Eq)]
+pub struct Options {
+    /// How many brackets and braces open in one another. A thread with a small stack passes a lower one.
+    pub depth: usize,
+    /// How many tokens a text has.
+    pub tokens: usize,
+    /// How many bytes the operations of a document reach for each byte of it.
+    pub reach: usize,
+    /// How much work the search for fields takes that cannot be merged.
+    pub work: usize,
+    /// How many reports a call gives: the first ones.
+    pub max_reports: usize,
+}
+
+impl Schema {
+    /// Reads a schema. If something is reported of it, the error is `SchemaReported`.
+    pub fn read(text: &str) -> Result<Schema, Error> {
+        Schema::read_files(&[File { name: "", text }], &Options::default())
+    }
+
+    /// Reads a schema from files. The options hold for this call, and for the documents that are validated without options.
+    pub fn read_files(files: &[File<'_>], options: &Options) -> Result<Schema, Error> {
+        let (kept, (answer, in_schema)) = Kept::read(files, options)?;
+        if in_schema {
+            return Err(Error::SchemaReported(reports(&read(&answer)?, true)?));
+        }
+        Ok(Schema {
+            kept: RefCell::new(kept),
+            options: *options,
+        })
+    }
+
+    /// What is reported of a document: nothing, if it is valid.
+    pub fn validate(&self, document: &str) -> Result<Vec<Report>, Error> {
+        self.validate_within(document, &self.options)
+    }
+
+    /// What is reported of a document within these bounds.
+    pub fn validate_within(&self, document: &str, options: &Options) -> Result<Vec<Report>, Error> {
+        let (answer, _) = self.kept.borrow_mut().validate(document, options)?;
+        reports(&read(&answer)?, false)
+    }
+
+    /// The answer on a document as it is: a JSON object, `{"errors":[..]}`.
+    pub fn validate_json(&self, document: &str) -> Result<String, Error> {
+        let (answer, _) = self.kept.borrow_mut().validate(document, &self.options)?;
+        Ok(answer)
+    }
+}
