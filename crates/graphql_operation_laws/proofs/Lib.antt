@@ -1,0 +1,10 @@
+pub mod AgreementLemmas
+pub mod DeferLemmas
+pub mod FurtherReportLemmas
+pub mod MergingLemmas
+pub mod OperationRuleLemmas
+pub mod PlaceLemmas
+pub mod ReportLemmas
+pub mod RootLemmas
+pub mod UsageLemmas
+pub mod UseLemmas
