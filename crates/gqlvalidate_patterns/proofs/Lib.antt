@@ -1,0 +1,3 @@
+pub mod EitherLemmas
+pub mod MatchingLemmas
+pub mod RowLemmas

@@ -1,0 +1,2 @@
+pub mod OperationTrees
+pub mod Projects

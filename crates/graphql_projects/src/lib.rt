@@ -1,0 +1,2 @@
+//! What it means that a project is valid: files whose operations spread each other's fragments.
+#![tactic(auto)]
