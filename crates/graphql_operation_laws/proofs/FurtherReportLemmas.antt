@@ -55,7 +55,7 @@ module _ (a b : Fragments) where
       among_back (collects_past_spread {seen = seen} {rest = rest} p why more) set within agree =
           let reached : Reachable a set (kind.FragmentSpread p) = reachable_inside (set, includes_itself, within (kind.FragmentSpread p) (stands_first (kind.FragmentSpread p) rest)) in
           let still : IsTrue (stands_on seen p.value.value.fragment_name) ⊎ (a p.value.value.fragment_name ≡ None) =
-              elim why [ inl known ↦ inl known | inr undefined ↦ inr (none_back a b p reached agree undefined) ] in
+          elim why [ inl known ↦ inl known | inr undefined ↦ inr (none_back a b p reached agree undefined) ] in
           collects_past_spread p still (among_back more set (λ s c. within s (stands_behind (kind.FragmentSpread p) rest s c)) agree)
       among_back (collects_spread {parent = parent} {seen = seen} {between = between} {rest = rest} {within = collected} p e new defined inside more) set within agree =
           let reached : Reachable a set (kind.FragmentSpread p) = reachable_inside (set, includes_itself, within (kind.FragmentSpread p) (stands_first (kind.FragmentSpread p) rest)) in
