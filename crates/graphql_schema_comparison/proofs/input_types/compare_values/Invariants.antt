@@ -1,0 +1,16 @@
+use Rattle.std.proofs.Common.{◌≡◌, ◌++◌, List, All}
+use Rattle.std.specs.Prelude.{IsTrue}
+use Rattle.graphql_nodes.specs.Names.{NameText}
+use Rattle.graphql_documents.specs.declared.documents.components.Component.{Component}
+use Rattle.graphql_documents.specs.declared.documents.definitions.EnumValueDefinition.{EnumValueDefinition}
+use Rattle.graphql_schema_comparison.specs.Comparisons.{KeepsEnumValue}
+use Rattle.graphql_schema_comparison.proofs.input_types.compare_values.Given as goal
+
+abbrev pub invariant-loop-name : goal.invariant-loop-name
+invariant-loop-name l = record {
+  can_next : (goal.iterator-loop-name).can_next l.name-iterator;
+  is_finite : (goal.iterator-loop-name).is_finite l.name-iterator;
+  done : List (NameText × Component EnumValueDefinition);
+  all : l.initial.name-iterator ≡ done ++ l.name-iterator;
+  kept : IsTrue l.keeps → All (λ entry. KeepsEnumValue l.new entry.0) done;
+}

@@ -1,0 +1,51 @@
+//! The changes that are found.
+
+ghost use Rattle.std.specs.Prelude.{IsTrue};
+
+use crate::changes::{Change, SchemaChange};
+use graphql_documents::documents::Schema;
+use graphql_hash_seeds::HashSeed;
+use graphql_nodes::{SourceSpan, ValidationError};
+use std::alloc::Global;
+
+/// Whether both hold. A call keeps what the two say apart for a proof, where `&&` in a loop does not.
+pub(crate) fn both(first: bool, second: bool) -> bool
+    ensures { IsTrue result → IsTrue first × IsTrue second }
+{
+    first && second
+}
+
+/// Two schemas: the old one and the new one.
+#[derive(Clone, Copy)]
+pub(crate) struct SchemaPair<'a> {
+    pub old: &'a Schema,
+    pub new: &'a Schema,
+}
+
+/// The places of a change in the old schema and in the new one.
+#[derive(Clone, Copy)]
+pub(crate) struct Places {
+    pub old: Option<SourceSpan>,
+    pub new: Option<SourceSpan>,
+}
+
+/// Changes in the order in which they were found, and the seed by which names are hashed.
+#[derive(Drop)]
+pub(crate) struct ChangeList {
+    pub changes: Vec<SchemaChange>,
+    pub hash_seed: HashSeed,
+}
+
+impl ChangeList {
+    /// The allocator of the list.
+    pub fn allocator(&self) -> Global {
+        *self.changes.allocator()
+    }
+
+    /// Adds a change at the end.
+    pub fn push(&mut self, change: Change, places: Places) -> Result<(), ValidationError> {
+        let Places { old, new } = places;
+        self.changes.push(SchemaChange { change, old, new })?;
+        Ok(())
+    }
+}

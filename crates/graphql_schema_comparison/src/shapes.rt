@@ -1,0 +1,59 @@
+//! The shapes of the types of fields, by which fields merge.
+
+use crate::fields::names_leaf_type;
+use graphql_documents::documents::{Schema, Type};
+use graphql_nodes::{Name, NamedType, ValidationError};
+use std::alloc::Global;
+
+/// What of a type decides whether two fields can come under one response key: its lists, where it is non-null, and its scalar
+/// or enum, or that it is composite.
+///
+/// Specification: 5.3.2 Field Selection Merging, SameResponseShape.
+#[derive(Debug, Drop, PartialEq, Eq, Hash)]
+pub(crate) enum Shape {
+    Leaf(Name),
+    NonNullLeaf(Name),
+    Composite,
+    NonNullComposite,
+    List(Box<Shape>),
+    NonNullList(Box<Shape>),
+}
+
+/// The shape of a type in a schema.
+pub(crate) fn shape_of(
+    alloc: Global,
+    schema: &Schema,
+    ty: &Type,
+) -> Result<Shape, ValidationError> {
+    match ty {
+        Type::Named(name) => match leaf_name(alloc, schema, name)? {
+            Some(name) => Ok(Shape::Leaf(name)),
+            None => Ok(Shape::Composite),
+        },
+        Type::NonNullNamed(name) => match leaf_name(alloc, schema, name)? {
+            Some(name) => Ok(Shape::NonNullLeaf(name)),
+            None => Ok(Shape::NonNullComposite),
+        },
+        Type::List(item) => {
+            let item = shape_of(alloc, schema, item)?;
+            Ok(Shape::List(Box::new(alloc, item)?))
+        }
+        Type::NonNullList(item) => {
+            let item = shape_of(alloc, schema, item)?;
+            Ok(Shape::NonNullList(Box::new(alloc, item)?))
+        }
+    }
+}
+
+/// The name of a scalar or an enum.
+fn leaf_name(
+    alloc: Global,
+    schema: &Schema,
+    name: &NamedType,
+) -> Result<Option<Name>, ValidationError> {
+    if names_leaf_type(schema, name) {
+        Ok(Some(name.clone_in(alloc)?))
+    } else {
+        Ok(None)
+    }
+}
