@@ -1,8 +1,8 @@
 //! Reports as workflow commands of GitHub Actions, a line a report, which become annotations.
 
 use crate::printable::printable_character;
-use graphql_frontend::ShownReport;
 use graphql_report_formats::named_texts::{CountedSubject, shown_name};
+use graphql_shown_reports::ShownReport;
 use std::alloc::AllocError;
 use std::fmt;
 

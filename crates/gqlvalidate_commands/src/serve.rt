@@ -11,14 +11,13 @@ use crate::schema_files::{named_schema, texts_of};
 use crate::sources::explain_input;
 use crate::statuses::Status;
 use graphql_documents::documents::Schema;
-use graphql_frontend::{
-    Reports, SchemaReading, SourceText, read_schema, shown_reports, validate_document,
-};
+use graphql_frontend::{Reports, SchemaReading, SourceText, read_schema, validate_document};
 use graphql_nodes::FileId;
 use graphql_parser::Bounds;
 use graphql_report_formats::json_format::{add_reports, begin_errors};
 use graphql_report_formats::named_texts::{CountedSubject, NamedText, Subject};
 use graphql_report_formats::schema_texts::{schema_subject, sources_of};
+use graphql_shown_reports::shown_reports;
 use json::{Scratch, Writer};
 use std::alloc::{AllocError, Global};
 use std::io;

@@ -3,8 +3,8 @@
 use crate::excerpts::{Line, shown_beginning, shown_end};
 use crate::presentations::Palette;
 use crate::printable::Printable;
-use graphql_frontend::ShownReport;
 use graphql_report_formats::named_texts::{CountedSubject, Located, shown_name};
+use graphql_shown_reports::ShownReport;
 use std::alloc::{AllocError, Global};
 use unicode_width::UnicodeWidthStr;
 
