@@ -2,7 +2,7 @@ use crate::bounds::{bounds_of, bounds_of_answers};
 use crate::check::{Paths, check};
 use crate::faults::{Fault, fault_of_output, fault_of_words};
 use crate::presentations::Presentation;
-use crate::printable::printable_words;
+use gqlvalidate_formats::printable::printable_words;
 use crate::schemas::check_schema;
 use crate::serve::{Allowance, serve};
 use crate::statuses::Status;

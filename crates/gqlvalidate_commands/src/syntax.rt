@@ -5,7 +5,7 @@ ghost use Rattle.graphql_parser.specs.Parses.{ParsesDocument};
 ghost use Rattle.graphql_trees.specs.declared.documents.Document.{Document};
 
 use crate::faults::{Fault, fault_of_output};
-use crate::printable::Printable;
+use gqlvalidate_formats::printable::Printable;
 use crate::sources::{shown_path, text_or_said};
 use crate::statuses::Status;
 use graphql_nodes::FileId;
