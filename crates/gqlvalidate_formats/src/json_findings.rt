@@ -1,5 +1,6 @@
 //! Findings as one JSON object, version 1: `docs/report.schema.json` describes it.
 
+use crate::files::file_of;
 use crate::runs::Run;
 use crate::texts::Texts;
 use graphql_findings::Finding;
@@ -62,17 +63,15 @@ fn add_finding(
     texts: Texts<'_>,
 ) -> Result<(), AllocError> {
     let report = &finding.report;
+    let located = texts.locate(report.location);
     json.begin_object()?;
-    match texts.locate(report.location) {
-        Some(located) => add_place(json, located)?,
-        None => add_file(json, texts.path())?,
+    add_text(json, "file", file_of(finding, texts))?;
+    add_text(json, "rule", report.rule)?;
+    add_text(json, "severity", "error")?;
+    add_text(json, "message", report.message.as_str())?;
+    if let Some(located) = located {
+        add_span(json, located)?;
     }
-    json.key("rule")?;
-    json.string(report.rule)?;
-    json.key("severity")?;
-    json.string("error")?;
-    json.key("message")?;
-    json.string(report.message.as_str())?;
     json.key("related")?;
     json.begin_array()?;
     add_notes(json, &finding.notes, texts)?;
@@ -84,18 +83,17 @@ fn add_notes(json: &mut Writer, notes: &[Note], texts: Texts<'_>) -> Result<(), 
     for note in notes {
         if let Some(located) = texts.locate(Some(note.place)) {
             json.begin_object()?;
-            add_place(json, located)?;
-            json.key("message")?;
-            json.string(note.message.as_str())?;
+            add_text(json, "file", shown_name(located.path))?;
+            add_text(json, "message", note.message.as_str())?;
+            add_span(json, located)?;
             json.end_object()?;
         }
     }
     Ok(())
 }
 
-/// Adds the file and the part of it.
-fn add_place(json: &mut Writer, located: Located<'_>) -> Result<(), AllocError> {
-    add_file(json, located.path)?;
+/// Adds the part of the file.
+fn add_span(json: &mut Writer, located: Located<'_>) -> Result<(), AllocError> {
     json.key("span")?;
     json.begin_object()?;
     json.key("start")?;
@@ -105,9 +103,9 @@ fn add_place(json: &mut Writer, located: Located<'_>) -> Result<(), AllocError> 
     json.end_object()
 }
 
-fn add_file(json: &mut Writer, path: Option<&str>) -> Result<(), AllocError> {
-    json.key("file")?;
-    json.string(shown_name(path))
+fn add_text(json: &mut Writer, name: &str, text: &str) -> Result<(), AllocError> {
+    json.key(name)?;
+    json.string(text)
 }
 
 /// Adds one end of a part: its line, its column, and its byte.
