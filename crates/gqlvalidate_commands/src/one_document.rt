@@ -45,7 +45,13 @@ pub fn check_together<'a, R: Files + AllocGlobal, I: Read, O: Write, F: Write>(
         }
         Some(reports) => {
             let reports = [reports];
-            account.reject(rt.alloc(), reports.as_slice(), subject, paths.bounds, output)?;
+            account.reject(
+                rt.alloc(),
+                reports.as_slice(),
+                subject,
+                paths.bounds,
+                output,
+            )?;
             Ok(Status::Reported)
         }
     }

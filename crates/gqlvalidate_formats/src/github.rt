@@ -26,10 +26,7 @@ pub fn annotations_of(
 }
 
 /// The files that could not be read.
-pub fn annotations_of_unreadable(
-    alloc: Global,
-    unreadable: &[&str],
-) -> Result<String, AllocError> {
+pub fn annotations_of_unreadable(alloc: Global, unreadable: &[&str]) -> Result<String, AllocError> {
     let mut out = String::new(alloc);
     for path in unreadable {
         let path = Property(path);
@@ -42,11 +39,7 @@ pub fn annotations_of_unreadable(
 }
 
 /// Adds the line of a report, without its end.
-fn push_report(
-    out: &mut String,
-    report: &ShownReport,
-    texts: Texts<'_>,
-) -> Result<(), AllocError> {
+fn push_report(out: &mut String, report: &ShownReport, texts: Texts<'_>) -> Result<(), AllocError> {
     let title = Property(report.rule);
     let message = Message(report.message.as_str());
     match texts.locate(report.location) {

@@ -57,11 +57,7 @@ fn add_paths(json: &mut Writer, paths: &[&str]) -> Result<(), AllocError> {
     Ok(())
 }
 
-fn add_finding(
-    json: &mut Writer,
-    finding: &Finding,
-    texts: Texts<'_>,
-) -> Result<(), AllocError> {
+fn add_finding(json: &mut Writer, finding: &Finding, texts: Texts<'_>) -> Result<(), AllocError> {
     let report = &finding.report;
     let located = texts.locate(report.location);
     json.begin_object()?;

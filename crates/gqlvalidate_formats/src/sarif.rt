@@ -65,11 +65,7 @@ pub fn end(json: &mut Writer, alloc: Global, run: Run<'_>) -> Result<(), AllocEr
     json.end_object()
 }
 
-fn add_unreadable(
-    json: &mut Writer,
-    alloc: Global,
-    unreadable: &[&str],
-) -> Result<(), AllocError> {
+fn add_unreadable(json: &mut Writer, alloc: Global, unreadable: &[&str]) -> Result<(), AllocError> {
     for path in unreadable {
         json.begin_object()?;
         add_text(json, "level", "error")?;
@@ -162,12 +158,7 @@ fn add_file(json: &mut Writer, alloc: Global, path: &str) -> Result<(), AllocErr
     json.end_object()
 }
 
-fn add_end(
-    json: &mut Writer,
-    line: &str,
-    column: &str,
-    place: Place,
-) -> Result<(), AllocError> {
+fn add_end(json: &mut Writer, line: &str, column: &str, place: Place) -> Result<(), AllocError> {
     json.key(line)?;
     json.u64(place.line as u64)?;
     json.key(column)?;

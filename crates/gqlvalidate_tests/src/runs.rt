@@ -9,10 +9,10 @@ use shelf::{Failing, Refusing, Shelf};
 
 /// What a run is to print on standard output and on standard error, and its status.
 #[derive(Clone, Copy)]
-struct Ended<'a> {
-    status: u8,
-    printed: &'a str,
-    said: &'a str,
+pub(crate) struct Ended<'a> {
+    pub(crate) status: u8,
+    pub(crate) printed: &'a str,
+    pub(crate) said: &'a str,
 }
 
 /// The name of a file with characters that control a terminal, the direction of text and the log of a workflow.
@@ -46,6 +46,7 @@ const FILES: &[(&str, &[u8])] = &[
     ),
     ("twice", b"type Query { a: Int }\ntype Query { b: Int }\n"),
     ("rootless", b"type Pet { name: String }\n"),
+    ("a & <b>\"'.graphql", b"type Pet { name: String }\n"),
     ("lists", b"type Query { sum(of: [Int!]): Int }\n"),
     ("misused", b"query($a: Int) { sum(of: [$a]) }\n"),
     ("binary", b"{ a\n \xC3\xA9\xFF }"),
@@ -80,7 +81,12 @@ pub(crate) fn words_of(rt: &impl Abort, alloc: Global, texts: &[&str]) -> Vec<St
 }
 
 /// With these bytes on standard input the words end so.
-fn ends<R: AllocGlobal + Abort>(rt: &R, texts: &[&str], input: &[u8], wanted: Ended<'_>) {
+pub(crate) fn ends<R: AllocGlobal + Abort>(
+    rt: &R,
+    texts: &[&str],
+    input: &[u8],
+    wanted: Ended<'_>,
+) {
     let alloc = rt.alloc();
     let words = Ok(words_of(rt, alloc, texts));
     let mut input = input;

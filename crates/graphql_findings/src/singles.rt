@@ -32,10 +32,7 @@ pub enum Single<'a> {
 }
 
 /// The reports one by one, in the order in which they are listed. The only error is a failed allocation.
-pub fn singles_of<'a>(
-    alloc: Global,
-    reports: &'a Reports,
-) -> Result<Vec<Single<'a>>, AllocError>
+pub fn singles_of<'a>(alloc: Global, reports: &'a Reports) -> Result<Vec<Single<'a>>, AllocError>
     ensures { IfOk result (λ singles. map report_of singles.items ≡ listed reports.now) }
 {
     let mut singles = Vec::new(alloc);
@@ -44,10 +41,7 @@ pub fn singles_of<'a>(
 }
 
 /// Adds the reports.
-fn push_reports<'a>(
-    singles: &mut Vec<Single<'a>>,
-    reports: &'a Reports,
-) -> Result<(), AllocError>
+fn push_reports<'a>(singles: &mut Vec<Single<'a>>, reports: &'a Reports) -> Result<(), AllocError>
     ensures { OnOk result (map report_of singles.new.items ≡ map report_of singles.old.items ++ listed reports.now) }
 {
     match reports {

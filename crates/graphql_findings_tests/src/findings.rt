@@ -19,7 +19,10 @@ const FOUND: &[(&str, &[(u32, &str)], usize, &str)] = &[
     // One fault that three operations reach.
     (
         SCHEMA,
-        &[(1, "query A { ...F } query B { ...F } query C { ...F } fragment F on Query { a(z: 1) }")],
+        &[(
+            1,
+            "query A { ...F } query B { ...F } query C { ...F } fragment F on Query { a(z: 1) }",
+        )],
         100,
         "1:75-79 UndefinedArgument\n 9:13-27 `Query.a` is defined here\n+0\n",
     ),
@@ -45,19 +48,9 @@ const FOUND: &[(&str, &[(u32, &str)], usize, &str)] = &[
         "1:2-3 UndefinedField\n+0\n",
     ),
     // The first of three.
-    (
-        SCHEMA,
-        &[(1, "{ h i j }")],
-        1,
-        "1:2-3 UndefinedField\n+2\n",
-    ),
+    (SCHEMA, &[(1, "{ h i j }")], 1, "1:2-3 UndefinedField\n+2\n"),
     // None of three.
-    (
-        SCHEMA,
-        &[(1, "{ h i j }")],
-        0,
-        "+3\n",
-    ),
+    (SCHEMA, &[(1, "{ h i j }")], 0, "+3\n"),
     // Two messages at one place.
     (
         SCHEMA,
@@ -66,12 +59,7 @@ const FOUND: &[(&str, &[(u32, &str)], usize, &str)] = &[
         "1:2-3 RequiredArgument\n 9:48-55 `Query.g(p:)` of type `Int!` is defined here\n1:2-3 RequiredArgument\n 9:57-64 `Query.g(q:)` of type `Int!` is defined here\n+0\n",
     ),
     // Nothing.
-    (
-        SCHEMA,
-        &[],
-        100,
-        "+0\n",
-    ),
+    (SCHEMA, &[], 100, "+0\n"),
     // A field of an interface.
     (
         "type Query implements N { b: Int } interface N { a: Int }",
@@ -150,11 +138,13 @@ fn push_finding(rt: &impl Abort, lines: &mut String, finding: &Finding) {
 }
 
 fn push_place(rt: &impl Abort, lines: &mut String, place: Option<SourceSpan>) {
-    if let Some(SourceSpan {
-        file_id,
-        start,
-        end,
-    }) = place
+    if let Some(
+        SourceSpan {
+            file_id,
+            start,
+            end,
+        },
+    ) = place
     {
         let file = file_id.0;
         write!(lines, "{file}:{start}-{end} ").expect(rt, "memory for a line");
