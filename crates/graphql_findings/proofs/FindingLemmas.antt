@@ -1,9 +1,10 @@
 -- Reports that are found, joined with what shows them, and shown with their notes.
-use Rattle.std.proofs.Common.{◌≡◌, ◌∙◌, ◌⊎◌, ◌<◌, ◌≤◌, ◌+◌, ◌-◌, ℕ, List, [], ◌∷◌, ◌++◌, All, Any, Contains, Less, ap, append_assoc, append-nil, arith, flat_map, get_or, length, map, refl, sym, subst, take}
+use Rattle.std.proofs.Common.{◌≡◌, ◌∙◌, ◌⊎◌, ◌<◌, ◌≤◌, ◌+◌, ◌-◌, ℕ, List, [], ◌∷◌, ◌++◌, All, Any, Contains, Less, ap, append_assoc, append-nil, arith, flat_map, get_or, length, map, refl, sym, subst, take, drop}
 use Rattle.std.specs.List.{AllByRecursion, AllZip}
 use Rattle.std.specs.List.Sorted.{IsStrictlySortedBy}
-use Rattle.std.proofs.lemmas.List.{get_or-map, length-map, map_push, take-map, take_all, take_more}
+use Rattle.std.proofs.lemmas.List.{drop_more, get_or-map, length-map, map_push, take-map, take_all, take_more}
 use Rattle.std.proofs.lemmas.List.Elements.{All-cons, All-contains, All-map, All-nil, All-weaker}
+use Rattle.std.proofs.lemmas.Slice.Zip.{AllZip-long}
 use Rattle.graphql_documents.proofs.ListLemmas.{stands_behind, stands_first}
 use Rattle.graphql_frontend.specs.declared.reports.Reports.{Reports}
 use Rattle.graphql_frontend.specs.declared.texts.SourceText.{SourceText}
@@ -34,6 +35,25 @@ joined_more shown singles i s x f old mid new within fits is at of_s of_x j push
       (map_push (λ (f : Found). f.single) j.more f ∙ ap (λ l. l ++ f.single ∷ []) j.singles_are ∙ ap (λ r. take i singles ++ r ∷ []) of_x);
 }
 
+first_of : {X : Type 0} → X → List X → X
+first_of d [] = d
+first_of d (x ∷ xs) = x
+
+rest_of : {X : Type 0} → List X → List X
+rest_of [] = []
+rest_of (x ∷ xs) = xs
+
+-- an iterator that has the i-th and those behind it left gives the i-th, and has those behind it left; then one more is joined
+pub join_step : (shown : List ShownReport) (singles : List Single) (i n m : ℕ) (s : ShownReport) (x : Single) (f : Found) (left after : List ShownReport) (old mid new : List Found) →
+    length shown ≡ length singles → i < length singles → x ≡ get_or singles i x →
+    (left ≡ drop i shown) × (n + i ≡ length singles) × IsJoined (take i shown) (take i singles) old mid →
+    left ≡ s ∷ after → m + 1 ≡ n → f.report ≡ s → f.single ≡ x → new ≡ mid ++ f ∷ [] →
+    (after ≡ drop (i + 1) shown) × (m + (i + 1) ≡ length singles) × IsJoined (take (i + 1) shown) (take (i + 1) singles) old new
+join_step shown singles i n m s x f left after old mid new long fits at (are, count, j) gives falls of_s of_x pushed =
+    let within : i < length shown = omega (arith, long, fits) in
+    let split : s ∷ after ≡ get_or shown i s ∷ drop (i + 1) shown = sym gives ∙ are ∙ drop_more shown i s within in
+    (ap rest_of split, omega (arith, count, falls), joined_more shown singles i s x f old mid new within fits (ap (first_of s) split) at of_s of_x j pushed)
+
 module _ (sources : List SourceText) (bounds : Bounds) where
   -- what is joined shows the reports
   zipped : (reports : List Report) (shown : List ShownReport) (singles : List Single) (more : List Found) → AllZip (Shows sources bounds) reports shown →
@@ -47,11 +67,19 @@ module _ (sources : List SourceText) (bounds : Bounds) where
       each [] all = tt
       each (f ∷ fs) all = (record { is_of = refl; is_shown = all.0 }, each fs all.1)
 
-  pub found_of_joined : (reports : List Report) (shown : List ShownReport) (singles : List Single) (old new : List Found) → map report_of singles ≡ reports →
-      AllZip (Shows sources bounds) (take (length singles) reports) shown → IsJoined shown singles old new → Finds sources bounds reports old new
-  found_of_joined reports shown singles old new are all j =
-      let enough : length reports ≤ length singles = omega (arith, ap length are, length-map singles report_of) in
-      (j.more, j.grown, zipped reports shown singles j.more (subst (λ l. AllZip (Shows sources bounds) l shown) (take_all (length singles) reports enough) all) are j.reports_are j.singles_are)
+  -- as many are shown as there are single reports
+  pub as_many_shown : (reports : List Report) (shown : List ShownReport) (singles : List Single) (n : ℕ) → n ≡ length singles → map report_of singles ≡ reports →
+      AllZip (Shows sources bounds) (take n reports) shown → length shown ≡ length singles
+  as_many_shown reports shown singles n is are all =
+      let long : length reports ≡ length singles = sym (ap length are) ∙ length-map singles report_of in
+      AllZip-long (Shows sources bounds) (take n reports) shown all ∙ ap length (take_all n reports (omega (arith, long, is))) ∙ long
+
+  pub found_of_joined : (reports : List Report) (shown : List ShownReport) (singles : List Single) (n : ℕ) (old new : List Found) → n ≡ length singles → map report_of singles ≡ reports →
+      AllZip (Shows sources bounds) (take n reports) shown → IsJoined shown singles old new → Finds sources bounds reports old new
+  found_of_joined reports shown singles n old new is are all j =
+      let long : length reports ≡ length singles = sym (ap length are) ∙ length-map singles report_of in
+      let whole : take n reports ≡ reports = take_all n reports (omega (arith, long, is)) in
+      (j.more, j.grown, zipped reports shown singles j.more (subst (λ l. AllZip (Shows sources bounds) l shown) whole all) are j.reports_are j.singles_are)
 
   zip_appended : {Y Z : Type 0} (R : Y → Z → Type 0) (xs ys : List Y) (us vs : List Z) → AllZip R xs us → AllZip R ys vs → AllZip R (xs ++ ys) (us ++ vs)
   zip_appended R [] ys [] vs all more = more
@@ -71,23 +99,23 @@ module _ (sources : List SourceText) (bounds : Bounds) where
       rw (take_more lists i r within, ← is, flat_push (take i lists) r)
       (subst (AllZip (IsFoundAs sources bounds) (flat_map listed (take i lists) ++ listed r)) (sym grown) (zip_appended (IsFoundAs sources bounds) (flat_map listed (take i lists)) (listed r) mid more all these))
 
+  -- some of these meet this one
+  abbrev Meets : {Y Z : Type 0} → (Y → Z → Type 0) → List Y → Z → Type 0
+  Meets {Y} R ys z = (y : Y) × Contains ys y × R y z
+
   -- of two lists that go together, each of the second has a partner in the first
-  partner : {Y Z : Type 0} (R : Y → Z → Type 0) (ys : List Y) (zs : List Z) → AllZip R ys zs → All (λ z. (y : Y) × Contains ys y × R y z) zs
-  partner R [] [] all = All-nil (λ z. (y : _) × Contains [] y × R y z)
+  partner : {Y Z : Type 0} (R : Y → Z → Type 0) (ys : List Y) (zs : List Z) → AllZip R ys zs → All (Meets R ys) zs
+  partner R [] [] all = All-nil (Meets R [])
   partner R [] (z ∷ zs) all = absurd all
   partner R (y ∷ ys) [] all = absurd all
   partner R (y ∷ ys) (z ∷ zs) all =
-      let Of = λ w. (x : _) × Contains (y ∷ ys) x × R x w in
-      All-cons Of z zs (y, stands_first y ys, all.0) (All-weaker (λ w. (x : _) × Contains ys x × R x w) Of (λ w h. (h.0, stands_behind y ys h.0 h.1, h.2)) zs (partner R ys zs all.1))
+      All-cons (Meets R (y ∷ ys)) z zs (y, stands_first y ys, all.0) (All-weaker (Meets R ys) (Meets R (y ∷ ys)) (λ w h. (h.0, stands_behind y ys h.0 h.1, h.2)) zs (partner R ys zs all.1))
 
-  -- and the other way round
-  partner_behind : {Y Z : Type 0} (R : Y → Z → Type 0) (ys : List Y) (zs : List Z) → AllZip R ys zs → All (λ y. (z : Z) × Contains zs z × R y z) ys
-  partner_behind R [] [] all = All-nil (λ y. (z : _) × Contains [] z × R y z)
-  partner_behind R [] (z ∷ zs) all = absurd all
-  partner_behind R (y ∷ ys) [] all = absurd all
-  partner_behind R (y ∷ ys) (z ∷ zs) all =
-      let Of = λ w. (x : _) × Contains (z ∷ zs) x × R w x in
-      All-cons Of y ys (z, stands_first z zs, all.0) (All-weaker (λ w. (x : _) × Contains zs x × R w x) Of (λ w h. (h.0, stands_behind z zs h.0 h.1, h.2)) ys (partner_behind R ys zs all.1))
+  turned : {Y Z : Type 0} (R : Y → Z → Type 0) (ys : List Y) (zs : List Z) → AllZip R ys zs → AllZip (λ z y. R y z) zs ys
+  turned R [] [] all = tt
+  turned R [] (z ∷ zs) all = absurd all
+  turned R (y ∷ ys) [] all = absurd all
+  turned R (y ∷ ys) (z ∷ zs) all = (all.0, turned R ys zs all.1)
 
   mapped_all : (P : Shown → Type 0) (xs : List Found) → AllByRecursion (λ f. P (shown_of f)) xs → AllByRecursion P (map shown_of xs)
   mapped_all P [] all = tt
@@ -112,16 +140,16 @@ module _ (sources : List SourceText) (bounds : Bounds) where
   shown_of_distinct reports most found kept result all d noted counted = record {
     all = map shown_of kept;
     each = All-map (IsOneOf sources bounds reports) shown_of kept (All-weaker (Contains found) (λ f. IsOneOf sources bounds reports (shown_of f)) one kept d.each);
-    every = All-weaker (λ r. (f : Found) × Contains found f × IsFoundAs sources bounds r f) (IsAmongShown sources bounds (map shown_of kept))
+    every = All-weaker (Meets (λ f r. IsFoundAs sources bounds r f) found) (IsAmongShown sources bounds (map shown_of kept))
         (λ r h. (h.0.report, h.2.is_shown, any_mapped h.0.report kept (All-contains (IsAmong kept) found h.0 d.every h.1))) reports
-        (partner_behind (IsFoundAs sources bounds) reports found all);
+        (partner (λ f r. IsFoundAs sources bounds r f) found reports (turned (IsFoundAs sources bounds) reports found all));
     ordered = mapped_sorted kept d.ordered;
     shown = rw (take-map shown_of most kept) (zip_mapped shown_of IsFinding (take most kept) result.shown.items noted);
     others = rw (length-map kept shown_of) counted;
   } where
     one : (f : Found) → Contains found f → IsOneOf sources bounds reports (shown_of f)
     one f there =
-        let h = All-contains (λ g. (r : Report) × Contains reports r × IsFoundAs sources bounds r g) found f (partner (IsFoundAs sources bounds) reports found all) there in
+        let h = All-contains (Meets (IsFoundAs sources bounds) reports) found f (partner (IsFoundAs sources bounds) reports found all) there in
         record {
           is_of = subst (Contains reports) (sym h.2.is_of) h.1;
           is_shown = subst (λ r. Shows sources bounds r f.report) (sym h.2.is_of) h.2.is_shown;

@@ -94,19 +94,20 @@ fn join<'a>(
 {
     let mut shown = shown.into_iter();
     for single in singles {
-        if let Some(report) = shown.next() {
-            found.push(Found {
-                report,
-                single: *single,
-            })?;
-        }
+        let Some(report) = shown.next() else {
+            return Ok(());
+        };
+        found.push(Found {
+            report,
+            single: *single,
+        })?;
     }
     Ok(())
 }
 
 /// These with their notes.
 fn with_notes(alloc: Global, found: Vec<Found<'_>>) -> Result<Vec<Finding>, AllocError>
-    ensures { IfOk result (λ findings. AllZip HasNotes found.items findings.items) }
+    ensures { IfOk result (λ findings. AllZip HasNotes found.entry.items findings.items) }
 {
     let mut findings = Vec::new(alloc);
     for one in found {
@@ -117,7 +118,7 @@ fn with_notes(alloc: Global, found: Vec<Found<'_>>) -> Result<Vec<Finding>, Allo
 
 /// What was found, with its notes.
 fn finding_of(alloc: Global, found: Found<'_>) -> Result<Finding, AllocError>
-    ensures { IfOk result (HasNotes found) }
+    ensures { IfOk result (HasNotes found.entry) }
 {
     let Found { report, single } = found;
     let notes = notes_of(alloc, report.location, single)?;

@@ -18,7 +18,7 @@ pub fn notes_of(
     at: Option<SourceSpan>,
     single: Single<'_>,
 ) -> Result<Vec<Note>, AllocError>
-    ensures { IfOk result (λ notes. AreNotes at (labels_of (report_of single)) notes.items) }
+    ensures { IfOk result (λ notes. AreNotes at (labels_of (report_of single.entry)) notes.items) }
 {
     match single {
         Single::Building(report) => notes_of_building(alloc, at, &report.rule),

@@ -60,7 +60,7 @@ fn push_reports<'a>(singles: &mut Vec<Single<'a>>, reports: &'a Reports) -> Resu
 
 /// Adds one report.
 fn push<'a>(singles: &mut Vec<Single<'a>>, single: Single<'a>) -> Result<(), AllocError>
-    ensures { OnOk result (map report_of singles.new.items ≡ map report_of singles.old.items ++ report_of single ∷ []) }
+    ensures { OnOk result (map report_of singles.new.items ≡ map report_of singles.old.items ++ report_of single.entry ∷ []) }
 {
     singles.push(single)?;
     Ok(())
