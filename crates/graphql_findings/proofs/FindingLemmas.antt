@@ -35,11 +35,11 @@ joined_more shown singles i s x f old mid new within fits is at of_s of_x j push
       (map_push (λ (f : Found). f.single) j.more f ∙ ap (λ l. l ++ f.single ∷ []) j.singles_are ∙ ap (λ r. take i singles ++ r ∷ []) of_x);
 }
 
-first_of : {X : Type 0} → X → List X → X
+abbrev first_of : {X : Type 0} → X → List X → X
 first_of d [] = d
 first_of d (x ∷ xs) = x
 
-rest_of : {X : Type 0} → List X → List X
+abbrev rest_of : {X : Type 0} → List X → List X
 rest_of [] = []
 rest_of (x ∷ xs) = xs
 

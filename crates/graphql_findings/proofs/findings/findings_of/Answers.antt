@@ -5,5 +5,5 @@ use Rattle.graphql_findings.proofs.findings.findings_of.Goals as goal
 
 pub returns : goal.returns
 returns c =
-    shown_of_distinct c.args.sources.now c.args.bounds (all_listed c.args.reports.now) c.args.most c.in_ok-found_in.found.items c.in_ok-keep_distinct.new.found.items _
-    c.in_ok-found_in.ensures c.in_ok-keep_distinct.ensures (search rules) (search rules)
+    shown_of_distinct c.args.sources.now c.args.bounds (all_listed c.args.reports.now) c.args.most c.in_ok-found.found.items c.keep_distinct.new.found.items _
+    c.in_ok-found.ensures c.in_ok-keep_distinct.ensures (search rules) (search rules)
