@@ -1,6 +1,5 @@
 use crate::bounds::{bounds_of, bounds_of_answers};
 use crate::check::{Paths, check};
-use crate::explain::explain;
 use crate::faults::{Fault, fault_of_output, fault_of_words};
 use crate::presentations::Presentation;
 use crate::schemas::check_schema;
@@ -97,7 +96,6 @@ fn answer<R: Files + AllocGlobal, I: Read, O: Write, F: Write>(
             serve(rt, schema, allowance, input, output, faults)
         }
         Request::Syntax { files } => check_syntax(rt, files, input, output, faults),
-        Request::Explain { rule } => explain(*rule, output, faults),
     }
 }
 

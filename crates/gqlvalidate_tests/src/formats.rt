@@ -160,37 +160,3 @@ fn notes_have_their_lines(rt: HostRuntime) {
         );
     }
 }
-
-/// Words of runs that ask what a rule asks, their statuses, what they print, and what they say.
-const EXPLAINED: &[(&[&str], u8, &str, &str)] = &[
-    (
-        &["explain", "UnusedVariable"],
-        0,
-        "UnusedVariable (5.8.4)\n\nAn operation uses each variable that it defines.\n",
-        "",
-    ),
-    (
-        &["explain", "MoreReports"],
-        0,
-        "MoreReports (a limit)\n\nThere are more reports than are kept.\n",
-        "",
-    ),
-    (
-        &["explain", "unusedvariable"],
-        2,
-        "",
-        "error: there is no rule `unusedvariable`; `gqlvalidate explain` lists all\n",
-    ),
-];
-
-#[test]
-fn rules_are_explained(rt: HostRuntime) {
-    for (texts, status, printed, said) in EXPLAINED {
-        let wanted = Ended {
-            status: *status,
-            printed,
-            said,
-        };
-        ends(&rt, texts, b"", wanted);
-    }
-}

@@ -78,11 +78,6 @@ const READ: &[(&[&str], &str)] = &[
         &["serve", "--schema", "-"],
         "error: standard input, `-`, is named more than once\n",
     ),
-    (&["explain"], "Explain { rule: None }"),
-    (
-        &["explain", "UnusedVariable"],
-        "Explain { rule: Some(\"UnusedVariable\") }",
-    ),
     (&["--version"], "gqlvalidate 0.1.0\n"),
 ];
 

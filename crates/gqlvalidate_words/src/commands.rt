@@ -24,16 +24,12 @@ pub const MAX_WORK: &str = "max-work";
 
 pub const MAX_LINE: &str = "max-line";
 
-pub const RULE: &str = "rule";
-
 /// The names of the commands.
 pub const CHECK: &str = "check";
 
 pub const SERVE: &str = "serve";
 
 pub const SYNTAX: &str = "syntax";
-
-pub const EXPLAIN: &str = "explain";
 
 /// The names of the formats.
 pub const TEXT: &str = "text";
@@ -84,8 +80,7 @@ pub fn program<'a>(alloc: Global) -> Result<Command<'a>, Error> {
     let with_check = program.subcommand(check(alloc)?)?;
     let with_schema = with_check.subcommand(schema(alloc)?)?;
     let with_serve = with_schema.subcommand(serve(alloc)?)?;
-    let with_syntax = with_serve.subcommand(syntax(alloc)?)?;
-    Ok(with_syntax.subcommand(explain(alloc)?)?)
+    Ok(with_serve.subcommand(syntax(alloc)?)?)
 }
 
 fn check<'a>(alloc: Global) -> Result<Command<'a>, Error> {
@@ -132,17 +127,6 @@ fn syntax<'a>(alloc: Global) -> Result<Command<'a>, Error> {
         .about("Checks the grammar of files, whether documents or schemas")
         .after_help(STATUSES);
     Ok(command.arg(files(alloc, "FILE", "Files to check, each on its own"))?)
-}
-
-fn explain<'a>(alloc: Global) -> Result<Command<'a>, Error> {
-    let rule = Arg::new(alloc, RULE)
-        .value_name("RULE")
-        .help("The name of a rule, as reports have it; without it, all rules are listed")
-        .action(ArgAction::Set);
-    let command = Command::new(alloc, EXPLAIN)
-        .about("Says what a rule asks")
-        .after_help(STATUSES);
-    Ok(command.arg(rule)?)
 }
 
 fn with_reporting<'a>(alloc: Global, command: Command<'a>) -> Result<Command<'a>, Error> {

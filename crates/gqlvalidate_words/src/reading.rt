@@ -1,8 +1,8 @@
 //! From words to a request.
 
 use crate::commands::{
-    ALWAYS, CHECK, CHECKSTYLE, COLOR, EXPLAIN, FILES, FORMAT, GITHUB, GITLAB, JSON, JUNIT, MAX_DEPTH,
-    MAX_LINE, MAX_REACH, MAX_REPORTS, MAX_WORK, NEVER, ONE_DOCUMENT, RULE, SARIF, SCHEMA, SERVE, SYNTAX,
+    ALWAYS, CHECK, CHECKSTYLE, COLOR, FILES, FORMAT, GITHUB, GITLAB, JSON, JUNIT, MAX_DEPTH,
+    MAX_LINE, MAX_REACH, MAX_REPORTS, MAX_WORK, NEVER, ONE_DOCUMENT, SARIF, SCHEMA, SERVE, SYNTAX,
     program,
 };
 use crate::requests::{Color, Format, Limits, Refusal, Reporting, Request, STANDARD_INPUT};
@@ -62,11 +62,6 @@ fn request_of<'a>(
     command: &str,
     given: &ArgMatches<'a>,
 ) -> Result<Request<'a>, AllocError> {
-    if command == EXPLAIN {
-        return Ok(Request::Explain {
-            rule: given.get_str(RULE),
-        });
-    }
     let files = paths(alloc, given, FILES)?;
     if command == CHECK {
         let schema = paths(alloc, given, SCHEMA)?;
@@ -156,9 +151,6 @@ fn paths<'a>(
 
 /// How often a command takes standard input: by a path, and `serve` for its questions.
 fn inputs(command: &str, given: &ArgMatches<'_>) -> usize {
-    if command == EXPLAIN {
-        return 0;
-    }
     let questions = usize::from(command == SERVE);
     questions
         .saturating_add(inputs_of(given, SCHEMA))

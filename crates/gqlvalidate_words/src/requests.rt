@@ -117,10 +117,6 @@ pub enum Request<'a> {
     Syntax {
         files: Vec<&'a str>,
     },
-    /// To say what the rule of this name asks, or to list all rules.
-    Explain {
-        rule: Option<&'a str>,
-    },
 }
 
 /// Why a command line asks for no run.
