@@ -6,6 +6,7 @@ mod bounds;
 mod check;
 pub mod command;
 mod excerpts;
+mod explain;
 mod faults;
 mod github_format;
 mod json_lines;

@@ -1,8 +1,8 @@
 //! From words to a request.
 
 use crate::commands::{
-    ALWAYS, CHECK, COLOR, FILES, FORMAT, GITHUB, JSON, MAX_DEPTH, MAX_LINE, MAX_REACH, MAX_REPORTS,
-    MAX_WORK, NEVER, ONE_DOCUMENT, SCHEMA, SERVE, SYNTAX, program,
+    ALWAYS, CHECK, COLOR, EXPLAIN, FILES, FORMAT, GITHUB, JSON, MAX_DEPTH, MAX_LINE, MAX_REACH,
+    MAX_REPORTS, MAX_WORK, NEVER, ONE_DOCUMENT, RULE, SCHEMA, SERVE, SYNTAX, program,
 };
 use crate::requests::{Color, Format, Limits, Refusal, Reporting, Request, STANDARD_INPUT};
 use clap::error::ErrorKind;
@@ -81,6 +81,10 @@ fn request_of<'a>(
         })
     } else if command == SYNTAX {
         Ok(Request::Syntax { files })
+    } else if command == EXPLAIN {
+        Ok(Request::Explain {
+            rule: given.get_str(RULE),
+        })
     } else {
         Ok(Request::Schema {
             schema: files,
