@@ -1,5 +1,6 @@
 use crate::bounds::{bounds_of, bounds_of_answers};
 use crate::check::{Paths, check};
+use crate::explain::{explain, list_rules};
 use crate::faults::{Fault, fault_of_output, fault_of_words};
 use crate::presentations::Presentation;
 use crate::schemas::check_schema;
@@ -96,6 +97,8 @@ fn answer<R: Files + AllocGlobal, I: Read, O: Write, F: Write>(
             serve(rt, schema, allowance, input, output, faults)
         }
         Request::Syntax { files } => check_syntax(rt, files, input, output, faults),
+        Request::Explain { rule: Some(rule) } => explain(rule, output, faults),
+        Request::Explain { rule: None } => list_rules(output),
     }
 }
 

@@ -5,6 +5,7 @@ mod accounts;
 mod bounds;
 mod check;
 pub mod command;
+mod explain;
 mod faults;
 mod json_lines;
 mod lines;

@@ -154,6 +154,25 @@ const ACCEPTED: &[(&[&str], &str)] = &[
     ),
     (&["syntax", "schema", "unsupported"], ""),
     (&["--version"], "gqlvalidate 0.1.0\n"),
+    (
+        &["explain", "ReservedName"],
+        "ReservedName: 2.1.9 Name
+
+A name that starts with two underscores is reserved for introspection.
+
+Wrong:
+
+    type Query { __me: Int }
+
+Right:
+
+    type Query { me: Int }
+",
+    ),
+    (
+        &["explain", "MoreReports"],
+        "MoreReports\n\nThere are more reports than are kept.\n",
+    ),
 ];
 
 #[test]
@@ -608,6 +627,8 @@ fn other_documents_are_checked_behind_one_that_cannot_be_read(rt: HostRuntime) {
 fn bad_arguments_are_refused(rt: HostRuntime) {
     let said = "error: standard input, `-`, is named more than once\n";
     run_ends(&rt, &["syntax", "-", "-"], 2, "", said);
+    let said = "error: no rule has the name `Reserved`; `gqlvalidate explain` lists all rules\n";
+    run_ends(&rt, &["explain", "Reserved"], 2, "", said);
 }
 
 /// The words, whose standard input fails in this way, end with this status.

@@ -6,6 +6,8 @@ use std::process::Abort;
 /// Words, and what they ask for as its `Debug` shows it, or what is wrong with them.
 const READ: &[(&[&str], &str)] = &[
     (&["syntax", "a", "-"], "Syntax { files: [\"a\", \"-\"] }"),
+    (&["explain"], "Explain { rule: None }"),
+    (&["explain", "Syntax"], "Explain { rule: Some(\"Syntax\") }"),
     (
         &["check", "--schema", "s", "a", "--schema=t", "b"],
         "Check { schema: [\"s\", \"t\"], documents: [\"a\", \"b\"], one_document: false, limits: Limits { depth: 500, reach: 64, work: 160000000 }, reporting: Reporting { format: Text, color: Auto, max_reports: 100 } }",

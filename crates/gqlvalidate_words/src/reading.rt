@@ -1,9 +1,9 @@
 //! From words to a request.
 
 use crate::commands::{
-    ALWAYS, CHECK, CHECKSTYLE, COLOR, FILES, FORMAT, GITHUB, GITLAB, JSON, JUNIT, MAX_DEPTH,
-    MAX_LINE, MAX_REACH, MAX_REPORTS, MAX_WORK, NEVER, ONE_DOCUMENT, SARIF, SCHEMA, SERVE, SYNTAX,
-    program,
+    ALWAYS, CHECK, CHECKSTYLE, COLOR, EXPLAIN, FILES, FORMAT, GITHUB, GITLAB, JSON, JUNIT,
+    MAX_DEPTH, MAX_LINE, MAX_REACH, MAX_REPORTS, MAX_WORK, NEVER, ONE_DOCUMENT, RULE, SARIF,
+    SCHEMA, SERVE, SYNTAX, program,
 };
 use crate::requests::{Color, Format, Limits, Refusal, Reporting, Request, STANDARD_INPUT};
 use clap::error::ErrorKind;
@@ -82,6 +82,10 @@ fn request_of<'a>(
         })
     } else if command == SYNTAX {
         Ok(Request::Syntax { files })
+    } else if command == EXPLAIN {
+        Ok(Request::Explain {
+            rule: given.get_str(RULE),
+        })
     } else {
         Ok(Request::Schema {
             schema: files,

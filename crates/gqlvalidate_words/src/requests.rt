@@ -117,6 +117,10 @@ pub enum Request<'a> {
     Syntax {
         files: Vec<&'a str>,
     },
+    /// To explain the rule of this name, or to list all rules.
+    Explain {
+        rule: Option<&'a str>,
+    },
 }
 
 /// Why a command line asks for no run.

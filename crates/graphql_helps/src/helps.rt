@@ -1,0 +1,72 @@
+//! What helps with a report, in words.
+
+ghost use Rattle.std.specs.Prelude.{IfSome, List};
+ghost use Rattle.graphql_helps.specs.Helps.{IsDidYouMean};
+ghost use Rattle.graphql_nodes.specs.Names.{NameText};
+ghost use Rattle.graphql_suggestions.specs.Suggestions.{AreSuggested};
+
+use graphql_nodes::{DirectiveLocation, Name};
+use graphql_suggestions::Suggestion;
+use std::fmt;
+
+/// What helps with a report.
+#[derive(Debug, Drop)]
+pub enum Help<'a> {
+    /// One of these names may have been meant.
+    DidYouMean(Vec<Suggestion>),
+    /// The field is of this composite type, and needs selections.
+    Select { field: &'a Name, ty: &'a Name },
+    /// The directive may be applied at these locations.
+    Locations(&'a [DirectiveLocation]),
+    /// The definition is one that every schema has.
+    LeaveOut,
+}
+
+/// That one of these names may have been meant, if there is one.
+pub(crate) fn did_you_mean<'a>(found: Vec<Suggestion>) -> Option<Help<'a>>
+    ensures { (names : List NameText) (wanted : NameText) → AreSuggested names wanted found.items → IfSome result (IsDidYouMean names wanted) }
+{
+    if found.is_empty() {
+        None
+    } else {
+        Some(Help::DidYouMean(found))
+    }
+}
+
+impl fmt::Display for Help<'_> {
+    fn fmt<W: fmt::Write>(&self, f: &mut fmt::Formatter<W>) -> fmt::Result {
+        match self {
+            Help::DidYouMean(found) => write_names(found, f),
+            Help::Select { field, ty } => write!(
+                f,
+                "`{field}` is of type `{ty}`: select fields of it, `{field} {{ .. }}`"
+            ),
+            Help::Locations(locations) => write_locations(locations, f),
+            Help::LeaveOut => f.write_str("leave it out: every schema has it"),
+        }
+    }
+}
+
+fn write_names<W: fmt::Write>(found: &[Suggestion], f: &mut fmt::Formatter<W>) -> fmt::Result {
+    f.write_str("did you mean ")?;
+    let mut separator = "";
+    for suggestion in found {
+        let name = &suggestion.name;
+        write!(f, "{separator}`{name}`")?;
+        separator = " or ";
+    }
+    f.write_str("?")
+}
+
+fn write_locations<W: fmt::Write>(
+    locations: &[DirectiveLocation],
+    f: &mut fmt::Formatter<W>,
+) -> fmt::Result {
+    f.write_str("it may be applied at ")?;
+    let mut separator = "";
+    for location in locations {
+        write!(f, "{separator}{location}")?;
+        separator = ", ";
+    }
+    Ok(())
+}

@@ -1,0 +1,10 @@
+//! What helps with a report: names that may have been meant, and what to write instead.
+#![tactic(auto)]
+
+pub mod building;
+pub mod helps;
+pub mod validation;
+
+pub use building::help_of_building;
+pub use helps::Help;
+pub use validation::help_of_details;
