@@ -56,10 +56,10 @@ pub struct Extent {
 impl<'a> Account<'a> {
     /// Nothing is reported yet.
     pub fn new(alloc: Global, presentation: Presentation) -> Result<Account<'a>, AllocError> {
-        let Presentation { reporting, palette } = presentation;
+        let Presentation { reporting, style } = presentation;
         Ok(Account {
             presentation,
-            sheet: Sheet::new(alloc, reporting.format, palette)?,
+            sheet: Sheet::new(alloc, reporting.format, style)?,
             tally: Tally {
                 reports: 0,
                 shown: 0,

@@ -18,3 +18,4 @@ mod serve;
 mod sources;
 pub mod statuses;
 mod syntax;
+pub mod terminals;
