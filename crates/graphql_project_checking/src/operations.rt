@@ -1,0 +1,86 @@
+//! The document of one operation, and what is reported of it.
+
+use crate::contexts::Context;
+use crate::fragments::borrow_fragments;
+use graphql_documents::documents::{ExecutableDocument, Operation, OperationMap};
+use graphql_frontend::{Reports, ValidationError, validate_built};
+use graphql_hash_seeds::HashSeed;
+use graphql_nodes::{Name, Node, SourceSpan};
+use indexmap::{IndexMap, IndexSet};
+use std::alloc::Global;
+
+/// Reports what is wrong with an operation that reaches the fragments of these names: the rules that it breaks in the document of it and of
+/// these fragments, or the limit that this passes.
+///
+/// Specification: 5 Validation.
+pub(crate) fn check_operation(
+    alloc: Global,
+    context: Context<'_>,
+    operation: &Node<Operation>,
+    names: &IndexSet<&Name, HashSeed>,
+    found: &mut Vec<Reports>,
+) -> Result<(), ValidationError> {
+    let document = document_of(alloc, context.pool, operation, names)?;
+    let bytes = bytes_of(operation, &document);
+    let judged = validate_built(alloc, Some(context.schema), &document, context.bounds, bytes)?;
+    if let Some(reports) = judged {
+        found.push(reports)?;
+    }
+    Ok(())
+}
+
+/// The document of an operation and of the fragments of these names.
+fn document_of(
+    alloc: Global,
+    pool: &ExecutableDocument,
+    operation: &Node<Operation>,
+    names: &IndexSet<&Name, HashSeed>,
+) -> Result<ExecutableDocument, ValidationError> {
+    let mut fragments = IndexMap::with_hasher(alloc, pool.hash_seed());
+    borrow_fragments(alloc, pool, names, &mut fragments)?;
+    let operations = operation_alone(alloc, pool.hash_seed(), operation)?;
+    Ok(ExecutableDocument {
+        operations,
+        fragments,
+    })
+}
+
+/// The operation, under its name if it has one.
+fn operation_alone(
+    alloc: Global,
+    hash_seed: HashSeed,
+    operation: &Node<Operation>,
+) -> Result<OperationMap, ValidationError> {
+    let node = operation.clone()?;
+    let mut named = IndexMap::with_hasher(alloc, hash_seed);
+    match &operation.value.name {
+        Some(name) => {
+            named.insert(name.clone_in(alloc)?, node)?;
+            Ok(OperationMap {
+                anonymous: None,
+                named,
+            })
+        }
+        None => Ok(OperationMap {
+            anonymous: Some(node),
+            named,
+        }),
+    }
+}
+
+/// How many bytes the operation and the fragments of its document have.
+fn bytes_of(operation: &Node<Operation>, document: &ExecutableDocument) -> usize {
+    let mut bytes = bytes_at(operation.location);
+    for fragment in document.fragments.values() {
+        bytes = bytes.saturating_add(bytes_at(fragment.location));
+    }
+    bytes
+}
+
+/// How many bytes there are at a location; none where it is not known.
+fn bytes_at(location: Option<SourceSpan>) -> usize {
+    match location {
+        Some(span) => span.end.saturating_sub(span.start) as usize,
+        None => 0,
+    }
+}
