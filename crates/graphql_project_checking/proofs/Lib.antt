@@ -1,0 +1,2 @@
+mod OperationLemmas
+mod TextLemmas

@@ -4,7 +4,6 @@
 mod building;
 mod contexts;
 mod file_rules;
-mod fragments;
 mod operations;
 mod parts;
 pub mod projects;

@@ -1,12 +1,12 @@
 //! The document of one operation, and what is reported of it.
 
 use crate::contexts::Context;
-use crate::fragments::borrow_fragments;
-use graphql_documents::documents::{ExecutableDocument, Operation, OperationMap};
+use graphql_documents::documents::{ExecutableDocument, Operation};
 use graphql_frontend::{Reports, ValidationError, validate_built};
 use graphql_hash_seeds::HashSeed;
 use graphql_nodes::{Name, Node, SourceSpan};
-use indexmap::{IndexMap, IndexSet};
+use graphql_pools::document_of;
+use indexmap::IndexSet;
 use std::alloc::Global;
 
 /// Reports what is wrong with an operation that reaches the fragments of these names: the rules that it breaks in the document of it and of
@@ -27,45 +27,6 @@ pub(crate) fn check_operation(
         found.push(reports)?;
     }
     Ok(())
-}
-
-/// The document of an operation and of the fragments of these names.
-fn document_of(
-    alloc: Global,
-    pool: &ExecutableDocument,
-    operation: &Node<Operation>,
-    names: &IndexSet<&Name, HashSeed>,
-) -> Result<ExecutableDocument, ValidationError> {
-    let mut fragments = IndexMap::with_hasher(alloc, pool.hash_seed());
-    borrow_fragments(alloc, pool, names, &mut fragments)?;
-    let operations = operation_alone(alloc, pool.hash_seed(), operation)?;
-    Ok(ExecutableDocument {
-        operations,
-        fragments,
-    })
-}
-
-/// The operation, under its name if it has one.
-fn operation_alone(
-    alloc: Global,
-    hash_seed: HashSeed,
-    operation: &Node<Operation>,
-) -> Result<OperationMap, ValidationError> {
-    let node = operation.clone()?;
-    let mut named = IndexMap::with_hasher(alloc, hash_seed);
-    match &operation.value.name {
-        Some(name) => {
-            named.insert(name.clone_in(alloc)?, node)?;
-            Ok(OperationMap {
-                anonymous: None,
-                named,
-            })
-        }
-        None => Ok(OperationMap {
-            anonymous: Some(node),
-            named,
-        }),
-    }
 }
 
 /// How many bytes the operation and the fragments of its document have.

@@ -2,7 +2,6 @@
 
 use crate::building::Building;
 use crate::contexts::Context;
-use crate::fragments::pool_of;
 use crate::parts::{leave_out, those_that_build};
 use crate::whole::check_each;
 use graphql_building_reports::BuildingReportList;
@@ -13,6 +12,7 @@ use graphql_documents::documents::ExecutableDocument;
 use graphql_frontend::{Reports, ValidationError};
 use graphql_hash_seeds::HashSeed;
 use graphql_nodes::Name;
+use graphql_pools::pool_of;
 use graphql_trees::{Definition, Document};
 use indexmap::IndexSet;
 use std::alloc::Global;

@@ -3,13 +3,13 @@
 use crate::building::{Building, build_files};
 use crate::contexts::Context;
 use crate::file_rules::check_file_rules;
-use crate::fragments::{borrow_fragments, pool_of};
 use crate::operations::check_operation;
 use crate::uses::{Used, check_uses, note_uses};
 use graphql_documents::documents::{ExecutableDocument, Fragment, Operation, OperationMap};
 use graphql_frontend::{Reports, ValidationError};
 use graphql_hash_seeds::HashSeed;
 use graphql_nodes::{Name, Node};
+use graphql_pools::{borrow_fragments, pool_of};
 use graphql_reach::reached_fragments;
 use graphql_trees::Document;
 use indexmap::{IndexMap, IndexSet};
