@@ -1,5 +1,17 @@
 //! Whether the definitions of files can be built, and the typed documents that they make.
 
+ghost use Rattle.std.specs.Prelude.{◌≡◌, ◌++◌, [], All, IfOk, IsOk, OnOk, Some, map};
+ghost use Rattle.std.specs.List.{AllZip};
+ghost use Rattle.graphql_building_reports.specs.Checks.{reports_of};
+ghost use Rattle.graphql_document_building.specs.BuildingRules.{DefinitionBuilds, DocumentBuilds};
+ghost use Rattle.graphql_document_building.specs.Documents.{DocumentSays};
+ghost use Rattle.graphql_document_building.specs.Trees.{fragments_in};
+ghost use Rattle.graphql_nodes.specs.Names.{AreDistinct};
+ghost use Rattle.graphql_project_checking.specs.Silence.{HasFragmentsOf, SilentOnlyIf};
+ghost use Rattle.graphql_projects.specs.OperationTrees.{fragments_among};
+ghost use Rattle.graphql_repetitions.specs.References.{nows};
+ghost use Rattle.graphql_trees.specs.declared.documents.Document as tree;
+
 use crate::parts::fragments_alone;
 use graphql_building_reports::BuildingReportList;
 use graphql_document_building::build_document;
@@ -31,7 +43,9 @@ pub(crate) fn check_fragment_names(
     own: &[Document],
     lent: &[Document],
     found: &mut Vec<Reports>,
-) -> Result<(), ValidationError> {
+) -> Result<(), ValidationError>
+    ensures { OnOk result (SilentOnlyIf found.old.items found.new.items (AreDistinct (map (λ p. p.0) (fragments_among (own.now ++ lent.now))))) }
+{
     let mut names = Vec::new(alloc);
     push_fragment_names(own, &mut names)?;
     push_fragment_names(lent, &mut names)?;
@@ -44,7 +58,9 @@ pub(crate) fn check_fragment_names(
 fn push_fragment_names<'a>(
     documents: &'a [Document],
     names: &mut Vec<&'a Name>,
-) -> Result<(), ValidationError> {
+) -> Result<(), ValidationError>
+    ensures { OnOk result (nows names.new.items ≡ nows names.old.items ++ map (λ p. p.0) (fragments_among documents.now)) }
+{
     for document in documents {
         push_names(document.definitions.as_slice(), names)?;
     }
@@ -55,7 +71,9 @@ fn push_fragment_names<'a>(
 fn push_names<'a>(
     definitions: &'a [Definition],
     names: &mut Vec<&'a Name>,
-) -> Result<(), ValidationError> {
+) -> Result<(), ValidationError>
+    ensures { OnOk result (nows names.new.items ≡ nows names.old.items ++ map (λ p. p.0) (fragments_in definitions.now)) }
+{
     for definition in definitions {
         let Definition::Fragment(fragment) = definition else {
             continue;
@@ -71,7 +89,9 @@ pub(crate) fn check_files(
     building: Building<'_>,
     documents: &[Document],
     found: &mut Vec<Reports>,
-) -> Result<(), ValidationError> {
+) -> Result<(), ValidationError>
+    ensures { OnOk result (SilentOnlyIf found.old.items found.new.items (All (DocumentBuilds (Some building.entry.schema.now)) documents.now)) }
+{
     for document in documents {
         check_file(alloc, building, document, found)?;
     }
@@ -84,7 +104,9 @@ fn check_file(
     building: Building<'_>,
     document: &Document,
     found: &mut Vec<Reports>,
-) -> Result<(), ValidationError> {
+) -> Result<(), ValidationError>
+    ensures { OnOk result (SilentOnlyIf found.old.items found.new.items (DocumentBuilds (Some building.entry.schema.now) document.now)) }
+{
     let mut reports = new_list(alloc, building);
     let checked = check_document(&mut reports, building.schema, document);
     add_reports(reports, checked, building.bounds, found)
@@ -97,7 +119,11 @@ pub(crate) fn check_lent_files(
     building: Building<'_>,
     documents: Vec<Document>,
     found: &mut Vec<Reports>,
-) -> Result<Vec<Document>, ValidationError> {
+) -> Result<Vec<Document>, ValidationError>
+    ensures silence { OnOk result (SilentOnlyIf found.old.items found.new.items
+        (All (λ (t : tree.Document). All (DefinitionBuilds (Some building.entry.schema.now)) t.definitions) documents.items)) }
+    ensures fragments { IfOk result (λ fragments. AllZip HasFragmentsOf documents.items fragments.items) }
+{
     let mut fragments = Vec::new(alloc);
     for document in documents {
         let alone = check_lent_file(alloc, building, document, found)?;
@@ -111,7 +137,10 @@ fn check_lent_file(
     building: Building<'_>,
     document: Document,
     found: &mut Vec<Reports>,
-) -> Result<Document, ValidationError> {
+) -> Result<Document, ValidationError>
+    ensures silence { OnOk result (SilentOnlyIf found.old.items found.new.items (All (DefinitionBuilds (Some building.entry.schema.now)) document.definitions)) }
+    ensures fragments { IfOk result (HasFragmentsOf document) }
+{
     let mut reports = new_list(alloc, building);
     let trees = document.definitions.as_slice();
     let checked = check_definitions(&mut reports, Some(building.schema), trees);
@@ -119,7 +148,9 @@ fn check_lent_file(
     fragments_alone(alloc, document)
 }
 
-fn new_list(alloc: Global, building: Building<'_>) -> BuildingReportList {
+fn new_list(alloc: Global, building: Building<'_>) -> BuildingReportList
+    ensures { reports_of result ≡ [] }
+{
     BuildingReportList::with_bound(
         alloc,
         building.hash_seed,
@@ -133,7 +164,9 @@ fn add_reports(
     checked: Result<(), ValidationError>,
     bounds: Bounds,
     found: &mut Vec<Reports>,
-) -> Result<(), ValidationError> {
+) -> Result<(), ValidationError>
+    ensures { OnOk result (SilentOnlyIf found.old.items found.new.items (IsOk checked × (reports_of reports ≡ []))) }
+{
     match checked {
         Ok(()) => add_all(reports, found),
         Err(error) => {
@@ -149,7 +182,9 @@ fn add_reports(
 fn add_all(
     reports: BuildingReportList,
     found: &mut Vec<Reports>,
-) -> Result<(), ValidationError> {
+) -> Result<(), ValidationError>
+    ensures { OnOk result (SilentOnlyIf found.old.items found.new.items (reports_of reports ≡ [])) }
+{
     if !reports.is_empty() {
         found.push(Reports::Building(reports))?;
     }
@@ -166,7 +201,10 @@ pub(crate) fn build_files(
     alloc: Global,
     building: Building<'_>,
     documents: &[Document],
-) -> Result<Vec<ExecutableDocument>, ValidationError> {
+) -> Result<Vec<ExecutableDocument>, ValidationError>
+    requires { All (DocumentBuilds (Some building.entry.schema.now)) documents.now }
+    ensures { IfOk result (λ built. AllZip (DocumentSays (Some building.entry.schema.now)) documents.now built.items) }
+{
     let mut built = Vec::new(alloc);
     for document in documents {
         let typed = build_document(alloc, building.hash_seed, building.schema, document)?;

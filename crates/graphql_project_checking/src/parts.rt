@@ -1,5 +1,8 @@
 //! Documents with some of the definitions of others.
 
+ghost use Rattle.std.specs.Prelude.{◌≡◌, IfOk, filter, reverse};
+ghost use Rattle.graphql_project_checking.specs.Silence.{HasFragmentsOf, is_fragment};
+
 use graphql_building_reports::BuildingReportList;
 use graphql_document_checking::check_definitions;
 use graphql_documents::documents::Schema;
@@ -13,7 +16,9 @@ use std::slice;
 pub(crate) fn fragments_alone(
     alloc: Global,
     document: Document,
-) -> Result<Document, ValidationError> {
+) -> Result<Document, ValidationError>
+    ensures { IfOk result (HasFragmentsOf document) }
+{
     let Document { definitions, span } = document;
     let kept = fragments_from_end(alloc, definitions)?;
     let definitions = turned(alloc, kept)?;
@@ -24,7 +29,9 @@ pub(crate) fn fragments_alone(
 fn fragments_from_end(
     alloc: Global,
     mut definitions: Items<Definition>,
-) -> Result<Items<Definition>, ValidationError> {
+) -> Result<Items<Definition>, ValidationError>
+    ensures { IfOk result (λ kept. kept ≡ reverse (filter is_fragment definitions.entry)) }
+{
     let mut kept = Items::new(alloc);
     while let Some(definition) = definitions.pop() {
         if is_fragment(&definition) {
@@ -35,7 +42,9 @@ fn fragments_from_end(
 }
 
 /// Whether the definition is one of a fragment.
-fn is_fragment(definition: &Definition) -> bool {
+fn is_fragment(definition: &Definition) -> bool
+    ensures { result ≡ is_fragment definition.now }
+{
     matches!(definition, Definition::Fragment(_))
 }
 
@@ -43,7 +52,9 @@ fn is_fragment(definition: &Definition) -> bool {
 fn turned(
     alloc: Global,
     mut definitions: Items<Definition>,
-) -> Result<Items<Definition>, ValidationError> {
+) -> Result<Items<Definition>, ValidationError>
+    ensures { IfOk result (λ turned. turned ≡ reverse definitions.entry) }
+{
     let mut turned = Items::new(alloc);
     while let Some(definition) = definitions.pop() {
         turned.push(definition)?;

@@ -1,5 +1,10 @@
 //! What is reported of a project.
 
+ghost use Rattle.std.specs.Prelude.{◌≡◌, [], IfOk, IsTrue, OnOk};
+ghost use Rattle.graphql_frontend.specs.Schemas.{IsUsable};
+ghost use Rattle.graphql_project_checking.specs.Silence.{SilentOnlyIf};
+ghost use Rattle.graphql_projects.specs.Projects.{ProjectHolds};
+
 use crate::building::{Building, check_files, check_fragment_names, check_lent_files};
 use crate::rest::check_rest;
 use crate::texts::read_texts;
@@ -28,7 +33,10 @@ pub fn check_project(
     sources: &[SourceText<'_>],
     lent: &[SourceText<'_>],
     bounds: Bounds,
-) -> Result<Vec<Reports>, ValidationError> {
+) -> Result<Vec<Reports>, ValidationError>
+    requires { IsUsable schema.now }
+    ensures silence { IfOk result (λ found. found.items ≡ [] → ProjectHolds bounds schema.now sources.now lent.now) }
+{
     let mut found = Vec::new(alloc);
     check_texts(alloc, schema, sources, lent, bounds, true, &mut found)?;
     Ok(found)
@@ -44,7 +52,9 @@ pub fn check_part_of_project(
     sources: &[SourceText<'_>],
     lent: &[SourceText<'_>],
     bounds: Bounds,
-) -> Result<Vec<Reports>, ValidationError> {
+) -> Result<Vec<Reports>, ValidationError>
+    requires { IsUsable schema.now }
+{
     let mut found = Vec::new(alloc);
     check_texts(alloc, schema, sources, lent, bounds, false, &mut found)?;
     Ok(found)
@@ -58,7 +68,10 @@ fn check_texts(
     bounds: Bounds,
     is_all: bool,
     found: &mut Vec<Reports>,
-) -> Result<(), ValidationError> {
+) -> Result<(), ValidationError>
+    requires { IsUsable schema.now }
+    ensures { IsTrue is_all → OnOk result (SilentOnlyIf found.old.items found.new.items (ProjectHolds bounds schema.now sources.now lent.now)) }
+{
     let building = Building {
         schema,
         hash_seed: seed_of_all(alloc, sources, lent)?,

@@ -1,5 +1,10 @@
 //! Texts, and the documents that they are.
 
+ghost use Rattle.std.specs.Prelude.{IfOk, IsTrue, []};
+ghost use Rattle.graphql_projects.specs.Projects.{ReadFiles};
+ghost use Rattle.graphql_project_checking.specs.Silence.{LeavesOutEmpty, SilentOnlyIf};
+ghost use Rattle.graphql_tokens.specs.Lexical.{AreTokens};
+
 use graphql_frontend::texts::{Parsed, parse_texts};
 use graphql_frontend::{Bounds, Reports, SourceText, ValidationError};
 use graphql_tokens::{Stop, measure};
@@ -15,7 +20,9 @@ pub(crate) fn read_texts(
     sources: &[SourceText<'_>],
     bounds: Bounds,
     found: &mut Vec<Reports>,
-) -> Result<Vec<Document>, ValidationError> {
+) -> Result<Vec<Document>, ValidationError>
+    ensures { IfOk result (λ documents. SilentOnlyIf found.old.items found.new.items (ReadFiles bounds sources.now documents.items)) }
+{
     let sources = with_tokens(alloc, sources)?;
     let Parsed { documents, errors } = parse_texts(alloc, &sources, bounds)?;
     if !errors.is_empty() {
@@ -28,7 +35,9 @@ pub(crate) fn read_texts(
 fn with_tokens<'a>(
     alloc: Global,
     sources: &[SourceText<'a>],
-) -> Result<Vec<SourceText<'a>>, ValidationError> {
+) -> Result<Vec<SourceText<'a>>, ValidationError>
+    ensures { IfOk result (λ kept. LeavesOutEmpty sources.now kept.items) }
+{
     let mut kept = Vec::new(alloc);
     for source in sources {
         if !has_no_token(source.text) {
@@ -39,6 +48,8 @@ fn with_tokens<'a>(
 }
 
 /// Whether the text has no token.
-fn has_no_token(text: &str) -> bool {
-    measure(text, 0).stop == Stop::End
+fn has_no_token(text: &str) -> bool
+    ensures { IsTrue result → AreTokens text.now [] }
+{
+    matches!(measure(text, 0).stop, Stop::End)
 }
