@@ -10,7 +10,7 @@ const READ: &[(&[&str], &str)] = &[
     (&["explain", "Syntax"], "Explain { rule: Some(\"Syntax\") }"),
     (
         &["check", "--schema", "s", "a", "--schema=t", "b"],
-        "Check { schema: [\"s\", \"t\"], documents: [\"a\", \"b\"], one_document: false, limits: Limits { depth: 500, reach: 64, work: 160000000 }, reporting: Reporting { format: Text, color: Auto, max_reports: 100 } }",
+        "Check { schema: [\"s\", \"t\"], documents: [\"a\", \"b\"], files_from: None, fragments: [], grouping: Project, limits: Limits { depth: 500, reach: 64, work: 160000000 }, reporting: Reporting { format: Text, color: Auto, max_reports: 100 } }",
     ),
     (
         &["schema", "--format", "json", "--max-reports", "7", "s"],
@@ -42,7 +42,23 @@ const READ: &[(&[&str], &str)] = &[
             "s",
             "a",
         ],
-        "Check { schema: [\"s\"], documents: [\"a\"], one_document: true, limits: Limits { depth: 7, reach: 5, work: 6 }, reporting: Reporting { format: Text, color: Always, max_reports: 100 } }",
+        "Check { schema: [\"s\"], documents: [\"a\"], files_from: None, fragments: [], grouping: OneDocument, limits: Limits { depth: 7, reach: 5, work: 6 }, reporting: Reporting { format: Text, color: Always, max_reports: 100 } }",
+    ),
+    (
+        &[
+            "check",
+            "--files-from=l",
+            "--fragments",
+            "f",
+            "--schema",
+            "s",
+            "--fragments=g",
+        ],
+        "Check { schema: [\"s\"], documents: [], files_from: Some(\"l\"), fragments: [\"f\", \"g\"], grouping: Project, limits: Limits { depth: 500, reach: 64, work: 160000000 }, reporting: Reporting { format: Text, color: Auto, max_reports: 100 } }",
+    ),
+    (
+        &["check", "--each", "--schema", "s", "a"],
+        "Check { schema: [\"s\"], documents: [\"a\"], files_from: None, fragments: [], grouping: Each, limits: Limits { depth: 500, reach: 64, work: 160000000 }, reporting: Reporting { format: Text, color: Auto, max_reports: 100 } }",
     ),
     (
         &["serve", "--schema", "s"],

@@ -16,6 +16,12 @@ pub const COLOR: &str = "color";
 
 pub const ONE_DOCUMENT: &str = "one-document";
 
+pub const EACH: &str = "each";
+
+pub const FRAGMENTS: &str = "fragments";
+
+pub const FILES_FROM: &str = "files-from";
+
 pub const MAX_DEPTH: &str = "max-depth";
 
 pub const MAX_REACH: &str = "max-reach";
@@ -86,11 +92,14 @@ fn check<'a>(alloc: Global) -> Result<Command<'a>, Error> {
         .after_help(STATUSES);
     let command = command.arg(schema_files(alloc))?;
     let command = with_reporting(alloc, command)?;
+    let command = command.arg(lent_fragments(alloc))?;
+    let command = command.arg(each(alloc)?)?;
     let command = command.arg(one_document(alloc))?;
+    let command = command.arg(files_from(alloc))?;
     let command = command.arg(max_depth(alloc))?;
     let command = command.arg(max_reach(alloc, "64"))?;
     let command = command.arg(max_work(alloc))?;
-    Ok(command.arg(files(alloc, "DOCUMENT", "Executable documents"))?)
+    Ok(command.arg(documents(alloc)?)?)
 }
 
 fn schema<'a>(alloc: Global) -> Result<Command<'a>, Error> {
@@ -147,6 +156,42 @@ fn files<'a>(alloc: Global, name: &'a str, help: &'a str) -> Arg<'a> {
         .required(true)
         .num_args(1..)
         .action(ArgAction::Append)
+}
+
+/// The documents: paths, unless a file has a list of them.
+fn documents<'a>(alloc: Global) -> Result<Arg<'a>, Error> {
+    let documents = Arg::new(alloc, FILES)
+        .value_name("PATH")
+        .help(
+            "Executable documents: files, folders, or quoted patterns such as 'src/**/*.graphql'; '!PATTERN' takes out",
+        )
+        .num_args(1..)
+        .action(ArgAction::Append);
+    Ok(documents.required_unless_present(FILES_FROM)?)
+}
+
+fn files_from<'a>(alloc: Global) -> Arg<'a> {
+    Arg::new(alloc, FILES_FROM)
+        .long(FILES_FROM)
+        .value_name("FILE")
+        .help("A file with further paths of documents, one on each line")
+        .action(ArgAction::Set)
+}
+
+fn lent_fragments<'a>(alloc: Global) -> Arg<'a> {
+    Arg::new(alloc, FRAGMENTS)
+        .long(FRAGMENTS)
+        .value_name("PATH")
+        .help("Files, a folder or a quoted pattern whose fragments documents may spread, and which are not judged; may be repeated")
+        .action(ArgAction::Append)
+}
+
+fn each<'a>(alloc: Global) -> Result<Arg<'a>, Error> {
+    let each = Arg::new(alloc, EACH)
+        .long(EACH)
+        .help("Validate each document for itself, without the fragments of others")
+        .action(ArgAction::SetTrue);
+    Ok(each.conflicts_with(ONE_DOCUMENT)?.conflicts_with(FRAGMENTS)?)
 }
 
 fn schema_files<'a>(alloc: Global) -> Arg<'a> {

@@ -6,4 +6,4 @@ pub mod reading;
 pub mod requests;
 
 pub use reading::parse;
-pub use requests::{Color, Format, Limits, Refusal, Reporting, Request};
+pub use requests::{Color, Format, Grouping, Limits, Refusal, Reporting, Request};

@@ -1,10 +1,10 @@
 //! From words to a request.
 
 use crate::commands::{
-    ALWAYS, CHECK, COLOR, EXPLAIN, FILES, FORMAT, GITHUB, JSON, MAX_DEPTH, MAX_LINE, MAX_REACH,
-    MAX_REPORTS, MAX_WORK, NEVER, ONE_DOCUMENT, RULE, SCHEMA, SERVE, SYNTAX, program,
+    ALWAYS, CHECK, COLOR, EACH, EXPLAIN, FILES, FILES_FROM, FORMAT, FRAGMENTS, GITHUB, JSON, MAX_DEPTH,
+    MAX_LINE, MAX_REACH, MAX_REPORTS, MAX_WORK, NEVER, ONE_DOCUMENT, RULE, SCHEMA, SERVE, SYNTAX, program,
 };
-use crate::requests::{Color, Format, Limits, Refusal, Reporting, Request, STANDARD_INPUT};
+use crate::requests::{Color, Format, Grouping, Limits, Refusal, Reporting, Request, STANDARD_INPUT};
 use clap::error::ErrorKind;
 use clap::{ArgMatches, Error};
 use std::alloc::{AllocError, Global};
@@ -67,7 +67,9 @@ fn request_of<'a>(
         Ok(Request::Check {
             schema,
             documents: files,
-            one_document: given.get_flag(ONE_DOCUMENT),
+            files_from: given.get_str(FILES_FROM),
+            fragments: paths(alloc, given, FRAGMENTS)?,
+            grouping: grouping(given),
             limits: limits(given),
             reporting: reporting(given),
         })
@@ -90,6 +92,17 @@ fn request_of<'a>(
             schema: files,
             reporting: reporting(given),
         })
+    }
+}
+
+/// Which documents are validated together.
+fn grouping(given: &ArgMatches<'_>) -> Grouping {
+    if given.get_flag(ONE_DOCUMENT) {
+        Grouping::OneDocument
+    } else if given.get_flag(EACH) {
+        Grouping::Each
+    } else {
+        Grouping::Project
     }
 }
 
@@ -154,6 +167,8 @@ fn inputs(command: &str, given: &ArgMatches<'_>) -> usize {
     questions
         .saturating_add(inputs_of(given, SCHEMA))
         .saturating_add(inputs_of(given, FILES))
+        .saturating_add(inputs_of(given, FRAGMENTS))
+        .saturating_add(inputs_of(given, FILES_FROM))
 }
 
 /// How many paths of an argument name standard input.

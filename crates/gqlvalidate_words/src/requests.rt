@@ -79,6 +79,17 @@ pub struct Limits {
     pub work: usize,
 }
 
+/// Which documents are validated together.
+#[derive(Clone, Copy, Debug, PartialEq, Eq)]
+pub enum Grouping {
+    /// All of them: each operation with the fragments that it reaches in any of them.
+    Project,
+    /// All of them, as one document.
+    OneDocument,
+    /// Each for itself.
+    Each,
+}
+
 /// What a command line asks for. Paths are in the order of the command line.
 #[derive(Debug, Drop)]
 pub enum Request<'a> {
@@ -86,8 +97,11 @@ pub enum Request<'a> {
     Check {
         schema: Vec<&'a str>,
         documents: Vec<&'a str>,
-        /// The documents are one document together.
-        one_document: bool,
+        /// The file with the paths of further documents.
+        files_from: Option<&'a str>,
+        /// The files whose fragments are lent.
+        fragments: Vec<&'a str>,
+        grouping: Grouping,
         limits: Limits,
         reporting: Reporting,
     },

@@ -1,0 +1,4 @@
+mod FileLemmas
+mod OperationLemmas
+mod ProjectLemmas
+mod TextLemmas

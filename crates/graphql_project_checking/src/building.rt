@@ -1,0 +1,214 @@
+//! Whether the definitions of files can be built, and the typed documents that they make.
+
+ghost use Rattle.std.specs.Prelude.{◌≡◌, ◌++◌, [], All, IfOk, IsOk, OnOk, Some, map};
+ghost use Rattle.std.specs.List.{AllZip};
+ghost use Rattle.graphql_building_reports.specs.Checks.{reports_of};
+ghost use Rattle.graphql_document_building.specs.BuildingRules.{DefinitionBuilds, DocumentBuilds};
+ghost use Rattle.graphql_document_building.specs.Documents.{DocumentSays};
+ghost use Rattle.graphql_document_building.specs.Trees.{fragments_in};
+ghost use Rattle.graphql_nodes.specs.Names.{AreDistinct};
+ghost use Rattle.graphql_project_checking.specs.Silence.{HasFragmentsOf, SilentOnlyIf};
+ghost use Rattle.graphql_projects.specs.OperationTrees.{fragments_among};
+ghost use Rattle.graphql_repetitions.specs.References.{nows};
+ghost use Rattle.graphql_trees.specs.declared.documents.Document as tree;
+
+use crate::parts::fragments_alone;
+use graphql_building_reports::BuildingReportList;
+use graphql_document_building::build_document;
+use graphql_document_checking::{check_definitions, check_document};
+use graphql_documents::documents::{ExecutableDocument, Schema};
+use graphql_frontend::first_reports::report_bound;
+use graphql_frontend::{Bounds, Reports, ValidationError};
+use graphql_hash_seeds::HashSeed;
+use graphql_nodes::Name;
+use graphql_repetitions::{Repeated, check_repetitions};
+use graphql_trees::{Definition, Document};
+use std::alloc::Global;
+
+/// What building is checked with.
+#[derive(Clone, Copy)]
+pub(crate) struct Building<'a> {
+    pub schema: &'a Schema,
+    /// Names are hashed by this seed.
+    pub hash_seed: HashSeed,
+    pub bounds: Bounds,
+}
+
+/// Reports fragments of files that have the name of an earlier one, of their own file or of another.
+///
+/// Specification: 5.5.1.1 Fragment Name Uniqueness.
+pub(crate) fn check_fragment_names(
+    alloc: Global,
+    building: Building<'_>,
+    own: &[Document],
+    lent: &[Document],
+    found: &mut Vec<Reports>,
+) -> Result<(), ValidationError>
+    ensures { OnOk result (SilentOnlyIf found.old.items found.new.items (AreDistinct (map (λ p. p.0) (fragments_among (own.now ++ lent.now))))) }
+{
+    let mut names = Vec::new(alloc);
+    push_fragment_names(own, &mut names)?;
+    push_fragment_names(lent, &mut names)?;
+    let mut reports = new_list(alloc, building);
+    let checked = check_repetitions(&mut reports, &names, Repeated::Fragment);
+    add_reports(reports, checked, building.bounds, found)
+}
+
+/// Adds the names of the fragments of these documents, in order.
+fn push_fragment_names<'a>(
+    documents: &'a [Document],
+    names: &mut Vec<&'a Name>,
+) -> Result<(), ValidationError>
+    ensures { OnOk result (nows names.new.items ≡ nows names.old.items ++ map (λ p. p.0) (fragments_among documents.now)) }
+{
+    for document in documents {
+        push_names(document.definitions.as_slice(), names)?;
+    }
+    Ok(())
+}
+
+/// Adds the names of the fragments among the definitions, in order.
+fn push_names<'a>(
+    definitions: &'a [Definition],
+    names: &mut Vec<&'a Name>,
+) -> Result<(), ValidationError>
+    ensures { OnOk result (nows names.new.items ≡ nows names.old.items ++ map (λ p. p.0) (fragments_in definitions.now)) }
+{
+    for definition in definitions {
+        let Definition::Fragment(fragment) = definition else {
+            continue;
+        };
+        names.push(&fragment.name)?;
+    }
+    Ok(())
+}
+
+/// Reports what keeps each of these documents from being built.
+pub(crate) fn check_files(
+    alloc: Global,
+    building: Building<'_>,
+    documents: &[Document],
+    found: &mut Vec<Reports>,
+) -> Result<(), ValidationError>
+    ensures { OnOk result (SilentOnlyIf found.old.items found.new.items (All (DocumentBuilds (Some building.entry.schema.now)) documents.now)) }
+{
+    for document in documents {
+        check_file(alloc, building, document, found)?;
+    }
+    Ok(())
+}
+
+/// Reports what keeps the document from being built.
+fn check_file(
+    alloc: Global,
+    building: Building<'_>,
+    document: &Document,
+    found: &mut Vec<Reports>,
+) -> Result<(), ValidationError>
+    ensures { OnOk result (SilentOnlyIf found.old.items found.new.items (DocumentBuilds (Some building.entry.schema.now) document.now)) }
+{
+    let mut reports = new_list(alloc, building);
+    let checked = check_document(&mut reports, building.schema, document);
+    add_reports(reports, checked, building.bounds, found)
+}
+
+/// Reports what keeps the definitions of these documents from being built, and answers their fragments alone. Of other rules on files that
+/// are lent none is asked.
+pub(crate) fn check_lent_files(
+    alloc: Global,
+    building: Building<'_>,
+    documents: Vec<Document>,
+    found: &mut Vec<Reports>,
+) -> Result<Vec<Document>, ValidationError>
+    ensures silence { OnOk result (SilentOnlyIf found.old.items found.new.items
+        (All (λ (t : tree.Document). All (DefinitionBuilds (Some building.entry.schema.now)) t.definitions) documents.items)) }
+    ensures fragments { IfOk result (λ fragments. AllZip HasFragmentsOf documents.items fragments.items) }
+{
+    let mut fragments = Vec::new(alloc);
+    for document in documents {
+        let alone = check_lent_file(alloc, building, document, found)?;
+        fragments.push(alone)?;
+    }
+    Ok(fragments)
+}
+
+fn check_lent_file(
+    alloc: Global,
+    building: Building<'_>,
+    document: Document,
+    found: &mut Vec<Reports>,
+) -> Result<Document, ValidationError>
+    ensures silence { OnOk result (SilentOnlyIf found.old.items found.new.items (All (DefinitionBuilds (Some building.entry.schema.now)) document.definitions)) }
+    ensures fragments { IfOk result (HasFragmentsOf document) }
+{
+    let mut reports = new_list(alloc, building);
+    let trees = document.definitions.as_slice();
+    let checked = check_definitions(&mut reports, Some(building.schema), trees);
+    add_reports(reports, checked, building.bounds, found)?;
+    fragments_alone(alloc, document)
+}
+
+fn new_list(alloc: Global, building: Building<'_>) -> BuildingReportList
+    ensures { reports_of result ≡ [] }
+{
+    BuildingReportList::with_bound(
+        alloc,
+        building.hash_seed,
+        report_bound(building.bounds),
+    )
+}
+
+/// Adds the reports of a check, if there are any: the first ones, if the check ended because the list keeps no more.
+fn add_reports(
+    reports: BuildingReportList,
+    checked: Result<(), ValidationError>,
+    bounds: Bounds,
+    found: &mut Vec<Reports>,
+) -> Result<(), ValidationError>
+    ensures { OnOk result (SilentOnlyIf found.old.items found.new.items (IsOk checked × (reports_of reports ≡ []))) }
+{
+    match checked {
+        Ok(()) => add_all(reports, found),
+        Err(error) => {
+            if !is_full(&reports, bounds) {
+                return Err(error);
+            }
+            found.push(Reports::FirstBuilding(reports))?;
+            Ok(())
+        }
+    }
+}
+
+fn add_all(
+    reports: BuildingReportList,
+    found: &mut Vec<Reports>,
+) -> Result<(), ValidationError>
+    ensures { OnOk result (SilentOnlyIf found.old.items found.new.items (reports_of reports ≡ [])) }
+{
+    if !reports.is_empty() {
+        found.push(Reports::Building(reports))?;
+    }
+    Ok(())
+}
+
+/// Whether a check ended because the list has a report and keeps no more.
+fn is_full(reports: &BuildingReportList, bounds: Bounds) -> bool {
+    reports.has_more() && !reports.is_empty() && reports.iter().len() <= bounds.reports.max(1)
+}
+
+/// The typed documents of these, in order.
+pub(crate) fn build_files(
+    alloc: Global,
+    building: Building<'_>,
+    documents: &[Document],
+) -> Result<Vec<ExecutableDocument>, ValidationError>
+    requires { All (DocumentBuilds (Some building.entry.schema.now)) documents.now }
+    ensures { IfOk result (λ built. AllZip (DocumentSays (Some building.entry.schema.now)) documents.now built.items) }
+{
+    let mut built = Vec::new(alloc);
+    for document in documents {
+        let typed = build_document(alloc, building.hash_seed, building.schema, document)?;
+        built.push(typed)?;
+    }
+    Ok(built)
+}
