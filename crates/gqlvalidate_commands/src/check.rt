@@ -4,15 +4,15 @@ ghost use Rattle.std.specs.Prelude.{◌≡◌, None, Some, Ok};
 ghost use Rattle.graphql_frontend.specs.Documents.{ValidatesDocument};
 ghost use Rattle.graphql_frontend.specs.Schemas.{IsUsable};
 
-use crate::accounts::{Account, Whole};
+use crate::accounts::{Account, Extent, Whole};
 use crate::bounds::OF_SCHEMA;
 use crate::faults::Fault;
 use crate::one_document::check_together;
 use crate::presentations::Presentation;
 use crate::project_files::check_files;
-use crate::schema_files::{named_schema, named_text, texts_of};
-use crate::schemas::reject;
-use crate::sources::text_or_said;
+use crate::schema_files::{named_schema, named_text, read_files};
+use crate::schemas::{end_unread, reject};
+use crate::sources::{shown_path, text_or_said};
 use crate::statuses::Status;
 use gqlvalidate_words::Grouping;
 use graphql_documents::documents::Schema;
@@ -64,8 +64,9 @@ pub fn check<R: Files + AllocGlobal, I: Read, O: Write, F: Write>(
     output: &mut O,
     faults: &mut F,
 ) -> Result<Status, Fault> {
-    let Some(texts) = texts_of(rt, paths.schema, input, faults)? else {
-        return Ok(Status::Unreadable);
+    let read = read_files(rt, paths.schema, input, faults)?;
+    let Some(texts) = read.texts else {
+        return end_unread(rt.alloc(), read.unreadable, presentation, output, faults);
     };
     let named = named_schema(rt.alloc(), paths.schema, &texts)?;
     check_against(rt, &named, paths, presentation, input, output, faults)
@@ -82,45 +83,50 @@ fn check_against<R: Files + AllocGlobal, I: Read, O: Write, F: Write>(
     faults: &mut F,
 ) -> Result<Status, Fault> {
     let sources = sources_of(rt.alloc(), named)?;
+    let subject = schema_subject(named, &sources);
     match read_schema(rt.alloc(), &sources, OF_SCHEMA)? {
         SchemaReading::Accepted(schema) => {
-            let status = check_documents(rt, &schema, paths, presentation, input, output, faults);
+            let mut account = Account::new(rt.alloc(), presentation)?;
+            account.add_schema(subject);
+            let status = check_documents(rt, &schema, paths, account, input, output, faults);
             // The process ends here, and its memory is freed at once, not part by part.
             mem::forget(schema);
             status
         }
         SchemaReading::Rejected(reports) => {
-            let subject = schema_subject(named, &sources);
-            reject(rt.alloc(), &reports, subject, presentation, output, faults)
+            reject(rt.alloc(), reports, subject, presentation, output, faults)
         }
         SchemaReading::LacksIntrospection => Err(Fault::LacksIntrospection),
     }
 }
 
 /// Validates the documents against the schema, and says how many reports there are.
-fn check_documents<R: Files + AllocGlobal, I: Read, O: Write, F: Write>(
+fn check_documents<'a, R: Files + AllocGlobal, I: Read, O: Write, F: Write>(
     rt: &R,
     schema: &Schema,
-    paths: Paths<'_>,
-    presentation: Presentation,
+    paths: Paths<'a>,
+    mut account: Account<'a>,
     input: &mut I,
     output: &mut O,
     faults: &mut F,
 ) -> Result<Status, Fault>
     requires { IsUsable schema.now }
 {
-    let mut account = Account::new(rt.alloc(), presentation)?;
     let status = check_grouped(rt, schema, paths, &mut account, input, output, faults)?;
-    account.end(rt.alloc(), Whole::Documents(paths.count()), output, faults)?;
+    let extent = Extent {
+        whole: Whole::Documents(paths.count()),
+        schema_files: paths.schema.len(),
+    };
+    account.end(rt.alloc(), extent, output, faults)?;
     Ok(status)
 }
 
 /// Validates the documents, those together that are to be.
-fn check_grouped<R: Files + AllocGlobal, I: Read, O: Write, F: Write>(
+fn check_grouped<'a, R: Files + AllocGlobal, I: Read, O: Write, F: Write>(
     rt: &R,
     schema: &Schema,
-    paths: Paths<'_>,
-    account: &mut Account,
+    paths: Paths<'a>,
+    account: &mut Account<'a>,
     input: &mut I,
     output: &mut O,
     faults: &mut F,
@@ -139,11 +145,11 @@ fn check_grouped<R: Files + AllocGlobal, I: Read, O: Write, F: Write>(
 }
 
 /// Validates the documents one after another: one that cannot be read does not end the run.
-fn check_each<R: Files + AllocGlobal, I: Read, O: Write, F: Write>(
+fn check_each<'a, R: Files + AllocGlobal, I: Read, O: Write, F: Write>(
     rt: &R,
     schema: &Schema,
-    paths: Paths<'_>,
-    account: &mut Account,
+    paths: Paths<'a>,
+    account: &mut Account<'a>,
     input: &mut I,
     output: &mut O,
     faults: &mut F,
@@ -158,7 +164,10 @@ fn check_each<R: Files + AllocGlobal, I: Read, O: Write, F: Write>(
                 let document = named_text(position, path, text.as_str());
                 check_text(rt.alloc(), schema, document, paths.bounds, account, output)?
             }
-            None => Status::Unreadable,
+            None => {
+                account.add_unreadable(shown_path(path))?;
+                Status::Unreadable
+            }
         };
         status = status.with(checked);
     }
@@ -171,7 +180,7 @@ fn check_text<O: Write>(
     schema: &Schema,
     document: NamedText<'_>,
     bounds: Bounds,
-    account: &mut Account,
+    account: &mut Account<'_>,
     output: &mut O,
 ) -> Result<Status, Fault>
     requires { IsUsable schema.now }
@@ -179,9 +188,12 @@ fn check_text<O: Write>(
     ensures reported { result ≡ Ok Status.Reported → (reports : Reports) × ValidatesDocument bounds (Some schema.now) document.entry.source (Some reports) }
 {
     match validate_document(alloc, schema, document.source, bounds)? {
-        None => Ok(Status::Accepted),
+        None => {
+            account.accept(document.path)?;
+            Ok(Status::Accepted)
+        }
         Some(reports) => {
-            report_document(alloc, &reports, document, bounds, account, output)?;
+            report_document(alloc, reports, document, bounds, account, output)?;
             Ok(Status::Reported)
         }
     }
@@ -190,10 +202,10 @@ fn check_text<O: Write>(
 /// Reports what is wrong with a document.
 fn report_document<O: Write>(
     alloc: Global,
-    reports: &Reports,
+    reports: Reports,
     document: NamedText<'_>,
     bounds: Bounds,
-    account: &mut Account,
+    account: &mut Account<'_>,
     output: &mut O,
 ) -> Result<(), Fault> {
     let texts = [document];
@@ -203,5 +215,5 @@ fn report_document<O: Write>(
         texts: texts.as_slice(),
         sources: sources.as_slice(),
     };
-    account.report(alloc, reports, subject, bounds, output)
+    account.reject(alloc, [reports].as_slice(), subject, bounds, output)
 }

@@ -3,9 +3,9 @@
 use crate::check::{Paths, check};
 use crate::faults::Fault;
 use crate::presentations::Presentation;
-use crate::printable::Printable;
 use crate::sources::text_or_said;
 use crate::statuses::Status;
+use gqlvalidate_formats::printable::Printable;
 use gqlvalidate_paths::{Expansion, PathError, expand, without};
 use gqlvalidate_words::Grouping;
 use graphql_parser::Bounds;

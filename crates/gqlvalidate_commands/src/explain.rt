@@ -1,8 +1,8 @@
 //! What a rule asks, as text.
 
 use crate::faults::{Fault, fault_of_output};
-use crate::printable::Printable;
 use crate::statuses::Status;
+use gqlvalidate_formats::printable::Printable;
 use gqlvalidate_rules::{Explanation, explanation_of, tables};
 use std::io;
 use std::io::Write;

@@ -1,5 +1,6 @@
 //! How reports are presented.
 
+use gqlvalidate_formats::Palette;
 use gqlvalidate_words::{Color, Reporting};
 
 /// Which reports are written, in which format, and in which colours.
@@ -20,40 +21,6 @@ impl Presentation {
         Presentation {
             reporting,
             palette: Palette::new(colored),
-        }
-    }
-}
-
-/// The escape sequences that colour parts of a report.
-#[derive(Clone, Copy)]
-pub struct Palette {
-    pub strong: &'static str,
-    pub error: &'static str,
-    pub note: &'static str,
-    pub margin: &'static str,
-    /// What ends each of them.
-    pub end: &'static str,
-}
-
-impl Palette {
-    /// That of a terminal, or one without any sequences.
-    fn new(colored: bool) -> Palette {
-        if colored {
-            Palette {
-                strong: "\x1b[1m",
-                error: "\x1b[1;31m",
-                note: "\x1b[1;32m",
-                margin: "\x1b[1;34m",
-                end: "\x1b[0m",
-            }
-        } else {
-            Palette {
-                strong: "",
-                error: "",
-                note: "",
-                margin: "",
-                end: "",
-            }
         }
     }
 }

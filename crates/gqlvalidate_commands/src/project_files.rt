@@ -6,7 +6,7 @@ use crate::accounts::Account;
 use crate::check::Paths;
 use crate::faults::Fault;
 use crate::schema_files::named_text;
-use crate::sources::text_or_said;
+use crate::sources::{shown_path, text_or_said};
 use crate::statuses::Status;
 use graphql_documents::documents::Schema;
 use graphql_frontend::{Reports, SourceText};
@@ -31,15 +31,16 @@ struct ReadFile<'a> {
 #[derive(Drop)]
 struct ReadFiles<'a> {
     files: Vec<ReadFile<'a>>,
-    is_all: bool,
+    /// Those that could not, as lines call them.
+    unreadable: Vec<&'a str>,
 }
 
 /// Validates these files together, with the fragments of those that are lent. One that cannot be read does not end the run.
-pub fn check_files<R: Files + AllocGlobal, I: Read, O: Write, F: Write>(
+pub fn check_files<'a, R: Files + AllocGlobal, I: Read, O: Write, F: Write>(
     rt: &R,
     schema: &Schema,
-    paths: Paths<'_>,
-    account: &mut Account,
+    paths: Paths<'a>,
+    account: &mut Account<'a>,
     input: &mut I,
     output: &mut O,
     faults: &mut F,
@@ -50,7 +51,9 @@ pub fn check_files<R: Files + AllocGlobal, I: Read, O: Write, F: Write>(
     let own = read_files(rt, paths.documents, first, input, faults)?;
     let behind = first.saturating_add(paths.documents.len());
     let lent = read_files(rt, paths.fragments, behind, input, faults)?;
-    let is_all = own.is_all && lent.is_all;
+    account.add_all_unreadable(&own.unreadable)?;
+    account.add_all_unreadable(&lent.unreadable)?;
+    let is_all = own.unreadable.is_empty() && lent.unreadable.is_empty();
     let mut named = Vec::new(rt.alloc());
     add_named(&own.files, &mut named)?;
     add_named(&lent.files, &mut named)?;
@@ -63,7 +66,12 @@ pub fn check_files<R: Files + AllocGlobal, I: Read, O: Write, F: Write>(
         texts: &named,
         sources: &sources,
     };
-    report_all(rt.alloc(), &found, subject, paths.bounds, account, output)?;
+    if found.is_empty() {
+        accept_all(&own.files, account)?;
+    } else {
+        account.add_documents(own.files.len());
+        account.report(rt.alloc(), &found, subject, paths.bounds, output)?;
+    }
     Ok(status_of(&found, is_all))
 }
 
@@ -76,17 +84,18 @@ fn read_files<'a, R: Files + AllocGlobal, I: Read, F: Write>(
     faults: &mut F,
 ) -> Result<ReadFiles<'a>, Fault> {
     let mut files = Vec::new(rt.alloc());
+    let mut unreadable = Vec::new(rt.alloc());
     for (position, path) in paths.iter().enumerate() {
-        if let Some(text) = text_or_said(rt, path, input, faults)? {
-            files.push(ReadFile {
+        match text_or_said(rt, path, input, faults)? {
+            Some(text) => files.push(ReadFile {
                 path,
                 position: position.saturating_add(first),
                 text,
-            })?;
+            })?,
+            None => unreadable.push(shown_path(path))?,
         }
     }
-    let is_all = files.len() == paths.len();
-    Ok(ReadFiles { files, is_all })
+    Ok(ReadFiles { files, unreadable })
 }
 
 /// Adds the texts of the files, with their paths.
@@ -118,16 +127,10 @@ fn reports_of(
     }
 }
 
-fn report_all<O: Write>(
-    alloc: Global,
-    found: &[Reports],
-    subject: Subject<'_>,
-    bounds: Bounds,
-    account: &mut Account,
-    output: &mut O,
-) -> Result<(), Fault> {
-    for reports in found {
-        account.report(alloc, reports, subject, bounds, output)?;
+/// Nothing is reported of these files.
+fn accept_all(files: &[ReadFile<'_>], account: &mut Account<'_>) -> Result<(), AllocError> {
+    for file in files {
+        account.accept(Some(shown_path(file.path)))?;
     }
     Ok(())
 }

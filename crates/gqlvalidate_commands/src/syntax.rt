@@ -5,9 +5,9 @@ ghost use Rattle.graphql_parser.specs.Parses.{ParsesDocument};
 ghost use Rattle.graphql_trees.specs.declared.documents.Document.{Document};
 
 use crate::faults::{Fault, fault_of_output};
-use crate::printable::Printable;
 use crate::sources::{shown_path, text_or_said};
 use crate::statuses::Status;
+use gqlvalidate_formats::printable::Printable;
 use graphql_nodes::FileId;
 use graphql_parser::{Bounds, SyntaxError, parse_document};
 use graphql_places::Place;

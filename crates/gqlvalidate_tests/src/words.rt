@@ -21,12 +21,28 @@ const READ: &[(&[&str], &str)] = &[
         "Schema { schema: [\"s\"], reporting: Reporting { format: Github, color: Never, max_reports: 18446744073709551615 } }",
     ),
     (
+        &["schema", "--format", "sarif", "s"],
+        "Schema { schema: [\"s\"], reporting: Reporting { format: Sarif, color: Auto, max_reports: 18446744073709551615 } }",
+    ),
+    (
+        &["schema", "--format", "junit", "s"],
+        "Schema { schema: [\"s\"], reporting: Reporting { format: Junit, color: Auto, max_reports: 18446744073709551615 } }",
+    ),
+    (
+        &["schema", "--format", "checkstyle", "s"],
+        "Schema { schema: [\"s\"], reporting: Reporting { format: Checkstyle, color: Auto, max_reports: 18446744073709551615 } }",
+    ),
+    (
+        &["schema", "--format", "gitlab", "s"],
+        "Schema { schema: [\"s\"], reporting: Reporting { format: Gitlab, color: Auto, max_reports: 18446744073709551615 } }",
+    ),
+    (
         &["check", "--schema", "-", "-"],
         "error: standard input, `-`, is named more than once\n",
     ),
     (
         &["schema", "--format", "xml", "s"],
-        "error: invalid value 'xml' for '--format <FORMAT>'\n  [possible values: text, json, github]\n\nFor more information, try '--help'.\n",
+        "error: invalid value 'xml' for '--format <FORMAT>'\n  [possible values: text, json, github, sarif, junit, checkstyle, gitlab]\n\nFor more information, try '--help'.\n",
     ),
     (
         &[

@@ -48,7 +48,15 @@ pub const JSON: &str = "json";
 
 pub const GITHUB: &str = "github";
 
-static FORMATS: [&str; 3] = [TEXT, JSON, GITHUB];
+pub const SARIF: &str = "sarif";
+
+pub const JUNIT: &str = "junit";
+
+pub const CHECKSTYLE: &str = "checkstyle";
+
+pub const GITLAB: &str = "gitlab";
+
+static FORMATS: [&str; 7] = [TEXT, JSON, GITHUB, SARIF, JUNIT, CHECKSTYLE, GITLAB];
 
 /// When text is coloured.
 pub const AUTO: &str = "auto";

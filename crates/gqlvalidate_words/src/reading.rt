@@ -1,8 +1,9 @@
 //! From words to a request.
 
 use crate::commands::{
-    ALWAYS, CHECK, COLOR, EACH, EXPLAIN, FILES, FILES_FROM, FORMAT, FRAGMENTS, GITHUB, JSON, MAX_DEPTH,
-    MAX_LINE, MAX_REACH, MAX_REPORTS, MAX_WORK, NEVER, ONE_DOCUMENT, RULE, SCHEMA, SERVE, SYNTAX, program,
+    ALWAYS, CHECK, CHECKSTYLE, COLOR, EACH, EXPLAIN, FILES, FILES_FROM, FORMAT, FRAGMENTS, GITHUB, GITLAB,
+    JSON, JUNIT, MAX_DEPTH, MAX_LINE, MAX_REACH, MAX_REPORTS, MAX_WORK, NEVER, ONE_DOCUMENT, RULE, SARIF,
+    SCHEMA, SERVE, SYNTAX, program,
 };
 use crate::requests::{Color, Format, Grouping, Limits, Refusal, Reporting, Request, STANDARD_INPUT};
 use clap::error::ErrorKind;
@@ -135,6 +136,10 @@ fn format_of(name: Option<&str>) -> Format {
     match name {
         Some(name) if name == JSON => Format::Json,
         Some(name) if name == GITHUB => Format::Github,
+        Some(name) if name == SARIF => Format::Sarif,
+        Some(name) if name == JUNIT => Format::Junit,
+        Some(name) if name == CHECKSTYLE => Format::Checkstyle,
+        Some(name) if name == GITLAB => Format::Gitlab,
         _ => Format::Text,
     }
 }

@@ -17,6 +17,14 @@ pub enum Format {
     Json,
     /// Workflow commands of GitHub Actions, which makes annotations of them.
     Github,
+    /// A log of the Static Analysis Results Interchange Format.
+    Sarif,
+    /// The XML of JUnit.
+    Junit,
+    /// The XML of Checkstyle.
+    Checkstyle,
+    /// A code quality report of GitLab.
+    Gitlab,
 }
 
 /// When text is coloured.
@@ -64,7 +72,7 @@ fn most_of(format: Format) -> usize
 {
     match format {
         Format::Text => TEXT_REPORTS,
-        Format::Json | Format::Github => usize::MAX,
+        _ => usize::MAX,
     }
 }
 

@@ -1,0 +1,4 @@
+pub mod Findings
+pub mod Notes
+pub mod Order
+pub mod Singles
