@@ -9,7 +9,7 @@ _gqlvalidate() {
     return
   fi
   case "$before" in
-    --format) mapfile -t COMPREPLY < <(compgen -W "text json github" -- "$word"); return ;;
+    --format) mapfile -t COMPREPLY < <(compgen -W "text json github sarif junit checkstyle gitlab" -- "$word"); return ;;
     --color) mapfile -t COMPREPLY < <(compgen -W "auto always never" -- "$word"); return ;;
     --max-*) return ;;
   esac

@@ -10,7 +10,7 @@ complete -c gqlvalidate -n "not __fish_seen_subcommand_from $commands" -f -a exp
 complete -c gqlvalidate -n "not __fish_seen_subcommand_from $commands" -f -a help -d 'Print help'
 complete -c gqlvalidate -l help -d 'Print help'
 complete -c gqlvalidate -n "not __fish_seen_subcommand_from $commands" -l version -d 'Print the version'
-complete -c gqlvalidate -n '__fish_seen_subcommand_from check schema' -x -l format -a 'text json github' -d 'Format of the reports'
+complete -c gqlvalidate -n '__fish_seen_subcommand_from check schema' -x -l format -a 'text json github sarif junit checkstyle gitlab' -d 'Format of the reports'
 complete -c gqlvalidate -n '__fish_seen_subcommand_from check schema' -x -l color -a 'auto always never' -d 'When to colour text'
 complete -c gqlvalidate -n '__fish_seen_subcommand_from check schema serve' -x -l max-reports -d 'Reports at most'
 complete -c gqlvalidate -n '__fish_seen_subcommand_from check serve' -r -l schema -d 'A file of the schema'
