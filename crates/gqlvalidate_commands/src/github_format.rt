@@ -1,10 +1,22 @@
 //! Reports as workflow commands of GitHub Actions, a line a report, which become annotations.
 
 use crate::printable::printable_character;
-use graphql_report_formats::named_texts::{CountedSubject, shown_name};
+use graphql_report_formats::named_texts::{CountedSubject, Located, shown_name};
 use graphql_shown_reports::ShownReport;
 use std::alloc::AllocError;
 use std::fmt;
+
+/// What an annotation says, and of which part of a file.
+#[derive(Clone, Copy)]
+pub struct Annotation<'a> {
+    /// `error`, `warning` or `notice`.
+    pub command: &'static str,
+    pub title: &'a str,
+    pub message: &'a str,
+    pub located: Option<Located<'a>>,
+    /// The file of what has no place.
+    pub path: Option<&'a str>,
+}
 
 /// Adds the line of a report.
 pub fn push_report(
@@ -12,9 +24,22 @@ pub fn push_report(
     report: &ShownReport,
     subject: &CountedSubject<'_>,
 ) -> Result<(), AllocError> {
-    let title = Property(report.rule);
-    let message = Message(report.message.as_str());
-    match subject.locate(report.location) {
+    let annotation = Annotation {
+        command: "error",
+        title: report.rule,
+        message: report.message.as_str(),
+        located: subject.locate(report.location),
+        path: subject.path,
+    };
+    push_annotation(out, annotation)
+}
+
+/// Adds the line of an annotation.
+pub fn push_annotation(out: &mut String, annotation: Annotation<'_>) -> Result<(), AllocError> {
+    let command = annotation.command;
+    let title = Property(annotation.title);
+    let message = Message(annotation.message);
+    match annotation.located {
         Some(located) => {
             let path = Property(shown_name(located.path));
             let line = located.start.line;
@@ -23,12 +48,12 @@ pub fn push_report(
             let end_column = located.end.column;
             writeln!(
                 out,
-                "::error file={path},line={line},endLine={end_line},col={column},endColumn={end_column},title={title}::{message}"
+                "::{command} file={path},line={line},endLine={end_line},col={column},endColumn={end_column},title={title}::{message}"
             )
         }
         None => {
-            let path = Property(shown_name(subject.path));
-            writeln!(out, "::error file={path},title={title}::{message}")
+            let path = Property(shown_name(annotation.path));
+            writeln!(out, "::{command} file={path},title={title}::{message}")
         }
     }
 }

@@ -3,6 +3,7 @@
 
 mod accounts;
 mod bounds;
+mod changes;
 mod check;
 pub mod command;
 mod excerpts;
@@ -11,6 +12,7 @@ mod github_format;
 mod json_lines;
 mod lines;
 mod one_document;
+mod operations;
 mod presentations;
 mod printable;
 mod questions;

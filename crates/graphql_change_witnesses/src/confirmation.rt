@@ -1,0 +1,105 @@
+//! Witnesses that validation confirms.
+
+ghost use Rattle.std.specs.Prelude.{◌≡◌, All, IfOk, IfSome, IsTrue, None, Ok, Some};
+ghost use Rattle.graphql_diagnostics.specs.Diagnostics.{IsLimitEntry, entries};
+ghost use Rattle.graphql_frontend.specs.Schemas.{IsUsable};
+ghost use Rattle.graphql_change_witnesses.specs.Witnesses.{BreaksRules, IsWitness, IsWitnessText};
+
+use crate::candidates::witness_candidates;
+use crate::ways::Ways;
+use graphql_diagnostics::details::Details;
+use graphql_diagnostics::{DiagnosticData, DiagnosticEntry, DiagnosticList};
+use graphql_documents::documents::Schema;
+use graphql_frontend::{FileId, Reports, SourceText, validate_document};
+use graphql_nodes::ValidationError;
+use graphql_parser::Bounds;
+use graphql_schema_comparison::Change;
+use std::alloc::Global;
+
+/// The number of the file of a witness.
+const FILE: FileId = FileId(1);
+
+/// A document that is valid against the old schema, which is that of the ways, and breaks a rule against the new one. None, if no
+/// candidate is such a document. The only error is a failed allocation.
+///
+/// Specification: 5 Validation.
+pub fn confirmed_witness(
+    alloc: Global,
+    ways: &Ways<'_>,
+    new: &Schema,
+    change: &Change,
+    bounds: Bounds,
+) -> Result<Option<String>, ValidationError>
+    requires old { IsUsable ways.now.schema.now }
+    requires new { IsUsable new.now }
+    ensures { IfOk result (λ found. IfSome found (λ text. IsWitnessText bounds ways.now.schema.now new.now text)) }
+{
+    for text in witness_candidates(ways, new, change)? {
+        if is_witness(alloc, ways.schema, new, source_of(text.as_str()), bounds)? {
+            return Ok(Some(text));
+        }
+    }
+    Ok(None)
+}
+
+fn source_of<'a>(text: &'a str) -> SourceText<'a>
+    ensures { result ≡ record { file_id = FILE; text = text.entry } }
+{
+    SourceText {
+        file_id: FILE,
+        text,
+    }
+}
+
+/// Whether a text is a document that is valid against the old schema, and that breaks a rule against the new one. A document that
+/// passes a limit is none. The only error is a failed allocation.
+///
+/// Specification: 5 Validation.
+pub fn is_witness(
+    alloc: Global,
+    old: &Schema,
+    new: &Schema,
+    source: SourceText<'_>,
+    bounds: Bounds,
+) -> Result<bool, ValidationError>
+    requires old { IsUsable old.now }
+    requires new { IsUsable new.now }
+    ensures { result ≡ Ok true → IsWitness bounds old.now new.now source.entry }
+{
+    match validate_document(alloc, old, source, bounds)? {
+        Some(_) => Ok(false),
+        None => match validate_document(alloc, new, source, bounds)? {
+            Some(reports) => Ok(breaks_rules(&reports)),
+            None => Ok(false),
+        },
+    }
+}
+
+/// Whether all that is reported is that rules are broken: no limit is passed.
+fn breaks_rules(reports: &Reports) -> bool
+    ensures { IsTrue result → BreaksRules reports.now }
+{
+    match reports {
+        Reports::Building(_) => true,
+        Reports::DocumentRules(reports) => has_no_limit(&reports.rules),
+        _ => false,
+    }
+}
+
+fn has_no_limit(rules: &DiagnosticList) -> bool
+    ensures { IsTrue result → All (λ e. ¬ IsLimitEntry e) (entries rules.now) }
+{
+    rules.iter().all(|entry| !is_limit(entry))
+}
+
+fn is_limit(entry: &DiagnosticEntry) -> bool
+    ensures { IsLimitEntry entry.now → IsTrue result }
+{
+    matches!(
+        entry.details,
+        Details::RecursionLimit(_)
+            | Details::Diagnostic(
+                DiagnosticData::RecursionError | DiagnosticData::DeeplyNestedType { .. }
+            )
+    )
+}
