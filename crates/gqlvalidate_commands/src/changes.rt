@@ -249,7 +249,7 @@ fn shown_changes<'a>(
         } else {
             change.level()
         };
-        let witness = witness_of(alloc, &ways, new, change, level)?;
+        let witness = witness_of(alloc, &ways, old, new, change, level)?;
         shown.push(ShownChange {
             change,
             level,
@@ -263,17 +263,18 @@ fn shown_changes<'a>(
 fn witness_of(
     alloc: Global,
     ways: &Ways<'_>,
+    old: &Schema,
     new: &Schema,
     change: &SchemaChange,
     level: Level,
 ) -> Result<Option<String>, Fault>
-    requires old { IsUsable ways.now.schema.now }
+    requires old { IsUsable old.now }
     requires new { IsUsable new.now }
 {
     match level {
         Level::Breaking(BreakingReason::Documents | BreakingReason::Merging) => {
             let change = &change.change;
-            Ok(confirmed_witness(alloc, ways, new, change, Bounds::DEFAULT)?)
+            Ok(confirmed_witness(alloc, ways, old, new, change, Bounds::DEFAULT)?)
         }
         _ => Ok(None),
     }
@@ -356,7 +357,11 @@ fn print_end<O: Write>(
         ChangeFormat::Json => {
             return print_json(alloc, comparison, changes, texts, operations, output);
         }
-        ChangeFormat::Github => return Ok(()),
+        ChangeFormat::Github => {
+            text.push_str("::notice title=Changes::")?;
+            text_format::push_summary(&mut text, ChangeTally::of(changes), verdict)?;
+            return print(text, output);
+        }
     }
     operations.push_summary(&mut text)?;
     print(text, output)

@@ -44,7 +44,7 @@ impl Operations<'_> {
         let invalid = self.invalid_before;
         writeln!(
             out,
-            "of {count} documents {broken} break, and {invalid} were not valid before"
+            "{count} documents: {broken} broken, {invalid} not valid before"
         )
     }
 

@@ -1,5 +1,8 @@
 //! Changes as JSON, version 1.
 
+ghost use Rattle.graphql_report_formats.specs.JsonReports.{Appends, number_member};
+ghost use Rattle.graphql_change_formats.specs.ChangeJson.{comparison_begin};
+
 use crate::shown_changes::{ComparedTexts, ShownChange};
 use graphql_report_formats::named_texts::Located;
 use graphql_schema_comparison::Comparison;
@@ -10,7 +13,9 @@ use std::alloc::{AllocError, Global};
 const VERSION: u64 = 1;
 
 /// Begins the object, and adds what the comparison means for documents.
-pub fn begin(json: &mut Writer, comparison: &Comparison) -> Result<(), AllocError> {
+pub fn begin(json: &mut Writer, comparison: &Comparison) -> Result<(), AllocError>
+    ensures { Appends result json.old json.new (comparison_begin comparison.now) }
+{
     json.begin_object()?;
     json.key("version")?;
     json.u64(VERSION)?;
@@ -95,7 +100,9 @@ fn add_span(json: &mut Writer, located: Located<'_>) -> Result<(), AllocError> {
     json.end_object()
 }
 
-fn add_number(json: &mut Writer, name: &str, number: usize) -> Result<(), AllocError> {
+fn add_number(json: &mut Writer, name: &str, number: usize) -> Result<(), AllocError>
+    ensures { Appends result json.old json.new (number_member name.now number) }
+{
     json.key(name)?;
     json.u64(number as u64)
 }

@@ -40,7 +40,7 @@ fn changes_of(rt: &impl Abort, alloc: Global, old: &Schema, new: &Schema) -> Str
     let ways = Ways::new(alloc, old).expect(rt, "memory for ways");
     let mut lines = String::new(alloc);
     for change in &comparison.changes {
-        push_line(rt, alloc, &mut lines, &ways, new, change);
+        push_line(rt, alloc, &mut lines, &ways, old, new, change);
     }
     lines
 }
@@ -50,16 +50,17 @@ fn push_line(
     alloc: Global,
     lines: &mut String,
     ways: &Ways<'_>,
+    old: &Schema,
     new: &Schema,
     change: &SchemaChange,
 )
-    requires old { IsUsable ways.now.schema.now }
+    requires old { IsUsable old.now }
     requires new { IsUsable new.now }
 {
     let level = name_of(change.level());
     let name = change.change.name();
     let change = &change.change;
-    let witness = confirmed_witness(alloc, ways, new, change, Bounds::DEFAULT).expect(rt, "memory for a witness");
+    let witness = confirmed_witness(alloc, ways, old, new, change, Bounds::DEFAULT).expect(rt, "memory for a witness");
     match witness {
         Some(text) => writeln!(lines, "{level} {name} {text}").expect(rt, "memory for a line"),
         None => writeln!(lines, "{level} {name}").expect(rt, "memory for a line"),

@@ -57,10 +57,14 @@ const FIELDS: &[Row] = &[
     (
         "type Query { u: U } union U = A | B type A { x: Int } type B { x: Int }",
         "type Query { u: U } union U = A | B type A { x: Float } type B { x: Int }",
-        "merging FieldTypeChanged { u { ... on A { x } ... on B { x } } }\n",
+        "safe TypeAdded\nmerging FieldTypeChanged { u { ... on A { x } ... on B { x } } }\n",
     ),
     // A leaf becomes another leaf, and nothing meets it: responses change.
-    ("type Query { a: Int }", "type Query { a: Float }", "responses FieldTypeChanged\n"),
+    (
+        "type Query { a: Int b(i: Int f: Float): Boolean }",
+        "type Query { a: Float b(i: Int f: Float): Boolean }",
+        "responses FieldTypeChanged\n",
+    ),
     // A leaf becomes composite.
     (
         "type Query { a: Int } type A { x: Int }",

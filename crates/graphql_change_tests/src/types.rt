@@ -169,12 +169,6 @@ const ROOTS: &[Row] = &[
         "schema { query: R } type Q { a: Int } type R { a: Int }",
         "documents RootChanged { ... on Q { __typename } }\n",
     ),
-    // The extension of an introspection type is removed.
-    (
-        "type Query { a: Int } extend type __Schema { x: Int }",
-        "type Query { a: Int }",
-        "documents FieldRemoved { __schema { x } }\n",
-    ),
     // Descriptions, deprecation and order.
     (
         "\"d\" type Query { a: Int b: Int @deprecated } enum E { X Y }",

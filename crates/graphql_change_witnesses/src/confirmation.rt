@@ -1,14 +1,13 @@
 //! Witnesses that validation confirms.
 
-ghost use Rattle.std.specs.Prelude.{◌≡◌, All, IfOk, IfSome, IsTrue, None, Ok, Some};
+ghost use Rattle.std.specs.Prelude.{◌≡◌, ◌↔◌, All, IfOk, IfSome, IsTrue, Ok};
 ghost use Rattle.graphql_diagnostics.specs.Diagnostics.{IsLimitEntry, entries};
 ghost use Rattle.graphql_frontend.specs.Schemas.{IsUsable};
 ghost use Rattle.graphql_change_witnesses.specs.Witnesses.{BreaksRules, IsWitness, IsWitnessText};
 
 use crate::candidates::witness_candidates;
 use crate::ways::Ways;
-use graphql_diagnostics::details::Details;
-use graphql_diagnostics::{DiagnosticData, DiagnosticEntry, DiagnosticList};
+use graphql_diagnostics::{Details, DiagnosticData, DiagnosticEntry, DiagnosticList};
 use graphql_documents::documents::Schema;
 use graphql_frontend::{FileId, Reports, SourceText, validate_document};
 use graphql_nodes::ValidationError;
@@ -19,23 +18,24 @@ use std::alloc::Global;
 /// The number of the file of a witness.
 const FILE: FileId = FileId(1);
 
-/// A document that is valid against the old schema, which is that of the ways, and breaks a rule against the new one. None, if no
+/// A document that is valid against the old schema, whose ways are given, and breaks a rule against the new one. None, if no
 /// candidate is such a document. The only error is a failed allocation.
 ///
 /// Specification: 5 Validation.
 pub fn confirmed_witness(
     alloc: Global,
     ways: &Ways<'_>,
+    old: &Schema,
     new: &Schema,
     change: &Change,
     bounds: Bounds,
 ) -> Result<Option<String>, ValidationError>
-    requires old { IsUsable ways.now.schema.now }
+    requires old { IsUsable old.now }
     requires new { IsUsable new.now }
-    ensures { IfOk result (λ found. IfSome found (λ text. IsWitnessText bounds ways.now.schema.now new.now text)) }
+    ensures { IfOk result (λ found. IfSome found (λ text. IsWitnessText bounds old.now new.now text)) }
 {
     for text in witness_candidates(ways, new, change)? {
-        if is_witness(alloc, ways.schema, new, source_of(text.as_str()), bounds)? {
+        if is_witness(alloc, old, new, source_of(text.as_str()), bounds)? {
             return Ok(Some(text));
         }
     }
@@ -43,7 +43,7 @@ pub fn confirmed_witness(
 }
 
 fn source_of<'a>(text: &'a str) -> SourceText<'a>
-    ensures { result ≡ record { file_id = FILE; text = text.entry } }
+    ensures { result.text.now ≡ text.now }
 {
     SourceText {
         file_id: FILE,
@@ -87,19 +87,21 @@ fn breaks_rules(reports: &Reports) -> bool
 }
 
 fn has_no_limit(rules: &DiagnosticList) -> bool
-    ensures { IsTrue result → All (λ e. ¬ IsLimitEntry e) (entries rules.now) }
+    ensures { IsTrue result ↔ All (λ e. ¬ IsLimitEntry e) (entries rules.now) }
 {
-    rules.iter().all(|entry| !is_limit(entry))
+    rules.iter().all(|entry| is_of_rule(entry))
 }
 
-fn is_limit(entry: &DiagnosticEntry) -> bool
-    ensures { IsLimitEntry entry.now → IsTrue result }
+/// Whether a rule is broken, and no limit passed.
+fn is_of_rule(entry: &DiagnosticEntry) -> bool
+    ensures { IsTrue result ↔ ¬ IsLimitEntry entry.now }
 {
-    matches!(
-        entry.details,
-        Details::RecursionLimit(_)
-            | Details::Diagnostic(
-                DiagnosticData::RecursionError | DiagnosticData::DeeplyNestedType { .. }
-            )
-    )
+    match &entry.details {
+        Details::Diagnostic(data) => !matches!(
+            data,
+            DiagnosticData::RecursionError | DiagnosticData::DeeplyNestedType { .. }
+        ),
+        Details::Build(_) => true,
+        Details::RecursionLimit(_) => false,
+    }
 }
