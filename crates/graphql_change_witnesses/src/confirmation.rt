@@ -1,9 +1,10 @@
 //! Witnesses that validation confirms.
 
-ghost use Rattle.std.specs.Prelude.{◌≡◌, ◌↔◌, All, IfOk, IfSome, IsTrue, Ok};
+ghost use Rattle.std.specs.Prelude.{◌≡◌, ◌↔◌, All, IfOk, IfSome, IsTrue, None, Ok, Some, string_bytes, true};
 ghost use Rattle.graphql_diagnostics.specs.Diagnostics.{IsLimitEntry, entries};
+ghost use Rattle.graphql_frontend.specs.Documents.{ValidatesDocument};
 ghost use Rattle.graphql_frontend.specs.Schemas.{IsUsable};
-ghost use Rattle.graphql_change_witnesses.specs.Witnesses.{BreaksRules, IsWitness, IsWitnessText};
+ghost use Rattle.graphql_change_witnesses.specs.Witnesses.{BreaksRules, BreaksRulesOf, IsWitness, IsWitnessText};
 
 use crate::candidates::witness_candidates;
 use crate::ways::Ways;
@@ -32,7 +33,7 @@ pub fn confirmed_witness(
 ) -> Result<Option<String>, ValidationError>
     requires old { IsUsable old.now }
     requires new { IsUsable new.now }
-    ensures { IfOk result (λ found. IfSome found (λ text. IsWitnessText bounds old.now new.now text)) }
+    ensures { IfOk result (λ found. IfSome found (λ text. IsWitnessText bounds old.now new.now (string_bytes text))) }
 {
     for text in witness_candidates(ways, new, change)? {
         if is_witness(alloc, old, new, source_of(text.as_str()), bounds)? {
@@ -66,12 +67,42 @@ pub fn is_witness(
     requires new { IsUsable new.now }
     ensures { result ≡ Ok true → IsWitness bounds old.now new.now source.entry }
 {
-    match validate_document(alloc, old, source, bounds)? {
+    if is_valid(alloc, old, source, bounds)? {
+        breaks_rules_of(alloc, new, source, bounds)
+    } else {
+        Ok(false)
+    }
+}
+
+/// Whether nothing is reported of a text.
+fn is_valid(
+    alloc: Global,
+    schema: &Schema,
+    source: SourceText<'_>,
+    bounds: Bounds,
+) -> Result<bool, ValidationError>
+    requires { IsUsable schema.now }
+    ensures { result ≡ Ok true → ValidatesDocument bounds (Some schema.now) source.entry None }
+{
+    match validate_document(alloc, schema, source, bounds)? {
+        None => Ok(true),
         Some(_) => Ok(false),
-        None => match validate_document(alloc, new, source, bounds)? {
-            Some(reports) => Ok(breaks_rules(&reports)),
-            None => Ok(false),
-        },
+    }
+}
+
+/// Whether what is reported of a text is that it breaks rules.
+fn breaks_rules_of(
+    alloc: Global,
+    schema: &Schema,
+    source: SourceText<'_>,
+    bounds: Bounds,
+) -> Result<bool, ValidationError>
+    requires { IsUsable schema.now }
+    ensures { result ≡ Ok true → BreaksRulesOf bounds schema.now source.entry }
+{
+    match validate_document(alloc, schema, source, bounds)? {
+        None => Ok(false),
+        Some(reports) => Ok(breaks_rules(&reports)),
     }
 }
 
