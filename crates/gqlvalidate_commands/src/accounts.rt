@@ -188,7 +188,8 @@ impl<'a> Account<'a> {
     }
 }
 
-fn print<O: Write>(text: String, output: &mut O) -> Result<(), Fault> {
+/// Prints the text, in one write.
+pub fn print<O: Write>(text: String, output: &mut O) -> Result<(), Fault> {
     output.write_all(text.as_bytes()).map_err(fault_of_output)
 }
 

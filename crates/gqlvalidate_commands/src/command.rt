@@ -1,4 +1,5 @@
 use crate::bounds::{bounds_of, bounds_of_answers};
+use crate::changes::{Compared, compare, presentation_of};
 use crate::expansions::{Words, check_words};
 use crate::explain::{explain, list_rules};
 use crate::faults::{Fault, fault_of_output, fault_of_words};
@@ -82,6 +83,25 @@ fn answer<R: Files + AllocGlobal + Clone + Drop, I: Read, O: Write, F: Write>(
             };
             let presentation = Presentation::new(*reporting, colored_by_default);
             check_words(rt, words, presentation, input, output, faults)
+        }
+        Request::Diff {
+            old,
+            new,
+            operations,
+            lone_fields,
+            fail_on,
+            format,
+        } => {
+            let compared = Compared {
+                old,
+                new,
+                operations,
+                lone_fields: *lone_fields,
+                fail_on: *fail_on,
+                format: *format,
+                presentation: presentation_of(*format, colored_by_default),
+            };
+            compare(rt, compared, input, output, faults)
         }
         Request::Schema { schema, reporting } => {
             let presentation = Presentation::new(*reporting, colored_by_default);

@@ -3,6 +3,7 @@
 
 mod accounts;
 mod bounds;
+mod changes;
 mod check;
 pub mod command;
 mod explain;
@@ -11,6 +12,7 @@ mod faults;
 mod json_lines;
 mod lines;
 mod one_document;
+mod operations;
 mod presentations;
 mod project_files;
 mod questions;

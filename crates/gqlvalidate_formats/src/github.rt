@@ -5,10 +5,22 @@ use crate::runs::{UNREADABLE, UNREADABLE_RULE};
 use crate::texts::Texts;
 use graphql_findings::Finding;
 use graphql_notes::Note;
-use graphql_report_formats::named_texts::shown_name;
+use graphql_report_formats::named_texts::{Located, shown_name};
 use graphql_shown_reports::ShownReport;
 use std::alloc::{AllocError, Global};
 use std::fmt;
+
+/// What an annotation says, and of which part of a file.
+#[derive(Clone, Copy)]
+pub struct Annotation<'a> {
+    /// `error`, `warning` or `notice`.
+    pub command: &'static str,
+    pub title: &'a str,
+    pub message: &'a str,
+    pub located: Option<Located<'a>>,
+    /// The file of what has no place.
+    pub path: Option<&'a str>,
+}
 
 /// The findings, in order: each with its notes, which are lines of its message.
 pub fn annotations_of(
@@ -40,9 +52,22 @@ pub fn annotations_of_unreadable(alloc: Global, unreadable: &[&str]) -> Result<S
 
 /// Adds the line of a report, without its end.
 fn push_report(out: &mut String, report: &ShownReport, texts: Texts<'_>) -> Result<(), AllocError> {
-    let title = Property(report.rule);
-    let message = Message(report.message.as_str());
-    match texts.locate(report.location) {
+    let annotation = Annotation {
+        command: "error",
+        title: report.rule,
+        message: report.message.as_str(),
+        located: texts.locate(report.location),
+        path: texts.path(),
+    };
+    push_annotation(out, annotation)
+}
+
+/// Adds the line of an annotation, without its end.
+pub fn push_annotation(out: &mut String, annotation: Annotation<'_>) -> Result<(), AllocError> {
+    let command = annotation.command;
+    let title = Property(annotation.title);
+    let message = Message(annotation.message);
+    match annotation.located {
         Some(located) => {
             let path = Property(shown_name(located.path));
             let line = located.start.line;
@@ -51,12 +76,12 @@ fn push_report(out: &mut String, report: &ShownReport, texts: Texts<'_>) -> Resu
             let end_column = located.end.column;
             write!(
                 out,
-                "::error file={path},line={line},endLine={end_line},col={column},endColumn={end_column},title={title}::{message}"
+                "::{command} file={path},line={line},endLine={end_line},col={column},endColumn={end_column},title={title}::{message}"
             )
         }
         None => {
-            let path = Property(shown_name(texts.path()));
-            write!(out, "::error file={path},title={title}::{message}")
+            let path = Property(shown_name(annotation.path));
+            write!(out, "::{command} file={path},title={title}::{message}")
         }
     }
 }

@@ -3,6 +3,7 @@ use std::alloc::Global;
 use std::io::ErrorKind;
 use std::process::Abort;
 
+mod changes;
 mod shelf;
 
 use shelf::{Failing, Refusing, Shelf};
@@ -25,6 +26,14 @@ const FILES: &[(&str, &[u8])] = &[
         b"type Query { pet(id: ID!): Pet }\n\ntype Pet { name: String }\n",
     ),
     ("more", b"extend type Pet { age: Int }\n"),
+    (
+        "later",
+        b"type Query { pet(id: ID!): Pet }\n\ntype Pet { title: String }\n",
+    ),
+    (
+        "stricter",
+        b"type Query { pet(id: ID!): Pet }\n\ntype Pet { name: String! }\n",
+    ),
     ("valid", b"{ pet(id: 1) { name } }\n"),
     ("aged", b"{ pet(id: 1) { name age } }\n"),
     (

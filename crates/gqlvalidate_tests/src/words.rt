@@ -96,6 +96,37 @@ const READ: &[(&[&str], &str)] = &[
         &["serve", "--schema", "-"],
         "error: standard input, `-`, is named more than once\n",
     ),
+    (
+        &["diff", "a", "b"],
+        "Diff { old: [\"a\"], new: [\"b\"], operations: [], lone_fields: false, fail_on: Breaking, format: Text }",
+    ),
+    (
+        &[
+            "diff",
+            "--old-schema",
+            "c",
+            "--new-schema=d",
+            "--operations",
+            "e",
+            "--operations",
+            "f",
+            "--lone-fields",
+            "--fail-on",
+            "dangerous",
+            "--format=markdown",
+            "a",
+            "b",
+        ],
+        "Diff { old: [\"a\", \"c\"], new: [\"b\", \"d\"], operations: [\"e\", \"f\"], lone_fields: true, fail_on: Dangerous, format: Markdown }",
+    ),
+    (
+        &["diff", "-", "--operations", "-", "b"],
+        "error: standard input, `-`, is named more than once\n",
+    ),
+    (
+        &["diff", "--fail-on", "always", "a", "b"],
+        "error: invalid value 'always' for '--fail-on <LEVEL>'\n  [possible values: breaking, dangerous, never]\n\nFor more information, try '--help'.\n",
+    ),
     (&["--version"], "gqlvalidate 0.1.0\n"),
 ];
 

@@ -32,8 +32,24 @@ pub const MAX_LINE: &str = "max-line";
 
 pub const RULE: &str = "rule";
 
+pub const OLD: &str = "old";
+
+pub const NEW: &str = "new";
+
+pub const OLD_SCHEMA: &str = "old-schema";
+
+pub const NEW_SCHEMA: &str = "new-schema";
+
+pub const OPERATIONS: &str = "operations";
+
+pub const LONE_FIELDS: &str = "lone-fields";
+
+pub const FAIL_ON: &str = "fail-on";
+
 /// The names of the commands.
 pub const CHECK: &str = "check";
+
+pub const DIFF: &str = "diff";
 
 pub const SERVE: &str = "serve";
 
@@ -57,6 +73,17 @@ pub const CHECKSTYLE: &str = "checkstyle";
 pub const GITLAB: &str = "gitlab";
 
 static FORMATS: [&str; 7] = [TEXT, JSON, GITHUB, SARIF, JUNIT, CHECKSTYLE, GITLAB];
+
+pub const MARKDOWN: &str = "markdown";
+
+static CHANGE_FORMATS: [&str; 4] = [TEXT, JSON, GITHUB, MARKDOWN];
+
+/// Which changes end a comparison with status 1; `never` is a name of this, too.
+pub const BREAKING: &str = "breaking";
+
+pub const DANGEROUS: &str = "dangerous";
+
+static LEVELS: [&str; 3] = [BREAKING, DANGEROUS, NEVER];
 
 /// When text is coloured.
 pub const AUTO: &str = "auto";
@@ -88,7 +115,8 @@ pub fn program<'a>(alloc: Global) -> Result<Command<'a>, Error> {
         .subcommand_required(true)
         .bin_name("gqlvalidate")?;
     let with_check = program.subcommand(check(alloc)?)?;
-    let with_schema = with_check.subcommand(schema(alloc)?)?;
+    let with_diff = with_check.subcommand(diff(alloc)?)?;
+    let with_schema = with_diff.subcommand(schema(alloc)?)?;
     let with_serve = with_schema.subcommand(serve(alloc)?)?;
     let with_syntax = with_serve.subcommand(syntax(alloc)?)?;
     Ok(with_syntax.subcommand(explain(alloc)?)?)
@@ -108,6 +136,32 @@ fn check<'a>(alloc: Global) -> Result<Command<'a>, Error> {
     let command = command.arg(max_reach(alloc, "64"))?;
     let command = command.arg(max_work(alloc))?;
     Ok(command.arg(documents(alloc)?)?)
+}
+
+fn diff<'a>(alloc: Global) -> Result<Command<'a>, Error> {
+    let command = Command::new(alloc, DIFF)
+        .about("Finds what changes from one schema to another, and whether documents stay valid")
+        .after_help(STATUSES);
+    let command = command.arg(change_format(alloc))?;
+    let command = command.arg(fail_on(alloc))?;
+    let command = command.arg(lone_fields(alloc))?;
+    let command = command.arg(further_file(
+        alloc,
+        OLD_SCHEMA,
+        "A further file of the old schema; repeat the option for each file",
+    ))?;
+    let command = command.arg(further_file(
+        alloc,
+        NEW_SCHEMA,
+        "A further file of the new schema; repeat the option for each file",
+    ))?;
+    let command = command.arg(further_file(
+        alloc,
+        OPERATIONS,
+        "A document to validate against both; repeat the option for each file",
+    ))?;
+    let command = command.arg(one_file(alloc, OLD, "OLD", "The old schema"))?;
+    Ok(command.arg(one_file(alloc, NEW, "NEW", "The new schema"))?)
 }
 
 fn schema<'a>(alloc: Global) -> Result<Command<'a>, Error> {
@@ -202,6 +256,25 @@ fn each<'a>(alloc: Global) -> Result<Arg<'a>, Error> {
     Ok(each.conflicts_with(ONE_DOCUMENT)?.conflicts_with(FRAGMENTS)?)
 }
 
+
+/// A path that a command takes.
+fn one_file<'a>(alloc: Global, id: &'a str, name: &'a str, help: &'a str) -> Arg<'a> {
+    Arg::new(alloc, id)
+        .value_name(name)
+        .help(help)
+        .required(true)
+        .action(ArgAction::Set)
+}
+
+/// An option that adds a file.
+fn further_file<'a>(alloc: Global, name: &'a str, help: &'a str) -> Arg<'a> {
+    Arg::new(alloc, name)
+        .long(name)
+        .value_name("FILE")
+        .help(help)
+        .action(ArgAction::Append)
+}
+
 fn schema_files<'a>(alloc: Global) -> Arg<'a> {
     Arg::new(alloc, SCHEMA)
         .long(SCHEMA)
@@ -219,6 +292,33 @@ fn format<'a>(alloc: Global) -> Arg<'a> {
         .value_parser(FORMATS.as_slice())
         .default_value(TEXT)
         .action(ArgAction::Set)
+}
+
+fn change_format<'a>(alloc: Global) -> Arg<'a> {
+    Arg::new(alloc, FORMAT)
+        .long(FORMAT)
+        .value_name("FORMAT")
+        .help("Format of the changes")
+        .value_parser(CHANGE_FORMATS.as_slice())
+        .default_value(TEXT)
+        .action(ArgAction::Set)
+}
+
+fn fail_on<'a>(alloc: Global) -> Arg<'a> {
+    Arg::new(alloc, FAIL_ON)
+        .long(FAIL_ON)
+        .value_name("LEVEL")
+        .help("Which changes end the run with status 1; dangerous: breaking ones, too")
+        .value_parser(LEVELS.as_slice())
+        .default_value(BREAKING)
+        .action(ArgAction::Set)
+}
+
+fn lone_fields<'a>(alloc: Global) -> Arg<'a> {
+    Arg::new(alloc, LONE_FIELDS)
+        .long(LONE_FIELDS)
+        .help("Consider only documents that put no two fields under one response key")
+        .action(ArgAction::SetTrue)
 }
 
 fn color<'a>(alloc: Global) -> Arg<'a> {
