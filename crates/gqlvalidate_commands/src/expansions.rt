@@ -161,10 +161,7 @@ fn fault_of<F: Write>(error: &PathError, faults: &mut F) -> Fault {
         }
         PathError::NoFile(word) => {
             let word = Printable(word.as_str());
-            let _ = writeln!(
-                faults,
-                "{word}: error: no file has such a path"
-            );
+            let _ = writeln!(faults, "{word}: error: no file has such a path");
             Fault::WordRefused
         }
     }

@@ -58,7 +58,9 @@ pub fn check_files<'a, R: Files + AllocGlobal, I: Read, O: Write, F: Write>(
     add_named(&own.files, &mut named)?;
     add_named(&lent.files, &mut named)?;
     let sources = sources_of(rt.alloc(), &named)?;
-    let (judged, borrowed) = sources.as_slice().split_at(own.files.len().min(sources.len()));
+    let (judged, borrowed) = sources
+        .as_slice()
+        .split_at(own.files.len().min(sources.len()));
     let whole = is_all && paths.is_all;
     let found = reports_of(rt.alloc(), schema, judged, borrowed, paths.bounds, whole)?;
     let subject = Subject {

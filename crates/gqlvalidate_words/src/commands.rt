@@ -244,7 +244,9 @@ fn lent_fragments<'a>(alloc: Global) -> Arg<'a> {
     Arg::new(alloc, FRAGMENTS)
         .long(FRAGMENTS)
         .value_name("PATH")
-        .help("Files, a folder or a quoted pattern whose fragments documents may spread, and which are not judged; may be repeated")
+        .help(
+            "Files, a folder or a quoted pattern whose fragments documents may spread, and which are not judged; may be repeated",
+        )
         .action(ArgAction::Append)
 }
 
@@ -253,9 +255,11 @@ fn each<'a>(alloc: Global) -> Result<Arg<'a>, Error> {
         .long(EACH)
         .help("Validate each document for itself, without the fragments of others")
         .action(ArgAction::SetTrue);
-    Ok(each.conflicts_with(ONE_DOCUMENT)?.conflicts_with(FRAGMENTS)?)
+    Ok(
+        each.conflicts_with(ONE_DOCUMENT)?
+            .conflicts_with(FRAGMENTS)?,
+    )
 }
-
 
 /// A path that a command takes.
 fn one_file<'a>(alloc: Global, id: &'a str, name: &'a str, help: &'a str) -> Arg<'a> {

@@ -1,13 +1,14 @@
 //! From words to a request.
 
 use crate::commands::{
-    ALWAYS, CHECK, CHECKSTYLE, COLOR, DANGEROUS, DIFF, EACH, EXPLAIN, FAIL_ON, FILES, FILES_FROM, FORMAT,
-    FRAGMENTS, GITHUB, GITLAB, JSON, JUNIT, LONE_FIELDS, MARKDOWN, MAX_DEPTH, MAX_LINE, MAX_REACH, MAX_REPORTS,
-    MAX_WORK, NEVER, NEW, NEW_SCHEMA, OLD, OLD_SCHEMA, ONE_DOCUMENT, OPERATIONS, RULE, SARIF, SCHEMA, SERVE,
-    SYNTAX, program,
+    ALWAYS, CHECK, CHECKSTYLE, COLOR, DANGEROUS, DIFF, EACH, EXPLAIN, FAIL_ON, FILES, FILES_FROM,
+    FORMAT, FRAGMENTS, GITHUB, GITLAB, JSON, JUNIT, LONE_FIELDS, MARKDOWN, MAX_DEPTH, MAX_LINE,
+    MAX_REACH, MAX_REPORTS, MAX_WORK, NEVER, NEW, NEW_SCHEMA, OLD, OLD_SCHEMA, ONE_DOCUMENT,
+    OPERATIONS, RULE, SARIF, SCHEMA, SERVE, SYNTAX, program,
 };
 use crate::requests::{
-    ChangeFormat, Color, FailOn, Format, Grouping, Limits, Refusal, Reporting, Request, STANDARD_INPUT,
+    ChangeFormat, Color, FailOn, Format, Grouping, Limits, Refusal, Reporting, Request,
+    STANDARD_INPUT,
 };
 use clap::error::ErrorKind;
 use clap::{ArgMatches, Error};
