@@ -15,7 +15,7 @@ use graphql_frontend::{Reports, SourceText};
 use graphql_report_formats::json_format;
 use graphql_report_formats::named_texts::{CountedSubject, Subject};
 use graphql_report_formats::schema_texts::BUILT_IN_TEXT;
-use graphql_shown_reports::{ShownReport, shown_reports};
+use graphql_shown_reports::{ShownReport, shown_copy, shown_reports};
 use json::Writer;
 use std::alloc::{AllocError, Global};
 
@@ -94,7 +94,7 @@ fn lack(alloc: Global) -> Result<ShownReport, AllocError>
     Ok(ShownReport {
         location: None,
         rule: "LacksIntrospection",
-        message: String::from_str(alloc, "the definitions that every schema has are missing")?,
+        message: shown_copy(alloc, "the definitions that every schema has are missing")?,
         original: None,
     })
 }

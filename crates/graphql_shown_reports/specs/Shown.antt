@@ -18,6 +18,7 @@ use Rattle.graphql_diagnostics.specs.declared.details.Details.TheVariants.{Diagn
 use Rattle.graphql_diagnostics.specs.declared.lists.DiagnosticEntry.{DiagnosticEntry}
 use Rattle.graphql_shown_reports.specs.BuildErrorMessages.{build_error_message}
 use Rattle.graphql_shown_reports.specs.RuleNames.{building_name, details_name}
+use Rattle.graphql_shown_reports.specs.ShownTexts.{IsShownText}
 use Rattle.graphql_frontend.specs.declared.reports.Reports.{Reports}
 use Rattle.graphql_frontend.specs.declared.reports.Reports.TheVariants as reports
 use Rattle.graphql_shown_reports.specs.declared.shown.ShownReport.{ShownReport}
@@ -79,11 +80,11 @@ listed (reports.DocumentRules found) =
     (map validation found.undefined_variables.items ++
     (map input_field found.input_fields.items ++ (map usage found.usages.items ++ map (λ _. more) (once_if found.has_more))))
 
--- the place, the name of the rule, the message and the other place are these
+-- the place, the name of the rule and the other place are these, and the message is this, cut if it is long
 pub record IsShownAs (location : Option SourceSpan) (rule text : List ℕ) (original : Option SourceSpan) (shown : ShownReport) : Type 0 where
   pub location_is : shown.location ≡ location
   pub rule_is : shown.rule.now ≡ rule
-  pub message_is : string_bytes shown.message ≡ text
+  pub message_is : IsShownText text (string_bytes shown.message)
   pub original_is : shown.original ≡ original
 
 -- the text of a file: the first of these that is of it

@@ -4,5 +4,7 @@
 pub mod build_error_messages;
 pub mod rule_names;
 pub mod shown;
+pub mod shown_texts;
 
 pub use shown::{ShownReport, shown_reports};
+pub use shown_texts::{shown_copy, shown_text};

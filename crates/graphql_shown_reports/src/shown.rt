@@ -9,6 +9,7 @@ ghost use Rattle.graphql_shown_reports.specs.Shown.{Shows, ShowsBuilding, ShowsE
 
 use crate::build_error_messages::BuildErrorMessage;
 use crate::rule_names::{building_rule, details_rule};
+use crate::shown_texts::{shown_copy, shown_text};
 use graphql_building_reports::{BuildingReport, BuildingReportList, BuildingRule};
 use graphql_diagnostics::{BuildError, Details, DiagnosticData, DiagnosticEntry, DiagnosticList};
 use graphql_frontend::reports::{DocumentReports, Reports, SchemaReports};
@@ -48,8 +49,8 @@ pub struct ShownReport {
     pub original: Option<SourceSpan>,
 }
 
-/// The reports as they are shown, one for one and in order: the first ones, at most so many. The only error is a failed
-/// allocation.
+/// The reports as they are shown, one for one and in order: the first ones, at most so many. A message of more than 2,000 bytes is
+/// cut. The only error is a failed allocation.
 ///
 /// Of a document, the rules of validation come first, then undefined variables, repeated input fields, and usages of variables.
 /// If there are more reports than are kept, the last one says so.
@@ -329,7 +330,7 @@ fn shown_nesting(alloc: Global, report: &NestingReport) -> Result<ShownReport, V
     Ok(ShownReport {
         location: report.location,
         rule: "NestsTooDeep",
-        message: report.to_string(alloc)?,
+        message: shown_text(alloc, report.to_string(alloc)?)?,
         original: None,
     })
 }
@@ -340,7 +341,7 @@ fn shown_reach(alloc: Global, report: &ReachReport) -> Result<ShownReport, Valid
     Ok(ShownReport {
         location: report.location,
         rule: "ReachesTooMuch",
-        message: report.to_string(alloc)?,
+        message: shown_text(alloc, report.to_string(alloc)?)?,
         original: None,
     })
 }
@@ -351,7 +352,7 @@ fn shown_work(alloc: Global, report: &WorkReport) -> Result<ShownReport, Validat
     Ok(ShownReport {
         location: report.location,
         rule: "TakesTooMuch",
-        message: report.to_string(alloc)?,
+        message: shown_text(alloc, report.to_string(alloc)?)?,
         original: None,
     })
 }
@@ -362,7 +363,7 @@ fn shown_more(alloc: Global) -> Result<ShownReport, ValidationError>
     Ok(ShownReport {
         location: None,
         rule: "MoreReports",
-        message: String::from_str(alloc, MORE_MESSAGE)?,
+        message: shown_copy(alloc, MORE_MESSAGE)?,
         original: None,
     })
 }
@@ -373,7 +374,7 @@ fn shown_misuse(alloc: Global, misuse: &VariableMisuse) -> Result<ShownReport, V
     Ok(ShownReport {
         location: misuse.location,
         rule: "DisallowedVariableUsage",
-        message: misuse.to_string(alloc)?,
+        message: shown_text(alloc, misuse.to_string(alloc)?)?,
         original: misuse.definition_location,
     })
 }
@@ -387,7 +388,7 @@ fn shown_repetition(
     Ok(ShownReport {
         location: repetition.location,
         rule: "UniqueInputField",
-        message: repetition.to_string(alloc)?,
+        message: shown_text(alloc, repetition.to_string(alloc)?)?,
         original: repetition.original,
     })
 }
@@ -405,7 +406,7 @@ fn shown_syntax(
     Ok(ShownReport {
         location: Some(error_span(report.file_id, text, report.error)),
         rule: "Syntax",
-        message,
+        message: shown_text(alloc, message)?,
         original: None,
     })
 }
@@ -456,7 +457,7 @@ fn shown_building(alloc: Global, report: &BuildingReport) -> Result<ShownReport,
     Ok(ShownReport {
         location: report.location,
         rule: building_rule(&report.rule),
-        message: report.rule.to_string(alloc)?,
+        message: shown_text(alloc, report.rule.to_string(alloc)?)?,
         original: original_of_building(&report.rule),
     })
 }
@@ -486,7 +487,7 @@ fn shown_entry(alloc: Global, entry: &DiagnosticEntry) -> Result<ShownReport, Va
     Ok(ShownReport {
         location: entry.location,
         rule: details_rule(&entry.details),
-        message: message_of(alloc, &entry.details)?,
+        message: shown_text(alloc, message_of(alloc, &entry.details)?)?,
         original: original_of(&entry.details),
     })
 }
