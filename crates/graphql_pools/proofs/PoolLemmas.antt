@@ -1,12 +1,13 @@
 -- What one more fragment, or one more name, adds.
 use Rattle.std.proofs.Common.{◌≡◌, ◌∙◌, ℕ, ◌+◌, ◌<◌, Bool, true, false, cond, List, [], ◌∷◌, ◌++◌, Option, None, Some, arith, length, get_or, take, map, ap, refl, sym, subst}
-use Rattle.std.specs.Prelude.{All, AllPairs, Contains, ◌⊎◌, IsSome, is_some}
+use Rattle.std.specs.Prelude.{All, AllPairs, Contains, ◌⊎◌, Err, IfOk, IsSome, Ok, OnOk, Result, is_some}
 use Rattle.std.specs.List.{AllZip}
 use Rattle.std.specs.Map.{lookup}
 use Rattle.std.proofs.lemmas.List.{append_assoc, append-nil, get_or_append_left, length-append, map-append}
 use Rattle.std.proofs.lemmas.List.Elements.{All-append, All-cons, All-nil, Contains-append_cases, Contains-append_left, Contains-append_right}
 use mathlib.Core.Logic.{inl, inr}
-use Rattle.graphql_documents.proofs.ListLemmas.{none_stands, only_one, stands_first}
+use Rattle.std.proofs.lemmas.Grind.{flat_map-append}
+use Rattle.graphql_documents.proofs.ListLemmas.{more_is, none_stands, only_one, stands_first}
 use Rattle.graphql_documents.specs.Selections.{fragments_of}
 use Rattle.graphql_nodes.proofs.NameLemmas.{same_name_itself}
 use Rattle.graphql_nodes.specs.Names.{AreDistinct, DifferentNames, NameText, SameName, same_name}
@@ -15,7 +16,20 @@ use Rattle.graphql_nodes.specs.declared.nodes.Node.{Node}
 use Rattle.graphql_documents.specs.declared.documents.executables.ExecutableDocument.{ExecutableDocument}
 use Rattle.graphql_documents.specs.declared.documents.executables.Fragment.{Fragment}
 use Rattle.graphql_document_building.proofs.DocumentLemmas.{absent}
-use Rattle.graphql_pools.specs.Pools.{AddsIfNew, Borrows, Entry, Gathers, IsBorrowed, SameEntry, is_new, was_there}
+use Rattle.graphql_pools.specs.Pools.{AddsIfNew, Borrows, Entry, Gathers, IsBorrowed, SameEntry, entries_among, is_new, was_there}
+
+-- what follows for what is answered
+pub on_ok : {T E : Type 0} (P Q : Type 0) → (P → Q) → (r : Result T E) → OnOk r P → OnOk r Q
+on_ok P Q f (Ok x) p = f p
+on_ok P Q f (Err e) p = tt
+
+pub if_ok : {T E : Type 0} (P Q : T → Type 0) → ((x : T) → P x → Q x) → (r : Result T E) → IfOk r P → IfOk r Q
+if_ok P Q f (Ok x) p = f x p
+if_ok P Q f (Err e) p = tt
+
+pub not_some : {X : Type 0} (o : Option X) → is_some o ≡ false → o ≡ None
+not_some None is = refl
+not_some (Some x) is = absurd (let h : ⊥ = cc in h)
 
 abbrev name_of : Entry → NameText
 name_of e = e.0
@@ -29,11 +43,11 @@ same_names (x ∷ xs) (y ∷ ys) zip =
     let rest = same_names xs ys zip.1 in
     ap (λ n. n ∷ map name_of ys) first ∙ ap (λ l. x.0 ∷ l) rest
 
-zip_append : (as bs xs ys : List Entry) → AllZip SameEntry as bs → AllZip SameEntry xs ys → AllZip SameEntry (as ++ xs) (bs ++ ys)
+zip_append : (es fs xs ys : List Entry) → AllZip SameEntry es fs → AllZip SameEntry xs ys → AllZip SameEntry (es ++ xs) (fs ++ ys)
 zip_append [] [] xs ys first rest = rest
-zip_append [] (b ∷ bs) xs ys first rest = absurd first
-zip_append (a ∷ as) [] xs ys first rest = absurd first
-zip_append (a ∷ as) (b ∷ bs) xs ys first rest = (first.0, zip_append as bs xs ys first.1 rest)
+zip_append [] (f ∷ fs) xs ys first rest = absurd first
+zip_append (e ∷ es) [] xs ys first rest = absurd first
+zip_append (e ∷ es) (f ∷ fs) xs ys first rest = (first.0, zip_append es fs xs ys first.1 rest)
 
 zip_itself : (xs : List Entry) → AllZip (λ (a b : Entry). (b.0 ≡ a.0) × (a.1 ≡ b.1)) xs xs
 zip_itself [] = tt
@@ -62,6 +76,16 @@ gathers_then xs ys old mid new first rest distinct =
         sym (map-append name_of old (xs ++ ys) ∙ ap (λ l. map name_of old ++ l) (map-append name_of xs ys)) in
     let b = rest (subst AreDistinct (sym names) distinct) in
     (a.0 ++ b.0, b.1 ∙ ap (λ l. l ++ b.0) a.1 ∙ append_assoc old a.0 b.0, zip_append xs a.0 ys b.0 a.2 b.2)
+
+-- one more document behind others
+pub gathers_file : (files : List ExecutableDocument) (i : ℕ) (file : ExecutableDocument) (old mid new : List Entry) → i < length files → file ≡ get_or files i file →
+    Gathers (entries_among (take i files)) old mid → Gathers file.fragments.entries mid new → Gathers (entries_among (take (i + 1) files)) old new
+gathers_file files i file old mid new within is first rest =
+    let more : take (i + 1) files ≡ take i files ++ file ∷ [] = more_is files i file within is in
+    let parts : entries_among (take (i + 1) files) ≡ entries_among (take i files) ++ file.fragments.entries =
+    ap entries_among more ∙ flat_map-append (λ (d : ExecutableDocument). d.fragments.entries) (take i files) (file ∷ []) ∙
+    ap (λ l. entries_among (take i files) ++ l) (append-nil file.fragments.entries) in
+    subst (λ l. Gathers l old new) (sym parts) (gathers_then (entries_among (take i files)) file.fragments.entries old mid new first rest)
 
 pub gathers_one : (name : NameText) (d : Node Fragment) (old new : List Entry) → AddsIfNew name d old new → Gathers ((name, d) ∷ []) old new
 gathers_one name d old new (was_there found same) distinct =

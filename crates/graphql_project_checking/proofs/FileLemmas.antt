@@ -90,11 +90,11 @@ no_names : (fs : List FragmentDefinition) → named_operations_in (map definitio
 no_names [] = refl
 no_names (f ∷ fs) = no_names fs
 
-zip_append : {X Y : Type 0} (R : X → Y → Type 0) (as xs : List X) (bs ys : List Y) → AllZip R as bs → AllZip R xs ys → AllZip R (as ++ xs) (bs ++ ys)
+pub zip_append : {X Y : Type 0} (R : X → Y → Type 0) (us xs : List X) (vs ys : List Y) → AllZip R us vs → AllZip R xs ys → AllZip R (us ++ xs) (vs ++ ys)
 zip_append R [] xs [] ys first rest = rest
-zip_append R [] xs (b ∷ bs) ys first rest = absurd first
-zip_append R (a ∷ as) xs [] ys first rest = absurd first
-zip_append R (a ∷ as) xs (b ∷ bs) ys first rest = (first.0, zip_append R as xs bs ys first.1 rest)
+zip_append R [] xs (v ∷ vs) ys first rest = absurd first
+zip_append R (u ∷ us) xs [] ys first rest = absurd first
+zip_append R (u ∷ us) xs (v ∷ vs) ys first rest = (first.0, zip_append R us xs vs ys first.1 rest)
 
 same_operations_say : (schema : Option Schema) (tree whole_tree : Document) (file whole : ExecutableDocument) → DocumentSays schema tree file →
     whole.operations ≡ file.operations → anonymous_operations_in whole_tree.definitions ≡ anonymous_operations_in tree.definitions →
