@@ -11,6 +11,7 @@ use crate::presentations::Presentation;
 use crate::schema_files::{named_text, read_files};
 use crate::schemas::reject;
 use crate::statuses::Status;
+use crate::terminals::Terminal;
 use gqlvalidate_formats::github::{Annotation, push_annotation};
 use gqlvalidate_formats::printable::Printable;
 use gqlvalidate_words::{ChangeFormat, Color, FailOn, Format, Reporting};
@@ -53,19 +54,19 @@ struct SchemaFiles {
 impl<'a> Compared<'a> {
     /// How reports of documents are presented: not at all in formats that only name the documents.
     pub fn presentation_of_documents(&self) -> Presentation {
-        let Presentation { reporting, palette } = self.presentation;
+        let Presentation { reporting, style } = self.presentation;
         let reporting = match self.format {
             ChangeFormat::Text | ChangeFormat::Github => reporting,
             ChangeFormat::Json | ChangeFormat::Markdown => {
                 Reporting::new(Format::Text, Color::Never, Some(0))
             }
         };
-        Presentation { reporting, palette }
+        Presentation { reporting, style }
     }
 }
 
 /// How reports of a schema are presented, if changes are in this format.
-pub fn presentation_of(format: ChangeFormat, colored_by_default: bool) -> Presentation {
+pub fn presentation_of(format: ChangeFormat, terminal: Terminal) -> Presentation {
     let format = match format {
         ChangeFormat::Text | ChangeFormat::Markdown => Format::Text,
         ChangeFormat::Github => Format::Github,
@@ -73,7 +74,7 @@ pub fn presentation_of(format: ChangeFormat, colored_by_default: bool) -> Presen
     };
     Presentation::new(
         Reporting::new(format, Color::Auto, None),
-        colored_by_default,
+        terminal,
     )
 }
 

@@ -8,6 +8,7 @@ use crate::schemas::check_schema;
 use crate::serve::{Allowance, serve};
 use crate::statuses::Status;
 use crate::syntax::check_syntax;
+use crate::terminals::Terminal;
 use gqlvalidate_formats::printable::printable_words;
 use gqlvalidate_words::{Refusal, Request, parse};
 use std::alloc::Global;
@@ -20,13 +21,13 @@ use std::rt::Files;
 pub fn run<R: Files + AllocGlobal + Clone + Drop, I: Read, O: Write, F: Write>(
     rt: &R,
     words: io::Result<Vec<String>>,
-    colored_by_default: bool,
+    terminal: Terminal,
     input: &mut I,
     output: &mut O,
     faults: &mut F,
 ) -> Status {
     let ended = match words {
-        Ok(words) => run_words(rt, &words, colored_by_default, input, output, faults),
+        Ok(words) => run_words(rt, &words, terminal, input, output, faults),
         Err(error) => Err(fault_of_words(error)),
     };
     match ended {
@@ -41,13 +42,13 @@ pub fn run<R: Files + AllocGlobal + Clone + Drop, I: Read, O: Write, F: Write>(
 fn run_words<R: Files + AllocGlobal + Clone + Drop, I: Read, O: Write, F: Write>(
     rt: &R,
     words: &[String],
-    colored_by_default: bool,
+    terminal: Terminal,
     input: &mut I,
     output: &mut O,
     faults: &mut F,
 ) -> Result<Status, Fault> {
     let status = match parse(rt.alloc(), words) {
-        Ok(request) => answer(rt, &request, colored_by_default, input, output, faults)?,
+        Ok(request) => answer(rt, &request, terminal, input, output, faults)?,
         Err(refusal) => refuse_words(rt.alloc(), words, &refusal, output, faults)?,
     };
     output.flush().map_err(fault_of_output)?;
@@ -58,7 +59,7 @@ fn run_words<R: Files + AllocGlobal + Clone + Drop, I: Read, O: Write, F: Write>
 fn answer<R: Files + AllocGlobal + Clone + Drop, I: Read, O: Write, F: Write>(
     rt: &R,
     request: &Request<'_>,
-    colored_by_default: bool,
+    terminal: Terminal,
     input: &mut I,
     output: &mut O,
     faults: &mut F,
@@ -81,7 +82,7 @@ fn answer<R: Files + AllocGlobal + Clone + Drop, I: Read, O: Write, F: Write>(
                 grouping: *grouping,
                 bounds: bounds_of(*limits),
             };
-            let presentation = Presentation::new(*reporting, colored_by_default);
+            let presentation = Presentation::new(*reporting, terminal);
             check_words(rt, words, presentation, input, output, faults)
         }
         Request::Diff {
@@ -99,12 +100,12 @@ fn answer<R: Files + AllocGlobal + Clone + Drop, I: Read, O: Write, F: Write>(
                 lone_fields: *lone_fields,
                 fail_on: *fail_on,
                 format: *format,
-                presentation: presentation_of(*format, colored_by_default),
+                presentation: presentation_of(*format, terminal),
             };
             compare(rt, compared, input, output, faults)
         }
         Request::Schema { schema, reporting } => {
-            let presentation = Presentation::new(*reporting, colored_by_default);
+            let presentation = Presentation::new(*reporting, terminal);
             check_schema(rt, schema, presentation, input, output, faults)
         }
         Request::Serve {

@@ -22,3 +22,4 @@ mod serve;
 mod sources;
 pub mod statuses;
 mod syntax;
+pub mod terminals;

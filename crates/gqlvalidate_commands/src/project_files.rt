@@ -72,7 +72,7 @@ pub fn check_files<'a, R: Files + AllocGlobal, I: Read, O: Write, F: Write>(
         accept_all(&own.files, account)?;
     } else {
         account.add_documents(own.files.len());
-        account.report(rt.alloc(), &found, subject, paths.bounds, output)?;
+        account.reject_together(rt.alloc(), &found, subject, paths.bounds, output)?;
     }
     Ok(status_of(&found, is_all))
 }

@@ -3,9 +3,6 @@
 use crate::printable::printable_character;
 use std::alloc::{AllocError, Global};
 
-/// As many characters of each part of a line are shown at most.
-const SHOWN: usize = 80;
-
 /// What stands for characters that are left out.
 const LEFT_OUT: &str = "...";
 
@@ -50,10 +47,10 @@ fn last_line(text: &str) -> &str {
     }
 }
 
-/// The end of a text as it is shown.
-pub fn shown_end(alloc: Global, text: &str) -> Result<String, AllocError> {
+/// The end of a text as it is shown: so many characters at most.
+pub fn shown_end(alloc: Global, text: &str, most: usize) -> Result<String, AllocError> {
     let mut shown = String::new(alloc);
-    let end = last_characters(text);
+    let end = last_characters(text, most);
     if end.len() < text.len() {
         shown.push_str(LEFT_OUT)?;
     }
@@ -61,10 +58,10 @@ pub fn shown_end(alloc: Global, text: &str) -> Result<String, AllocError> {
     Ok(shown)
 }
 
-/// The beginning of a text as it is shown.
-pub fn shown_beginning(alloc: Global, text: &str) -> Result<String, AllocError> {
+/// The beginning of a text as it is shown: so many characters at most.
+pub fn shown_beginning(alloc: Global, text: &str, most: usize) -> Result<String, AllocError> {
     let mut shown = String::new(alloc);
-    let beginning = first_characters(text);
+    let beginning = first_characters(text, most);
     push_shown(&mut shown, beginning)?;
     if beginning.len() < text.len() {
         shown.push_str(LEFT_OUT)?;
@@ -72,17 +69,20 @@ pub fn shown_beginning(alloc: Global, text: &str) -> Result<String, AllocError> 
     Ok(shown)
 }
 
-/// The last 80 characters.
-fn last_characters(text: &str) -> &str {
-    match text.char_indices().rev().nth(SHOWN - 1) {
+/// The last characters, at most so many.
+fn last_characters(text: &str, most: usize) -> &str {
+    let Some(others) = most.checked_sub(1) else {
+        return "";
+    };
+    match text.char_indices().rev().nth(others) {
         Some((at, _)) => text.get(at..).unwrap_or(text),
         None => text,
     }
 }
 
-/// The first 80 characters.
-fn first_characters(text: &str) -> &str {
-    match text.char_indices().nth(SHOWN) {
+/// The first characters, at most so many.
+fn first_characters(text: &str, most: usize) -> &str {
+    match text.char_indices().nth(most) {
         Some((at, _)) => text.get(..at).unwrap_or(text),
         None => text,
     }

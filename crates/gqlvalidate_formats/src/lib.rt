@@ -9,16 +9,16 @@ pub mod github;
 pub mod gitlab;
 pub mod json_findings;
 pub mod junit;
-pub mod palettes;
 pub mod printable;
 pub mod runs;
 pub mod sarif;
 pub mod sheets;
+pub mod styles;
 pub mod text;
 pub mod texts;
 mod xml;
 
-pub use palettes::Palette;
 pub use runs::Run;
 pub use sheets::Sheet;
+pub use styles::Style;
 pub use texts::Texts;

@@ -2,9 +2,9 @@
 
 use crate::gitlab::Issues;
 use crate::junit::Suite;
-use crate::palettes::Palette;
 use crate::printable::PrintableJson;
 use crate::runs::Run;
+use crate::styles::Style;
 use crate::texts::Texts;
 use crate::{checkstyle, github, json_findings, sarif, text};
 use gqlvalidate_words::Format;
@@ -16,7 +16,7 @@ use std::alloc::{AllocError, Global};
 #[derive(Drop)]
 pub enum Sheet {
     /// Nothing: text is printed at once.
-    Text(Palette),
+    Text(Style),
     /// Nothing: annotations are printed at once.
     Github,
     Json(Writer),
@@ -29,9 +29,9 @@ pub enum Sheet {
 
 impl Sheet {
     /// One without findings.
-    pub fn new(alloc: Global, format: Format, palette: Palette) -> Result<Sheet, AllocError> {
+    pub fn new(alloc: Global, format: Format, style: Style) -> Result<Sheet, AllocError> {
         match format {
-            Format::Text => Ok(Sheet::Text(palette)),
+            Format::Text => Ok(Sheet::Text(style)),
             Format::Github => Ok(Sheet::Github),
             Format::Json => {
                 let mut json = Writer::new(Vec::new(alloc));
@@ -57,7 +57,7 @@ impl Sheet {
         texts: Texts<'_>,
     ) -> Result<String, AllocError> {
         match self {
-            Sheet::Text(palette) => return text::text_of(alloc, findings, texts, *palette),
+            Sheet::Text(style) => return text::text_of(alloc, findings, texts, *style),
             Sheet::Github => return github::annotations_of(alloc, findings, texts),
             Sheet::Json(json) => json_findings::add_findings(json, findings, texts)?,
             Sheet::Sarif(json) => sarif::add_findings(json, alloc, findings, texts)?,

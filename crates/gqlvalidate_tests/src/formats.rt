@@ -160,3 +160,26 @@ fn notes_have_their_lines(rt: HostRuntime) {
         );
     }
 }
+
+/// A line that is longer than 100 columns is cut: the part first has room, then what is before it.
+#[test]
+fn long_lines_are_cut(rt: HostRuntime) {
+    let text =
+        "{ pet(id: 1) { name name name name name name name name name name name name name name name name name name name name colour name name name name name name name name name name name name name name name name name name name name name name name name name name name name name name name name name name name name name name name name } }";
+    let printed = "<stdin>:1:116: error: type `Pet` does not have a field `colour` [UndefinedField]
+  |
+1 | ...name name name name name name name name name name name name name name name name name name colour...
+  |                                                                                              ^^^^^^
+";
+    let wanted = Ended {
+        status: 1,
+        printed,
+        said: "1 report in 1 of 1 document\n",
+    };
+    ends(
+        &rt,
+        &["check", "--schema", "schema", "-"],
+        text.as_bytes(),
+        wanted,
+    );
+}

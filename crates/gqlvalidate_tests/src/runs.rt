@@ -1,4 +1,5 @@
 use gqlvalidate_commands::command::run;
+use gqlvalidate_commands::terminals::Terminal;
 use std::alloc::Global;
 use std::io::ErrorKind;
 use std::process::Abort;
@@ -142,7 +143,7 @@ pub(crate) fn ends<R: AllocGlobal + Abort>(
     let status = run(
         &shelf_of(alloc),
         words,
-        false,
+        Terminal::PLAIN,
         &mut input,
         &mut output,
         &mut faults,
@@ -825,7 +826,7 @@ fn fails<R: AllocGlobal + Abort>(rt: &R, texts: &[&str], kind: ErrorKind, status
     let ended = run(
         &shelf_of(alloc),
         words,
-        false,
+        Terminal::PLAIN,
         &mut input,
         &mut output,
         &mut faults,
@@ -849,9 +850,9 @@ fn failed_reads_are_told_from_failed_allocations(rt: HostRuntime) {
 /// Words of runs that print something.
 const PRINTING: &[&[&str]] = &[
     &["syntax", "unclosed", "missing"],
-    &["check", "--schema", "schema", "unclosed", "missing"],
+    &["check", "--each", "--schema", "schema", "unclosed", "missing"],
     &[
-        "check", "--format", "github", "--schema", "schema", "unclosed", "missing",
+        "check", "--each", "--format", "github", "--schema", "schema", "unclosed", "missing",
     ],
     &["check", "--format", "json", "--schema", "schema", "valid"],
     &["--version"],
@@ -864,7 +865,14 @@ fn a_failed_write_ends_the_run(rt: HostRuntime) {
         let mut input: &[u8] = b"";
         let mut faults = Vec::new(rt.alloc());
         let files = shelf_of(rt.alloc());
-        let ended = run(&files, words, false, &mut input, &mut Refusing, &mut faults);
+        let ended = run(
+            &files,
+            words,
+            Terminal::PLAIN,
+            &mut input,
+            &mut Refusing,
+            &mut faults,
+        );
         assert_eq!(rt; ended.number(), 4);
         assert!(rt; faults.is_empty());
     }
@@ -948,7 +956,7 @@ fn refused_words_control_nothing(rt: HostRuntime) {
     let status = run(
         &shelf_of(alloc),
         words,
-        false,
+        Terminal::PLAIN,
         &mut input,
         &mut output,
         &mut faults,
