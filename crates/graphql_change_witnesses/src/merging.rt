@@ -3,13 +3,13 @@
 //! Specification: 5.3.2 Field Selection Merging.
 
 use crate::candidates::{Candidates, field_named};
-use crate::texts::{document, push_whole_field};
-use crate::ways::{FieldMap, Ways, fields_of};
 use graphql_documents::documents::{Component, ExtendedType, FieldDefinition, Schema, Type};
 use graphql_nodes::{Name, NamedType, ValidationError};
+use graphql_schema_ways::texts::{document, push_whole_field};
+use graphql_schema_ways::{FieldMap, Ways, fields_of};
 
 /// So many places are tried for two fields, and so many types at each of them.
-const MOST_PLACES: usize = 16;
+const MOST_PLACES: usize = 8;
 
 /// So many documents are tried.
 const MOST_DOCUMENTS: usize = 6;
