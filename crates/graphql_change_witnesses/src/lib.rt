@@ -6,6 +6,7 @@
 mod candidates;
 pub mod confirmation;
 mod merging;
+mod nested_merging;
 
 pub use candidates::witness_candidates;
 pub use confirmation::{confirmed_witness, is_witness};
