@@ -32,7 +32,9 @@ pub enum Step<'a> {
 /// place where a value of it is given.
 #[derive(Drop)]
 pub struct Ways<'a> {
+    /// The schema.
     pub schema: &'a Schema,
+    // by the indices of types
     steps: Vec<Option<Step<'a>>>,
     overlaps: Vec<Vec<usize>>,
     inputs: InputSites<'a>,
