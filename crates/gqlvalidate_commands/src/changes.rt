@@ -18,13 +18,14 @@ use gqlvalidate_words::{ChangeFormat, Color, FailOn, Format, Reporting};
 use graphql_change_formats::{
     ChangeTally, ComparedTexts, ShownChange, json_format, markdown_format, text_format, verdict_of,
 };
-use graphql_change_witnesses::{Ways, confirmed_witness};
+use graphql_change_witnesses::confirmed_witness;
 use graphql_documents::documents::Schema;
 use graphql_frontend::{SchemaReading, read_schema};
 use graphql_parser::Bounds;
 use graphql_report_formats::named_texts::{CountedSubject, NamedText};
 use graphql_report_formats::schema_texts::{BUILT_IN_TEXT, schema_subject, sources_of};
 use graphql_schema_comparison::{BreakingReason, Comparison, Level, SchemaChange, compare_schemas};
+use graphql_schema_ways::Ways;
 use json::Writer;
 use std::alloc::{AllocError, Global};
 use std::io::{Read, Write};

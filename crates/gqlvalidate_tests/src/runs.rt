@@ -306,7 +306,7 @@ fn files_of_a_project_lend_each_other_fragments(rt: HostRuntime) {
 fn a_fault_of_a_fragment_is_in_its_file(rt: HostRuntime) {
     let texts = ["check", "--schema", "project/schema", "project", "faulty"];
     let printed =
-        "faulty/fragment.graphql:1:26: error: type `Pet` does not have a field `colour`
+        "faulty/fragment.graphql:1:26: error: type `Pet` does not have a field `colour` [UndefinedField]
   |
 1 | fragment Faulty on Pet { colour }
   |                          ^^^^^^

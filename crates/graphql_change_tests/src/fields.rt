@@ -21,6 +21,12 @@ const FIELDS: &[Row] = &[
         "type Query { u: U } union U = A | B type A { x: Int! } type B { x: Int }",
         "merging FieldTypeChanged { u { ... on A { x } ... on B { x } } }\n",
     ),
+    // The same below two fields that come under one response key.
+    (
+        "type Query { u: U } union U = A | B type A { c: C } type B { d: D } type C { x: Int } type D { y: Int }",
+        "type Query { u: U } union U = A | B type A { c: C } type B { d: D } type C { x: Int! } type D { y: Int }",
+        "merging FieldTypeChanged { u { ... on A { k: c { k: x } } ... on B { k: d { k: y } } } }\n",
+    ),
     // The same in an object, and its interface stays nullable.
     (
         "type Query { i: I } interface I { x: Int } type A implements I { x: Int }",

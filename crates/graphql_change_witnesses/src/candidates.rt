@@ -1,12 +1,6 @@
 //! Documents that use what a change takes away.
 
-use crate::directives::{application, document_at, document_with};
-use crate::inputs::InputSite;
-use crate::literals::{Piece, push_literal};
 use crate::merging::{push_conflicts, push_meetings};
-use crate::texts::{any_selection, document, field_text, first_field, push_field};
-use crate::values::{document_giving, document_with_variable};
-use crate::ways::{Step, Ways, fields_of};
 use graphql_coordinates::{
     DirectiveArgumentCoordinate, DirectiveCoordinate, FieldArgumentCoordinate,
     TypeAttributeCoordinate,
@@ -16,6 +10,11 @@ use graphql_documents::documents::{
 };
 use graphql_nodes::{DirectiveLocation, Name, NamedType, Node, OperationType, ValidationError};
 use graphql_schema_comparison::{Change, InputCoordinate, TypeEffect};
+use graphql_schema_ways::directives::{application, document_at, document_with};
+use graphql_schema_ways::literals::{Piece, push_literal};
+use graphql_schema_ways::texts::{any_selection, document, field_text, first_field, push_field};
+use graphql_schema_ways::values::{document_giving, document_with_variable};
+use graphql_schema_ways::{InputSite, Step, Ways, fields_of};
 
 /// Documents that may be witnesses of a change, the shortest first.
 #[derive(Drop)]

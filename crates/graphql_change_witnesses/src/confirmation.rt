@@ -7,13 +7,13 @@ ghost use Rattle.graphql_frontend.specs.Schemas.{IsUsable};
 ghost use Rattle.graphql_change_witnesses.specs.Witnesses.{BreaksRules, BreaksRulesOf, IsWitness, IsWitnessText};
 
 use crate::candidates::witness_candidates;
-use crate::ways::Ways;
 use graphql_diagnostics::{Details, DiagnosticData, DiagnosticEntry, DiagnosticList};
 use graphql_documents::documents::Schema;
 use graphql_frontend::{FileId, Reports, SourceText, validate_document};
 use graphql_nodes::ValidationError;
 use graphql_parser::Bounds;
 use graphql_schema_comparison::Change;
+use graphql_schema_ways::Ways;
 use std::alloc::Global;
 
 /// The number of the file of a witness.

@@ -5,14 +5,8 @@
 
 mod candidates;
 pub mod confirmation;
-mod directives;
-mod inputs;
-mod literals;
 mod merging;
-mod texts;
-mod values;
-pub mod ways;
+mod nested_merging;
 
 pub use candidates::witness_candidates;
 pub use confirmation::{confirmed_witness, is_witness};
-pub use ways::Ways;

@@ -3,22 +3,23 @@
 //! Specification: 5.3.2 Field Selection Merging.
 
 use crate::candidates::{Candidates, field_named};
-use crate::texts::{document, push_whole_field};
-use crate::ways::{FieldMap, Ways, fields_of};
+use crate::nested_merging::push_nested_meetings;
 use graphql_documents::documents::{Component, ExtendedType, FieldDefinition, Schema, Type};
 use graphql_nodes::{Name, NamedType, ValidationError};
+use graphql_schema_ways::texts::{document, push_whole_field};
+use graphql_schema_ways::{FieldMap, Ways, fields_of};
 
 /// So many places are tried for two fields, and so many types at each of them.
-const MOST_PLACES: usize = 16;
+pub(crate) const MOST_PLACES: usize = 8;
 
 /// So many documents are tried.
-const MOST_DOCUMENTS: usize = 6;
+pub(crate) const MOST_DOCUMENTS: usize = 6;
 
 /// A field of the type of this name.
 #[derive(Clone, Copy)]
-struct TypeField<'a> {
-    ty: &'a Name,
-    field: &'a Component<FieldDefinition>,
+pub(crate) struct TypeField<'a> {
+    pub ty: &'a Name,
+    pub field: &'a Component<FieldDefinition>,
 }
 
 /// Adds documents in which a field meets another one whose type had the same shape and has another one.
@@ -37,7 +38,11 @@ pub(crate) fn push_meetings(
     for place in ways.overlaps_at(index).iter().take(MOST_PLACES) {
         push_at(candidates, ways, new, first, *place)?;
     }
-    Ok(())
+    if candidates.texts.is_empty() {
+        push_nested_meetings(candidates, ways, new, ty, field)
+    } else {
+        Ok(())
+    }
 }
 
 /// Adds documents in which both fields are selected on the type at this index.
@@ -114,12 +119,12 @@ fn can_meet(schema: &Schema, first: TypeField<'_>, second: TypeField<'_>) -> boo
         || (first.ty != second.ty && is_object(schema, first.ty) && is_object(schema, second.ty))
 }
 
-fn is_object(schema: &Schema, name: &Name) -> bool {
+pub(crate) fn is_object(schema: &Schema, name: &Name) -> bool {
     matches!(schema.types.get(name), Some(ExtendedType::Object(_)))
 }
 
 /// Whether the types of the two fields had one shape, and no longer have.
-fn lose_shape(old: &Schema, new: &Schema, first: TypeField<'_>, second: TypeField<'_>) -> bool {
+pub(crate) fn lose_shape(old: &Schema, new: &Schema, first: TypeField<'_>, second: TypeField<'_>) -> bool {
     if !same_shape(old, &first.field.node.value.ty, &second.field.node.value.ty) {
         return false;
     }
@@ -132,7 +137,7 @@ fn lose_shape(old: &Schema, new: &Schema, first: TypeField<'_>, second: TypeFiel
 /// Whether fields of the two types can come under one response key.
 ///
 /// Specification: 5.3.2 Field Selection Merging, SameResponseShape.
-fn same_shape(schema: &Schema, a: &Type, b: &Type) -> bool {
+pub(crate) fn same_shape(schema: &Schema, a: &Type, b: &Type) -> bool {
     match (a, b) {
         (Type::Named(a), Type::Named(b)) | (Type::NonNullNamed(a), Type::NonNullNamed(b)) => {
             a == b || (is_composite(schema, a) && is_composite(schema, b))

@@ -99,7 +99,7 @@ fn documents_are_validated_against_both(rt: HostRuntime) {
 later:3:6: breaking: `Pet.name` is removed [FieldRemoved]
 schema:3:12: note: before
   valid before and not after: { pet(id: 1) { name } }
-valid:1:16: error: type `Pet` does not have a field `name`
+valid:1:16: error: type `Pet` does not have a field `name` [UndefinedField]
   |
 1 | { pet(id: 1) { name } }
   |                ^^^^
@@ -143,11 +143,14 @@ fn changes_need_not_matter(rt: HostRuntime) {
 /// A schema with reports ends the run with these alone.
 #[test]
 fn a_wrong_schema_is_reported(rt: HostRuntime) {
-    let printed = "twice:2:6: error: the type `Query` is defined multiple times in the schema
+    let printed = "twice:2:6: error: the type `Query` is defined multiple times in the schema [TypeDefinitionCollision]
   |
 2 | type Query { b: Int }
   |      ^^^^^
 twice:1:6: note: first here
+  |
+1 | type Query { a: Int }
+  |      ^^^^^
 ";
     let said = "1 report in the schema\n";
     run_ends(&rt, &["diff", "twice", "schema"], 1, printed, said);

@@ -24,6 +24,13 @@ impl Alloc for Shelf {
     }
 }
 
+/// Whether the path is that of the file: parts that are empty or a dot change nothing.
+fn leads_to(path: &str, file: &str) -> bool {
+    path.split('/')
+        .filter(|part| !part.is_empty() && *part != ".")
+        .eq(file.split('/'))
+}
+
 fn unsupported<T>() -> io::Result<T> {
     Err(io::Error::from(ErrorKind::Unsupported))
 }
@@ -34,7 +41,7 @@ impl Files for Shelf {
     type Dir = Listed;
 
     fn open_file(&self, _how: &OpenOptions, path: &str) -> io::Result<Opened> {
-        match self.files.iter().find(|file| file.0 == path) {
+        match self.files.iter().find(|file| leads_to(path, file.0)) {
             Some(file) => Ok(Opened(file.1)),
             None => Err(io::Error::from(ErrorKind::NotFound)),
         }

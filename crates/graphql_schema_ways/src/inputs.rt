@@ -5,13 +5,12 @@ use graphql_documents::documents::{
     Component, DirectiveDefinition, ExtendedType, FieldDefinition, InputObjectType,
     InputValueDefinition, Schema,
 };
-use graphql_nodes::{NamedType, Node, OperationType, ValidationError};
-use graphql_schema_comparison::changes::is_executable_location;
+use graphql_nodes::{DirectiveLocation, NamedType, Node, OperationType, ValidationError};
 use std::alloc::Global;
 
 /// A place where a value is given. Types are known by their indices in the map of types.
 #[derive(Clone, Copy)]
-pub(crate) enum InputSite<'a> {
+pub enum InputSite<'a> {
     /// An argument of a field of the type at this index.
     Argument {
         place: usize,
@@ -139,7 +138,7 @@ impl<'a> InputSearch<'a> {
                 .value
                 .locations
                 .iter()
-                .any(|l| is_executable_location(*l))
+                .any(|l| is_in_documents(*l))
             {
                 self.reach_from_directive(directive)?;
             }
@@ -167,7 +166,8 @@ impl<'a> InputSearch<'a> {
             let Some(index) = self.order.get(position) else {
                 break;
             };
-            self.reach_from_type(*index)?;
+            let index = *index;
+            self.reach_from_type(index)?;
         }
         Ok(())
     }
@@ -239,6 +239,23 @@ impl<'a> InputSearch<'a> {
 /// Whether values of the type are not looked into.
 ///
 /// Specification: 3.5 Scalars.
-pub(crate) fn is_custom_scalar(definition: &ExtendedType) -> bool {
+fn is_custom_scalar(definition: &ExtendedType) -> bool {
     matches!(definition, ExtendedType::Scalar(_)) && !definition.is_built_in()
+}
+
+/// Whether documents can apply a directive at the location.
+///
+/// Specification: 3.13 Directives, ExecutableDirectiveLocation.
+fn is_in_documents(location: DirectiveLocation) -> bool {
+    matches!(
+        location,
+        DirectiveLocation::Query
+            | DirectiveLocation::Mutation
+            | DirectiveLocation::Subscription
+            | DirectiveLocation::Field
+            | DirectiveLocation::FragmentDefinition
+            | DirectiveLocation::FragmentSpread
+            | DirectiveLocation::InlineFragment
+            | DirectiveLocation::VariableDefinition
+    )
 }

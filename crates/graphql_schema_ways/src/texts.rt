@@ -8,7 +8,7 @@ use std::alloc::Global;
 
 /// A value for the argument of this name.
 #[derive(Clone, Copy)]
-pub(crate) struct Given<'a> {
+pub struct Given<'a> {
     pub name: &'a Name,
     pub value: &'a str,
 }
@@ -24,7 +24,7 @@ struct Way {
 /// A document that selects this on the type at this index, if there is a way to it. Its operation declares these variables.
 ///
 /// Specification: 2.3 Operations.
-pub(crate) fn document(
+pub fn document(
     ways: &Ways<'_>,
     variables: &str,
     place: usize,
@@ -115,7 +115,7 @@ fn push_ends(text: &mut String, count: usize) -> Result<(), ValidationError> {
 /// Adds a field with the arguments that it must have, and this one. Answers whether all was added.
 ///
 /// Specification: 2.5 Fields.
-pub(crate) fn push_field(
+pub fn push_field(
     text: &mut String,
     ways: &Ways<'_>,
     field: &Component<FieldDefinition>,
@@ -135,7 +135,7 @@ pub(crate) fn push_field(
 /// Adds the arguments that must be given, and this one. Answers whether all was added.
 ///
 /// Specification: 2.6 Arguments.
-pub(crate) fn push_arguments(
+pub fn push_arguments(
     text: &mut String,
     alloc: Global,
     schema: &Schema,
@@ -187,7 +187,7 @@ fn push_argument(
 /// Adds a field as `push_field` does, and selects the name of the type below it, if it is of a composite type.
 ///
 /// Specification: 5.3.3 Leaf Field Selections.
-pub(crate) fn push_whole_field(
+pub fn push_whole_field(
     text: &mut String,
     ways: &Ways<'_>,
     field: &Component<FieldDefinition>,
@@ -204,7 +204,7 @@ pub(crate) fn push_whole_field(
 }
 
 /// The selection of this field, if it can be written.
-pub(crate) fn field_text(
+pub fn field_text(
     ways: &Ways<'_>,
     field: &Component<FieldDefinition>,
     given: Option<Given<'_>>,
@@ -220,7 +220,7 @@ pub(crate) fn field_text(
 /// A short selection on the type at this index: the name of the type, and of the root of subscriptions its first field.
 ///
 /// Specification: 5.2.3.1 Single Root Field.
-pub(crate) fn any_selection(
+pub fn any_selection(
     ways: &Ways<'_>,
     index: usize,
 ) -> Result<Option<String>, ValidationError> {
@@ -232,7 +232,7 @@ pub(crate) fn any_selection(
 }
 
 /// The selection of the first field of the type at this index.
-pub(crate) fn first_field(
+pub fn first_field(
     ways: &Ways<'_>,
     index: usize,
 ) -> Result<Option<String>, ValidationError> {

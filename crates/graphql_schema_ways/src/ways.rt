@@ -10,11 +10,11 @@ use indexmap::IndexMap;
 use std::alloc::Global;
 
 /// The fields of a type, by their names.
-pub(crate) type FieldMap = IndexMap<Name, Component<FieldDefinition>, HashSeed>;
+pub type FieldMap = IndexMap<Name, Component<FieldDefinition>, HashSeed>;
 
 /// The last step on a way to a type. Types are known by their indices in the map of types.
 #[derive(Clone, Copy)]
-pub(crate) enum Step<'a> {
+pub enum Step<'a> {
     /// The type is the root type of this kind of operation.
     Root(OperationType),
     /// A field of the type at this index has the type.
@@ -32,7 +32,9 @@ pub(crate) enum Step<'a> {
 /// place where a value of it is given.
 #[derive(Drop)]
 pub struct Ways<'a> {
-    pub(crate) schema: &'a Schema,
+    /// The schema.
+    pub schema: &'a Schema,
+    // by the indices of types
     steps: Vec<Option<Step<'a>>>,
     overlaps: Vec<Vec<usize>>,
     inputs: InputSites<'a>,
@@ -60,40 +62,40 @@ impl<'a> Ways<'a> {
     }
 
     /// The allocator of the ways.
-    pub(crate) fn allocator(&self) -> Global {
+    pub fn allocator(&self) -> Global {
         *self.steps.allocator()
     }
 
     /// The index of a type.
-    pub(crate) fn index_of(&self, name: &NamedType) -> Option<usize> {
+    pub fn index_of(&self, name: &NamedType) -> Option<usize> {
         self.schema.types.get_index_of(name)
     }
 
     /// The name of the type at this index.
-    pub(crate) fn name_at(&self, index: usize) -> Option<&'a Name> {
+    pub fn name_at(&self, index: usize) -> Option<&'a Name> {
         let (name, _) = self.schema.types.get_index(index)?;
         Some(name)
     }
 
     /// The definition of the type at this index.
-    pub(crate) fn definition_at(&self, index: usize) -> Option<&'a ExtendedType> {
+    pub fn definition_at(&self, index: usize) -> Option<&'a ExtendedType> {
         let (_, definition) = self.schema.types.get_index(index)?;
         Some(definition)
     }
 
     /// The last step to the type at this index, if there is a way to it.
-    pub(crate) fn step_to(&self, index: usize) -> Option<Step<'a>> {
+    pub fn step_to(&self, index: usize) -> Option<Step<'a>> {
         *self.steps.get(index)?
     }
 
     /// A place where a value of the input type at this index can be given, if there is one.
-    pub(crate) fn site_of(&self, index: usize) -> Option<InputSite<'a>> {
+    pub fn site_of(&self, index: usize) -> Option<InputSite<'a>> {
         self.inputs.site_of(index)
     }
 
     /// The types that have an object in common with the type at this index: one of the two is an object, and the other an
     /// interface or a union of it.
-    pub(crate) fn overlaps_at(&self, index: usize) -> &[usize] {
+    pub fn overlaps_at(&self, index: usize) -> &[usize] {
         match self.overlaps.get(index) {
             Some(others) => others.as_slice(),
             None => &[],
@@ -134,7 +136,8 @@ impl<'a> Search<'a> {
             let Some(index) = self.order.get(position) else {
                 break;
             };
-            self.reach_from(*index, overlaps)?;
+            let index = *index;
+            self.reach_from(index, overlaps)?;
         }
         Ok(())
     }
@@ -262,7 +265,7 @@ fn add_to(overlaps: &mut [Vec<usize>], index: usize, other: usize) -> Result<(),
 }
 
 /// The fields that an object or interface itself defines.
-pub(crate) fn fields_of(definition: &ExtendedType) -> Option<&FieldMap> {
+pub fn fields_of(definition: &ExtendedType) -> Option<&FieldMap> {
     match definition {
         ExtendedType::Object(definition) => Some(&definition.value.fields),
         ExtendedType::Interface(definition) => Some(&definition.value.fields),

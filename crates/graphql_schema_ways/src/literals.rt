@@ -11,7 +11,7 @@ const MOST_PIECES: usize = 4_096;
 
 /// A part of the text of a value.
 #[derive(Clone, Copy)]
-pub(crate) enum Piece<'a> {
+pub enum Piece<'a> {
     Text(&'static str),
     Name(&'a Name),
     /// A value of this type.
@@ -23,7 +23,7 @@ pub(crate) enum Piece<'a> {
 /// Adds a short value of a type. Answers whether all of it was added.
 ///
 /// Specification: 2.9 Input Values.
-pub(crate) fn push_literal(
+pub fn push_literal(
     text: &mut String,
     alloc: Global,
     schema: &Schema,
@@ -121,7 +121,7 @@ fn put_off_field<'a>(
 
 /// Adds the beginning of an object up to the value of this field, behind the other fields that the object must have. Answers
 /// whether all of it was added.
-pub(crate) fn push_object_up_to(
+pub fn push_object_up_to(
     text: &mut String,
     alloc: Global,
     schema: &Schema,
@@ -142,7 +142,7 @@ pub(crate) fn push_object_up_to(
 }
 
 /// Adds an argument or input field with a short value. Answers whether all of it was added.
-pub(crate) fn push_input(
+pub fn push_input(
     text: &mut String,
     alloc: Global,
     schema: &Schema,

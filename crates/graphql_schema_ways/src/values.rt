@@ -25,7 +25,7 @@ struct Nesting<'a> {
 }
 
 /// A document that gives this value at this place. It declares these variables.
-pub(crate) fn document_giving(
+pub fn document_giving(
     ways: &Ways<'_>,
     site: InputSite<'_>,
     variables: &str,
@@ -180,7 +180,7 @@ fn giving_outside(
 /// A document with a variable of the type of an argument or input field, which is given there.
 ///
 /// Specification: 5.8.5 All Variable Usages Are Allowed.
-pub(crate) fn document_with_variable(
+pub fn document_with_variable(
     ways: &Ways<'_>,
     site: InputSite<'_>,
 ) -> Result<Option<String>, ValidationError> {

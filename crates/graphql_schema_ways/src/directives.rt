@@ -8,7 +8,7 @@ use graphql_nodes::{DirectiveLocation, NamedType, OperationType, ValidationError
 /// The application of a directive with the arguments that it must have, and this one.
 ///
 /// Specification: 2.12 Directives.
-pub(crate) fn application(
+pub fn application(
     ways: &Ways<'_>,
     directive: &DirectiveDefinition,
     given: Option<Given<'_>>,
@@ -26,7 +26,7 @@ pub(crate) fn application(
 }
 
 /// A document with this application at a location of the directive, if there is one in documents. It declares these variables.
-pub(crate) fn document_with(
+pub fn document_with(
     ways: &Ways<'_>,
     directive: &DirectiveDefinition,
     variables: &str,
@@ -44,7 +44,7 @@ pub(crate) fn document_with(
 /// A document with this application of a directive at this location. It declares these variables.
 ///
 /// Specification: 3.13 Directives, ExecutableDirectiveLocation.
-pub(crate) fn document_at(
+pub fn document_at(
     ways: &Ways<'_>,
     location: DirectiveLocation,
     variables: &str,
