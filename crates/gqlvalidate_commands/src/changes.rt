@@ -73,10 +73,7 @@ pub fn presentation_of(format: ChangeFormat, terminal: Terminal) -> Presentation
         ChangeFormat::Github => Format::Github,
         ChangeFormat::Json => Format::Json,
     };
-    Presentation::new(
-        Reporting::new(format, Color::Auto, None),
-        terminal,
-    )
+    Presentation::new(Reporting::new(format, Color::Auto, None), terminal)
 }
 
 /// Compares two schemas, and validates documents against both, if both schemas hold.

@@ -850,7 +850,9 @@ fn failed_reads_are_told_from_failed_allocations(rt: HostRuntime) {
 /// Words of runs that print something.
 const PRINTING: &[&[&str]] = &[
     &["syntax", "unclosed", "missing"],
-    &["check", "--each", "--schema", "schema", "unclosed", "missing"],
+    &[
+        "check", "--each", "--schema", "schema", "unclosed", "missing",
+    ],
     &[
         "check", "--each", "--format", "github", "--schema", "schema", "unclosed", "missing",
     ],
