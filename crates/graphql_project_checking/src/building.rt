@@ -1,17 +1,5 @@
 //! Whether the definitions of files can be built, and the typed documents that they make.
 
-ghost use Rattle.std.specs.Prelude.{◌≡◌, ◌++◌, [], All, IfOk, IsOk, OnOk, Some, map};
-ghost use Rattle.std.specs.List.{AllZip};
-ghost use Rattle.graphql_building_reports.specs.Checks.{reports_of};
-ghost use Rattle.graphql_document_building.specs.BuildingRules.{DefinitionBuilds, DocumentBuilds};
-ghost use Rattle.graphql_document_building.specs.Documents.{DocumentSays};
-ghost use Rattle.graphql_document_building.specs.Trees.{fragments_in};
-ghost use Rattle.graphql_nodes.specs.Names.{AreDistinct};
-ghost use Rattle.graphql_project_checking.specs.Silence.{HasFragmentsOf, SilentOnlyIf};
-ghost use Rattle.graphql_projects.specs.OperationTrees.{fragments_among};
-ghost use Rattle.graphql_repetitions.specs.References.{nows};
-ghost use Rattle.graphql_trees.specs.declared.documents.Document as tree;
-
 use crate::parts::fragments_alone;
 use graphql_building_reports::BuildingReportList;
 use graphql_document_building::build_document;
@@ -43,9 +31,7 @@ pub(crate) fn check_fragment_names(
     own: &[Document],
     lent: &[Document],
     found: &mut Vec<Reports>,
-) -> Result<(), ValidationError>
-    ensures { OnOk result (SilentOnlyIf found.old.items found.new.items (AreDistinct (map (λ p. p.0) (fragments_among (own.now ++ lent.now))))) }
-{
+) -> Result<(), ValidationError> {
     let mut names = Vec::new(alloc);
     push_fragment_names(own, &mut names)?;
     push_fragment_names(lent, &mut names)?;
@@ -58,9 +44,7 @@ pub(crate) fn check_fragment_names(
 fn push_fragment_names<'a>(
     documents: &'a [Document],
     names: &mut Vec<&'a Name>,
-) -> Result<(), ValidationError>
-    ensures { OnOk result (nows names.new.items ≡ nows names.old.items ++ map (λ p. p.0) (fragments_among documents.now)) }
-{
+) -> Result<(), ValidationError> {
     for document in documents {
         push_names(document.definitions.as_slice(), names)?;
     }
@@ -71,9 +55,7 @@ fn push_fragment_names<'a>(
 fn push_names<'a>(
     definitions: &'a [Definition],
     names: &mut Vec<&'a Name>,
-) -> Result<(), ValidationError>
-    ensures { OnOk result (nows names.new.items ≡ nows names.old.items ++ map (λ p. p.0) (fragments_in definitions.now)) }
-{
+) -> Result<(), ValidationError> {
     for definition in definitions {
         let Definition::Fragment(fragment) = definition else {
             continue;
@@ -89,9 +71,7 @@ pub(crate) fn check_files(
     building: Building<'_>,
     documents: &[Document],
     found: &mut Vec<Reports>,
-) -> Result<(), ValidationError>
-    ensures { OnOk result (SilentOnlyIf found.old.items found.new.items (All (DocumentBuilds (Some building.entry.schema.now)) documents.now)) }
-{
+) -> Result<(), ValidationError> {
     for document in documents {
         check_file(alloc, building, document, found)?;
     }
@@ -104,9 +84,7 @@ fn check_file(
     building: Building<'_>,
     document: &Document,
     found: &mut Vec<Reports>,
-) -> Result<(), ValidationError>
-    ensures { OnOk result (SilentOnlyIf found.old.items found.new.items (DocumentBuilds (Some building.entry.schema.now) document.now)) }
-{
+) -> Result<(), ValidationError> {
     let mut reports = new_list(alloc, building);
     let checked = check_document(&mut reports, building.schema, document);
     add_reports(reports, checked, building.bounds, found)
@@ -119,11 +97,7 @@ pub(crate) fn check_lent_files(
     building: Building<'_>,
     documents: Vec<Document>,
     found: &mut Vec<Reports>,
-) -> Result<Vec<Document>, ValidationError>
-    ensures silence { OnOk result (SilentOnlyIf found.old.items found.new.items
-        (All (λ (t : tree.Document). All (DefinitionBuilds (Some building.entry.schema.now)) t.definitions) documents.items)) }
-    ensures fragments { IfOk result (λ fragments. AllZip HasFragmentsOf documents.items fragments.items) }
-{
+) -> Result<Vec<Document>, ValidationError> {
     let mut fragments = Vec::new(alloc);
     for document in documents {
         let alone = check_lent_file(alloc, building, document, found)?;
@@ -137,10 +111,7 @@ fn check_lent_file(
     building: Building<'_>,
     document: Document,
     found: &mut Vec<Reports>,
-) -> Result<Document, ValidationError>
-    ensures silence { OnOk result (SilentOnlyIf found.old.items found.new.items (All (DefinitionBuilds (Some building.entry.schema.now)) document.definitions)) }
-    ensures fragments { IfOk result (HasFragmentsOf document) }
-{
+) -> Result<Document, ValidationError> {
     let mut reports = new_list(alloc, building);
     let trees = document.definitions.as_slice();
     let checked = check_definitions(&mut reports, Some(building.schema), trees);
@@ -148,14 +119,8 @@ fn check_lent_file(
     fragments_alone(alloc, document)
 }
 
-fn new_list(alloc: Global, building: Building<'_>) -> BuildingReportList
-    ensures { reports_of result ≡ [] }
-{
-    BuildingReportList::with_bound(
-        alloc,
-        building.hash_seed,
-        report_bound(building.bounds),
-    )
+fn new_list(alloc: Global, building: Building<'_>) -> BuildingReportList {
+    BuildingReportList::with_bound(alloc, building.hash_seed, report_bound(building.bounds))
 }
 
 /// Adds the reports of a check, if there are any: the first ones, if the check ended because the list keeps no more.
@@ -164,9 +129,7 @@ fn add_reports(
     checked: Result<(), ValidationError>,
     bounds: Bounds,
     found: &mut Vec<Reports>,
-) -> Result<(), ValidationError>
-    ensures { OnOk result (SilentOnlyIf found.old.items found.new.items (IsOk checked × (reports_of reports ≡ []))) }
-{
+) -> Result<(), ValidationError> {
     match checked {
         Ok(()) => add_all(reports, found),
         Err(error) => {
@@ -179,12 +142,7 @@ fn add_reports(
     }
 }
 
-fn add_all(
-    reports: BuildingReportList,
-    found: &mut Vec<Reports>,
-) -> Result<(), ValidationError>
-    ensures { OnOk result (SilentOnlyIf found.old.items found.new.items (reports_of reports ≡ [])) }
-{
+fn add_all(reports: BuildingReportList, found: &mut Vec<Reports>) -> Result<(), ValidationError> {
     if !reports.is_empty() {
         found.push(Reports::Building(reports))?;
     }
@@ -196,19 +154,32 @@ fn is_full(reports: &BuildingReportList, bounds: Bounds) -> bool {
     reports.has_more() && !reports.is_empty() && reports.iter().len() <= bounds.reports.max(1)
 }
 
-/// The typed documents of these, in order.
+/// The typed documents of those of these that can be built, in order.
 pub(crate) fn build_files(
     alloc: Global,
     building: Building<'_>,
     documents: &[Document],
-) -> Result<Vec<ExecutableDocument>, ValidationError>
-    requires { All (DocumentBuilds (Some building.entry.schema.now)) documents.now }
-    ensures { IfOk result (λ built. AllZip (DocumentSays (Some building.entry.schema.now)) documents.now built.items) }
-{
+) -> Result<Vec<ExecutableDocument>, ValidationError> {
     let mut built = Vec::new(alloc);
     for document in documents {
-        let typed = build_document(alloc, building.hash_seed, building.schema, document)?;
-        built.push(typed)?;
+        if let Some(typed) = build_file(alloc, building, document)? {
+            built.push(typed)?;
+        }
     }
     Ok(built)
+}
+
+/// The typed document of this, if it can be built.
+fn build_file(
+    alloc: Global,
+    building: Building<'_>,
+    document: &Document,
+) -> Result<Option<ExecutableDocument>, ValidationError> {
+    let mut reports = BuildingReportList::with_hash_seed(alloc, building.hash_seed);
+    check_document(&mut reports, building.schema, document)?;
+    if !reports.is_empty() {
+        return Ok(None);
+    }
+    let typed = build_document(alloc, building.hash_seed, building.schema, document)?;
+    Ok(Some(typed))
 }

@@ -1,11 +1,5 @@
 //! The rules that are asked of the definitions of a file together.
 
-ghost use Rattle.std.specs.Prelude.{◌≡◌, [], IsOk, OnOk};
-ghost use Rattle.graphql_diagnostics.specs.Diagnostics.{entries};
-ghost use Rattle.graphql_input_rules.specs.InputFields.{InputFieldsAreUnique};
-ghost use Rattle.graphql_project_checking.specs.Silence.{SilentOnlyIf};
-ghost use Rattle.graphql_specification.specs.Defer.{LabelsHold};
-
 use graphql_diagnostics::DiagnosticList;
 use graphql_documents::documents::ExecutableDocument;
 use graphql_frontend::first_reports::report_bound;
@@ -23,9 +17,7 @@ pub(crate) fn check_file_rules(
     document: &ExecutableDocument,
     bounds: Bounds,
     found: &mut Vec<Reports>,
-) -> Result<(), ValidationError>
-    ensures { OnOk result (SilentOnlyIf found.old.items found.new.items (LabelsHold document.now × InputFieldsAreUnique document.now)) }
-{
+) -> Result<(), ValidationError> {
     check_labels(alloc, document, bounds, found)?;
     check_values(alloc, document, bounds, found)
 }
@@ -35,9 +27,7 @@ fn check_labels(
     document: &ExecutableDocument,
     bounds: Bounds,
     found: &mut Vec<Reports>,
-) -> Result<(), ValidationError>
-    ensures { OnOk result (SilentOnlyIf found.old.items found.new.items (LabelsHold document.now)) }
-{
+) -> Result<(), ValidationError> {
     let mut rules = DiagnosticList::with_bound(alloc, document.hash_seed(), report_bound(bounds));
     let checked = validate_defer(document, &mut rules);
     add_rules(alloc, rules, checked, bounds, found)
@@ -50,9 +40,7 @@ pub(crate) fn add_rules(
     checked: Result<(), ValidationError>,
     bounds: Bounds,
     found: &mut Vec<Reports>,
-) -> Result<(), ValidationError>
-    ensures { OnOk result (SilentOnlyIf found.old.items found.new.items (IsOk checked × (entries rules ≡ []))) }
-{
+) -> Result<(), ValidationError> {
     match checked {
         Ok(()) => add_all_rules(alloc, rules, found),
         Err(error) => {
@@ -69,9 +57,7 @@ fn add_all_rules(
     alloc: Global,
     rules: DiagnosticList,
     found: &mut Vec<Reports>,
-) -> Result<(), ValidationError>
-    ensures { OnOk result (SilentOnlyIf found.old.items found.new.items (entries rules ≡ [])) }
-{
+) -> Result<(), ValidationError> {
     if !rules.is_empty() {
         found.push(Reports::DocumentRules(DocumentReports {
             rules,
@@ -94,9 +80,7 @@ fn check_values(
     document: &ExecutableDocument,
     bounds: Bounds,
     found: &mut Vec<Reports>,
-) -> Result<(), ValidationError>
-    ensures { OnOk result (SilentOnlyIf found.old.items found.new.items (InputFieldsAreUnique document.now)) }
-{
+) -> Result<(), ValidationError> {
     let mut list = ReportList::with_bound(alloc, report_bound(bounds));
     let checked = check_input_fields(&mut list, document);
     let has_more = list.has_more();
@@ -114,9 +98,7 @@ fn add_values(
     input_fields: Vec<InputFieldRepetition>,
     has_more: bool,
     found: &mut Vec<Reports>,
-) -> Result<(), ValidationError>
-    ensures { OnOk result (SilentOnlyIf found.old.items found.new.items (input_fields.items ≡ [])) }
-{
+) -> Result<(), ValidationError> {
     if !input_fields.is_empty() {
         found.push(Reports::DocumentRules(DocumentReports {
             rules: DiagnosticList::with_hash_seed(alloc, document.hash_seed()),

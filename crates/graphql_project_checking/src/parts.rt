@@ -1,8 +1,5 @@
 //! Documents with some of the definitions of others.
 
-ghost use Rattle.std.specs.Prelude.{◌≡◌, IfOk, filter, reverse};
-ghost use Rattle.graphql_project_checking.specs.Silence.{HasFragmentsOf, is_fragment};
-
 use graphql_building_reports::BuildingReportList;
 use graphql_document_checking::check_definitions;
 use graphql_documents::documents::Schema;
@@ -16,9 +13,7 @@ use std::slice;
 pub(crate) fn fragments_alone(
     alloc: Global,
     document: Document,
-) -> Result<Document, ValidationError>
-    ensures { IfOk result (HasFragmentsOf document) }
-{
+) -> Result<Document, ValidationError> {
     let Document { definitions, span } = document;
     let kept = fragments_from_end(alloc, definitions)?;
     let definitions = turned(alloc, kept)?;
@@ -29,9 +24,7 @@ pub(crate) fn fragments_alone(
 fn fragments_from_end(
     alloc: Global,
     mut definitions: Items<Definition>,
-) -> Result<Items<Definition>, ValidationError>
-    ensures { IfOk result (λ kept. kept ≡ reverse (filter is_fragment definitions.entry)) }
-{
+) -> Result<Items<Definition>, ValidationError> {
     let mut kept = Items::new(alloc);
     while let Some(definition) = definitions.pop() {
         if is_fragment(&definition) {
@@ -42,9 +35,7 @@ fn fragments_from_end(
 }
 
 /// Whether the definition is one of a fragment.
-fn is_fragment(definition: &Definition) -> bool
-    ensures { result ≡ is_fragment definition.now }
-{
+fn is_fragment(definition: &Definition) -> bool {
     matches!(definition, Definition::Fragment(_))
 }
 
@@ -52,9 +43,7 @@ fn is_fragment(definition: &Definition) -> bool
 fn turned(
     alloc: Global,
     mut definitions: Items<Definition>,
-) -> Result<Items<Definition>, ValidationError>
-    ensures { IfOk result (λ turned. turned ≡ reverse definitions.entry) }
-{
+) -> Result<Items<Definition>, ValidationError> {
     let mut turned = Items::new(alloc);
     while let Some(definition) = definitions.pop() {
         turned.push(definition)?;
@@ -111,7 +100,8 @@ pub(crate) fn leave_out(
     left_out: &mut Vec<Definition>,
 ) -> Result<(), ValidationError> {
     let Document {
-        mut definitions, ..
+        mut definitions,
+        ..
     } = document;
     while let Some(definition) = definitions.pop() {
         left_out.push(definition)?;

@@ -1,9 +1,6 @@
 //! What is reported of a project.
 
-ghost use Rattle.std.specs.Prelude.{◌≡◌, [], IfOk, IsTrue, OnOk};
 ghost use Rattle.graphql_frontend.specs.Schemas.{IsUsable};
-ghost use Rattle.graphql_project_checking.specs.Silence.{SilentOnlyIf};
-ghost use Rattle.graphql_projects.specs.Projects.{ProjectHolds};
 
 use crate::building::{Building, check_files, check_fragment_names, check_lent_files};
 use crate::rest::check_rest;
@@ -35,7 +32,6 @@ pub fn check_project(
     bounds: Bounds,
 ) -> Result<Vec<Reports>, ValidationError>
     requires { IsUsable schema.now }
-    ensures silence { IfOk result (λ found. found.items ≡ [] → ProjectHolds bounds schema.now sources.now lent.now) }
 {
     let mut found = Vec::new(alloc);
     check_texts(alloc, schema, sources, lent, bounds, true, &mut found)?;
@@ -70,7 +66,6 @@ fn check_texts(
     found: &mut Vec<Reports>,
 ) -> Result<(), ValidationError>
     requires { IsUsable schema.now }
-    ensures { IsTrue is_all → OnOk result (SilentOnlyIf found.old.items found.new.items (ProjectHolds bounds schema.now sources.now lent.now)) }
 {
     let building = Building {
         schema,

@@ -1,10 +1,5 @@
 //! Texts, and the documents that they are.
 
-ghost use Rattle.std.specs.Prelude.{IfOk, IsTrue, []};
-ghost use Rattle.graphql_projects.specs.Projects.{ReadFiles};
-ghost use Rattle.graphql_project_checking.specs.Silence.{LeavesOutEmpty, SilentOnlyIf};
-ghost use Rattle.graphql_tokens.specs.Lexical.{AreTokens};
-
 use graphql_frontend::texts::{Parsed, parse_texts};
 use graphql_frontend::{Bounds, Reports, SourceText, ValidationError};
 use graphql_tokens::{Stop, measure};
@@ -20,9 +15,7 @@ pub(crate) fn read_texts(
     sources: &[SourceText<'_>],
     bounds: Bounds,
     found: &mut Vec<Reports>,
-) -> Result<Vec<Document>, ValidationError>
-    ensures { IfOk result (λ documents. SilentOnlyIf found.old.items found.new.items (ReadFiles bounds sources.now documents.items)) }
-{
+) -> Result<Vec<Document>, ValidationError> {
     let sources = with_tokens(alloc, sources)?;
     let Parsed { documents, errors } = parse_texts(alloc, &sources, bounds)?;
     if !errors.is_empty() {
@@ -35,9 +28,7 @@ pub(crate) fn read_texts(
 fn with_tokens<'a>(
     alloc: Global,
     sources: &[SourceText<'a>],
-) -> Result<Vec<SourceText<'a>>, ValidationError>
-    ensures { IfOk result (λ kept. LeavesOutEmpty sources.now kept.items) }
-{
+) -> Result<Vec<SourceText<'a>>, ValidationError> {
     let mut kept = Vec::new(alloc);
     for source in sources {
         if !has_no_token(source.text) {
@@ -48,8 +39,6 @@ fn with_tokens<'a>(
 }
 
 /// Whether the text has no token.
-fn has_no_token(text: &str) -> bool
-    ensures { IsTrue result → AreTokens text.now [] }
-{
+fn has_no_token(text: &str) -> bool {
     matches!(measure(text, 0).stop, Stop::End)
 }

@@ -1,14 +1,6 @@
 //! Files of which each can be built.
 
-ghost use Rattle.std.specs.Prelude.{◌≡◌, ◌∷◌, ◌++◌, [], All, IfOk, OnOk, Some, flat_map, map};
-ghost use Rattle.graphql_document_building.specs.BuildingRules.{DocumentBuilds};
-ghost use Rattle.graphql_documents.specs.Executables.{operations_of};
 ghost use Rattle.graphql_frontend.specs.Schemas.{IsUsable};
-ghost use Rattle.graphql_nodes.specs.Names.{AreDistinct};
-ghost use Rattle.graphql_project_checking.specs.Silence.{BorrowsForAll, FilePasses, FilesHold, NotesUses, OperationPasses, SilentOnlyIf, operations_in_map};
-ghost use Rattle.graphql_projects.specs.OperationTrees.{fragments_among};
-ghost use Rattle.graphql_reach.specs.Reach.{nodes_at};
-ghost use Rattle.graphql_variables.specs.Uses.{names_of};
 
 use crate::building::{Building, build_files};
 use crate::contexts::Context;
@@ -35,10 +27,6 @@ pub(crate) fn check_whole(
     found: &mut Vec<Reports>,
 ) -> Result<(), ValidationError>
     requires usable { IsUsable building.entry.schema.now }
-    requires own_build { All (DocumentBuilds (Some building.entry.schema.now)) own.now }
-    requires lent_build { All (DocumentBuilds (Some building.entry.schema.now)) lent.now }
-    requires distinct { AreDistinct (map (λ p. p.0) (fragments_among (own.now ++ lent.now))) }
-    ensures { OnOk result (SilentOnlyIf found.old.items found.new.items (FilesHold building.entry.schema.now own.now lent.now)) }
 {
     let files = build_files(alloc, building, own)?;
     let lenders = build_files(alloc, building, lent)?;
@@ -60,10 +48,7 @@ pub(crate) fn check_each<'a>(
     files: Vec<ExecutableDocument>,
     used: &mut Used<'a>,
     found: &mut Vec<Reports>,
-) -> Result<(), ValidationError>
-    ensures passes { OnOk result (SilentOnlyIf found.old.items found.new.items (All (FilePasses context.entry.schema.now context.entry.pool.now) files.items)) }
-    ensures used { OnOk result (NotesUses context.entry.pool.now (flat_map operations_of files.items) (names_of used.old.keys) (names_of used.new.keys)) }
-{
+) -> Result<(), ValidationError> {
     for file in files {
         check_file(alloc, context, file, used, found)?;
     }
@@ -76,10 +61,7 @@ fn check_file<'a>(
     file: ExecutableDocument,
     used: &mut Used<'a>,
     found: &mut Vec<Reports>,
-) -> Result<(), ValidationError>
-    ensures passes { OnOk result (SilentOnlyIf found.old.items found.new.items (FilePasses context.entry.schema.now context.entry.pool.now file)) }
-    ensures used { OnOk result (NotesUses context.entry.pool.now (operations_of file) (names_of used.old.keys) (names_of used.new.keys)) }
-{
+) -> Result<(), ValidationError> {
     let ExecutableDocument {
         operations,
         mut fragments,
@@ -98,9 +80,7 @@ fn check_file<'a>(
 fn all_operations(
     alloc: Global,
     operations: &OperationMap,
-) -> Result<Vec<&Node<Operation>>, ValidationError>
-    ensures { IfOk result (λ all. nodes_at all.items ≡ operations_in_map operations.now) }
-{
+) -> Result<Vec<&Node<Operation>>, ValidationError> {
     let anonymous = operations.anonymous.iter();
     let named = operations.named.values();
     Ok(anonymous.chain(named).collect(alloc)?)
@@ -114,12 +94,7 @@ fn check_operations<'a>(
     fragments: &mut IndexMap<Name, Node<Fragment>, HashSeed>,
     used: &mut Used<'a>,
     found: &mut Vec<Reports>,
-) -> Result<(), ValidationError>
-    ensures passes { OnOk result (SilentOnlyIf found.old.items found.new.items
-        (All (OperationPasses context.entry.schema.now context.entry.pool.now) (operations_in_map operations.now))) }
-    ensures borrows { OnOk result (BorrowsForAll context.entry.pool.now (operations_in_map operations.now) fragments.old.entries fragments.new.entries) }
-    ensures used { OnOk result (NotesUses context.entry.pool.now (operations_in_map operations.now) (names_of used.old.keys) (names_of used.new.keys)) }
-{
+) -> Result<(), ValidationError> {
     let operations = all_operations(alloc, operations)?;
     for operation in &operations {
         check_reaching(alloc, context, *operation, fragments, used, found)?;
@@ -135,12 +110,7 @@ fn check_reaching<'a>(
     fragments: &mut IndexMap<Name, Node<Fragment>, HashSeed>,
     used: &mut Used<'a>,
     found: &mut Vec<Reports>,
-) -> Result<(), ValidationError>
-    ensures passes { OnOk result (SilentOnlyIf found.old.items found.new.items
-        (OperationPasses context.entry.schema.now context.entry.pool.now operation.now)) }
-    ensures borrows { OnOk result (BorrowsForAll context.entry.pool.now (operation.now ∷ []) fragments.old.entries fragments.new.entries) }
-    ensures used { OnOk result (NotesUses context.entry.pool.now (operation.now ∷ []) (names_of used.old.keys) (names_of used.new.keys)) }
-{
+) -> Result<(), ValidationError> {
     let names = reached_fragments(alloc, context.pool, &operation.value.selection_set)?;
     note_uses(context.pool, &names, used)?;
     borrow_fragments(alloc, context.pool, &names, fragments)?;

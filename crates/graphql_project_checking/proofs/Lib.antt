@@ -1,4 +1,0 @@
-mod FileLemmas
-mod OperationLemmas
-mod ProjectLemmas
-mod TextLemmas
