@@ -213,10 +213,7 @@ fn parsed(alloc: Global, word: &str, text: &str) -> Result<Pattern, PathError> {
     match Pattern::parse(alloc, text) {
         Ok(pattern) => Ok(pattern),
         Err(PatternError::OutOfMemory) => Err(PathError::OutOfMemory),
-        Err(error) => Err(PathError::BadPattern(
-            String::from_str(alloc, word)?,
-            error,
-        )),
+        Err(error) => Err(PathError::BadPattern(String::from_str(alloc, word)?, error)),
     }
 }
 

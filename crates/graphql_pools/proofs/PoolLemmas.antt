@@ -70,10 +70,10 @@ pub gathers_then : (xs ys old mid new : List Entry) → Gathers xs old mid → G
 gathers_then xs ys old mid new first rest distinct =
     let a = first (front_distinct old xs ys distinct) in
     let names : map name_of (mid ++ ys) ≡ map name_of (old ++ (xs ++ ys)) =
-        map-append name_of mid ys ∙
-        ap (λ l. l ++ map name_of ys) (ap (map name_of) a.1 ∙ map-append name_of old a.0 ∙ ap (λ l. map name_of old ++ l) (same_names xs a.0 a.2)) ∙
-        append_assoc (map name_of old) (map name_of xs) (map name_of ys) ∙
-        sym (map-append name_of old (xs ++ ys) ∙ ap (λ l. map name_of old ++ l) (map-append name_of xs ys)) in
+    map-append name_of mid ys ∙
+    ap (λ l. l ++ map name_of ys) (ap (map name_of) a.1 ∙ map-append name_of old a.0 ∙ ap (λ l. map name_of old ++ l) (same_names xs a.0 a.2)) ∙
+    append_assoc (map name_of old) (map name_of xs) (map name_of ys) ∙
+    sym (map-append name_of old (xs ++ ys) ∙ ap (λ l. map name_of old ++ l) (map-append name_of xs ys)) in
     let b = rest (subst AreDistinct (sym names) distinct) in
     (a.0 ++ b.0, b.1 ∙ ap (λ l. l ++ b.0) a.1 ∙ append_assoc old a.0 b.0, zip_append xs a.0 ys b.0 a.2 b.2)
 
