@@ -1,7 +1,5 @@
 //! Files of which each can be built.
 
-ghost use Rattle.graphql_frontend.specs.Schemas.{IsUsable};
-
 use crate::building::{Building, build_files};
 use crate::contexts::Context;
 use crate::file_rules::check_file_rules;
@@ -25,9 +23,7 @@ pub(crate) fn check_whole(
     own: &[Document],
     lent: &[Document],
     found: &mut Vec<Reports>,
-) -> Result<(), ValidationError>
-    requires usable { IsUsable building.entry.schema.now }
-{
+) -> Result<(), ValidationError> {
     let files = build_files(alloc, building, own)?;
     let lenders = build_files(alloc, building, lent)?;
     let pool = pool_of(alloc, building.hash_seed, &files, &lenders)?;
