@@ -14,7 +14,9 @@ pub fn push_changes(
     verdict: ChangeVerdict,
 ) -> Result<(), AllocError> {
     if !changes.is_empty() {
-        out.push_str("| Level | Change | Place | Valid before and not after |\n|---|---|---|---|\n")?;
+        out.push_str(
+            "| Level | Change | Place | Valid before and not after |\n|---|---|---|---|\n",
+        )?;
         push_rows(out, changes, texts)?;
         out.push('\n')?;
     }
@@ -68,7 +70,10 @@ struct Cell<'a>(&'a str);
 impl fmt::Display for Cell<'_> {
     fn fmt<W: fmt::Write>(&self, f: &mut fmt::Formatter<W>) -> fmt::Result {
         for character in self.0.chars() {
-            if matches!(character, '|' | '`' | '\\' | '[' | ']' | '<' | '>' | '*' | '_') {
+            if matches!(
+                character,
+                '|' | '`' | '\\' | '[' | ']' | '<' | '>' | '*' | '_'
+            ) {
                 f.write_char('\\')?;
             }
             f.write_char(character)?;

@@ -128,6 +128,9 @@ impl fmt::Display for ChangeTally {
         let breaking = self.breaking;
         let dangerous = self.dangerous;
         let other = self.other;
-        write!(f, "{breaking} breaking, {dangerous} dangerous, {other} other")
+        write!(
+            f,
+            "{breaking} breaking, {dangerous} dangerous, {other} other"
+        )
     }
 }

@@ -23,8 +23,14 @@ pub(crate) fn assert_rows<R: AllocGlobal + Abort>(rt: &R, rows: &[Row]) {
 }
 
 fn changes_of_texts(rt: &impl Abort, alloc: Global, old: &str, new: &str) -> String {
-    let old = read_schema(alloc, &schema_sources(old), Bounds::DEFAULT).expect(rt, "memory for a schema");
-    let new = read_schema(alloc, &schema_sources(new), Bounds::DEFAULT).expect(rt, "memory for a schema");
+    let old = read_schema(alloc, &schema_sources(old), Bounds::DEFAULT).expect(
+        rt,
+        "memory for a schema",
+    );
+    let new = read_schema(alloc, &schema_sources(new), Bounds::DEFAULT).expect(
+        rt,
+        "memory for a schema",
+    );
     match (old, new) {
         (SchemaReading::Accepted(old), SchemaReading::Accepted(new)) => {
             changes_of(rt, alloc, &old, &new)
@@ -61,7 +67,10 @@ fn push_line(
     let level = name_of(change.level());
     let name = change.change.name();
     let change = &change.change;
-    let witness = confirmed_witness(alloc, ways, old, new, change, Bounds::DEFAULT).expect(rt, "memory for a witness");
+    let witness = confirmed_witness(alloc, ways, old, new, change, Bounds::DEFAULT).expect(
+        rt,
+        "memory for a witness",
+    );
     match witness {
         Some(text) => writeln!(lines, "{level} {name} {text}").expect(rt, "memory for a line"),
         None => writeln!(lines, "{level} {name}").expect(rt, "memory for a line"),

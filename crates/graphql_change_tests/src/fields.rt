@@ -14,7 +14,11 @@ const FIELDS: &[Row] = &[
         "documents FieldRemoved { a { b(n: 1) { __typename } } }\n",
     ),
     // A field is added.
-    ("type Query { a: Int }", "type Query { a: Int b: Int }", "safe FieldAdded\n"),
+    (
+        "type Query { a: Int }",
+        "type Query { a: Int b: Int }",
+        "safe FieldAdded\n",
+    ),
     // An output becomes non-null, and another field of the shape meets it.
     (
         "type Query { u: U } union U = A | B type A { x: Int } type B { x: Int }",
@@ -58,7 +62,11 @@ const FIELDS: &[Row] = &[
         "merging FieldTypeChanged { u { ... on A { k: x } ... on B { k: __typename } } }\n",
     ),
     // An output becomes nullable, and nothing meets it: responses change.
-    ("type Query { a: Int! }", "type Query { a: Int }", "responses FieldTypeChanged\n"),
+    (
+        "type Query { a: Int! }",
+        "type Query { a: Int }",
+        "responses FieldTypeChanged\n",
+    ),
     // A leaf becomes another leaf, and another field of the shape meets it.
     (
         "type Query { u: U } union U = A | B type A { x: Int } type B { x: Int }",

@@ -9,9 +9,17 @@ const ARGUMENTS: &[Row] = &[
         "documents ArgumentRemoved { a(x: 1) }\n",
     ),
     // It is added, and optional.
-    ("type Query { a: Int }", "type Query { a(x: Int): Int }", "safe ArgumentAdded\n"),
+    (
+        "type Query { a: Int }",
+        "type Query { a(x: Int): Int }",
+        "safe ArgumentAdded\n",
+    ),
     // It is added, non-null with a default value.
-    ("type Query { a: Int }", "type Query { a(x: Int! = 1): Int }", "safe ArgumentAdded\n"),
+    (
+        "type Query { a: Int }",
+        "type Query { a(x: Int! = 1): Int }",
+        "safe ArgumentAdded\n",
+    ),
     // It is added, and required.
     (
         "type Query { a: Int }",

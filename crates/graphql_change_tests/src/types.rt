@@ -60,7 +60,11 @@ const PARTS: &[Row] = &[
 
 /// Types and their kinds.
 const TYPES: &[Row] = &[
-    ("type Query { a: Int }", "type Query { a: Int } type A { x: Int }", "safe TypeAdded\n"),
+    (
+        "type Query { a: Int }",
+        "type Query { a: Int } type A { x: Int }",
+        "safe TypeAdded\n",
+    ),
     // A type is removed to which documents come.
     (
         "type Query { u: U } union U = A | B type A { x: Int } type B { x: Int }",

@@ -124,7 +124,12 @@ pub(crate) fn is_object(schema: &Schema, name: &Name) -> bool {
 }
 
 /// Whether the types of the two fields had one shape, and no longer have.
-pub(crate) fn lose_shape(old: &Schema, new: &Schema, first: TypeField<'_>, second: TypeField<'_>) -> bool {
+pub(crate) fn lose_shape(
+    old: &Schema,
+    new: &Schema,
+    first: TypeField<'_>,
+    second: TypeField<'_>,
+) -> bool {
     if !same_shape(old, &first.field.node.value.ty, &second.field.node.value.ty) {
         return false;
     }

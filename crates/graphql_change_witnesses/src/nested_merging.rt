@@ -31,10 +31,12 @@ pub(crate) fn push_nested_meetings(
     let Some(index) = ways.index_of(ty) else {
         return Ok(());
     };
-    let Some(Step::Field {
-        parent,
-        field: above,
-    }) = ways.step_to(index)
+    let Some(
+        Step::Field {
+            parent,
+            field: above,
+        },
+    ) = ways.step_to(index)
     else {
         return Ok(());
     };

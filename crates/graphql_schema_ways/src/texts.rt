@@ -220,10 +220,7 @@ pub fn field_text(
 /// A short selection on the type at this index: the name of the type, and of the root of subscriptions its first field.
 ///
 /// Specification: 5.2.3.1 Single Root Field.
-pub fn any_selection(
-    ways: &Ways<'_>,
-    index: usize,
-) -> Result<Option<String>, ValidationError> {
+pub fn any_selection(ways: &Ways<'_>, index: usize) -> Result<Option<String>, ValidationError> {
     if let Some(Step::Root(OperationType::Subscription)) = ways.step_to(index) {
         first_field(ways, index)
     } else {
@@ -232,10 +229,7 @@ pub fn any_selection(
 }
 
 /// The selection of the first field of the type at this index.
-pub fn first_field(
-    ways: &Ways<'_>,
-    index: usize,
-) -> Result<Option<String>, ValidationError> {
+pub fn first_field(ways: &Ways<'_>, index: usize) -> Result<Option<String>, ValidationError> {
     let Some(definition) = ways.definition_at(index) else {
         return Ok(None);
     };
