@@ -23,9 +23,7 @@ use graphql_frontend::{SchemaReading, read_schema};
 use graphql_parser::Bounds;
 use graphql_report_formats::named_texts::{CountedSubject, NamedText};
 use graphql_report_formats::schema_texts::{BUILT_IN_TEXT, schema_subject, sources_of};
-use graphql_schema_comparison::{
-    BreakingReason, Comparison, Level, SchemaChange, compare_schemas,
-};
+use graphql_schema_comparison::{BreakingReason, Comparison, Level, SchemaChange, compare_schemas};
 use graphql_schema_ways::Ways;
 use json::Writer;
 use std::alloc::{AllocError, Global};
@@ -74,7 +72,10 @@ pub fn presentation_of(format: ChangeFormat, colored_by_default: bool) -> Presen
         ChangeFormat::Github => Format::Github,
         ChangeFormat::Json => Format::Json,
     };
-    Presentation::new(Reporting::new(format, Color::Auto, None), colored_by_default)
+    Presentation::new(
+        Reporting::new(format, Color::Auto, None),
+        colored_by_default,
+    )
 }
 
 /// Compares two schemas, and validates documents against both, if both schemas hold.
@@ -226,8 +227,21 @@ fn tell<R: Files + AllocGlobal, I: Read, O: Write, F: Write>(
     print_changes(alloc, &changes, texts, compared.format, output)?;
     let mut account = Account::new(alloc, compared.presentation_of_documents())?;
     let operations = check_operations(rt, old, new, compared, &mut account, input, output, faults)?;
-    print_end(alloc, &comparison, &changes, texts, compared, &operations, output)?;
-    account.end(alloc, Whole::Documents(compared.operations.len()), output, faults)?;
+    print_end(
+        alloc,
+        &comparison,
+        &changes,
+        texts,
+        compared,
+        &operations,
+        output,
+    )?;
+    account.end(
+        alloc,
+        Whole::Documents(compared.operations.len()),
+        output,
+        faults,
+    )?;
     Ok(status_of(ChangeTally::of(&changes), compared, &operations))
 }
 

@@ -94,7 +94,15 @@ pub fn check_operations<'a, R: Files + AllocGlobal, I: Read, O: Write, F: Write>
             Some(text) => {
                 let document = named_text(0, path, text.as_str());
                 let outcome = outcome_of(rt.alloc(), old, new, document.source)?;
-                add_outcome(rt.alloc(), &mut operations, path, document, outcome, account, output)?;
+                add_outcome(
+                    rt.alloc(),
+                    &mut operations,
+                    path,
+                    document,
+                    outcome,
+                    account,
+                    output,
+                )?;
             }
             None => operations.status = Status::Unreadable,
         }

@@ -6,6 +6,4 @@ pub mod reading;
 pub mod requests;
 
 pub use reading::parse;
-pub use requests::{
-    ChangeFormat, Color, FailOn, Format, Limits, Refusal, Reporting, Request,
-};
+pub use requests::{ChangeFormat, Color, FailOn, Format, Limits, Refusal, Reporting, Request};

@@ -52,7 +52,8 @@ fn changes_are_shown_in_each_format(rt: HostRuntime) {
 /// Nothing changes: this is safe.
 #[test]
 fn a_schema_keeps_its_own_documents(rt: HostRuntime) {
-    let printed = "0 breaking, 0 dangerous, 0 other; safe: each document that is valid against the old schema is valid against the new one\n";
+    let printed =
+        "0 breaking, 0 dangerous, 0 other; safe: each document that is valid against the old schema is valid against the new one\n";
     run_ends(&rt, &["diff", "schema", "schema"], 0, printed, "");
 }
 
@@ -68,7 +69,8 @@ fn schemas_have_further_files(rt: HostRuntime) {
         "schema",
         "schema",
     ];
-    let printed = "0 breaking, 0 dangerous, 0 other; safe: each document that is valid against the old schema is valid against the new one\n";
+    let printed =
+        "0 breaking, 0 dangerous, 0 other; safe: each document that is valid against the old schema is valid against the new one\n";
     run_ends(&rt, words.as_slice(), 0, printed, "");
 }
 
@@ -76,7 +78,8 @@ fn schemas_have_further_files(rt: HostRuntime) {
 #[test]
 fn lone_fields_stay_valid(rt: HostRuntime) {
     let words = ["diff", "--lone-fields", "schema", "stricter"];
-    let printed = "stricter:3:12: other: `Pet.name` changes from `String` to `String!`, and can meet `__Schema.description` under one response key [FieldTypeChanged]
+    let printed =
+        "stricter:3:12: other: `Pet.name` changes from `String` to `String!`, and can meet `__Schema.description` under one response key [FieldTypeChanged]
 schema:3:12: note: before
 0 breaking, 0 dangerous, 1 other; safe: each document that is valid against the old schema, and puts no two fields under one response key, is valid against the new one
 ";
