@@ -89,7 +89,7 @@ const FIELDS: &[Row] = &[
     (
         "type Query { a: A } type A { x: Int }",
         "type Query { a: Int } type A { x: Int }",
-        "documents FieldTypeChanged { a { __typename } }\n",
+        "documents FieldTypeChanged { a { x } }\n",
     ),
     // An object becomes another object.
     (

@@ -130,9 +130,15 @@ fn selecting_any(ways: &Ways<'_>, ty: &NamedType) -> Result<Option<String>, Vali
     }
 }
 
-/// A document with a short selection on a type, with the type as a condition on itself.
+/// A document with a short selection on a type, which it names as a condition.
 fn naming(ways: &Ways<'_>, ty: &NamedType) -> Result<Option<String>, ValidationError> {
-    condition_on(ways, ty, ty)
+    let Some(index) = ways.index_of(ty) else {
+        return Ok(None);
+    };
+    match ways.step_to(index) {
+        Some(Step::Condition { .. }) => selecting_any(ways, ty),
+        _ => condition_on(ways, ty, ty),
+    }
 }
 
 /// A document with the second type as a condition on the first.
