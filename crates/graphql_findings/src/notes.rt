@@ -50,7 +50,7 @@ fn notes_of_misuse(
     ensures { IfOk result (λ notes. AreNotes at (usage_labels misuse.now) notes.items) }
 {
     let name = &misuse.name;
-    let of = &*misuse.variable_type.value;
+    let of = &misuse.variable_type.value;
     let message = format!(in alloc; "`${name}` of type `{of}` is defined here")?;
     note_beside(alloc, at, misuse.definition_location, message)
 }

@@ -35,7 +35,7 @@ pub enum Single<'a> {
 pub fn singles_of<'a>(alloc: Global, reports: &'a Reports) -> Result<Vec<Single<'a>>, AllocError>
     ensures { IfOk result (λ singles. map report_of singles.items ≡ listed reports.now) }
 {
-    let mut singles = Vec::new(alloc);
+    let mut singles: Vec<Single<'a>> = Vec::new(alloc);
     push_reports(&mut singles, reports)?;
     Ok(singles)
 }

@@ -1,4 +1,4 @@
-use Rattle.std.proofs.Common.{◌≡◌, [], ◌∷◌, ◌++◌, map}
+use Rattle.std.proofs.Common.{◌≡◌, [], ◌∷◌, ◌++◌, map, rules}
 use Rattle.std.proofs.lemmas.Result.{on_ok_weaker}
 use Rattle.graphql_diagnostics.specs.Diagnostics.{entries}
 use Rattle.graphql_shown_reports.specs.Shown.{more, validation}
@@ -12,5 +12,5 @@ returns c =
     let mid = map report_of c.push_rules.new.singles.items in
     let new = map report_of c.push.new.singles.items in
     let list = map validation (entries c.args.list.now) in
-    let first : mid ≡ old ++ list = cc in
+    let first : mid ≡ old ++ list = search rules in
     on_ok_weaker {P = new ≡ mid ++ more ∷ []} c.push.result (λ so. joined old mid new list (more ∷ []) first so) c.push.ensures
