@@ -51,7 +51,11 @@ pub fn annotations_of_unreadable(alloc: Global, unreadable: &[&str]) -> Result<S
 }
 
 /// Adds the line of a report, without its end.
-fn push_report(out: &mut String, report: &ShownReport, texts: Texts<'_>) -> Result<(), AllocError> {
+fn push_report<'a>(
+    out: &mut String,
+    report: &'a ShownReport,
+    texts: Texts<'a>,
+) -> Result<(), AllocError> {
     let annotation = Annotation {
         command: "error",
         title: report.rule,
