@@ -23,7 +23,7 @@ pub struct Account<'a> {
     /// The same with its lines counted, once something is reported.
     counted: Option<CountedSubject<'a>>,
     /// The files that could not be read.
-    unreadable: Vec<&'a str>,
+    unreadable: Vec<String>,
 }
 
 /// How many reports there are.
@@ -79,15 +79,15 @@ impl<'a> Account<'a> {
     }
 
     /// This file could not be read.
-    pub fn add_unreadable(&mut self, path: &'a str) -> Result<(), AllocError> {
-        self.unreadable.push(path)?;
+    pub fn add_unreadable(&mut self, alloc: Global, path: &str) -> Result<(), AllocError> {
+        self.unreadable.push(String::from_str(alloc, path)?)?;
         Ok(())
     }
 
     /// These files could not be read.
-    pub fn add_all_unreadable(&mut self, paths: &[&'a str]) -> Result<(), AllocError> {
+    pub fn add_all_unreadable(&mut self, paths: Vec<String>) -> Result<(), AllocError> {
         for path in paths {
-            self.add_unreadable(path)?;
+            self.unreadable.push(path)?;
         }
         Ok(())
     }
@@ -216,11 +216,12 @@ impl<'a> Account<'a> {
             unreadable,
             ..
         } = self;
+        let views = views(alloc, &unreadable)?;
         let run = Run {
             not_shown: tally.left_out(),
             schema_files: extent.schema_files,
             documents: tally.documents,
-            unreadable: unreadable.as_slice(),
+            unreadable: views.as_slice(),
         };
         print(sheet.end(alloc, run)?, output)?;
         if tally.reports > 0 {
@@ -247,6 +248,14 @@ fn files_of(
         }
     }
     Ok(files)
+}
+
+fn views(alloc: Global, paths: &[String]) -> Result<Vec<&str>, AllocError> {
+    let mut views = Vec::new(alloc);
+    for path in paths {
+        views.push(path.as_str())?;
+    }
+    Ok(views)
 }
 
 /// Prints the text, in one write.

@@ -10,7 +10,7 @@ use crate::faults::Fault;
 use crate::one_document::check_together;
 use crate::presentations::Presentation;
 use crate::project_files::check_files;
-use crate::schema_files::{named_schema, named_text, read_files};
+use crate::schema_files::{ReadFiles, named_schema, named_text, read_files};
 use crate::schemas::{end_unread, reject};
 use crate::sources::{shown_path, text_or_said};
 use crate::statuses::Status;
@@ -64,9 +64,9 @@ pub fn check<R: Files + AllocGlobal, I: Read, O: Write, F: Write>(
     output: &mut O,
     faults: &mut F,
 ) -> Result<Status, Fault> {
-    let read = read_files(rt, paths.schema, input, faults)?;
-    let Some(texts) = read.texts else {
-        return end_unread(rt.alloc(), read.unreadable, presentation, output, faults);
+    let ReadFiles { texts, unreadable } = read_files(rt, paths.schema, input, faults)?;
+    let Some(texts) = texts else {
+        return end_unread(rt.alloc(), unreadable, presentation, output, faults);
     };
     let named = named_schema(rt.alloc(), paths.schema, &texts)?;
     check_against(rt, &named, paths, presentation, input, output, faults)
@@ -83,35 +83,46 @@ fn check_against<R: Files + AllocGlobal, I: Read, O: Write, F: Write>(
     faults: &mut F,
 ) -> Result<Status, Fault> {
     let sources = sources_of(rt.alloc(), named)?;
-    let subject = schema_subject(named, &sources);
     match read_schema(rt.alloc(), &sources, OF_SCHEMA)? {
         SchemaReading::Accepted(schema) => {
-            let mut account = Account::new(rt.alloc(), presentation)?;
-            account.add_schema(subject);
-            let status = check_documents(rt, &schema, paths, account, input, output, faults);
+            let texts = schema_subject(named, &sources);
+            let status = check_documents(
+                rt,
+                &schema,
+                texts,
+                paths,
+                presentation,
+                input,
+                output,
+                faults,
+            );
             // The process ends here, and its memory is freed at once, not part by part.
             mem::forget(schema);
             status
         }
         SchemaReading::Rejected(reports) => {
+            let subject = schema_subject(named, &sources);
             reject(rt.alloc(), reports, subject, presentation, output, faults)
         }
         SchemaReading::LacksIntrospection => Err(Fault::LacksIntrospection),
     }
 }
 
-/// Validates the documents against the schema, and says how many reports there are.
-fn check_documents<'a, R: Files + AllocGlobal, I: Read, O: Write, F: Write>(
+/// Validates the documents against the schema of these texts, and says how many reports there are.
+fn check_documents<R: Files + AllocGlobal, I: Read, O: Write, F: Write>(
     rt: &R,
     schema: &Schema,
-    paths: Paths<'a>,
-    mut account: Account<'a>,
+    texts: Subject<'_>,
+    paths: Paths<'_>,
+    presentation: Presentation,
     input: &mut I,
     output: &mut O,
     faults: &mut F,
 ) -> Result<Status, Fault>
     requires { IsUsable schema.now }
 {
+    let mut account = Account::new(rt.alloc(), presentation)?;
+    account.add_schema(texts);
     let status = check_grouped(rt, schema, paths, &mut account, input, output, faults)?;
     let extent = Extent {
         whole: Whole::Documents(paths.count()),
@@ -122,11 +133,11 @@ fn check_documents<'a, R: Files + AllocGlobal, I: Read, O: Write, F: Write>(
 }
 
 /// Validates the documents, those together that are to be.
-fn check_grouped<'a, R: Files + AllocGlobal, I: Read, O: Write, F: Write>(
+fn check_grouped<R: Files + AllocGlobal, I: Read, O: Write, F: Write>(
     rt: &R,
     schema: &Schema,
-    paths: Paths<'a>,
-    account: &mut Account<'a>,
+    paths: Paths<'_>,
+    account: &mut Account<'_>,
     input: &mut I,
     output: &mut O,
     faults: &mut F,
@@ -145,11 +156,11 @@ fn check_grouped<'a, R: Files + AllocGlobal, I: Read, O: Write, F: Write>(
 }
 
 /// Validates the documents one after another: one that cannot be read does not end the run.
-fn check_each<'a, R: Files + AllocGlobal, I: Read, O: Write, F: Write>(
+fn check_each<R: Files + AllocGlobal, I: Read, O: Write, F: Write>(
     rt: &R,
     schema: &Schema,
-    paths: Paths<'a>,
-    account: &mut Account<'a>,
+    paths: Paths<'_>,
+    account: &mut Account<'_>,
     input: &mut I,
     output: &mut O,
     faults: &mut F,
@@ -165,7 +176,7 @@ fn check_each<'a, R: Files + AllocGlobal, I: Read, O: Write, F: Write>(
                 check_text(rt.alloc(), schema, document, paths.bounds, account, output)?
             }
             None => {
-                account.add_unreadable(shown_path(path))?;
+                account.add_unreadable(rt.alloc(), shown_path(path))?;
                 Status::Unreadable
             }
         };

@@ -7,7 +7,7 @@ ghost use Rattle.graphql_frontend.specs.Schemas.{IsUsable};
 use crate::accounts::Account;
 use crate::check::Paths;
 use crate::faults::Fault;
-use crate::schema_files::{named_text, read_files};
+use crate::schema_files::{ReadFiles, named_text, read_files};
 use crate::statuses::Status;
 use graphql_documents::documents::Schema;
 use graphql_frontend::{Reports, SourceText, validate_documents};
@@ -19,20 +19,20 @@ use std::io::{Read, Write};
 use std::rt::Files;
 
 /// Validates the one document that these files are together, if each of them has a text.
-pub fn check_together<'a, R: Files + AllocGlobal, I: Read, O: Write, F: Write>(
+pub fn check_together<R: Files + AllocGlobal, I: Read, O: Write, F: Write>(
     rt: &R,
     schema: &Schema,
-    paths: Paths<'a>,
-    account: &mut Account<'a>,
+    paths: Paths<'_>,
+    account: &mut Account<'_>,
     input: &mut I,
     output: &mut O,
     faults: &mut F,
 ) -> Result<Status, Fault>
     requires { IsUsable schema.now }
 {
-    let read = read_files(rt, paths.documents, input, faults)?;
-    let Some(texts) = read.texts else {
-        account.add_all_unreadable(&read.unreadable)?;
+    let ReadFiles { texts, unreadable } = read_files(rt, paths.documents, input, faults)?;
+    let Some(texts) = texts else {
+        account.add_all_unreadable(unreadable)?;
         return Ok(Status::Unreadable);
     };
     let named = named_documents(rt.alloc(), paths, &texts)?;

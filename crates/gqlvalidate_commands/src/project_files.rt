@@ -32,15 +32,15 @@ struct ReadFile<'a> {
 struct ReadFiles<'a> {
     files: Vec<ReadFile<'a>>,
     /// Those that could not, as lines call them.
-    unreadable: Vec<&'a str>,
+    unreadable: Vec<String>,
 }
 
 /// Validates these files together, with the fragments of those that are lent. One that cannot be read does not end the run.
-pub fn check_files<'a, R: Files + AllocGlobal, I: Read, O: Write, F: Write>(
+pub fn check_files<R: Files + AllocGlobal, I: Read, O: Write, F: Write>(
     rt: &R,
     schema: &Schema,
-    paths: Paths<'a>,
-    account: &mut Account<'a>,
+    paths: Paths<'_>,
+    account: &mut Account<'_>,
     input: &mut I,
     output: &mut O,
     faults: &mut F,
@@ -51,8 +51,6 @@ pub fn check_files<'a, R: Files + AllocGlobal, I: Read, O: Write, F: Write>(
     let own = read_files(rt, paths.documents, first, input, faults)?;
     let behind = first.saturating_add(paths.documents.len());
     let lent = read_files(rt, paths.fragments, behind, input, faults)?;
-    account.add_all_unreadable(&own.unreadable)?;
-    account.add_all_unreadable(&lent.unreadable)?;
     let is_all = own.unreadable.is_empty() && lent.unreadable.is_empty();
     let mut named = Vec::new(rt.alloc());
     add_named(&own.files, &mut named)?;
@@ -94,7 +92,7 @@ fn read_files<'a, R: Files + AllocGlobal, I: Read, F: Write>(
                 position: position.saturating_add(first),
                 text,
             })?,
-            None => unreadable.push(shown_path(path))?,
+            None => unreadable.push(String::from_str(rt.alloc(), shown_path(path))?)?,
         }
     }
     Ok(ReadFiles { files, unreadable })

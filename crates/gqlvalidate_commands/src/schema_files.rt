@@ -12,26 +12,26 @@ use std::rt::Files;
 
 /// What was read of files.
 #[derive(Drop)]
-pub struct ReadFiles<'a> {
+pub struct ReadFiles {
     /// Their texts, if each of them has one.
     pub texts: Option<Vec<String>>,
     /// Those that have none, as lines call them.
-    pub unreadable: Vec<&'a str>,
+    pub unreadable: Vec<String>,
 }
 
 /// The texts of these files, if all of them have one. What is wrong with the others is said.
-pub fn read_files<'a, R: Files + AllocGlobal, I: Read, F: Write>(
+pub fn read_files<R: Files + AllocGlobal, I: Read, F: Write>(
     rt: &R,
-    paths: &[&'a str],
+    paths: &[&str],
     input: &mut I,
     faults: &mut F,
-) -> Result<ReadFiles<'a>, Fault> {
+) -> Result<ReadFiles, Fault> {
     let mut texts = Vec::new(rt.alloc());
     let mut unreadable = Vec::new(rt.alloc());
     for path in paths {
         match text_or_said(rt, path, input, faults)? {
             Some(text) => texts.push(text)?,
-            None => unreadable.push(shown_path(path))?,
+            None => unreadable.push(String::from_str(rt.alloc(), shown_path(path))?)?,
         }
     }
     let texts = if unreadable.is_empty() {

@@ -4,7 +4,7 @@ use crate::accounts::{Account, Extent, Whole};
 use crate::bounds::OF_SCHEMA;
 use crate::faults::Fault;
 use crate::presentations::Presentation;
-use crate::schema_files::{named_schema, read_files};
+use crate::schema_files::{ReadFiles, named_schema, read_files};
 use crate::statuses::Status;
 use graphql_frontend::{Reports, SchemaReading, read_schema};
 use graphql_report_formats::named_texts::{NamedText, Subject};
@@ -23,9 +23,9 @@ pub fn check_schema<'a, R: Files + AllocGlobal, I: Read, O: Write, F: Write>(
     output: &mut O,
     faults: &mut F,
 ) -> Result<Status, Fault> {
-    let read = read_files(rt, paths, input, faults)?;
-    let Some(texts) = read.texts else {
-        return end_unread(rt.alloc(), read.unreadable, presentation, output, faults);
+    let ReadFiles { texts, unreadable } = read_files(rt, paths, input, faults)?;
+    let Some(texts) = texts else {
+        return end_unread(rt.alloc(), unreadable, presentation, output, faults);
     };
     let named = named_schema(rt.alloc(), paths, &texts)?;
     check_texts(rt.alloc(), &named, presentation, output, faults)
@@ -103,13 +103,13 @@ pub fn reject<O: Write, F: Write>(
 /// Ends a run whose schema cannot be read, since these files cannot.
 pub fn end_unread<O: Write, F: Write>(
     alloc: Global,
-    unreadable: Vec<&str>,
+    unreadable: Vec<String>,
     presentation: Presentation,
     output: &mut O,
     faults: &mut F,
 ) -> Result<Status, Fault> {
     let mut account = Account::new(alloc, presentation)?;
-    account.add_all_unreadable(&unreadable)?;
+    account.add_all_unreadable(unreadable)?;
     let extent = Extent {
         whole: Whole::Schema,
         schema_files: 0,

@@ -7,7 +7,7 @@ use crate::faults::{Fault, fault_of_output};
 use crate::json_lines::print_line;
 use crate::lines::{ReadLine, read_line};
 use crate::questions::{Question, QuestionError};
-use crate::schema_files::{named_schema, read_files};
+use crate::schema_files::{ReadFiles, named_schema, read_files};
 use crate::sources::explain_input;
 use crate::statuses::Status;
 use graphql_documents::documents::Schema;
@@ -47,7 +47,8 @@ pub fn serve<R: Files + AllocGlobal, I: Read, O: Write, F: Write>(
     output: &mut O,
     faults: &mut F,
 ) -> Result<Status, Fault> {
-    let Some(texts) = read_files(rt, paths, input, faults)?.texts else {
+    let ReadFiles { texts, .. } = read_files(rt, paths, input, faults)?;
+    let Some(texts) = texts else {
         return Ok(Status::Unreadable);
     };
     let named = named_schema(rt.alloc(), paths, &texts)?;

@@ -23,14 +23,11 @@ fn names(lines: &str, rule: &str) -> bool {
 
 /// The wrong example of a rule brings a report of it, and the right one none.
 fn explain(rt: &impl Abort, alloc: Global, explained: &Explanation) {
+    let rule = explained.rule;
     let wrong = reported_of(rt, alloc, explained, explained.wrong);
-    assert!(rt;
-        names(wrong.as_str(), explained.rule),
-        "{} {wrong}",
-        explained.rule
-    );
+    assert!(rt; names(wrong.as_str(), rule), "{rule}");
     let right = reported_of(rt, alloc, explained, explained.right);
-    assert_eq!(rt; right.as_str(), "", "{}", explained.rule);
+    assert_eq!(rt; right.as_str(), "", "{rule}");
 }
 
 #[test]
