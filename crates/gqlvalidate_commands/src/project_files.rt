@@ -48,17 +48,24 @@ pub fn check_files<R: Files + AllocGlobal, I: Read, O: Write, F: Write>(
     requires { IsUsable schema.now }
 {
     let first = paths.schema.len();
-    let own = read_files(rt, paths.documents, first, input, faults)?;
-    let behind = first.saturating_add(paths.documents.len());
-    let lent = read_files(rt, paths.fragments, behind, input, faults)?;
-    let is_all = own.unreadable.is_empty() && lent.unreadable.is_empty();
+    let ReadFiles {
+        files: own,
+        unreadable,
+    } = read_files(rt, paths.documents, first, input, faults)?;
+    let is_all_own = unreadable.is_empty();
+    account.add_all_unreadable(unreadable)?;
+    let next = first.saturating_add(paths.documents.len());
+    let ReadFiles {
+        files: lent,
+        unreadable,
+    } = read_files(rt, paths.fragments, next, input, faults)?;
+    let is_all = is_all_own && unreadable.is_empty();
+    account.add_all_unreadable(unreadable)?;
     let mut named = Vec::new(rt.alloc());
-    add_named(&own.files, &mut named)?;
-    add_named(&lent.files, &mut named)?;
+    add_named(&own, &mut named)?;
+    add_named(&lent, &mut named)?;
     let sources = sources_of(rt.alloc(), &named)?;
-    let (judged, borrowed) = sources
-        .as_slice()
-        .split_at(own.files.len().min(sources.len()));
+    let (judged, borrowed) = sources.as_slice().split_at(own.len().min(sources.len()));
     let whole = is_all && paths.is_all;
     let found = reports_of(rt.alloc(), schema, judged, borrowed, paths.bounds, whole)?;
     let subject = Subject {
@@ -67,9 +74,9 @@ pub fn check_files<R: Files + AllocGlobal, I: Read, O: Write, F: Write>(
         sources: &sources,
     };
     if found.is_empty() {
-        accept_all(&own.files, account)?;
+        accept_all(&own, account)?;
     } else {
-        account.add_documents(own.files.len());
+        account.add_documents(own.len());
         account.reject_together(rt.alloc(), &found, subject, paths.bounds, output)?;
     }
     Ok(status_of(&found, is_all))
