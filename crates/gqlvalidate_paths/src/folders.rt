@@ -2,7 +2,6 @@
 
 use crate::plain::joined;
 use std::alloc::AllocError;
-use std::fs::DirEntry;
 use std::rt::Files;
 use std::{fs, io};
 
@@ -65,28 +64,18 @@ fn add_entries<R: Files + AllocGlobal + Clone + Drop>(
     folders: &mut Vec<String>,
 ) -> io::Result<()> {
     for entry in fs::read_dir(rt, folder)? {
-        add_entry(rt, folder, &entry?, files, folders)?;
-    }
-    Ok(())
-}
-
-fn add_entry<R: Files + AllocGlobal + Clone + Drop>(
-    rt: &R,
-    folder: &str,
-    entry: &DirEntry<R, R::A>,
-    files: &mut Vec<String>,
-    folders: &mut Vec<String>,
-) -> io::Result<()> {
-    let name = entry.file_name();
-    if is_left_out(name) {
-        return Ok(());
-    }
-    let path = joined(rt.alloc(), folder, name)?;
-    let kind = entry.file_type()?;
-    if kind.is_dir() {
-        folders.push(path)?;
-    } else if kind.is_file() {
-        files.push(path)?;
+        let entry = entry?;
+        let name = entry.file_name();
+        if is_left_out(name) {
+            continue;
+        }
+        let path = joined(rt.alloc(), folder, name)?;
+        let kind = entry.file_type()?;
+        if kind.is_dir() {
+            folders.push(path)?;
+        } else if kind.is_file() {
+            files.push(path)?;
+        }
     }
     Ok(())
 }

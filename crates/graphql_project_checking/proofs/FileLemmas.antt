@@ -134,7 +134,7 @@ module _ (s : Schema) (pool : Pool) (d : ExecutableDocument) (all_said : (name :
       let rest = borrowed_trees_of_all es (All-tail (IsReachedByOne d (operations_of file)) e es all) in (
         f.0 ∷ rest.0,
         ((r.key ∙ f.1.name, fragment_said_of_same (Some s) f.0 r.d e.1 f.1 r.same), rest.1),
-        All-cons (λ b. Any (λ x. ReachesFragment pool x b) (operations_in tree.definitions)) f.0 rest.0 (x.0, x.1, f.2) rest.2,
+        All-cons (λ b. Any (λ x. ReachesFragment pool x b) (operations_in tree.definitions)) f.0 rest.0 (x.1.0, x.0, x.1.1, x.1.2, f.2) rest.2,
       )
 
   module _ (passes : FilePasses s d file) where
@@ -142,7 +142,7 @@ module _ (s : Schema) (pool : Pool) (d : ExecutableDocument) (all_said : (name :
         All (λ b. Any (λ x. ReachesFragment pool x b) (operations_in tree.definitions)) bs
     borrowed = borrowed_trees_of_all passes.borrows.added passes.borrows.each
 
-    whole_tree : Document
+    abbrev whole_tree : Document
     whole_tree = record { definitions = tree.definitions ++ map definition.Fragment borrowed.0; span = tree.span }
 
     whole_fragments : fragments_in whole_tree.definitions ≡ fragments_in tree.definitions ++ map own borrowed.0
@@ -194,17 +194,14 @@ module _ (s : Schema) (pool : Pool) (d : ExecutableDocument) (all_said : (name :
         by_place entry.0 there.0 same (Contains-append_cases file.fragments.entries passes.borrows.added (entry.0, there.0)
         (subst (λ l. Contains l (entry.0, there.0)) passes.borrows.appended entry.1))
       where
-        all_fragments : Pool
-        all_fragments = fragments_in tree.definitions ++ map own borrowed.0
-
-        of_name : (p : NameText × FragmentDefinition) → Contains all_fragments p → fragment_named pool p.1.name ≡ Some p.1 → SameName f.name p.1.name →
-            Contains (map (λ (q : NameText × FragmentDefinition). q.1) all_fragments) f
+        of_name : (p : NameText × FragmentDefinition) → Contains (fragments_in tree.definitions ++ map own borrowed.0) p → fragment_named pool p.1.name ≡ Some p.1 → SameName f.name p.1.name →
+            Contains (map (λ (q : NameText × FragmentDefinition). q.1) (fragments_in tree.definitions ++ map own borrowed.0)) f
         of_name p there found same =
             let one = one_of_name f p.1 (found_by_own (Some s) pool d all_said own_names r.name f r.found) found same in
-            subst (Contains (map (λ (q : NameText × FragmentDefinition). q.1) all_fragments)) one (stands_mapped (λ (q : NameText × FragmentDefinition). q.1) all_fragments p there)
+            subst (Contains (map (λ (q : NameText × FragmentDefinition). q.1) (fragments_in tree.definitions ++ map own borrowed.0))) one (stands_mapped (λ (q : NameText × FragmentDefinition). q.1) (fragments_in tree.definitions ++ map own borrowed.0) p there)
 
         by_place : (key : NameText) (node : Node Fragment) → SameName f.name key → Contains file.fragments.entries (key, node) ⊎ Contains passes.borrows.added (key, node) →
-            Contains (map (λ (q : NameText × FragmentDefinition). q.1) all_fragments) f
+            Contains (map (λ (q : NameText × FragmentDefinition). q.1) (fragments_in tree.definitions ++ map own borrowed.0)) f
         by_place key node same (inl first) =
             let p = zip_first (SaysUnderName (FragmentSays (Some s))) (fragments_in tree.definitions) file.fragments.entries (key, node) says.fragments first in
             let name : key ≡ p.0.1.name = p.2.0 ∙ own_names p.0 (within p.0 p.1) in
@@ -215,7 +212,7 @@ module _ (s : Schema) (pool : Pool) (d : ExecutableDocument) (all_said : (name :
             let p = zip_first (SaysUnderName (FragmentSays (Some s))) (map own borrowed.0) passes.borrows.added (key, node) borrowed.1 rest in
             let b = made_of own borrowed.0 p.0 p.1 in
             let reaching = All-contains (λ b. Any (λ x. ReachesFragment pool x b) (operations_in tree.definitions)) borrowed.0 b.0 borrowed.2 b.1 in
-            let found = found_by_own (Some s) pool d all_said own_names reaching.2.name b.0 reaching.2.found in
+            let found = found_by_own (Some s) pool d all_said own_names reaching.4.name b.0 reaching.4.found in
             let name : key ≡ b.0.name = p.2.0 ∙ ap (λ (q : NameText × FragmentDefinition). q.0) (sym b.2) in
             of_name (own b.0) (Contains-append_right (fragments_in tree.definitions) (map own borrowed.0) (own b.0) (stands_mapped own borrowed.0 b.0 b.1)) found
             (subst (SameName f.name) name same)

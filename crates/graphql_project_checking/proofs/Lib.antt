@@ -1,4 +1,5 @@
 mod FileLemmas
 mod OperationLemmas
+mod PartLemmas
 mod ProjectLemmas
 mod TextLemmas

@@ -126,9 +126,9 @@ module _ (schema : Option Schema) (pool : Pool) (d : ExecutableDocument) (all_sa
             let node = fragment_said schema (fragment_named pool r.name) (fragments_of d r.name) f (all_said r.name) r.found in
             let known = reached.all r.name (reach.0, reach.1, sym reach.2) (is_there (fragments_of d r.name) node.0 node.1) in
             let at = Any-from_list_any (same_name r.name) names known in
-            let n = at.0 in
-            let found : fragments_of d n ≡ Some node.0 = sym (one_fragment_found d r.name n at.2) ∙ node.1 in
-            let there = found_some (lookup (same_name node.0.value.value.name) entries) (borrows.there n node.0 at.1 found) in
+            let n = at.1 in
+            let found : fragments_of d n ≡ Some node.0 = sym (one_fragment_found d r.name n at.4) ∙ node.1 in
+            let there = found_some (lookup (same_name node.0.value.value.name) entries) (borrows.there n node.0 (at.0, at.2, at.3) found) in
             (there.0, subst (λ (name : NameText). lookup (same_name name) entries ≡ Some there.0) node.2.name there.1)
 
         module _ (fs : List FragmentDefinition) (fs_said : AllZip (SaysUnderName (FragmentSays schema)) (map own fs) entries) (fs_reached : All (ReachesFragment pool x) fs) where

@@ -1,12 +1,12 @@
 -- From what holds of each file, to what holds of all files together. Specification: 5 Validation.
 use Rattle.std.proofs.Common.{◌≡◌, ◌∙◌, ℕ, zero, suc, ◌+◌, ◌<◌, Bool, true, false, List, [], ◌∷◌, ◌++◌, Option, None, Some, arith, length, get_or, map, ap, inl, inr, refl, sym, subst}
-use Rattle.std.specs.Prelude.{◌⊎◌, All, AllPairs, Any, Contains, filter, flat_map}
+use Rattle.std.specs.Prelude.{◌⊎◌, All, AllPairs, Any, Contains, filter, flat_map, not}
 use Rattle.std.specs.List.{AllZip}
 use Rattle.std.proofs.lemmas.List.{append_assoc, append-nil, get_or-append-add, get_or_append_left, length-append, map-append}
-use Rattle.std.proofs.lemmas.List.Elements.{All-append, All-cons, All-contains, All-filter, All-head, All-nil, All-tail, Contains-append_cases, Contains-append_left, Contains-append_right}
+use Rattle.std.proofs.lemmas.List.Elements.{All-append, All-cons, All-contains, All-weaker, Contains-append_cases, Contains-append_left, Contains-append_right}
 use Rattle.graphql_nodes.specs.Names.{AreDistinct, DifferentNames, NameText, SameName, same_name}
 use Rattle.graphql_nodes.specs.declared.nodes.Node.{Node}
-use Rattle.graphql_documents.proofs.ListLemmas.{each_standing, none_stands, stands_flat}
+use Rattle.graphql_documents.proofs.ListLemmas.{each_standing, kept_by_filter, none_stands, stands_flat}
 use Rattle.graphql_documents.specs.Executables.{operations_of}
 use Rattle.graphql_documents.specs.Selections.{fragments_of}
 use Rattle.graphql_documents.specs.declared.documents.executables.ExecutableDocument.{ExecutableDocument}
@@ -20,16 +20,19 @@ use Rattle.graphql_trees.specs.declared.executable.FragmentDefinition.{FragmentD
 use Rattle.graphql_trees.specs.declared.executable.OperationDefinition.{OperationDefinition}
 use Rattle.graphql_document_building.specs.BuildingRules.{DefinitionBuilds, DocumentBuilds}
 use Rattle.graphql_document_building.specs.Documents.{DocumentSays, FragmentSays, OperationSays, SaysUnderName}
-use Rattle.graphql_document_building.specs.Trees.{anonymous_operations_in, fragments_in, named_operations_in, operations_in}
+use Rattle.graphql_document_building.specs.Trees.{fragments_in, operations_in}
 use Rattle.graphql_frontend.specs.Schemas.{IsUsable}
+use Rattle.graphql_frontend.specs.declared.texts.SourceText.{SourceText}
+use Rattle.graphql_parser.specs.declared.bounds.Bounds.{Bounds}
 use Rattle.graphql_pools.specs.Pools.{Entry, Gathers, SameEntry, entries_among}
 use Rattle.graphql_projects.specs.OperationTrees.{Pool, ReachesFragment, fragment_named, fragments_among}
-use Rattle.graphql_projects.specs.Projects.{FileHolds, OperationIsValid, operations_among}
+use Rattle.graphql_projects.specs.Projects.{FileHolds, OperationIsValid, ProjectHolds, ReadFiles, operations_among}
 use Rattle.graphql_project_laws.proofs.SaidDefinitionLemmas.{one_found, operation_is_said, own_names}
 use Rattle.graphql_project_laws.proofs.SaidReachLemmas.{SaysIfAny, names_say, zip_first, zip_second}
 use Rattle.graphql_project_checking.proofs.FileLemmas.{distinct_is_found, file_holds, operations_are_valid, zip_append}
 use Rattle.graphql_project_checking.proofs.OperationLemmas.{HasOwnNames, fragment_in_tree, fragment_said_of_same, found_by_own}
-use Rattle.graphql_project_checking.specs.Silence.{FilePasses, FilesHold, HasFragmentsOf, IsUsedName, NotesUses, is_fragment}
+use Rattle.graphql_project_checking.specs.Silence.{BuildAsLent, FilePasses, FilesHold, HasFragmentsOf, IsUsedName, NotesUses, OthersBuild, is_fragment, others_in}
+use Rattle.graphql_project_checking.specs.declared.building.Lent.{Lent}
 use Rattle.graphql_variables.specs.Uses.{IsNamedIn}
 
 -- ==== lists of lists
@@ -81,16 +84,6 @@ alone_fragments [] = refl
 alone_fragments (definition.Fragment x ∷ ds) = ap (λ l. (x.name, x) ∷ l) (alone_fragments ds)
 alone_fragments (_ ∷ ds) = alone_fragments ds
 
-alone_anonymous : (ds : List Definition) → anonymous_operations_in (filter is_fragment ds) ≡ []
-alone_anonymous [] = refl
-alone_anonymous (definition.Fragment x ∷ ds) = alone_anonymous ds
-alone_anonymous (_ ∷ ds) = alone_anonymous ds
-
-alone_named : (ds : List Definition) → named_operations_in (filter is_fragment ds) ≡ []
-alone_named [] = refl
-alone_named (definition.Fragment x ∷ ds) = alone_named ds
-alone_named (_ ∷ ds) = alone_named ds
-
 pub same_fragments : (trees alone : List Document) → AllZip HasFragmentsOf trees alone → fragments_among alone ≡ fragments_among trees
 same_fragments [] [] zip = refl
 same_fragments [] (u ∷ us) zip = absurd zip
@@ -98,28 +91,28 @@ same_fragments (t ∷ ts) [] zip = absurd zip
 same_fragments (t ∷ ts) (u ∷ us) zip =
     ap (λ l. l ++ fragments_among us) (ap fragments_in zip.0 ∙ alone_fragments t.definitions) ∙ ap (λ l. fragments_in t.definitions ++ l) (same_fragments ts us zip.1)
 
-alone_builds : (s : Schema) (t u : Document) → HasFragmentsOf t u → All (DefinitionBuilds (Some s)) t.definitions → AreDistinct (map name_of (fragments_in t.definitions)) →
-    DocumentBuilds (Some s) u
-alone_builds s t u is build distinct = record {
-  definitions = subst (All (DefinitionBuilds (Some s))) (sym is) (All-filter is_fragment (DefinitionBuilds (Some s)) t.definitions build);
-  anonymous_operation = subst (λ l. All (λ x. operations_in u.definitions ≡ x ∷ []) l) (sym (ap anonymous_operations_in is ∙ alone_anonymous t.definitions))
-      (All-nil (λ x. operations_in u.definitions ≡ x ∷ []));
-  operation_names = subst (λ (l : List (NameText × OperationDefinition)). AreDistinct (map (λ p. p.0) l)) (sym (ap named_operations_in is ∙ alone_named t.definitions)) none_differ;
-  fragment_names = subst (λ (l : Pool). AreDistinct (map name_of l)) (sym (ap fragments_in is ∙ alone_fragments t.definitions)) distinct;
-}
-  where
-    none_differ : AreDistinct []
-    none_differ = λ i j d before within. absurd (omega (arith, within))
+-- what holds of the fragments and of the other definitions holds of all
+both_parts : (P : Definition → Type 0) (ds : List Definition) → All P (filter is_fragment ds) → All P (others_in ds) → All P ds
+both_parts P ds fragments others = each_standing P ds (λ d c. by d c (is_fragment d) refl) where
+  by : (d : Definition) → Contains ds d → (f : Bool) → is_fragment d ≡ f → P d
+  by d c true is = All-contains P (filter is_fragment ds) d fragments (kept_by_filter is_fragment ds d c is)
+  by d c false is = All-contains P (others_in ds) d others (kept_by_filter (λ d. not (is_fragment d)) ds d c (ap not is))
 
-pub lent_build : (s : Schema) (trees alone : List Document) → AllZip HasFragmentsOf trees alone → All (λ (t : Document). All (DefinitionBuilds (Some s)) t.definitions) trees →
-    AreDistinct (map name_of (fragments_among trees)) → All (DocumentBuilds (Some s)) alone
-lent_build s trees alone zip build distinct = each_standing (DocumentBuilds (Some s)) alone (λ u c.
-  let t = zip_first HasFragmentsOf trees alone u zip c in
-  alone_builds s t.0 u t.2 (All-contains (λ (t : Document). All (DefinitionBuilds (Some s)) t.definitions) trees t.0 build t.1) (part_distinct trees t.0 t.1 distinct))
+lent_definitions_build : (s : Schema) (trees : List Document) (lent : Lent) → BuildAsLent s trees lent → All (λ (t : Document). All (DefinitionBuilds (Some s)) t.definitions) trees
+lent_definitions_build s trees lent build = each_standing (λ (t : Document). All (DefinitionBuilds (Some s)) t.definitions) trees (λ t c.
+  let u = zip_second HasFragmentsOf trees lent.documents.items t build.fragments c in
+  both_parts (DefinitionBuilds (Some s)) t.definitions
+  (subst (All (DefinitionBuilds (Some s))) u.2 (All-contains (DocumentBuilds (Some s)) lent.documents.items u.0 build.build.0 u.1).definitions)
+  (All-contains (OthersBuild s) trees t build.others c))
 
 pub lent_distinct : (own lent : List Document) → AreDistinct (map name_of (fragments_among (own ++ lent))) → AreDistinct (map name_of (fragments_among lent))
 lent_distinct own lent distinct = distinct_back (fragments_among own) (fragments_among lent)
     (subst (λ (l : Pool). AreDistinct (map name_of l)) (flat_of_both (λ (t : Document). fragments_in t.definitions) own lent) distinct)
+
+pub same_pool : (own lent alone : List Document) → AllZip HasFragmentsOf lent alone → fragments_among (own ++ alone) ≡ fragments_among (own ++ lent)
+same_pool own lent alone zip =
+    flat_of_both (λ (t : Document). fragments_in t.definitions) own alone ∙ ap (λ l. fragments_among own ++ l) (same_fragments lent alone zip) ∙
+    sym (flat_of_both (λ (t : Document). fragments_in t.definitions) own lent)
 
 -- ==== the pool
 
@@ -168,45 +161,64 @@ pub files_hold : (s : Schema) (own lent : List Document) (files : List Executabl
     AreDistinct (map name_of (fragments_among (own ++ lent))) → All (FilePasses s pool) files → NotesUses pool (flat_map operations_of files) [] used →
     All (λ p. IsNamedIn used p.0) (fragments_among own) → FilesHold s own lent
 files_hold s own lent files pool used usable build say pool_said distinct pass notes named = record {
-  files = each_standing (FileHolds s fragments) own (λ t c.
+  files = each_standing (FileHolds s (fragments_among (own ++ lent))) own (λ t c.
     let f = zip_second (DocumentSays (Some s)) own files t say c in
-    file_holds s fragments pool all_said own_named distinct t f.0 f.2 (within t c) (All-contains (FilePasses s pool) files f.0 pass f.1)
+    file_holds s (fragments_among (own ++ lent)) pool all_said own_named distinct t f.0 f.2 (within t c) (All-contains (FilePasses s pool) files f.0 pass f.1)
     (All-contains (DocumentBuilds (Some s)) own t build c));
-  operations = each_standing (OperationIsValid s fragments) (operations_among own) (λ x c.
+  operations = each_standing (OperationIsValid s (fragments_among (own ++ lent))) (operations_among own) (λ x c.
     let t = made_flat (λ (t : Document). operations_in t.definitions) own x c in
     let f = zip_second (DocumentSays (Some s)) own files t.0 say t.1 in
-    All-contains (OperationIsValid s fragments) (operations_in t.0.definitions) x
-    (operations_are_valid s fragments pool all_said own_named distinct t.0 f.0 f.2 (within t.0 t.1) usable (All-contains (FilePasses s pool) files f.0 pass f.1).operations) t.2);
-  used = each_standing (λ p. Any (λ x. ReachesFragment fragments x p.1) (operations_among own)) (fragments_among own) (λ p c.
+    All-contains (OperationIsValid s (fragments_among (own ++ lent))) (operations_in t.0.definitions) x
+    (operations_are_valid s (fragments_among (own ++ lent)) pool all_said own_named distinct t.0 f.0 f.2 (within t.0 t.1) usable (All-contains (FilePasses s pool) files f.0 pass f.1).operations) t.2);
+  used = each_standing (λ p. Any (λ x. ReachesFragment (fragments_among (own ++ lent)) x p.1) (operations_among own)) (fragments_among own) (λ p c.
     let name = All-contains (λ p. IsNamedIn used p.0) (fragments_among own) p named c in
     is_used p c name.0 name.2 (notes name.0 name.1));
 }
   where
-    fragments : Pool
-    fragments = fragments_among (own ++ lent)
-
-    own_named : HasOwnNames fragments
+    own_named : HasOwnNames (fragments_among (own ++ lent))
     own_named = among_own_names (own ++ lent)
 
-    all_said : (name : NameText) → SaysIfAny (Some s) (fragment_named fragments name) (fragments_of pool name)
-    all_said name = names_say (Some s) name fragments pool.fragments.entries pool_said
+    all_said : (name : NameText) → SaysIfAny (Some s) (fragment_named (fragments_among (own ++ lent)) name) (fragments_of pool name)
+    all_said name = names_say (Some s) name (fragments_among (own ++ lent)) pool.fragments.entries pool_said
 
-    within : (t : Document) → Contains own t → (p : NameText × FragmentDefinition) → Contains (fragments_in t.definitions) p → Contains fragments p
+    within : (t : Document) → Contains own t → (p : NameText × FragmentDefinition) → Contains (fragments_in t.definitions) p → Contains (fragments_among (own ++ lent)) p
     within t c p there = stands_flat (λ (t : Document). fragments_in t.definitions) (own ++ lent) t p (Contains-append_left own lent t c) there
 
     is_used : (p : NameText × FragmentDefinition) → Contains (fragments_among own) p → (u : NameText) → SameName u p.0 →
-        Contains [] u ⊎ IsUsedName pool (flat_map operations_of files) u → Any (λ x. ReachesFragment fragments x p.1) (operations_among own)
+        Contains [] u ⊎ IsUsedName pool (flat_map operations_of files) u → Any (λ x. ReachesFragment (fragments_among (own ++ lent)) x p.1) (operations_among own)
     is_used p c u same (inl none) = absurd (none_stands u none)
     is_used p c u same (inr r) =
         let f = made_flat operations_of files r.o r.among in
         let t = zip_first (DocumentSays (Some s)) own files f.0 say f.1 in
         let x = operation_is_said (Some s) t.0 f.0 t.2 r.o f.2 in
-        let g = fragment_in_tree (Some s) fragments pool all_said own_named x.0 r.o x.2 r.name r.d r.reached.0 r.found in
+        let g = fragment_in_tree (Some s) (fragments_among (own ++ lent)) pool all_said own_named x.0 r.o x.2 r.name r.d r.reached.0 r.found in
         let of = made_flat (λ (t : Document). fragments_in t.definitions) own p c in
-        let there : Contains fragments p = within of.0 of.1 p of.2 in
-        let found = distinct_is_found fragments p distinct there in
+        let there : Contains (fragments_among (own ++ lent)) p = within of.0 of.1 p of.2 in
+        let found = distinct_is_found (fragments_among (own ++ lent)) p distinct there in
         let named : u ≡ g.0.name = r.is ∙ g.1.name in
         let alike : SameName g.0.name p.0 = subst (λ n. SameName n p.0) named same in
-        let both : Some g.0 ≡ Some p.1 = sym (found_by_own (Some s) fragments pool all_said own_named g.2.name g.0 g.2.found) ∙ one_found fragments g.0.name p.0 alike ∙ found in
+        let both : Some g.0 ≡ Some p.1 = sym (found_by_own (Some s) (fragments_among (own ++ lent)) pool all_said own_named g.2.name g.0 g.2.found) ∙ one_found (fragments_among (own ++ lent)) g.0.name p.0 alike ∙ found in
         let one : g.0 ≡ p.1 = cc in
-        (x.0, stands_flat (λ (t : Document). operations_in t.definitions) own t.0 x.0 t.1 x.1, subst (ReachesFragment fragments x.0) one g.2)
+        let stands = stands_flat (λ (t : Document). operations_in t.definitions) own t.0 x.0 t.1 x.1 in
+        (stands.0, x.0, stands.1, stands.2, subst (ReachesFragment (fragments_among (own ++ lent)) x.0) one g.2)
+
+-- ==== the project
+
+pub project_holds : (bounds : Bounds) (s : Schema) (sources lent_sources : List SourceText) (own lent_trees : List Document) (lent : Lent) →
+    ReadFiles bounds sources own → ReadFiles bounds lent_sources lent_trees → AreDistinct (map name_of (fragments_among (own ++ lent_trees))) →
+    All (DocumentBuilds (Some s)) own → BuildAsLent s lent_trees lent → FilesHold s own lent.documents.items → ProjectHolds bounds s sources lent_sources
+project_holds bounds s sources lent_sources own lent_trees lent are lent_are distinct build lent_build hold =
+    let same = same_pool own lent_trees lent.documents.items lent_build.fragments in
+    record {
+      trees = own;
+      lent_trees = lent_trees;
+      are = are;
+      lent_are = lent_are;
+      build = All-append (λ (t : Document). All (DefinitionBuilds (Some s)) t.definitions) own lent_trees
+          (All-weaker (DocumentBuilds (Some s)) (λ (t : Document). All (DefinitionBuilds (Some s)) t.definitions) (λ t b. b.definitions) own build)
+          (lent_definitions_build s lent_trees lent lent_build);
+      fragment_names = distinct;
+      files = subst (λ (l : Pool). All (FileHolds s l) own) same hold.files;
+      operations = subst (λ (l : Pool). All (OperationIsValid s l) (operations_among own)) same hold.operations;
+      used = subst (λ (l : Pool). All (λ p. Any (λ x. ReachesFragment l x p.1) (operations_among own)) (fragments_among own)) same hold.used;
+    }

@@ -1,9 +1,12 @@
 -- What follows where nothing is reported, for the contracts of what is checked here. Specification: 5 Validation.
-use Rattle.std.specs.Prelude.{◌≡◌, ◌⊎◌, Bool, true, false, List, [], ◌∷◌, ◌++◌, Some, All, Any, Contains, IsSome, filter, option_to_list}
+use Rattle.std.specs.Prelude.{◌≡◌, ◌⊎◌, Bool, true, false, List, [], ◌∷◌, ◌++◌, None, Option, Some, All, Any, Contains, IsSome, filter, not, option_to_list}
+use Rattle.std.specs.List.{AllZip}
 use Rattle.std.specs.Map.{lookup}
 use Rattle.indexmap.specs.IndexMap.{IsUnique, values}
 use Rattle.graphql_diagnostics.specs.declared.lists.DiagnosticEntry.{DiagnosticEntry}
 use Rattle.graphql_documents.specs.Executables.{operations_of}
+use Rattle.graphql_document_building.specs.BuildingRules.{DefinitionBuilds, DocumentBuilds}
+use Rattle.graphql_document_building.specs.Documents.{DocumentSays}
 use Rattle.graphql_documents.specs.Selections.{fragments_of}
 use Rattle.graphql_documents.specs.declared.documents.executables.ExecutableDocument.{ExecutableDocument}
 use Rattle.graphql_documents.specs.declared.documents.executables.Fragment.{Fragment}
@@ -19,6 +22,7 @@ use Rattle.graphql_nodes.specs.Nodes.{SameNode}
 use Rattle.graphql_nodes.specs.declared.nodes.Node.{Node}
 use Rattle.graphql_pools.specs.Pools.{Entry, IsOperationDocument}
 use Rattle.graphql_reach.specs.Reached.{IsReachedFrom, IsSpreadFrom, ReachesNames}
+use Rattle.graphql_project_checking.specs.declared.building.Lent.{Lent}
 use Rattle.graphql_projects.specs.OperationTrees.{Pool, ReachesFragment, fragments_among}
 use Rattle.graphql_projects.specs.Projects.{FileHolds, OperationIsValid, operations_among}
 use Rattle.graphql_specification.specs.Defer.{LabelsHold}
@@ -104,6 +108,28 @@ is_fragment _ = false
 
 abbrev pub HasFragmentsOf : Document → Document → Type 0
 HasFragmentsOf tree alone = alone.definitions ≡ filter is_fragment tree.definitions
+
+-- the definitions of which none is a fragment, in order
+abbrev pub others_in : List Definition → List Definition
+others_in definitions = filter (λ d. not (is_fragment d)) definitions
+
+abbrev pub OthersBuild : Schema → Document → Type 0
+OthersBuild schema tree = All (DefinitionBuilds (Some schema)) (others_in tree.definitions)
+
+-- the document can be built, and this is what it says
+abbrev pub BuildsTo : Schema → Document → Option ExecutableDocument → Type 0
+BuildsTo schema tree None = ⊥
+BuildsTo schema tree (Some file) = DocumentBuilds (Some schema) tree × DocumentSays (Some schema) tree file
+
+-- so can each of these
+abbrev pub BuildAll : Schema → List Document → List ExecutableDocument → Type 0
+BuildAll schema trees files = All (DocumentBuilds (Some schema)) trees × AllZip (DocumentSays (Some schema)) trees files
+
+-- the definitions of these documents can be built, and this is what their fragments say
+pub record BuildAsLent (schema : Schema) (trees : List Document) (lent : Lent) : Type 0 where
+  pub others : All (OthersBuild schema) trees
+  pub fragments : AllZip HasFragmentsOf trees lent.documents.items
+  pub build : BuildAll schema lent.documents.items lent.files.items
 
 -- what is asked of files that build, with the fragments of those that are lent
 pub record FilesHold (schema : Schema) (own lent : List Document) : Type 0 where

@@ -5,7 +5,7 @@ ghost use Rattle.graphql_frontend.specs.Schemas.{IsUsable};
 ghost use Rattle.graphql_project_checking.specs.Silence.{SilentOnlyIf};
 ghost use Rattle.graphql_projects.specs.Projects.{ProjectHolds};
 
-use crate::building::{Building, check_files, check_fragment_names, check_lent_files};
+use crate::building::{Building, Lent, build_files, build_lent_files, check_fragment_names};
 use crate::rest::check_rest;
 use crate::texts::read_texts;
 use crate::whole::check_whole;
@@ -81,10 +81,13 @@ fn check_texts(
     let lent = read_texts(alloc, lent, bounds, found)?;
     let is_all_read = is_all && found.is_empty();
     check_fragment_names(alloc, building, &own, &lent, found)?;
-    check_files(alloc, building, &own, found)?;
-    let lent = check_lent_files(alloc, building, lent, found)?;
+    let files = build_files(alloc, building, &own, found)?;
+    let Lent {
+        documents: lent,
+        files: lenders,
+    } = build_lent_files(alloc, building, lent, found)?;
     if is_all_read && found.is_empty() {
-        check_whole(alloc, building, &own, &lent, found)
+        check_whole(alloc, building, &own, files, &lenders, found)
     } else {
         check_rest(alloc, building, own, lent, !is_all_read, found)
     }

@@ -1,16 +1,16 @@
 //! Files of which each can be built.
 
-ghost use Rattle.std.specs.Prelude.{◌≡◌, ◌∷◌, ◌++◌, [], All, IfOk, OnOk, Some, flat_map, map};
-ghost use Rattle.graphql_document_building.specs.BuildingRules.{DocumentBuilds};
+ghost use Rattle.std.specs.Prelude.{◌≡◌, ◌∷◌, ◌++◌, [], All, IfOk, List, OnOk, flat_map, map};
 ghost use Rattle.graphql_documents.specs.Executables.{operations_of};
 ghost use Rattle.graphql_frontend.specs.Schemas.{IsUsable};
 ghost use Rattle.graphql_nodes.specs.Names.{AreDistinct};
-ghost use Rattle.graphql_project_checking.specs.Silence.{BorrowsForAll, FilePasses, FilesHold, NotesUses, OperationPasses, SilentOnlyIf, operations_in_map};
+ghost use Rattle.graphql_project_checking.specs.Silence.{BorrowsForAll, BuildAll, FilePasses, FilesHold, NotesUses, OperationPasses, SilentOnlyIf, operations_in_map};
 ghost use Rattle.graphql_projects.specs.OperationTrees.{fragments_among};
 ghost use Rattle.graphql_reach.specs.Reach.{nodes_at};
+ghost use Rattle.graphql_trees.specs.declared.documents.Document as tree;
 ghost use Rattle.graphql_variables.specs.Uses.{names_of};
 
-use crate::building::{Building, build_files};
+use crate::building::Building;
 use crate::contexts::Context;
 use crate::file_rules::check_file_rules;
 use crate::operations::check_operation;
@@ -25,24 +25,21 @@ use graphql_trees::Document;
 use indexmap::{IndexMap, IndexSet};
 use std::alloc::Global;
 
-/// Reports what is wrong with files that can be built, and whose fragments have different names: with each operation, with the definitions of
-/// a file together, and fragments that no operation reaches.
+/// Reports what is wrong with files, of which these are the typed documents, and whose fragments have different names: with each operation,
+/// with the definitions of a file together, and fragments that no operation reaches.
 pub(crate) fn check_whole(
     alloc: Global,
     building: Building<'_>,
     own: &[Document],
-    lent: &[Document],
+    files: Vec<ExecutableDocument>,
+    lenders: &[ExecutableDocument],
     found: &mut Vec<Reports>,
 ) -> Result<(), ValidationError>
-    requires usable { IsUsable building.entry.schema.now }
-    requires own_build { All (DocumentBuilds (Some building.entry.schema.now)) own.now }
-    requires lent_build { All (DocumentBuilds (Some building.entry.schema.now)) lent.now }
-    requires distinct { AreDistinct (map (λ p. p.0) (fragments_among (own.now ++ lent.now))) }
-    ensures { OnOk result (SilentOnlyIf found.old.items found.new.items (FilesHold building.entry.schema.now own.now lent.now)) }
+    ensures { (lent : List tree.Document) → IsUsable building.entry.schema.now → BuildAll building.entry.schema.now own.now files.items →
+        BuildAll building.entry.schema.now lent lenders.now → AreDistinct (map (λ p. p.0) (fragments_among (own.now ++ lent))) →
+        OnOk result (SilentOnlyIf found.old.items found.new.items (FilesHold building.entry.schema.now own.now lent)) }
 {
-    let files = build_files(alloc, building, own)?;
-    let lenders = build_files(alloc, building, lent)?;
-    let pool = pool_of(alloc, building.hash_seed, &files, &lenders)?;
+    let pool = pool_of(alloc, building.hash_seed, &files, lenders)?;
     let context = Context {
         schema: building.schema,
         pool: &pool,
