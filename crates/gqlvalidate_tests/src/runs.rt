@@ -57,6 +57,10 @@ const FILES: &[(&str, &[u8])] = &[
         b"query Named { pet(id: 1) { ...Named } }\n",
     ),
     (
+        "./project//queries/named.graphql",
+        b"query Named { pet(id: 1) { ...Named } }\n",
+    ),
+    (
         "project/queries/aged.gql",
         b"query Aged { pet(id: 1) { ...Aged } }\n",
     ),
@@ -789,10 +793,13 @@ fn failed_reads_are_told_from_failed_allocations(rt: HostRuntime) {
 /// Words of runs that print something.
 const PRINTING: &[&[&str]] = &[
     &["syntax", "unclosed", "missing"],
-    &["check", "--schema", "schema", "unclosed", "missing"],
     &[
-        "check", "--format", "github", "--schema", "schema", "unclosed", "missing",
+        "check", "--each", "--schema", "schema", "unclosed", "missing",
     ],
+    &[
+        "check", "--each", "--format", "github", "--schema", "schema", "unclosed", "missing",
+    ],
+    &["check", "--schema", "schema", "unclosed", "unknown"],
     &["check", "--format", "json", "--schema", "schema", "valid"],
     &["--version"],
 ];

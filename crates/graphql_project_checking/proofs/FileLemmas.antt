@@ -118,9 +118,9 @@ module _ (s : Schema) (pool : Pool) (d : ExecutableDocument) (all_said : (name :
   operations_are_valid usable pass = each_standing (OperationIsValid s pool) (operations_in tree.definitions) (λ x c.
     let o = operation_says (Some s) tree file says x c in
     let passes = All-contains (OperationPasses s d) (operations_of file) o.0 pass o.1 in
-    let of_tree = document_is_of_tree (Some s) pool d all_said own_names x o.0 o.2 passes.0 passes.1 passes.2 passes.3 in
-    let built = document_is_built s of_tree.0 passes.2 of_tree.2 usable.names usable.output_fields in
-    (of_tree.0, passes.2, of_tree.1, of_tree.2, passes.4 built))
+    let of_tree = document_is_of_tree (Some s) pool d all_said own_names x o.0 o.2 passes.0 passes.1 passes.2.0 passes.2.1 in
+    let built = document_is_built s of_tree.0 passes.2.0 of_tree.2 usable.names usable.output_fields in
+    (of_tree.0, passes.2.0, of_tree.1, of_tree.2, passes.2.2 built))
 
   -- the trees of the fragments that are borrowed
   borrowed_trees_of_all : (added : List Entry) → All (IsReachedByOne d (operations_of file)) added →
