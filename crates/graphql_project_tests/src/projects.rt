@@ -24,14 +24,22 @@ const PROJECTS: &[(&[&str], &[&str], &str)] = &[
     (&["{ b { ...F } }"], &["fragment F on B { c }"], ""),
     // A fragment reaches one of a third file.
     (
-        &["{ b { ...F } }", "fragment F on B { b { ...G } }", "fragment G on B { c }"],
+        &[
+            "{ b { ...F } }",
+            "fragment F on B { b { ...G } }",
+            "fragment G on B { c }",
+        ],
         &[],
         "",
     ),
     // No file has the fragment.
     (&["{ b { ...F } }"], &[], "1:6 UndefinedFragment\n"),
     // No operation reaches the fragment; one that is lent may be unused.
-    (&["{ a }", "fragment F on B { c }"], &[], "2:0 UnusedFragment\n"),
+    (
+        &["{ a }", "fragment F on B { c }"],
+        &[],
+        "2:0 UnusedFragment\n",
+    ),
     (&["{ a }"], &["fragment F on B { c }"], ""),
     (
         &["{ a }", "fragment F on B { ...G }", "fragment G on B { c }"],
@@ -45,10 +53,18 @@ const PROJECTS: &[(&[&str], &[&str], &str)] = &[
         "2:0 UnusedFragment\n",
     ),
     (&["{ a }"], &["{ z }"], "11:2 UndefinedField\n"),
-    (&["{ a }"], &["fragment F on B { z }"], "11:18 UndefinedField\n"),
+    (
+        &["{ a }"],
+        &["fragment F on B { z }"],
+        "11:18 UndefinedField\n",
+    ),
     // A fault of a fragment is at the fragment, once.
     (
-        &["{ b { ...F } }", "query Q { b { ...F } }", "fragment F on B { b }"],
+        &[
+            "{ b { ...F } }",
+            "query Q { b { ...F } }",
+            "fragment F on B { b }",
+        ],
         &[],
         "3:18 MissingSubselection\n",
     ),
@@ -59,7 +75,10 @@ const PROJECTS: &[(&[&str], &[&str], &str)] = &[
     ),
     // An operation that reaches a fragment which cannot be built is not validated; another is.
     (
-        &["query Q($v: Int) { b { ...F } } query R($v: Int) { a }", "fragment F on B { z }"],
+        &[
+            "query Q($v: Int) { b { ...F } } query R($v: Int) { a }",
+            "fragment F on B { z }",
+        ],
         &[],
         "1:40 UnusedVariable\n2:18 UndefinedField\n",
     ),
@@ -76,7 +95,12 @@ const PROJECTS: &[(&[&str], &[&str], &str)] = &[
     ),
     // Nor where a text is no document; what it may define is not missing.
     (
-        &["{ b { ...F } }", "fragment F on B {", "fragment G on B { c }", "query R($v: Int) { a }"],
+        &[
+            "{ b { ...F } }",
+            "fragment F on B {",
+            "fragment G on B { c }",
+            "query R($v: Int) { a }",
+        ],
         &[],
         "2:17 Syntax\n4:8 UnusedVariable\n",
     ),
@@ -87,7 +111,11 @@ const PROJECTS: &[(&[&str], &[&str], &str)] = &[
     ),
     // Names of fragments differ in all files.
     (
-        &["{ b { ...F } }", "fragment F on B { c }", "fragment F on B { c }"],
+        &[
+            "{ b { ...F } }",
+            "fragment F on B { c }",
+            "fragment F on B { c }",
+        ],
         &[],
         "3:9 FragmentNameCollision 9\n",
     ),
@@ -134,12 +162,19 @@ const PROJECTS: &[(&[&str], &[&str], &str)] = &[
     ),
     // A variable of an operation that a fragment of another file uses.
     (
-        &["query Q($v: I) { ...F }", "fragment F on Query { a(i: $v) }"],
+        &[
+            "query Q($v: I) { ...F }",
+            "fragment F on Query { a(i: $v) }",
+        ],
         &[],
         "",
     ),
     (
-        &["query Q($v: I) { ...F }", "query R { ...F }", "fragment F on Query { a(i: $v) }"],
+        &[
+            "query Q($v: I) { ...F }",
+            "query R { ...F }",
+            "fragment F on Query { a(i: $v) }",
+        ],
         &[],
         "3:27 UndefinedVariable\n",
     ),
@@ -153,11 +188,15 @@ const PROJECTS: &[(&[&str], &[&str], &str)] = &[
         &[],
         "3:22 ConflictingFieldName 2\n",
     ),
-    // A cycle through files.
+    // A cycle through files. What is on a cycle is not gone into, as in one document.
     (
-        &["{ b { ...F } }", "fragment F on B { b { ...G } }", "fragment G on B { b { ...F } }"],
+        &[
+            "{ b { ...F } }",
+            "fragment F on B { b { ...G } }",
+            "fragment G on B { b { ...F } }",
+        ],
         &[],
-        "2:0 RecursiveFragmentDefinition\n3:0 RecursiveFragmentDefinition\n",
+        "2:0 RecursiveFragmentDefinition\n",
     ),
     // An input field that is given again, in a fragment that no operation reaches too.
     (
@@ -195,12 +234,7 @@ fn sources<'a>(
 }
 
 /// A line for each report, in order of their texts, each once.
-fn lines(
-    rt: &impl Abort,
-    alloc: Global,
-    found: &[Reports],
-    sources: &[SourceText<'_>],
-) -> String {
+fn lines(rt: &impl Abort, alloc: Global, found: &[Reports], sources: &[SourceText<'_>]) -> String {
     let mut lines = Vec::new(alloc);
     for reports in found {
         push_lines(rt, alloc, reports, sources, &mut lines);
@@ -244,13 +278,7 @@ fn push_lines(
 }
 
 /// What is reported of the project of these texts: all of them, or some of which others could not be read.
-fn reported(
-    rt: &impl Abort,
-    alloc: Global,
-    own: &[&str],
-    lent: &[&str],
-    is_all: bool,
-) -> String {
+fn reported(rt: &impl Abort, alloc: Global, own: &[&str], lent: &[&str], is_all: bool) -> String {
     let schema = [
         SourceText {
             file_id: FileId::BUILT_IN,
@@ -261,7 +289,7 @@ fn reported(
             text: SCHEMA,
         },
     ];
-    let own = sources(rt, alloc, own, 1);
+    let mut own = sources(rt, alloc, own, 1);
     let lent = sources(rt, alloc, lent, 11);
     match read_schema(alloc, &schema, Bounds::DEFAULT).expect(rt, "memory for a schema") {
         SchemaReading::Accepted(schema) => {
@@ -270,6 +298,8 @@ fn reported(
             } else {
                 check_part_of_project(alloc, &schema, &own, &lent, Bounds::DEFAULT)
             };
+            own.extend_from_slice(&lent)
+                .expect(rt, "memory for sources");
             lines(rt, alloc, &found.expect(rt, "memory for reports"), &own)
         }
         _ => panic!(rt; "the schema is rejected"),
