@@ -1,1 +1,7 @@
-pub mod KeepsLemmas
+pub mod FindsLemmas
+pub mod KindLemmas
+pub mod NamedLemmas
+pub mod ShapeLemmas
+pub mod FieldLemmas
+pub mod PossibleLemmas
+pub mod KeptLemmas

@@ -1,7 +1,8 @@
 //! What can differ between two schemas.
 
-ghost use Rattle.std.specs.Prelude.{◌≡◌, IsTrue};
-ghost use Rattle.graphql_schema_comparison.specs.Comparisons.{KindStays, is_in_documents, kind_of};
+ghost use Rattle.std.specs.Prelude.{◌≡◌};
+ghost use Rattle.graphql_schema_comparison.specs.Breaks.{can_become, is_in_documents};
+ghost use Rattle.graphql_schema_comparison.specs.Comparisons.{kind_of};
 
 use graphql_coordinates::{
     DirectiveArgumentCoordinate, DirectiveCoordinate, FieldArgumentCoordinate,
@@ -197,7 +198,7 @@ impl TypeKind {
     /// Whether a type of the other kind can stand for one of this kind: each composite type but an object for a union or an
     /// interface, and a custom scalar for an input type.
     pub fn can_become(self, other: TypeKind) -> bool
-        ensures { IsTrue result → KindStays self other }
+        ensures { result ≡ can_become self other }
     {
         match self {
             TypeKind::Object => other == TypeKind::Object,
