@@ -1,6 +1,6 @@
 //! Two schemas, compared.
 
-ghost use Rattle.std.specs.Prelude.{◌↔◌, All, Any, Bool, IfOk, IsFalse, IsTrue};
+ghost use Rattle.std.specs.Prelude.{◌↔◌, All, Any, Bool, IfOk, IsFalse, IsTrue, false, true};
 ghost use Rattle.std.specs.List.Sorted.{IsPermutation};
 ghost use Rattle.graphql_documents.specs.Built.{StandsUnderOwnNames};
 ghost use Rattle.graphql_document_building.specs.Documents.{HasOutputFields};

@@ -1,7 +1,7 @@
 //! Fields that can come under one response key, by the shapes of their types.
 
 ghost use Rattle.std.specs.Prelude.{◌≡◌, ◌⊎◌, All, IfOk, IsNone, IsSome, IsTrue, OnOk};
-ghost use Rattle.graphql_documents.specs.Schemas.{is_composite};
+ghost use Rattle.graphql_documents.specs.Schemas.{fields_of, is_composite};
 ghost use Rattle.graphql_schema_comparison.specs.Shapes.{Knows, KnowsAllFields, KnowsEntry, KnowsField, KnowsNoOther, KnowsType, Learns, form_in, form_of};
 
 use crate::change_list::SchemaPair;
