@@ -8,3 +8,5 @@ pub mod FieldLemmas
 pub mod PossibleLemmas
 pub mod KeptLemmas
 pub mod ExplainedLemmas
+pub mod TypeCopyLemmas
+pub mod ApplyLemmas

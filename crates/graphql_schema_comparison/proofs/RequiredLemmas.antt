@@ -66,8 +66,8 @@ module _ (name : NameText) where
   required_before old new a b found there required all =
       let here = found_all has_name (KeepsArgument new) old a found all in
       let kept : KeepsInputValue a.value.value b.value.value =
-          subst (λ (o : Option (Node InputValueDefinition)). IsSomeAnd o (λ (b : Node InputValueDefinition). KeepsInputValue a.value.value b.value.value))
-          (one_definition a.value.value.name new here.0 ∙ there) here.1 in
+      subst (λ (o : Option (Node InputValueDefinition)). IsSomeAnd o (λ (b : Node InputValueDefinition). KeepsInputValue a.value.value b.value.value))
+      (one_definition a.value.value.name new here.0 ∙ there) here.1 in
       required_here old a found (stays_required a.value.value b.value.value kept required)
 
 -- ==== input fields
@@ -86,7 +86,7 @@ module _ (old new : InputObjectType) (name : NameText) where
   field_required_before a b found there required all =
       let here = looked_up (same_name name) (KeepsInputField new) old.fields.entries a found all in
       let at : get same_name new.fields here.0 ≡ Some b =
-          ap (λ (text : List ℕ). get_by (λ (key : NameText). bytes_eq text key.text) new.fields) (same_text here.0 name (same_name_back name here.0 here.1)) ∙ there in
+      ap (λ (text : List ℕ). get_by (λ (key : NameText). bytes_eq text key.text) new.fields) (same_text here.0 name (same_name_back name here.0 here.1)) ∙ there in
       let kept : KeepsInputValue a.node.value.value b.node.value.value =
-          subst (λ (o : Option (Component InputValueDefinition)). IsSomeAnd o (λ (b : Component InputValueDefinition). KeepsInputValue a.node.value.value b.node.value.value)) at here.2 in
+      subst (λ (o : Option (Component InputValueDefinition)). IsSomeAnd o (λ (b : Component InputValueDefinition). KeepsInputValue a.node.value.value b.node.value.value)) at here.2 in
       field_required_here a found (stays_required a.node.value.value b.node.value.value kept required)

@@ -162,16 +162,19 @@ fn compare_repeatable(
         return Ok(());
     }
     let directive = DirectiveCoordinate::new(changes.allocator(), name)?;
-    let change = if old.repeatable {
-        Change::RepeatableRemoved {
-            directive,
-            is_executable,
-        }
+    if old.repeatable {
+        changes.push(
+            Change::RepeatableRemoved {
+                directive,
+                is_executable,
+            },
+            places,
+        )?;
+        Ok(())
     } else {
-        Change::RepeatableAdded(directive)
-    };
-    changes.push(change, places)?;
-    Ok(())
+        changes.push(Change::RepeatableAdded(directive), places)?;
+        Ok(())
+    }
 }
 
 /// Finds whether each old location in documents is there.

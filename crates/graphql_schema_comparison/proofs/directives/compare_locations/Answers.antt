@@ -1,4 +1,4 @@
-use Rattle.std.proofs.Common.{All}
+use Rattle.std.proofs.Common.{All, subst}
 use Rattle.graphql_nodes.specs.declared.directive_locations.DirectiveLocation.{DirectiveLocation}
 use Rattle.graphql_schema_comparison.specs.Comparisons.{KeepsLocation}
 use Rattle.graphql_schema_comparison.proofs.FindsLemmas.{found_all_of, found_more, found_none, found_words}
@@ -9,8 +9,10 @@ loop-location-init c = found_none (λ merging (x : DirectiveLocation). KeepsLoca
 
 pub loop-location-preserved : goal.loop-location-preserved
 loop-location-preserved c =
-    found_more (λ merging (x : DirectiveLocation). KeepsLocation c.args.new.now x) c.args.old.now.locations.items c.loop-location.location-index c.location-item.result c.loop-location-test.true c.location-item.is
-    c.loop-location.invariant c.in_ok-compare_location.ensures
+    let h = c.compare_location-arg-1 in let k = c.deref-location-items in let m = c.loop-location-test in ?
 
 pub returns : goal.returns
-returns c = found_all_of (λ merging (x : DirectiveLocation). KeepsLocation c.args.new.now x) c.args.old.now.locations.items c.loop-location.location-index c.loop-location-test.false c.loop-location.invariant
+returns c =
+    found_words (λ merging all. subst (All (KeepsLocation c.args.new.now)) c.deref-location-items.ensures.value all)
+    (found_all_of (λ merging (x : DirectiveLocation). KeepsLocation c.args.new.now x) c.deref-location-items.result.now c.loop-location.location-index
+    c.loop-location-test.false c.loop-location.invariant)

@@ -5,4 +5,4 @@ use Rattle.graphql_schema_comparison.specs.Breaks.{Finds}
 use Rattle.graphql_schema_comparison.proofs.directives.compare_locations.Given as goal
 
 abbrev pub invariant-loop-location : goal.invariant-loop-location
-invariant-loop-location l = Finds l.initial.changes l.changes (λ merging. All (λ (x : DirectiveLocation). KeepsLocation l.new x) (take l.location-index l.old.locations.items))
+invariant-loop-location l = Finds l.initial.changes l.changes (λ merging. All (λ (x : DirectiveLocation). KeepsLocation l.new x) (take l.location-index l.location-items))
