@@ -17,8 +17,8 @@ harmless_if merging found none = by (breaks merging found.change) refl where
 
 -- where the answer is no, all changes are harmless
 pub all_harmless : (merging : Bool) (list : List SchemaChange) (b : Bool) → IsTrue b ↔ Any (Breaks merging) list → IsTrue (not b) → All (IsHarmless merging) list
-all_harmless merging list true is no = absurd (let none : ⊥ = cc in none)
-all_harmless merging list false is no =
+all_harmless merging list true is harmless = absurd (let none : ⊥ = cc in none)
+all_harmless merging list false is harmless =
     each_standing (IsHarmless merging) list
     (λ found within. harmless_if merging found (λ breaks'. let yes : false ≡ true = is.1 (within.0, found, within.1, within.2, breaks') in let none : ⊥ = cc in none))
 
@@ -42,6 +42,6 @@ answer_turned P false is = (λ e. absurd (let none : ⊥ = cc in none), λ p. ab
 
 -- if the second answer is no, so is the first
 pub no_too : (P Q : Type 0) (a b : Bool) → IsTrue a ↔ P → IsTrue b ↔ Q → (P → Q) → IsTrue (not b) → IsTrue (not a)
-no_too P Q false b is also w no = refl
-no_too P Q true true is also w no = absurd (let none : ⊥ = cc in none)
-no_too P Q true false is also w no = absurd (let yes : false ≡ true = also.1 (w (is.0 refl)) in let none : ⊥ = cc in none)
+no_too P Q false b is also w e = refl
+no_too P Q true true is also w e = absurd (let none : ⊥ = cc in none)
+no_too P Q true false is also w e = absurd (let yes : false ≡ true = also.1 (w (is.0 refl)) in let none : ⊥ = cc in none)

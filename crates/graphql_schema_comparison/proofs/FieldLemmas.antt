@@ -1,6 +1,6 @@
 -- What is kept of the fields of a composite type.
 use Rattle.std.proofs.Common.{◌≡◌, ◌∙◌, ◌⊎◌, inl, inr, Bool, true, false, cond, Some, None, Ok, Err, refl, sym, ap, subst, All}
-use Rattle.std.specs.Prelude.{IsTrue, IsFalse, IsSomeAnd, Option, codes, if◌then◌else◌}
+use Rattle.std.specs.Prelude.{IsTrue, IsFalse, IsSomeAnd, Option, Result, codes, if◌then◌else◌}
 use Rattle.std.specs.Map.{lookup}
 use Rattle.std.specs.Option.{option_map, option_map_or}
 use Rattle.std.specs.Str.{bytes_eq}
@@ -100,12 +100,12 @@ module _ (schema : Schema) (k : NameText) (d : ExtendedType) (is : type_definiti
   meta_cases field x e =
       named (pick_is (is_composite d) (bytes_eq field.text (codes "__typename")) (is_query_root schema k) (bytes_eq field.text (codes "__schema")) (bytes_eq field.text (codes "__type"))
       schema.meta_fields.typename schema.meta_fields.schema schema.meta_fields.type_by_name x e) where
-    named : (bytes_eq field.text (codes "__typename") ≡ true) ⊎ (bytes_eq field.text (codes "__schema") ≡ true) ⊎ (bytes_eq field.text (codes "__type") ≡ true) →
-        (SameName field schema.meta_fields.typename.node.value.value.name) ⊎ (SameName field schema.meta_fields.schema.node.value.value.name) ⊎
-        (SameName field schema.meta_fields.type_by_name.node.value.value.name)
-    named (inl is) = inl (rw schema.meta_fields.is_typename.named is)
-    named (inr (inl is)) = inr (inl (rw schema.meta_fields.is_schema.named is))
-    named (inr (inr is)) = inr (inr (rw schema.meta_fields.is_type.named is))
+        named : (bytes_eq field.text (codes "__typename") ≡ true) ⊎ (bytes_eq field.text (codes "__schema") ≡ true) ⊎ (bytes_eq field.text (codes "__type") ≡ true) →
+            (SameName field schema.meta_fields.typename.node.value.value.name) ⊎ (SameName field schema.meta_fields.schema.node.value.value.name) ⊎
+            (SameName field schema.meta_fields.type_by_name.node.value.value.name)
+        named (inl is) = inl (rw schema.meta_fields.is_typename.named is)
+        named (inr (inl is)) = inr (inl (rw schema.meta_fields.is_schema.named is))
+        named (inr (inr is)) = inr (inr (rw schema.meta_fields.is_type.named is))
 
 own_listed : (d : ExtendedType) (field : NameText) (x : Component FieldDefinition) → own_field d field ≡ Some x → lookup (same_name field) (fields_of d) ≡ Some x
 own_listed (Object d) field x e = e
@@ -117,8 +117,8 @@ meta_stays : (old new : Schema) (k : NameText) (d e : ExtendedType) (field : Nam
     IsTrue (is_composite e) → (is_query_root old k ≡ true → is_query_root new k ≡ true) → (y : Component FieldDefinition) × (meta_field new k e field ≡ Some y)
 meta_stays old new k d e field x is composite root =
     let there = pick_stays (is_composite d) (bytes_eq field.text (codes "__typename")) (is_query_root old k) (is_query_root new k)
-        (bytes_eq field.text (codes "__schema")) (bytes_eq field.text (codes "__type"))
-        old.meta_fields.typename old.meta_fields.schema old.meta_fields.type_by_name x new.meta_fields.typename new.meta_fields.schema new.meta_fields.type_by_name is root in
+    (bytes_eq field.text (codes "__schema")) (bytes_eq field.text (codes "__type"))
+    old.meta_fields.typename old.meta_fields.schema old.meta_fields.type_by_name x new.meta_fields.typename new.meta_fields.schema new.meta_fields.type_by_name is root in
     (there.0, rw composite there.1)
 
 -- ==== types that are kept
@@ -167,7 +167,7 @@ module _ (old new : Schema) (merging : Bool) (all : KeepsAll old new merging) wh
     own_stays : own_field d field ≡ Some before → FieldStays parent field before
     own_stays own =
         let found = looked_up (same_name field) (λ (entry : NameText × Component FieldDefinition). KeepsFieldNamed all.table old new merging here entry.0 entry.1)
-            (fields_of d) before (own_listed d field before own) place.fields.own in
+        (fields_of d) before (own_listed d field before own) place.fields.own in
         record {
           after = found.2.0;
           is_defined = one_field new field parent here stays.same ∙ one_field_name new here field found.0 found.1 ∙ found.2.1;
@@ -185,10 +185,11 @@ module _ (old new : Schema) (merging : Bool) (all : KeepsAll old new merging) wh
 
     meta_field_stays : meta_field old here d field ≡ Some before → FieldStays parent field before
     meta_field_stays meta = by (meta_cases old here d stays.was_defined field before meta) where
-      abbrev also : (y : Component FieldDefinition) × (type_field new here field ≡ Ok y)
+      also : (y : Component FieldDefinition) × (type_field new here field ≡ Ok y)
       also =
           let still = meta_stays old new here d stays.kept.after field before meta (still_composite d stays.kept.after stays.kept.kind composite) (still_root old new all.roots here) in
           has_meta new here stays.kept.after stays.kept.is_defined field still.0 still.1
+
       by : (SameName field old.meta_fields.typename.node.value.value.name) ⊎ (SameName field old.meta_fields.schema.node.value.value.name) ⊎
           (SameName field old.meta_fields.type_by_name.node.value.value.name) → FieldStays parent field before
       by (inl same) = named_stays old.meta_fields.typename.node.value.value.name same also.0 also.1 place.fields.typename
@@ -214,7 +215,7 @@ module _ (old new : Schema) (merging : Bool) (all : KeepsAll old new merging) wh
     leaf_stays a b out same =
         let stays = type_stays a out.0 out.1 in
         let there : type_definition new b ≡ Some stays.kept.after =
-            one_type new b stays.key (same_name_then b a stays.key (same_name_back a b same) stays.same) ∙ stays.kept.is_defined in
+        one_type new b stays.key (same_name_then b a stays.key (same_name_back a b same) stays.same) ∙ stays.kept.is_defined in
         rw (there, out.1) (leaf_alike out.0 stays.kept.after stays.kept.kind out.2)
 
     -- what is selected below the field
@@ -245,32 +246,33 @@ module _ (old new : Schema) (merging : Bool) (all : KeepsAll old new merging) wh
       entry_known : KnowsIt parent field
       entry_known =
           let entry = looked_up (same_name parent) (λ (entry : NameText × ExtendedType). IsTrue (is_composite entry.1) → KnowsType all.table old new entry.0 entry.1)
-              old.types.entries composite.0 composite.1 all.knows in
+          old.types.entries composite.0 composite.1 all.knows in
           let there : type_definition old entry.0 ≡ Some composite.0 = one_type old entry.0 parent (same_name_back parent entry.0 entry.1) ∙ composite.1 in
           let at : type_field old entry.0 field ≡ Ok before = one_field old field entry.0 parent (same_name_back parent entry.0 entry.1) ∙ is in
           by entry.0 entry.1 there at (entry.2 composite.2) (field_cases old entry.0 composite.0 there field before at) where
-        meta : (key : NameText) → SameName parent key → type_field old key field ≡ Ok before → KnowsType all.table old new key composite.0 →
-            (SameName field old.meta_fields.typename.node.value.value.name) ⊎ (SameName field old.meta_fields.schema.node.value.value.name) ⊎
-            (SameName field old.meta_fields.type_by_name.node.value.value.name) → KnowsIt parent field
-        meta key same at knows (inl name) =
-            turned key old.meta_fields.typename.node.value.value.name same name
-            (knows.typename before (one_field_name old key old.meta_fields.typename.node.value.value.name field (same_name_back field old.meta_fields.typename.node.value.value.name name) ∙ at))
-        meta key same at knows (inr (inl name)) =
-            turned key old.meta_fields.schema.node.value.value.name same name
-            (knows.schema_field before (one_field_name old key old.meta_fields.schema.node.value.value.name field (same_name_back field old.meta_fields.schema.node.value.value.name name) ∙ at))
-        meta key same at knows (inr (inr name)) =
-            turned key old.meta_fields.type_by_name.node.value.value.name same name
-            (knows.type_by_name before (one_field_name old key old.meta_fields.type_by_name.node.value.value.name field (same_name_back field old.meta_fields.type_by_name.node.value.value.name name) ∙ at))
-        by : (key : NameText) → SameName parent key → type_definition old key ≡ Some composite.0 → type_field old key field ≡ Ok before → KnowsType all.table old new key composite.0 →
-            (own_field composite.0 field ≡ Some before) ⊎ (meta_field old key composite.0 field ≡ Some before) → KnowsIt parent field
-        by key same there at knows (inl own) =
-            let found = looked_up (same_name field) (λ (entry : NameText × Component FieldDefinition). KnowsEntry all.table old new key entry.0 entry.1)
+            meta : (key : NameText) → SameName parent key → type_field old key field ≡ Ok before → KnowsType all.table old new key composite.0 →
+                (SameName field old.meta_fields.typename.node.value.value.name) ⊎ (SameName field old.meta_fields.schema.node.value.value.name) ⊎
+                (SameName field old.meta_fields.type_by_name.node.value.value.name) → KnowsIt parent field
+            meta key same at knows (inl name) =
+                turned key old.meta_fields.typename.node.value.value.name same name
+                (knows.typename before (one_field_name old key old.meta_fields.typename.node.value.value.name field (same_name_back field old.meta_fields.typename.node.value.value.name name) ∙ at))
+            meta key same at knows (inr (inl name)) =
+                turned key old.meta_fields.schema.node.value.value.name same name
+                (knows.schema_field before (one_field_name old key old.meta_fields.schema.node.value.value.name field (same_name_back field old.meta_fields.schema.node.value.value.name name) ∙ at))
+            meta key same at knows (inr (inr name)) =
+                turned key old.meta_fields.type_by_name.node.value.value.name same name
+                (knows.type_by_name before (one_field_name old key old.meta_fields.type_by_name.node.value.value.name field (same_name_back field old.meta_fields.type_by_name.node.value.value.name name) ∙ at))
+
+            by : (key : NameText) → SameName parent key → type_definition old key ≡ Some composite.0 → type_field old key field ≡ Ok before → KnowsType all.table old new key composite.0 →
+                (own_field composite.0 field ≡ Some before) ⊎ (meta_field old key composite.0 field ≡ Some before) → KnowsIt parent field
+            by key same there at knows (inl own) =
+                let found = looked_up (same_name field) (λ (entry : NameText × Component FieldDefinition). KnowsEntry all.table old new key entry.0 entry.1)
                 (fields_of composite.0) before (own_listed composite.0 field before own) knows.own in
-            turned key found.0 same found.1 found.2
-        by key same there at knows (inr is_meta) = meta key same at knows (meta_cases old key composite.0 there field before is_meta)
+                turned key found.0 same found.1 found.2
+            by key same there at knows (inr is_meta) = meta key same at knows (meta_cases old key composite.0 there field before is_meta)
 
     -- two fields that had one form have one
-    module _ (yes : IsTrue merging) where
+    module _ (with_merging : IsTrue merging) where
       forms_by : (a c b d : Component FieldDefinition) →
           names_leaf_type new (type_below c) ≡ names_leaf_type old (type_below a) → names_leaf_type new (type_below d) ≡ names_leaf_type old (type_below b) →
           Knows all.table (form_in old a.node.value.value.ty) (form_in new c.node.value.value.ty) →
@@ -279,22 +281,22 @@ module _ (old new : Schema) (merging : Bool) (all : KeepsAll old new merging) wh
           form_in old a.node.value.value.ty ≡ form_in old b.node.value.value.ty → form_in new c.node.value.value.ty ≡ form_in new d.node.value.value.ty
       forms_by a c b d leaf_a leaf_b knows_a knows_b (inr kept) also same =
           sym (no_other_form all.table (form_in old a.node.value.value.ty) (form_in new c.node.value.value.ty) (form_in new d.node.value.value.ty)
-          (subst (λ f. Knows all.table f (form_in new d.node.value.value.ty)) (sym same) knows_b) (kept.1 yes))
+          (subst (λ f. Knows all.table f (form_in new d.node.value.value.ty)) (sym same) knows_b) (kept.1 with_merging))
       forms_by a c b d leaf_a leaf_b knows_a knows_b (inl stays) (inr kept) same =
           no_other_form all.table (form_in old b.node.value.value.ty) (form_in new d.node.value.value.ty) (form_in new c.node.value.value.ty)
-          (subst (λ f. Knows all.table f (form_in new c.node.value.value.ty)) same knows_a) (kept.1 yes)
+          (subst (λ f. Knows all.table f (form_in new c.node.value.value.ty)) same knows_a) (kept.1 with_merging)
       forms_by a c b d leaf_a leaf_b knows_a knows_b (inl stays) (inl too) same =
           form_stays old new a.node.value.value.ty c.node.value.value.ty stays leaf_a ∙ same ∙ sym (form_stays old new b.node.value.value.ty d.node.value.value.ty too leaf_b)
 
-      same_after : (x y : Component FieldDefinition) → Ok {E = FieldLookupError} x ≡ Ok y → x ≡ y
-      same_after x y e = cc
+      same_after : (r : Result (Component FieldDefinition) FieldLookupError) (x y : Component FieldDefinition) → r ≡ Ok x → r ≡ Ok y → x ≡ y
+      same_after r x y e h = cc
 
       type_at : (parent field : NameText) (composite : NamesComposite old parent) (before after : Component FieldDefinition) → type_field old parent field ≡ Ok before →
           type_field new parent field ≡ Ok after → KeepsFieldType all.table old new merging before.node.value.value.ty after.node.value.value.ty
       type_at parent field composite before after is there =
           let stays = field_stays parent composite field before is in
           subst (λ (f : Component FieldDefinition). KeepsFieldType all.table old new merging before.node.value.value.ty f.node.value.value.ty)
-          (same_after stays.after after (sym stays.is_defined ∙ there)) stays.kept.ty
+          (same_after (type_field new parent field) stays.after after stays.is_defined there) stays.kept.ty
 
       pub shapes_kept : StandsUnderOwnNames old → HasOutputFields new → (p q : NameText) → NamesComposite old p → NamesComposite old q → KeepsShapes old new p q
       shapes_kept names new_outputs p q at_p at_q f g a b c d is_a is_b is_c is_d same =

@@ -1,6 +1,6 @@
 -- How the parts of a comparison compose.
 use Rattle.std.proofs.Common.{◌≡◌, ℕ, suc, ◌+◌, ◌<◌, ◌≤◌, List, [], ◌∷◌, ◌++◌, length, get_or, take, Bool, true, false, cond, Option, Some, None, find, refl, sym, subst, All, arith, ◌∙◌, ap}
-use Rattle.std.specs.Prelude.{Any, IsTrue, IsFalse}
+use Rattle.std.specs.Prelude.{Any, IsTrue, IsFalse, Result, Ok}
 use Rattle.std.specs.Map.{lookup}
 use Rattle.std.proofs.lemmas.List.{append-nil, take_all}
 use Rattle.std.proofs.lemmas.List.Elements.{All-append, All-cons, All-head, All-more, All-nil, All-tail}
@@ -99,3 +99,12 @@ adds_then f g = found_words (λ merging both. tt) (found_both f g)
 -- whatever was found
 pub adds_found : {a b : ChangeList} {P : Bool → Type 0} → Finds a b P → Adds a b
 adds_found f = found_words (λ merging p. tt) f
+
+-- a copy of an element, by its place
+pub found_more_copy : {a b c : ChangeList} {X : Type 0} (P : Bool → X → Type 0) (xs : List X) (i : ℕ) (d : X) → i < length xs →
+    Finds a b (λ merging. All (P merging) (take i xs)) → Finds b c (λ merging. P merging (get_or xs i d)) → Finds a c (λ merging. All (P merging) (take (i + 1) xs))
+found_more_copy P xs i d within f g = found_words (λ merging two. All-more (P merging) xs i d within two.0 two.1) (found_both f g)
+
+-- one answer is one value
+pub one_ok : {X E : Type 0} (r : Result X E) (x y : X) → r ≡ Ok x → r ≡ Ok y → x ≡ y
+one_ok r x y e h = cc

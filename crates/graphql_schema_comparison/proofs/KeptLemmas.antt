@@ -153,10 +153,10 @@ module _ (old new : Schema) (merging : Bool) (all : KeepsAll old new merging) wh
     }
 
     pub documents_kept : IsTrue merging → HasOutputFields old → HasOutputFields new → KeepsDocumentsValid old new
-    documents_kept yes outputs new_outputs = record {
+    documents_kept with_merging outputs new_outputs = record {
       rules = lone_fields_kept outputs;
       merging = record {
-        shapes = λ overlap p q places. shapes_kept old new merging all outputs yes old_names new_outputs p q places.0 places.1;
+        shapes = λ overlap p q places. shapes_kept old new merging all outputs with_merging old_names new_outputs p q places.0 places.1;
         objects = λ name place. object_kept name;
       };
     }

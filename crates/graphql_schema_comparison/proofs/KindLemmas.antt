@@ -12,7 +12,7 @@ use Rattle.graphql_schema_comparison.specs.declared.changes.TypeKind.TheVariants
 
 -- ==== kinds
 
-pub composite_kind : TypeKind → Bool
+abbrev pub composite_kind : TypeKind → Bool
 composite_kind kind.BuiltInScalar = false
 composite_kind kind.CustomScalar = false
 composite_kind kind.Object = true
@@ -21,7 +21,7 @@ composite_kind kind.Union = true
 composite_kind kind.Enum = false
 composite_kind kind.InputObject = false
 
-pub leaf_kind : TypeKind → Bool
+abbrev pub leaf_kind : TypeKind → Bool
 leaf_kind kind.BuiltInScalar = true
 leaf_kind kind.CustomScalar = true
 leaf_kind kind.Object = false
@@ -30,7 +30,7 @@ leaf_kind kind.Union = false
 leaf_kind kind.Enum = true
 leaf_kind kind.InputObject = false
 
-pub object_kind : TypeKind → Bool
+abbrev pub object_kind : TypeKind → Bool
 object_kind kind.BuiltInScalar = false
 object_kind kind.CustomScalar = false
 object_kind kind.Object = true

@@ -1,6 +1,6 @@
 -- What a table of shapes knows, field by field.
 use Rattle.std.proofs.Common.{◌≡◌, ◌∙◌, ◌++◌, ◌∷◌, ◌⊎◌, [], inl, inr, Bool, true, false, cond, List, Some, None, Ok, ap, refl, sym, subst, All}
-use Rattle.std.specs.Prelude.{IsSome, IsSomeAnd, IsTrue, Option}
+use Rattle.std.specs.Prelude.{IfSome, IsNone, IsSome, IsSomeAnd, IsTrue, Option}
 use Rattle.std.proofs.lemmas.List.{append-nil}
 use Rattle.std.proofs.lemmas.List.Elements.{All-append, All-cons, All-nil, All-weaker}
 use Rattle.graphql_nodes.specs.Names.{NameText}
@@ -9,7 +9,7 @@ use Rattle.graphql_documents.specs.declared.documents.components.Component.{Comp
 use Rattle.graphql_documents.specs.declared.documents.definitions.FieldDefinition.{FieldDefinition}
 use Rattle.graphql_documents.specs.declared.documents.schemas.ExtendedType.{ExtendedType}
 use Rattle.graphql_documents.specs.declared.documents.schemas.Schema.{Schema}
-use Rattle.graphql_schema_comparison.specs.Shapes.{Form, Knows, KnowsEntry, KnowsField, KnowsType, Learns, ShapeTable, form_of, meeting_at}
+use Rattle.graphql_schema_comparison.specs.Shapes.{Form, Knows, KnowsEntry, KnowsField, KnowsNoOther, KnowsType, Learns, ShapeTable, form_of, meeting_at}
 use Rattle.graphql_schema_comparison.specs.declared.meetings.Meeting.{Meeting}
 use Rattle.graphql_schema_comparison.specs.declared.shapes.Shape.{Shape}
 use Rattle.graphql_schema_comparison.proofs.ShapeLemmas.{equal_by_form, equal_forms, equal_shapes, meeting_alike}
@@ -109,3 +109,20 @@ module _ (old new : Schema) where
           type_by_name = by_name.known;
         };
       }
+
+-- ==== what a look-up says
+
+pub good_stays : (v w : Meeting) (o : Option Meeting) → Some v ≡ o → w.shape ≡ v.shape → (IsSome v.other → IsSome w.other) → (form : Form) → IsSomeAnd o (Good form) → Good form w
+good_stays v w o at same others form good = by (subst (λ (o : Option Meeting). IsSomeAnd o (Good form)) (sym at) good) where
+  by : Good form v → Good form w
+  by (inl is) = inl (ap form_of same ∙ is)
+  by (inr other) = inr (others other)
+
+pub none_met : (table : ShapeTable) (shape : Shape) (before after : Form) → form_of shape ≡ before → meeting_at table shape ≡ None → KnowsNoOther table before after
+none_met table shape before after is at key e =
+    subst (λ (o : Option Meeting). IfSome o (λ meeting. (form_of meeting.shape ≡ after) × IsNone meeting.other)) (sym (meeting_alike table key shape (e ∙ sym is) ∙ at)) refl
+
+pub one_met : (table : ShapeTable) (shape : Shape) (before after : Form) (meeting : Meeting) → form_of shape ≡ before → meeting_at table shape ≡ Some meeting →
+    (form_of meeting.shape ≡ after) × IsNone meeting.other → KnowsNoOther table before after
+one_met table shape before after meeting is at alone key e =
+    subst (λ (o : Option Meeting). IfSome o (λ meeting. (form_of meeting.shape ≡ after) × IsNone meeting.other)) (sym (meeting_alike table key shape (e ∙ sym is) ∙ at)) alone

@@ -1,6 +1,7 @@
 -- What is found under a name is found under each name that is the same; and what a schema defines stands under its own name.
-use Rattle.std.proofs.Common.{◌≡◌, ◌∙◌, List, ℕ, Ok, Some, ap, sym, subst, All}
+use Rattle.std.proofs.Common.{◌≡◌, ◌∙◌, List, ℕ, Option, None, Ok, Err, Some, ap, ap₂, refl, sym, subst, All}
 use Rattle.std.specs.Prelude.{Any, IsTrue}
+use Rattle.std.specs.Option.{option_map_or}
 use Rattle.std.specs.Str.{bytes_eq}
 use Rattle.std.proofs.lemmas.Option.{same_Some}
 use Rattle.indexmap.specs.IndexMap.{get_by}
@@ -8,8 +9,11 @@ use Rattle.graphql_nodes.specs.Names.{NameText, SameName, same_name}
 use Rattle.graphql_nodes.proofs.NameLemmas.{same_name_back, same_name_then, same_text}
 use Rattle.graphql_documents.specs.Built.{StandsUnderOwnNames, TypeStandsUnderItsName}
 use Rattle.graphql_documents.specs.Directives.{directive_definition}
-use Rattle.graphql_documents.specs.Schemas.{Implements, IsListed, IsSubtype, IsSubtypeOf, NamesKind, is_composite, own_name, type_definition, type_field}
+use Rattle.graphql_documents.specs.Schemas.{Implements, IsListed, IsSubtype, IsSubtypeOf, NamesKind, first_of, is_composite, meta_field, own_field, own_name, type_definition, type_field}
+use Rattle.graphql_documents.specs.declared.documents.components.Component.{Component}
 use Rattle.graphql_documents.specs.declared.documents.components.ComponentName.{ComponentName}
+use Rattle.graphql_documents.specs.declared.documents.definitions.FieldDefinition.{FieldDefinition}
+use Rattle.graphql_documents.specs.declared.documents.schemas.FieldLookupError.TheVariants.{NoSuchField, NoSuchType}
 use Rattle.graphql_documents.specs.declared.documents.schemas.ExtendedType.{ExtendedType}
 use Rattle.graphql_documents.specs.declared.documents.schemas.ExtendedType.TheVariants.{Scalar, Object, Interface, Union, Enum, InputObject}
 use Rattle.graphql_documents.specs.declared.documents.schemas.Schema.{Schema}
@@ -26,9 +30,25 @@ pub one_field : (schema : Schema) (field a b : NameText) → SameName a b → ty
 one_field schema field a b same =
     ap (λ (text : List ℕ). type_field schema (record { text = text; location = a.location }) field) (same_text a b same)
 
+own_same : (d : ExtendedType) (a b : NameText) → SameName a b → own_field d a ≡ own_field d b
+own_same (Object d) a b same = ap (λ (text : List ℕ). get_by (λ (key : NameText). bytes_eq text key.text) d.value.value.fields) (same_text a b same)
+own_same (Interface d) a b same = ap (λ (text : List ℕ). get_by (λ (key : NameText). bytes_eq text key.text) d.value.value.fields) (same_text a b same)
+own_same (Scalar d) a b same = refl
+own_same (Union d) a b same = refl
+own_same (Enum d) a b same = refl
+own_same (InputObject d) a b same = refl
+
+meta_same : (schema : Schema) (ty : NameText) (d : ExtendedType) (a b : NameText) → SameName a b → meta_field schema ty d a ≡ meta_field schema ty d b
+meta_same schema ty d a b same = ap (λ (text : List ℕ). meta_field schema ty d (record { text = text; location = None })) (same_text a b same)
+
 pub one_field_name : (schema : Schema) (ty a b : NameText) → SameName a b → type_field schema ty a ≡ type_field schema ty b
-one_field_name schema ty a b same =
-    ap (λ (text : List ℕ). type_field schema ty (record { text = text; location = a.location })) (same_text a b same)
+one_field_name schema ty a b same = by (type_definition schema ty) where
+  by : (o : Option ExtendedType) →
+      option_map_or (λ (d : ExtendedType). option_map_or Ok (first_of (own_field d a) (meta_field schema ty d a)) (Err NoSuchField)) o (Err NoSuchType) ≡
+      option_map_or (λ (d : ExtendedType). option_map_or Ok (first_of (own_field d b) (meta_field schema ty d b)) (Err NoSuchField)) o (Err NoSuchType)
+  by None = refl
+  by (Some d) =
+      ap₂ (λ (own meta : Option (Component FieldDefinition)). option_map_or Ok (first_of own meta) (Err NoSuchField)) (own_same d a b same) (meta_same schema ty d a b same)
 
 pub listed_as : (names : List ComponentName) (a b : NameText) → SameName a b → IsListed a names → IsListed b names
 listed_as names a b same listed = subst (λ (text : List ℕ). Any (λ (c : ComponentName). IsTrue (bytes_eq c.name.text text)) names) (same_text a b same) listed

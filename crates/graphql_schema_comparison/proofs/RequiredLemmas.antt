@@ -36,7 +36,7 @@ non_null_before _ _ e h = absurd (let no : ⊥ = cc in no)
 
 none_before : {X : Type 0} (o p : Option X) → (IsSome o → IsSome p) → is_none p ≡ true → is_none o ≡ true
 none_before None p w e = refl
-none_before (Some x) None w e = absurd (w tt)
+none_before (Some x) None w e = absurd (w refl)
 none_before (Some x) (Some y) w e = absurd (let no : ⊥ = cc in no)
 
 pub stays_required : (a b : InputValueDefinition) → KeepsInputValue a b → IsTrue (is_required b) → IsTrue (is_required a)

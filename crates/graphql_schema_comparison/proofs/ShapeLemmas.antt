@@ -31,7 +31,7 @@ use Rattle.graphql_schema_comparison.proofs.NamedLemmas.{one_type, own_name_is}
 abbrev pub equal_shapes : Shape → Shape → Bool
 equal_shapes = shape_impl.ghosts.eq
 
-same_form : Form → Form → Bool
+abbrev same_form : Form → Form → Bool
 same_form (leaf a) (leaf b) = bytes_eq a b
 same_form (non_null_leaf a) (non_null_leaf b) = bytes_eq a b
 same_form composite composite = true
@@ -42,10 +42,41 @@ same_form _ _ = false
 
 shapes_are : (a b : Shape) → equal_shapes a b ≡ same_form (form_of a) (form_of b)
 shapes_are (shape.Leaf a) (shape.Leaf b) = shape_laws.is (shape.Leaf a) (shape.Leaf b)
+shapes_are (shape.Leaf a) (shape.NonNullLeaf b) = shape_laws.is (shape.Leaf a) (shape.NonNullLeaf b)
+shapes_are (shape.Leaf a) shape.Composite = shape_laws.is (shape.Leaf a) shape.Composite
+shapes_are (shape.Leaf a) shape.NonNullComposite = shape_laws.is (shape.Leaf a) shape.NonNullComposite
+shapes_are (shape.Leaf a) (shape.List' other b) = shape_laws.is (shape.Leaf a) (shape.List' other b)
+shapes_are (shape.Leaf a) (shape.NonNullList' other b) = shape_laws.is (shape.Leaf a) (shape.NonNullList' other b)
+shapes_are (shape.NonNullLeaf a) (shape.Leaf b) = shape_laws.is (shape.NonNullLeaf a) (shape.Leaf b)
 shapes_are (shape.NonNullLeaf a) (shape.NonNullLeaf b) = shape_laws.is (shape.NonNullLeaf a) (shape.NonNullLeaf b)
+shapes_are (shape.NonNullLeaf a) shape.Composite = shape_laws.is (shape.NonNullLeaf a) shape.Composite
+shapes_are (shape.NonNullLeaf a) shape.NonNullComposite = shape_laws.is (shape.NonNullLeaf a) shape.NonNullComposite
+shapes_are (shape.NonNullLeaf a) (shape.List' other b) = shape_laws.is (shape.NonNullLeaf a) (shape.List' other b)
+shapes_are (shape.NonNullLeaf a) (shape.NonNullList' other b) = shape_laws.is (shape.NonNullLeaf a) (shape.NonNullList' other b)
+shapes_are shape.Composite (shape.Leaf b) = shape_laws.is shape.Composite (shape.Leaf b)
+shapes_are shape.Composite (shape.NonNullLeaf b) = shape_laws.is shape.Composite (shape.NonNullLeaf b)
+shapes_are shape.Composite shape.Composite = shape_laws.is shape.Composite shape.Composite
+shapes_are shape.Composite shape.NonNullComposite = shape_laws.is shape.Composite shape.NonNullComposite
+shapes_are shape.Composite (shape.List' other b) = shape_laws.is shape.Composite (shape.List' other b)
+shapes_are shape.Composite (shape.NonNullList' other b) = shape_laws.is shape.Composite (shape.NonNullList' other b)
+shapes_are shape.NonNullComposite (shape.Leaf b) = shape_laws.is shape.NonNullComposite (shape.Leaf b)
+shapes_are shape.NonNullComposite (shape.NonNullLeaf b) = shape_laws.is shape.NonNullComposite (shape.NonNullLeaf b)
+shapes_are shape.NonNullComposite shape.Composite = shape_laws.is shape.NonNullComposite shape.Composite
+shapes_are shape.NonNullComposite shape.NonNullComposite = shape_laws.is shape.NonNullComposite shape.NonNullComposite
+shapes_are shape.NonNullComposite (shape.List' other b) = shape_laws.is shape.NonNullComposite (shape.List' other b)
+shapes_are shape.NonNullComposite (shape.NonNullList' other b) = shape_laws.is shape.NonNullComposite (shape.NonNullList' other b)
+shapes_are (shape.List' place a) (shape.Leaf b) = shape_laws.is (shape.List' place a) (shape.Leaf b)
+shapes_are (shape.List' place a) (shape.NonNullLeaf b) = shape_laws.is (shape.List' place a) (shape.NonNullLeaf b)
+shapes_are (shape.List' place a) shape.Composite = shape_laws.is (shape.List' place a) shape.Composite
+shapes_are (shape.List' place a) shape.NonNullComposite = shape_laws.is (shape.List' place a) shape.NonNullComposite
 shapes_are (shape.List' place a) (shape.List' other b) = shape_laws.is (shape.List' place a) (shape.List' other b) ∙ shapes_are a b
+shapes_are (shape.List' place a) (shape.NonNullList' other b) = shape_laws.is (shape.List' place a) (shape.NonNullList' other b)
+shapes_are (shape.NonNullList' place a) (shape.Leaf b) = shape_laws.is (shape.NonNullList' place a) (shape.Leaf b)
+shapes_are (shape.NonNullList' place a) (shape.NonNullLeaf b) = shape_laws.is (shape.NonNullList' place a) (shape.NonNullLeaf b)
+shapes_are (shape.NonNullList' place a) shape.Composite = shape_laws.is (shape.NonNullList' place a) shape.Composite
+shapes_are (shape.NonNullList' place a) shape.NonNullComposite = shape_laws.is (shape.NonNullList' place a) shape.NonNullComposite
+shapes_are (shape.NonNullList' place a) (shape.List' other b) = shape_laws.is (shape.NonNullList' place a) (shape.List' other b)
 shapes_are (shape.NonNullList' place a) (shape.NonNullList' other b) = shape_laws.is (shape.NonNullList' place a) (shape.NonNullList' other b) ∙ shapes_are a b
-shapes_are a b = shape_laws.is a b
 
 form_itself : (f : Form) → same_form f f ≡ true
 form_itself (leaf a) = (bytes_eq-Decides a a).1 refl
@@ -148,7 +179,7 @@ module _ (schema : Schema) (names : StandsUnderOwnNames schema) where
   one_form_of _ _ out too same = absurd same
 
 -- the outermost wrapper
-wrapper : Form → ℕ
+abbrev wrapper : Form → ℕ
 wrapper (leaf a) = 0
 wrapper composite = 0
 wrapper (non_null_leaf a) = 1
@@ -156,7 +187,7 @@ wrapper non_null_composite = 1
 wrapper (list a) = 2
 wrapper (non_null_list a) = 3
 
-wrapper_of : «Type» → ℕ
+abbrev wrapper_of : «Type» → ℕ
 wrapper_of (Named a) = 0
 wrapper_of (NonNullNamed a) = 1
 wrapper_of (List' place a) = 2
@@ -173,10 +204,10 @@ wrapped_as schema (List' place a) = refl
 wrapped_as schema (NonNullList' place a) = refl
 
 output_composite : (d : ExtendedType) → IsTrue (is_output_type d) → is_leaf_type d ≡ false → IsTrue (is_composite d)
-output_composite (Object d) out no = refl
-output_composite (Interface d) out no = refl
-output_composite (Union d) out no = refl
-output_composite _ out no = absurd (let none : ⊥ = cc in none)
+output_composite (Object d) out other = refl
+output_composite (Interface d) out other = refl
+output_composite (Union d) out other = refl
+output_composite _ out other = absurd (let none : ⊥ = cc in none)
 
 both_composite : (x y : ExtendedType) → IsTrue (is_composite x) → IsTrue (is_composite y) → SameLeafOrBothComposite x y
 both_composite (Object x) (Object y) p q = (refl, refl)
@@ -255,12 +286,12 @@ form_stays old new _ _ same alike = absurd (let none : ⊥ = cc in none)
 -- what all fields of a form have is what one of them has
 pub no_other_form : (table : ShapeTable) (old new also : Form) → Knows table old also → KnowsNoOther table old new → also ≡ new
 no_other_form table old new also knows none = by (meeting_at table knows.key) refl where
+  this : (meeting : Meeting) → (form_of meeting.shape ≡ also) ⊎ IsSome meeting.other → (form_of meeting.shape ≡ new) × IsNone meeting.other → also ≡ new
+  this meeting (inl is) both = sym is ∙ both.0
+  this meeting (inr other) both = absurd (let one = both.1 in let none' : ⊥ = cc in none')
+
   by : (o : Option Meeting) → meeting_at table knows.key ≡ o → also ≡ new
   by None at = absurd (subst (λ o. IsSomeAnd o (λ meeting. (form_of meeting.shape ≡ also) ⊎ IsSome meeting.other)) at (knows.met knows.key knows.form))
   by (Some meeting) at =
       this meeting (subst (λ o. IsSomeAnd o (λ meeting. (form_of meeting.shape ≡ also) ⊎ IsSome meeting.other)) at (knows.met knows.key knows.form))
       (subst (λ o. IfSome o (λ meeting. (form_of meeting.shape ≡ new) × IsNone meeting.other)) at (none knows.key knows.form))
-
-  this : (meeting : Meeting) → (form_of meeting.shape ≡ also) ⊎ IsSome meeting.other → (form_of meeting.shape ≡ new) × IsNone meeting.other → also ≡ new
-  this meeting (inl is) both = sym is ∙ both.0
-  this meeting (inr other) both = absurd (let one = both.1 in let none' : ⊥ = cc in none')

@@ -6,7 +6,7 @@ use Rattle.graphql_documents.specs.declared.documents.type_references.Type.{«Ty
 use Rattle.graphql_documents.specs.declared.documents.type_references.Type.TheVariants.{Named, NonNullNamed, List', NonNullList'}
 
 -- the same of types as written
-assignable : TypeText → TypeText → Bool
+abbrev assignable : TypeText → TypeText → Bool
 assignable (name_text a) (name_text b) = same_name a b
 assignable (non_null_name_text a) (name_text b) = same_name a b
 assignable (non_null_name_text a) (non_null_name_text b) = same_name a b

@@ -64,11 +64,29 @@ fn compare_old_interface(
 ) -> Result<(), ValidationError>
     ensures { OnOk result (Finds changes.old changes.new (λ merging. IsTrue is_object → IsSubtype pair.entry.new.now listed.now.name ty.now)) }
 {
-    let is_kept = pair.new.is_subtype(&listed.name, ty);
-    if is_kept && new.lists_interface(&listed.name) {
+    if pair.new.is_subtype(&listed.name, ty) {
+        compare_listing(changes, ty, around, listed, new)?;
+        Ok(())
+    } else {
+        push_removed_interface(changes, ty, around, listed, is_object)?;
+        Ok(())
+    }
+}
+
+/// Finds whether the type no longer lists the interface, and is one of those of a union of its name.
+fn compare_listing(
+    changes: &mut ChangeList,
+    ty: &NamedType,
+    around: Places,
+    listed: &ComponentName,
+    new: &ExtendedType,
+) -> Result<(), ValidationError>
+    ensures { OnOk result (Adds changes.old changes.new) }
+{
+    if new.lists_interface(&listed.name) {
         return Ok(());
     }
-    push_removed_interface(changes, ty, around, listed, is_object && !is_kept)?;
+    push_removed_interface(changes, ty, around, listed, false)?;
     Ok(())
 }
 

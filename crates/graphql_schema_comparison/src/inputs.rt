@@ -88,19 +88,25 @@ fn compare_types_of(
 ) -> Result<(), ValidationError>
     ensures { OnOk result (Finds changes.old changes.new (λ merging. IsTrue (is_owner_given owner.entry) → IsTrue (is_assignable old.now.value.value.ty.value.value new.now.value.value.ty.value.value))) }
 {
-    let from = &old.value.ty.value;
-    let to = &new.value.ty.value;
+    let from = type_of_input(old);
+    let to = type_of_input(new);
     if is_same_type(from, to) {
         return Ok(());
     }
     let input = owner.input(changes.allocator(), &old.value.name)?;
-    let from = (**from).clone()?;
-    let to = (**to).clone()?;
+    let from = from.clone()?;
+    let to = to.clone()?;
     changes.push(
         Change::InputTypeChanged { input, from, to },
         places_of(old, new),
     )?;
     Ok(())
+}
+
+fn type_of_input(input: &Node<InputValueDefinition>) -> &Type
+    ensures { result.now ≡ input.now.value.value.ty.value.value }
+{
+    &input.value.ty.value
 }
 
 /// Finds whether a value that could be left out still can.

@@ -13,7 +13,7 @@ returns-then-eq c =
 
 pub returns-in-Some-Object : goal.returns-in-Some-Object
 returns-in-Some-Object c =
-    let is : type_definition c.args.schema.now c.args.object.now ≡ Some (Object c.in-Some-Object.field-0.now) = search rules in
+    let is : type_definition c.args.schema.now c.args.object.now ≡ Some (Object c.in-Some-Object.field-0-0) = search rules in
     let other : same_name c.args.ty.now c.args.object.now ≡ false = search rules in
     let both = subtype_applies c.args.schema.now c.args.object.now c.args.ty.now _ is other in
     (λ yes. both.0 (c.is_subtype.ensures.0 yes), λ applies. c.is_subtype.ensures.1 (both.1 applies))

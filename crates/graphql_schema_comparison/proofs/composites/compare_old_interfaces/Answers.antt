@@ -1,4 +1,4 @@
-use Rattle.std.proofs.Common.{◌≡◌, ◌∙◌, All}
+use Rattle.std.proofs.Common.{◌≡◌, ◌∙◌, All, subst}
 use Rattle.std.specs.Prelude.{IsTrue}
 use Rattle.std.proofs.lemmas.List.Elements.{All-weaker}
 use Rattle.graphql_documents.specs.Schemas.{IsSubtype, interfaces_of, is_object_type}
@@ -11,13 +11,15 @@ loop-listed-init c = found_none (λ merging (x : ComponentName). IsTrue c.is_obj
 
 pub loop-listed-preserved : goal.loop-listed-preserved
 loop-listed-preserved c =
-    found_more (λ merging (x : ComponentName). IsTrue c.is_object_type-is_object.result → IsSubtype c.args.pair.new.now x.name c.args.ty.now) (interfaces_of c.args.old.now) c.loop-listed.listed-index c.listed-item.result c.loop-listed-test.true c.listed-item.is
+    found_more (λ merging (x : ComponentName). IsTrue c.is_object_type-is_object.result → IsSubtype c.args.pair.new.now x.name c.args.ty.now) c.implements_interfaces-listed-items.result.now c.loop-listed.listed-index c.listed-item.result c.loop-listed-test.true c.listed-item.is
     c.loop-listed.invariant c.in_ok-compare_old_interface.ensures
 
 pub returns : goal.returns
 returns c =
     let object : c.is_object_type-is_object.result ≡ is_object_type c.args.old.now = c.is_object_type-is_object.ensures in
-    found_words (λ merging all is. All-weaker (λ (x : ComponentName). IsTrue c.is_object_type-is_object.result → IsSubtype c.args.pair.new.now x.name c.args.ty.now)
-    (λ (x : ComponentName). IsSubtype c.args.pair.new.now x.name c.args.ty.now) (λ x keeps. keeps (object ∙ is)) (interfaces_of c.args.old.now) all)
-    (found_all_of (λ merging (x : ComponentName). IsTrue c.is_object_type-is_object.result → IsSubtype c.args.pair.new.now x.name c.args.ty.now) (interfaces_of c.args.old.now)
+    let items = c.implements_interfaces-listed-items.result.now in
+    found_words (λ merging all is. subst (All (λ (x : ComponentName). IsSubtype c.args.pair.new.now x.name c.args.ty.now)) c.implements_interfaces-listed-items.ensures
+    (All-weaker (λ (x : ComponentName). IsTrue c.is_object_type-is_object.result → IsSubtype c.args.pair.new.now x.name c.args.ty.now)
+    (λ (x : ComponentName). IsSubtype c.args.pair.new.now x.name c.args.ty.now) (λ x keeps. keeps (object ∙ is)) items all))
+    (found_all_of (λ merging (x : ComponentName). IsTrue c.is_object_type-is_object.result → IsSubtype c.args.pair.new.now x.name c.args.ty.now) items
     c.loop-listed.listed-index c.loop-listed-test.false c.loop-listed.invariant)

@@ -1,7 +1,7 @@
 use Rattle.std.proofs.Common.{All, subst}
 use Rattle.graphql_nodes.specs.declared.directive_locations.DirectiveLocation.{DirectiveLocation}
 use Rattle.graphql_schema_comparison.specs.Comparisons.{KeepsLocation}
-use Rattle.graphql_schema_comparison.proofs.FindsLemmas.{found_all_of, found_more, found_none, found_words}
+use Rattle.graphql_schema_comparison.proofs.FindsLemmas.{found_all_of, found_more_copy, found_none, found_words}
 use Rattle.graphql_schema_comparison.proofs.directives.compare_locations.Goals as goal
 
 pub loop-location-init : goal.loop-location-init
@@ -9,7 +9,8 @@ loop-location-init c = found_none (λ merging (x : DirectiveLocation). KeepsLoca
 
 pub loop-location-preserved : goal.loop-location-preserved
 loop-location-preserved c =
-    let h = c.compare_location-arg-1 in let k = c.deref-location-items in let m = c.loop-location-test in ?
+    found_more_copy (λ merging (x : DirectiveLocation). KeepsLocation c.args.new.now x) c.deref-location-items.result.now c.loop-location.location-index _
+    c.loop-location-test.true c.loop-location.invariant c.in_ok-compare_location.ensures
 
 pub returns : goal.returns
 returns c =

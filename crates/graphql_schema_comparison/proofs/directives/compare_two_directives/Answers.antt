@@ -1,8 +1,12 @@
+use Rattle.std.proofs.Common.{◌≡◌, subst₂}
+use Rattle.graphql_schema_changes.specs.Keeps.{KeepsArguments}
 use Rattle.graphql_schema_comparison.proofs.FindsLemmas.{found_both, found_words}
 use Rattle.graphql_schema_comparison.proofs.directives.compare_two_directives.Goals as goal
 
 pub returns : goal.returns
 returns c =
-    found_words (λ merging h is. record { arguments = h.1 is; locations = h.0.0.1; repeatable = h.0.0.0 is })
+    let before : c.deref-8.result.now ≡ c.args.old.now.value.value.arguments.items = cc in
+    let after : c.deref-10.result.now ≡ c.args.new.now.value.value.arguments.items = cc in
+    found_words (λ merging h is. record { arguments = subst₂ KeepsArguments before after (h.1 is); locations = h.0.0.1; repeatable = h.0.0.0 is })
     (found_both (found_both (found_both c.in_ok-compare_repeatable.ensures c.in_ok-compare_locations.ensures) c.in_ok-find_added_locations.ensures)
     c.in_ok-compare_arguments.ensures)

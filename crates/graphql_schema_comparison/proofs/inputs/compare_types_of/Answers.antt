@@ -1,5 +1,6 @@
-use Rattle.std.proofs.Common.{◌≡◌, ◌∙◌, not, rules, sym, true}
-use Rattle.graphql_documents.specs.TypeReferences.{is_assignable, same_type}
+use Rattle.std.proofs.Common.{◌≡◌, ◌∙◌, not, rules, subst, sym, true}
+use Rattle.graphql_documents.specs.TypeReferences.{IsTypeCopy, is_assignable, same_type}
+use Rattle.graphql_documents.specs.declared.documents.type_references.Type.{«Type»}
 use Rattle.graphql_schema_comparison.specs.Breaks.{is_given}
 use Rattle.graphql_schema_comparison.proofs.FindsLemmas.{found_words, keeps_here}
 use Rattle.graphql_schema_comparison.proofs.TypeCopyLemmas.{assignable_copies, assignable_same, not_false, second_false}
@@ -19,7 +20,9 @@ returns c =
     let first = c.in_ok-from.from in
     let second = c.in_ok-to.to in
     let input = c.in_ok-input.input in
+    let from_copy : IsTypeCopy from first = subst (λ (t : «Type»). IsTypeCopy t first) c.type_of_input-from.ensures c.in_ok-from.ensures.cases in
+    let to_copy : IsTypeCopy to second = subst (λ (t : «Type»). IsTypeCopy t second) c.type_of_input-to.ensures c.in_ok-to.ensures.cases in
     found_words (λ merging harmless given.
-    sym (assignable_copies from to first second c.in_ok-from.ensures c.in_ok-to.ensures) ∙
+    sym (assignable_copies from to first second from_copy to_copy) ∙
     not_false (is_assignable first second) (second_false (is_given input) (not (is_assignable first second)) harmless (c.in_ok-input.ensures ∙ given)))
     c.in_ok-push.ensures
