@@ -2,6 +2,7 @@
 #![tactic(auto)]
 
 use gqlvalidate_commands::command::run;
+use gqlvalidate_commands::terminals::Terminal;
 use std::env::VarError;
 use std::io::IsTerminal;
 use std::process::ExitCode;
@@ -12,7 +13,10 @@ fn main(rt: HostRuntime) -> ExitCode {
     let status = run(
         &rt,
         given_words(&rt),
-        has_colors(&rt, &rt.stdout()),
+        Terminal {
+            colored: has_colors(&rt, &rt.stdout()),
+            columns: columns(&rt),
+        },
         &mut rt.stdin(),
         &mut rt.stdout(),
         &mut rt.stderr(),
@@ -37,4 +41,12 @@ fn has_colors(rt: &(impl Env + AllocGlobal), output: &impl IsTerminal) -> bool {
             Err(VarError::NotPresent) => true,
             Err(_) => false,
         }
+}
+
+/// How many columns lines have: as the environment says in `COLUMNS`, if it does.
+fn columns(rt: &(impl Env + AllocGlobal)) -> usize {
+    match env::var(rt, "COLUMNS") {
+        Ok(value) => value.parse::<usize>().unwrap_or(Terminal::COLUMNS),
+        Err(_) => Terminal::COLUMNS,
+    }
 }

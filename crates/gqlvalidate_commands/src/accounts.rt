@@ -1,26 +1,31 @@
 //! What a run reports, and how many.
 
 use crate::faults::{Fault, fault_of_output};
-use crate::json_lines::print_line;
-use crate::presentations::{Palette, Presentation};
-use crate::{github_format, text_format};
-use gqlvalidate_words::Format;
-use graphql_frontend::{Reports, ShownReport, shown_reports};
+use crate::presentations::Presentation;
+use gqlvalidate_formats::{Run, Sheet, Texts};
+use graphql_documents::documents::Schema;
+use graphql_findings::findings_of;
+use graphql_frontend::Reports;
 use graphql_parser::Bounds;
-use graphql_report_formats::json_format;
 use graphql_report_formats::named_texts::{CountedSubject, Subject};
-use json::Writer;
 use std::alloc::{AllocError, Global};
 use std::fmt;
 use std::io::Write;
 
 /// What a run has reported until now.
 #[derive(Drop)]
-pub struct Account {
+pub struct Account<'a> {
     presentation: Presentation,
-    /// What is to be printed at the end, as JSON.
-    json: Writer,
+    sheet: Sheet,
     tally: Tally,
+    /// The schema against which documents are validated: help names what it defines.
+    definitions: Option<&'a Schema>,
+    /// Its texts, which notes may be about.
+    schema: Option<Subject<'a>>,
+    /// The same with its lines counted, once something is reported.
+    counted: Option<CountedSubject<'a>>,
+    /// The files that could not be read.
+    unreadable: Vec<String>,
 }
 
 /// How many reports there are.
@@ -31,6 +36,8 @@ pub struct Tally {
     pub shown: usize,
     /// How many files they are about.
     pub files: usize,
+    /// How many documents were checked.
+    pub documents: usize,
 }
 
 /// What a run validates.
@@ -41,63 +48,147 @@ pub enum Whole {
     Documents(usize),
 }
 
-impl Account {
+/// What is counted at the end of a run.
+#[derive(Clone, Copy)]
+pub struct Extent {
+    pub whole: Whole,
+    /// How many files the schema has that were read.
+    pub schema_files: usize,
+}
+
+impl<'a> Account<'a> {
     /// Nothing is reported yet.
-    pub fn new(alloc: Global, presentation: Presentation) -> Result<Account, AllocError> {
-        let mut json = Writer::new(Vec::new(alloc));
-        if presentation.reporting.format == Format::Json {
-            json_format::begin(&mut json)?;
-        }
+    pub fn new(alloc: Global, presentation: Presentation) -> Result<Account<'a>, AllocError> {
+        let Presentation { reporting, style } = presentation;
         Ok(Account {
             presentation,
-            json,
+            sheet: Sheet::new(alloc, reporting.format, style)?,
             tally: Tally {
                 reports: 0,
                 shown: 0,
                 files: 0,
+                documents: 0,
             },
+            definitions: None,
+            schema: None,
+            counted: None,
+            unreadable: Vec::new(alloc),
         })
     }
 
-    /// Reports what is wrong with one subject, which was read within these bounds.
-    pub fn report<O: Write>(
+    /// Documents are validated against this schema, which was read from these texts.
+    pub fn add_schema(&mut self, definitions: &'a Schema, schema: Subject<'a>) {
+        self.definitions = Some(definitions);
+        self.schema = Some(schema);
+    }
+
+    /// This file could not be read.
+    pub fn add_unreadable(&mut self, alloc: Global, path: &str) -> Result<(), AllocError> {
+        self.unreadable.push(String::from_str(alloc, path)?)?;
+        Ok(())
+    }
+
+    /// These files could not be read.
+    pub fn add_all_unreadable(&mut self, paths: Vec<String>) -> Result<(), AllocError> {
+        for path in paths {
+            self.unreadable.push(path)?;
+        }
+        Ok(())
+    }
+
+    /// A document was checked, and nothing is reported of it.
+    pub fn accept(&mut self, path: Option<&str>) -> Result<(), AllocError> {
+        self.tally.documents = self.tally.documents.saturating_add(1);
+        self.pass(path)
+    }
+
+    /// Nothing is reported of this file.
+    pub fn pass(&mut self, path: Option<&str>) -> Result<(), AllocError> {
+        match path {
+            Some(path) => self.sheet.pass(path),
+            None => Ok(()),
+        }
+    }
+
+    /// Reports what is wrong with one document, which was read within these bounds.
+    pub fn reject<O: Write>(
         &mut self,
         alloc: Global,
-        reports: &Reports,
+        reports: &[Reports],
         subject: Subject<'_>,
         bounds: Bounds,
         output: &mut O,
     ) -> Result<(), Fault> {
-        let Presentation { reporting, palette } = self.presentation;
-        let most = reporting.max_reports.saturating_sub(self.tally.shown);
-        let shown = shown_reports(alloc, reports, subject.sources, bounds, most)?;
+        self.tally.documents = self.tally.documents.saturating_add(1);
+        self.report(alloc, reports, subject, bounds, output)
+    }
+
+    /// Reports what is wrong with one subject, which was read within these bounds: each fault once.
+    pub fn report<O: Write>(
+        &mut self,
+        alloc: Global,
+        reports: &[Reports],
+        subject: Subject<'_>,
+        bounds: Bounds,
+        output: &mut O,
+    ) -> Result<(), Fault> {
+        let most = self
+            .presentation
+            .reporting
+            .max_reports
+            .saturating_sub(self.tally.shown);
+        let findings = findings_of(
+            alloc,
+            self.definitions,
+            reports,
+            subject.sources,
+            bounds,
+            most,
+        )?;
         let counted = CountedSubject::new(alloc, subject)?;
-        self.tally.add(reports.len(), shown.len());
-        match reporting.format {
-            Format::Text => print(text_of(alloc, &shown, &counted, palette)?, output),
-            Format::Github => print(annotations_of(alloc, &shown, &counted)?, output),
-            Format::Json => Ok(json_format::add_reports(&mut self.json, &shown, &counted)?),
+        self.count_schema(alloc)?;
+        self.tally.add(findings.shown.len(), findings.others);
+        let texts = Texts {
+            subject: &counted,
+            schema: self.counted.as_ref(),
+        };
+        print(self.sheet.add(alloc, &findings.shown, texts)?, output)
+    }
+
+    /// Counts the lines of the schema, unless they are counted.
+    fn count_schema(&mut self, alloc: Global) -> Result<(), AllocError> {
+        if self.counted.is_none() {
+            if let Some(schema) = self.schema {
+                self.counted = Some(CountedSubject::new(alloc, schema)?);
+            }
         }
+        Ok(())
     }
 
     /// Prints what is left to print, and says on standard error how many reports there are, if any.
     pub fn end<O: Write, F: Write>(
         self,
         alloc: Global,
-        whole: Whole,
+        extent: Extent,
         output: &mut O,
         faults: &mut F,
     ) -> Result<(), Fault> {
         let Account {
-            presentation,
-            json,
+            sheet,
             tally,
+            unreadable,
+            ..
         } = self;
-        match presentation.reporting.format {
-            Format::Json => print_object(alloc, json, output)?,
-            Format::Text | Format::Github => drop(json),
-        }
+        let views = views(alloc, &unreadable)?;
+        let run = Run {
+            not_shown: tally.left_out(),
+            schema_files: extent.schema_files,
+            documents: tally.documents,
+            unreadable: views.as_slice(),
+        };
+        print(sheet.end(alloc, run)?, output)?;
         if tally.reports > 0 {
+            let whole = extent.whole;
             let summary = Summary { tally, whole };
             let _ = writeln!(faults, "{summary}");
         }
@@ -105,47 +196,30 @@ impl Account {
     }
 }
 
-fn text_of(
-    alloc: Global,
-    shown: &[ShownReport],
-    subject: &CountedSubject<'_>,
-    palette: Palette,
-) -> Result<String, AllocError> {
-    let mut text = String::new(alloc);
-    for report in shown {
-        text_format::push_report(&mut text, report, subject, palette, alloc)?;
+fn views(alloc: Global, paths: &[String]) -> Result<Vec<&str>, AllocError> {
+    let mut views = Vec::new(alloc);
+    for path in paths {
+        views.push(path.as_str())?;
     }
-    Ok(text)
-}
-
-fn annotations_of(
-    alloc: Global,
-    shown: &[ShownReport],
-    subject: &CountedSubject<'_>,
-) -> Result<String, AllocError> {
-    let mut text = String::new(alloc);
-    for report in shown {
-        github_format::push_report(&mut text, report, subject)?;
-    }
-    Ok(text)
+    Ok(views)
 }
 
 fn print<O: Write>(text: String, output: &mut O) -> Result<(), Fault> {
     output.write_all(text.as_bytes()).map_err(fault_of_output)
 }
 
-/// Prints the object as a line.
-fn print_object<O: Write>(alloc: Global, mut json: Writer, output: &mut O) -> Result<(), Fault> {
-    json_format::end(&mut json)?;
-    print_line(alloc, json, output)
-}
-
 impl Tally {
     /// Counts the reports of one more file.
-    fn add(&mut self, reports: usize, shown: usize) {
+    fn add(&mut self, shown: usize, others: usize) {
+        let reports = shown.saturating_add(others);
         self.reports = self.reports.saturating_add(reports);
         self.shown = self.shown.saturating_add(shown);
         self.files = self.files.saturating_add(1);
+    }
+
+    /// How many reports are not printed.
+    fn left_out(&self) -> usize {
+        self.reports.saturating_sub(self.shown)
     }
 }
 
@@ -167,7 +241,7 @@ impl fmt::Display for Summary {
                 write!(f, "{reports} in {files} of {documents}")?;
             }
         }
-        let left_out = self.tally.reports.saturating_sub(self.tally.shown);
+        let left_out = self.tally.left_out();
         if left_out > 0 {
             write!(f, ", {left_out} not shown")?;
         }

@@ -4,14 +4,14 @@ ghost use Rattle.std.specs.Prelude.{◌≡◌, None, Some, Ok};
 ghost use Rattle.graphql_frontend.specs.Documents.{ValidatesDocument};
 ghost use Rattle.graphql_frontend.specs.Schemas.{IsUsable};
 
-use crate::accounts::{Account, Whole};
+use crate::accounts::{Account, Extent, Whole};
 use crate::bounds::OF_SCHEMA;
 use crate::faults::Fault;
 use crate::one_document::check_together;
 use crate::presentations::Presentation;
-use crate::schema_files::{named_schema, named_text, texts_of};
-use crate::schemas::reject;
-use crate::sources::text_or_said;
+use crate::schema_files::{ReadFiles, named_schema, named_text, read_files};
+use crate::schemas::{end_unread, reject};
+use crate::sources::{shown_path, text_or_said};
 use crate::statuses::Status;
 use graphql_documents::documents::Schema;
 use graphql_frontend::{Reports, SchemaReading, read_schema, validate_document};
@@ -54,8 +54,9 @@ pub fn check<R: Files + AllocGlobal, I: Read, O: Write, F: Write>(
     output: &mut O,
     faults: &mut F,
 ) -> Result<Status, Fault> {
-    let Some(texts) = texts_of(rt, paths.schema, input, faults)? else {
-        return Ok(Status::Unreadable);
+    let ReadFiles { texts, unreadable } = read_files(rt, paths.schema, input, faults)?;
+    let Some(texts) = texts else {
+        return end_unread(rt.alloc(), unreadable, presentation, output, faults);
     };
     let named = named_schema(rt.alloc(), paths.schema, &texts)?;
     check_against(rt, &named, paths, presentation, input, output, faults)
@@ -74,23 +75,34 @@ fn check_against<R: Files + AllocGlobal, I: Read, O: Write, F: Write>(
     let sources = sources_of(rt.alloc(), named)?;
     match read_schema(rt.alloc(), &sources, OF_SCHEMA)? {
         SchemaReading::Accepted(schema) => {
-            let status = check_documents(rt, &schema, paths, presentation, input, output, faults);
+            let texts = schema_subject(named, &sources);
+            let status = check_documents(
+                rt,
+                &schema,
+                texts,
+                paths,
+                presentation,
+                input,
+                output,
+                faults,
+            );
             // The process ends here, and its memory is freed at once, not part by part.
             mem::forget(schema);
             status
         }
         SchemaReading::Rejected(reports) => {
             let subject = schema_subject(named, &sources);
-            reject(rt.alloc(), &reports, subject, presentation, output, faults)
+            reject(rt.alloc(), reports, subject, presentation, output, faults)
         }
         SchemaReading::LacksIntrospection => Err(Fault::LacksIntrospection),
     }
 }
 
-/// Validates the documents against the schema, and says how many reports there are.
-fn check_documents<R: Files + AllocGlobal, I: Read, O: Write, F: Write>(
+/// Validates the documents against the schema of these texts, and says how many reports there are.
+fn check_documents<'a, R: Files + AllocGlobal, I: Read, O: Write, F: Write>(
     rt: &R,
-    schema: &Schema,
+    schema: &'a Schema,
+    texts: Subject<'a>,
     paths: Paths<'_>,
     presentation: Presentation,
     input: &mut I,
@@ -100,12 +112,17 @@ fn check_documents<R: Files + AllocGlobal, I: Read, O: Write, F: Write>(
     requires { IsUsable schema.now }
 {
     let mut account = Account::new(rt.alloc(), presentation)?;
+    account.add_schema(schema, texts);
     let status = if paths.one_document {
         check_together(rt, schema, paths, &mut account, input, output, faults)?
     } else {
         check_each(rt, schema, paths, &mut account, input, output, faults)?
     };
-    account.end(rt.alloc(), Whole::Documents(paths.count()), output, faults)?;
+    let extent = Extent {
+        whole: Whole::Documents(paths.count()),
+        schema_files: paths.schema.len(),
+    };
+    account.end(rt.alloc(), extent, output, faults)?;
     Ok(status)
 }
 
@@ -114,7 +131,7 @@ fn check_each<R: Files + AllocGlobal, I: Read, O: Write, F: Write>(
     rt: &R,
     schema: &Schema,
     paths: Paths<'_>,
-    account: &mut Account,
+    account: &mut Account<'_>,
     input: &mut I,
     output: &mut O,
     faults: &mut F,
@@ -129,7 +146,10 @@ fn check_each<R: Files + AllocGlobal, I: Read, O: Write, F: Write>(
                 let document = named_text(position, path, text.as_str());
                 check_text(rt.alloc(), schema, document, paths.bounds, account, output)?
             }
-            None => Status::Unreadable,
+            None => {
+                account.add_unreadable(rt.alloc(), shown_path(path))?;
+                Status::Unreadable
+            }
         };
         status = status.with(checked);
     }
@@ -142,7 +162,7 @@ fn check_text<O: Write>(
     schema: &Schema,
     document: NamedText<'_>,
     bounds: Bounds,
-    account: &mut Account,
+    account: &mut Account<'_>,
     output: &mut O,
 ) -> Result<Status, Fault>
     requires { IsUsable schema.now }
@@ -150,21 +170,24 @@ fn check_text<O: Write>(
     ensures reported { result ≡ Ok Status.Reported → (reports : Reports) × ValidatesDocument bounds (Some schema.now) document.entry.source (Some reports) }
 {
     match validate_document(alloc, schema, document.source, bounds)? {
-        None => Ok(Status::Accepted),
+        None => {
+            account.accept(document.path)?;
+            Ok(Status::Accepted)
+        }
         Some(reports) => {
-            report_document(alloc, &reports, document, bounds, account, output)?;
+            report_document(alloc, reports, document, bounds, account, output)?;
             Ok(Status::Reported)
         }
     }
 }
 
 /// Reports what is wrong with a document.
-fn report_document<O: Write>(
+pub fn report_document<O: Write>(
     alloc: Global,
-    reports: &Reports,
+    reports: Reports,
     document: NamedText<'_>,
     bounds: Bounds,
-    account: &mut Account,
+    account: &mut Account<'_>,
     output: &mut O,
 ) -> Result<(), Fault> {
     let texts = [document];
@@ -174,5 +197,5 @@ fn report_document<O: Write>(
         texts: texts.as_slice(),
         sources: sources.as_slice(),
     };
-    account.report(alloc, reports, subject, bounds, output)
+    account.reject(alloc, [reports].as_slice(), subject, bounds, output)
 }

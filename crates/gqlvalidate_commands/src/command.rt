@@ -1,12 +1,14 @@
 use crate::bounds::{bounds_of, bounds_of_answers};
 use crate::check::{Paths, check};
+use crate::explain::{explain, list_rules};
 use crate::faults::{Fault, fault_of_output, fault_of_words};
 use crate::presentations::Presentation;
-use crate::printable::printable_words;
 use crate::schemas::check_schema;
 use crate::serve::{Allowance, serve};
 use crate::statuses::Status;
 use crate::syntax::check_syntax;
+use crate::terminals::Terminal;
+use gqlvalidate_formats::printable::printable_words;
 use gqlvalidate_words::{Refusal, Request, parse};
 use std::alloc::Global;
 use std::io;
@@ -18,13 +20,13 @@ use std::rt::Files;
 pub fn run<R: Files + AllocGlobal, I: Read, O: Write, F: Write>(
     rt: &R,
     words: io::Result<Vec<String>>,
-    colored_by_default: bool,
+    terminal: Terminal,
     input: &mut I,
     output: &mut O,
     faults: &mut F,
 ) -> Status {
     let ended = match words {
-        Ok(words) => run_words(rt, &words, colored_by_default, input, output, faults),
+        Ok(words) => run_words(rt, &words, terminal, input, output, faults),
         Err(error) => Err(fault_of_words(error)),
     };
     match ended {
@@ -39,13 +41,13 @@ pub fn run<R: Files + AllocGlobal, I: Read, O: Write, F: Write>(
 fn run_words<R: Files + AllocGlobal, I: Read, O: Write, F: Write>(
     rt: &R,
     words: &[String],
-    colored_by_default: bool,
+    terminal: Terminal,
     input: &mut I,
     output: &mut O,
     faults: &mut F,
 ) -> Result<Status, Fault> {
     let status = match parse(rt.alloc(), words) {
-        Ok(request) => answer(rt, &request, colored_by_default, input, output, faults)?,
+        Ok(request) => answer(rt, &request, terminal, input, output, faults)?,
         Err(refusal) => refuse_words(rt.alloc(), words, &refusal, output, faults)?,
     };
     output.flush().map_err(fault_of_output)?;
@@ -56,7 +58,7 @@ fn run_words<R: Files + AllocGlobal, I: Read, O: Write, F: Write>(
 fn answer<R: Files + AllocGlobal, I: Read, O: Write, F: Write>(
     rt: &R,
     request: &Request<'_>,
-    colored_by_default: bool,
+    terminal: Terminal,
     input: &mut I,
     output: &mut O,
     faults: &mut F,
@@ -75,11 +77,11 @@ fn answer<R: Files + AllocGlobal, I: Read, O: Write, F: Write>(
                 one_document: *one_document,
                 bounds: bounds_of(*limits),
             };
-            let presentation = Presentation::new(*reporting, colored_by_default);
+            let presentation = Presentation::new(*reporting, terminal);
             check(rt, paths, presentation, input, output, faults)
         }
         Request::Schema { schema, reporting } => {
-            let presentation = Presentation::new(*reporting, colored_by_default);
+            let presentation = Presentation::new(*reporting, terminal);
             check_schema(rt, schema, presentation, input, output, faults)
         }
         Request::Serve {
@@ -95,7 +97,12 @@ fn answer<R: Files + AllocGlobal, I: Read, O: Write, F: Write>(
             };
             serve(rt, schema, allowance, input, output, faults)
         }
-        Request::Syntax { files } => check_syntax(rt, files, input, output, faults),
+        Request::Syntax { files, reporting } => {
+            let presentation = Presentation::new(*reporting, terminal);
+            check_syntax(rt, files, presentation, input, output, faults)
+        }
+        Request::Explain { rule: Some(rule) } => explain(rule, output, faults),
+        Request::Explain { rule: None } => list_rules(output),
     }
 }
 

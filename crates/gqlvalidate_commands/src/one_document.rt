@@ -7,7 +7,7 @@ ghost use Rattle.graphql_frontend.specs.Schemas.{IsUsable};
 use crate::accounts::Account;
 use crate::check::Paths;
 use crate::faults::Fault;
-use crate::schema_files::{named_text, texts_of};
+use crate::schema_files::{ReadFiles, named_text, read_files};
 use crate::statuses::Status;
 use graphql_documents::documents::Schema;
 use graphql_frontend::{Reports, SourceText, validate_documents};
@@ -23,23 +23,35 @@ pub fn check_together<R: Files + AllocGlobal, I: Read, O: Write, F: Write>(
     rt: &R,
     schema: &Schema,
     paths: Paths<'_>,
-    account: &mut Account,
+    account: &mut Account<'_>,
     input: &mut I,
     output: &mut O,
     faults: &mut F,
 ) -> Result<Status, Fault>
     requires { IsUsable schema.now }
 {
-    let Some(texts) = texts_of(rt, paths.documents, input, faults)? else {
+    let ReadFiles { texts, unreadable } = read_files(rt, paths.documents, input, faults)?;
+    let Some(texts) = texts else {
+        account.add_all_unreadable(unreadable)?;
         return Ok(Status::Unreadable);
     };
     let named = named_documents(rt.alloc(), paths, &texts)?;
     let sources = sources_of(rt.alloc(), &named)?;
+    let subject = subject_of(&named, &sources);
     match reports_of(rt.alloc(), schema, &sources, paths.bounds)? {
-        None => Ok(Status::Accepted),
+        None => {
+            account.accept(subject.path)?;
+            Ok(Status::Accepted)
+        }
         Some(reports) => {
-            let subject = subject_of(&named, &sources);
-            account.report(rt.alloc(), &reports, subject, paths.bounds, output)?;
+            let reports = [reports];
+            account.reject(
+                rt.alloc(),
+                reports.as_slice(),
+                subject,
+                paths.bounds,
+                output,
+            )?;
             Ok(Status::Reported)
         }
     }

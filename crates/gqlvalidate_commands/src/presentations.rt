@@ -1,59 +1,27 @@
 //! How reports are presented.
 
+use crate::terminals::Terminal;
+use gqlvalidate_formats::Style;
 use gqlvalidate_words::{Color, Reporting};
 
-/// Which reports are written, in which format, and in which colours.
+/// Which reports are written, in which format, and in which colours and columns.
 #[derive(Clone, Copy)]
 pub struct Presentation {
     pub reporting: Reporting,
-    pub palette: Palette,
+    pub style: Style,
 }
 
 impl Presentation {
-    /// As the command line says; with colours by default where it leaves them open.
-    pub fn new(reporting: Reporting, colored_by_default: bool) -> Presentation {
+    /// As the command line says; with the colours of the terminal where it leaves them open.
+    pub fn new(reporting: Reporting, terminal: Terminal) -> Presentation {
         let colored = match reporting.color {
-            Color::Auto => colored_by_default,
+            Color::Auto => terminal.colored,
             Color::Always => true,
             Color::Never => false,
         };
         Presentation {
             reporting,
-            palette: Palette::new(colored),
-        }
-    }
-}
-
-/// The escape sequences that colour parts of a report.
-#[derive(Clone, Copy)]
-pub struct Palette {
-    pub strong: &'static str,
-    pub error: &'static str,
-    pub note: &'static str,
-    pub margin: &'static str,
-    /// What ends each of them.
-    pub end: &'static str,
-}
-
-impl Palette {
-    /// That of a terminal, or one without any sequences.
-    fn new(colored: bool) -> Palette {
-        if colored {
-            Palette {
-                strong: "\x1b[1m",
-                error: "\x1b[1;31m",
-                note: "\x1b[1;32m",
-                margin: "\x1b[1;34m",
-                end: "\x1b[0m",
-            }
-        } else {
-            Palette {
-                strong: "",
-                error: "",
-                note: "",
-                margin: "",
-                end: "",
-            }
+            style: Style::new(colored, terminal.columns),
         }
     }
 }

@@ -10,23 +10,36 @@ use std::alloc::{AllocError, Global};
 use std::io::{Read, Write};
 use std::rt::Files;
 
+/// What was read of files.
+#[derive(Drop)]
+pub struct ReadFiles {
+    /// Their texts, if each of them has one.
+    pub texts: Option<Vec<String>>,
+    /// Those that have none, as lines call them.
+    pub unreadable: Vec<String>,
+}
+
 /// The texts of these files, if all of them have one. What is wrong with the others is said.
-pub fn texts_of<R: Files + AllocGlobal, I: Read, F: Write>(
+pub fn read_files<R: Files + AllocGlobal, I: Read, F: Write>(
     rt: &R,
     paths: &[&str],
     input: &mut I,
     faults: &mut F,
-) -> Result<Option<Vec<String>>, Fault> {
+) -> Result<ReadFiles, Fault> {
     let mut texts = Vec::new(rt.alloc());
+    let mut unreadable = Vec::new(rt.alloc());
     for path in paths {
-        if let Some(text) = text_or_said(rt, path, input, faults)? {
-            texts.push(text)?;
+        match text_or_said(rt, path, input, faults)? {
+            Some(text) => texts.push(text)?,
+            None => unreadable.push(String::from_str(rt.alloc(), shown_path(path))?)?,
         }
     }
-    if texts.len() < paths.len() {
-        return Ok(None);
-    }
-    Ok(Some(texts))
+    let texts = if unreadable.is_empty() {
+        Some(texts)
+    } else {
+        None
+    };
+    Ok(ReadFiles { texts, unreadable })
 }
 
 /// The texts with their paths, behind the definitions that every schema has.

@@ -1,15 +1,15 @@
 //! A schema that is validated for itself.
 
-use crate::accounts::{Account, Whole};
+use crate::accounts::{Account, Extent, Whole};
 use crate::bounds::OF_SCHEMA;
 use crate::faults::Fault;
 use crate::presentations::Presentation;
-use crate::schema_files::{named_schema, texts_of};
+use crate::schema_files::{ReadFiles, named_schema, read_files};
 use crate::statuses::Status;
 use graphql_frontend::{Reports, SchemaReading, read_schema};
 use graphql_report_formats::named_texts::{NamedText, Subject};
 use graphql_report_formats::schema_texts::{schema_subject, sources_of};
-use std::alloc::Global;
+use std::alloc::{AllocError, Global};
 use std::io::{Read, Write};
 use std::mem;
 use std::rt::Files;
@@ -23,8 +23,9 @@ pub fn check_schema<'a, R: Files + AllocGlobal, I: Read, O: Write, F: Write>(
     output: &mut O,
     faults: &mut F,
 ) -> Result<Status, Fault> {
-    let Some(texts) = texts_of(rt, paths, input, faults)? else {
-        return Ok(Status::Unreadable);
+    let ReadFiles { texts, unreadable } = read_files(rt, paths, input, faults)?;
+    let Some(texts) = texts else {
+        return end_unread(rt.alloc(), unreadable, presentation, output, faults);
     };
     let named = named_schema(rt.alloc(), paths, &texts)?;
     check_texts(rt.alloc(), &named, presentation, output, faults)
@@ -43,11 +44,11 @@ fn check_texts<O: Write, F: Write>(
         SchemaReading::Accepted(schema) => {
             // The process ends here, and its memory is freed at once, not part by part.
             mem::forget(schema);
-            accept(alloc, presentation, output, faults)
+            accept(alloc, named, presentation, output, faults)
         }
         SchemaReading::Rejected(reports) => {
             let subject = schema_subject(named, &sources);
-            reject(alloc, &reports, subject, presentation, output, faults)
+            reject(alloc, reports, subject, presentation, output, faults)
         }
         SchemaReading::LacksIntrospection => Err(Fault::LacksIntrospection),
     }
@@ -56,25 +57,63 @@ fn check_texts<O: Write, F: Write>(
 /// Ends a run that has nothing to report of a schema.
 fn accept<O: Write, F: Write>(
     alloc: Global,
+    named: &[NamedText<'_>],
     presentation: Presentation,
     output: &mut O,
     faults: &mut F,
 ) -> Result<Status, Fault> {
-    Account::new(alloc, presentation)?.end(alloc, Whole::Schema, output, faults)?;
+    let mut account = Account::new(alloc, presentation)?;
+    pass_own(&mut account, named)?;
+    account.end(alloc, extent_of(named), output, faults)?;
     Ok(Status::Accepted)
+}
+
+/// Nothing is reported of the files of a user, which come behind the definitions that every schema has.
+fn pass_own(account: &mut Account<'_>, named: &[NamedText<'_>]) -> Result<(), AllocError> {
+    for text in named.iter().skip(1) {
+        account.pass(text.path)?;
+    }
+    Ok(())
+}
+
+/// A schema of these texts, the first of which has the definitions that every schema has.
+fn extent_of(named: &[NamedText<'_>]) -> Extent {
+    Extent {
+        whole: Whole::Schema,
+        schema_files: named.len().saturating_sub(1),
+    }
 }
 
 /// Ends a run with the reports of a schema.
 pub fn reject<O: Write, F: Write>(
     alloc: Global,
-    reports: &Reports,
+    reports: Reports,
     subject: Subject<'_>,
     presentation: Presentation,
     output: &mut O,
     faults: &mut F,
 ) -> Result<Status, Fault> {
     let mut account = Account::new(alloc, presentation)?;
-    account.report(alloc, reports, subject, OF_SCHEMA, output)?;
-    account.end(alloc, Whole::Schema, output, faults)?;
+    let reports = [reports];
+    account.report(alloc, reports.as_slice(), subject, OF_SCHEMA, output)?;
+    account.end(alloc, extent_of(subject.texts), output, faults)?;
     Ok(Status::Reported)
+}
+
+/// Ends a run whose schema cannot be read, since these files cannot.
+pub fn end_unread<O: Write, F: Write>(
+    alloc: Global,
+    unreadable: Vec<String>,
+    presentation: Presentation,
+    output: &mut O,
+    faults: &mut F,
+) -> Result<Status, Fault> {
+    let mut account = Account::new(alloc, presentation)?;
+    account.add_all_unreadable(unreadable)?;
+    let extent = Extent {
+        whole: Whole::Schema,
+        schema_files: 0,
+    };
+    account.end(alloc, extent, output, faults)?;
+    Ok(Status::Unreadable)
 }

@@ -7,18 +7,17 @@ use crate::faults::{Fault, fault_of_output};
 use crate::json_lines::print_line;
 use crate::lines::{ReadLine, read_line};
 use crate::questions::{Question, QuestionError};
-use crate::schema_files::{named_schema, texts_of};
+use crate::schema_files::{ReadFiles, named_schema, read_files};
 use crate::sources::explain_input;
 use crate::statuses::Status;
 use graphql_documents::documents::Schema;
-use graphql_frontend::{
-    Reports, SchemaReading, SourceText, read_schema, shown_reports, validate_document,
-};
+use graphql_frontend::{Reports, SchemaReading, SourceText, read_schema, validate_document};
 use graphql_nodes::FileId;
 use graphql_parser::Bounds;
 use graphql_report_formats::json_format::{add_reports, begin_errors};
 use graphql_report_formats::named_texts::{CountedSubject, NamedText, Subject};
 use graphql_report_formats::schema_texts::{schema_subject, sources_of};
+use graphql_shown_reports::shown_reports;
 use json::{Scratch, Writer};
 use std::alloc::{AllocError, Global};
 use std::io;
@@ -48,7 +47,8 @@ pub fn serve<R: Files + AllocGlobal, I: Read, O: Write, F: Write>(
     output: &mut O,
     faults: &mut F,
 ) -> Result<Status, Fault> {
-    let Some(texts) = texts_of(rt, paths, input, faults)? else {
+    let ReadFiles { texts, .. } = read_files(rt, paths, input, faults)?;
+    let Some(texts) = texts else {
         return Ok(Status::Unreadable);
     };
     let named = named_schema(rt.alloc(), paths, &texts)?;

@@ -1,72 +1,96 @@
 //! Whether texts are GraphQL documents.
 
-ghost use Rattle.std.specs.Prelude.{◌≡◌, ◌↔◌, IsTrue, true, false, Ok};
+ghost use Rattle.std.specs.Prelude.{◌≡◌, ◌↔◌, IsTrue, None, Some, Ok};
+ghost use Rattle.graphql_nodes.specs.declared.spans.FileId.{FileId};
 ghost use Rattle.graphql_parser.specs.Parses.{ParsesDocument};
 ghost use Rattle.graphql_trees.specs.declared.documents.Document.{Document};
 
-use crate::faults::{Fault, fault_of_output};
-use crate::printable::Printable;
+use crate::accounts::{Account, Extent, Whole};
+use crate::check::report_document;
+use crate::faults::Fault;
+use crate::presentations::Presentation;
+use crate::schema_files::named_text;
 use crate::sources::{shown_path, text_or_said};
 use crate::statuses::Status;
-use graphql_nodes::FileId;
+use graphql_frontend::Reports;
+use graphql_frontend::texts::{SourceText, SyntaxReport};
 use graphql_parser::{Bounds, SyntaxError, parse_document};
-use graphql_places::Place;
-use graphql_syntax_messages::refused::refused;
+use graphql_report_formats::named_texts::NamedText;
 use std::alloc::Global;
 use std::io::{Read, Write};
 use std::rt::Files;
 
-/// The number of the one file that is read at a time.
-const FILE: FileId = FileId(1);
-
-/// Tells which of these files are no documents: one that cannot be read does not end the run.
+/// Reports which of these files are no documents. One that cannot be read does not end the run.
 pub fn check_syntax<R: Files + AllocGlobal, I: Read, O: Write, F: Write>(
     rt: &R,
     paths: &[&str],
+    presentation: Presentation,
     input: &mut I,
     output: &mut O,
     faults: &mut F,
 ) -> Result<Status, Fault> {
+    let mut account = Account::new(rt.alloc(), presentation)?;
     let mut status = Status::Accepted;
-    for path in paths {
+    for (position, path) in paths.iter().enumerate() {
         let checked = match text_or_said(rt, path, input, faults)? {
-            Some(text) => status_of(report_syntax(rt.alloc(), path, text.as_str(), output)?),
-            None => Status::Unreadable,
+            Some(text) => {
+                let named = named_text(position, path, text.as_str());
+                check_text(rt.alloc(), named, &mut account, output)?
+            }
+            None => {
+                account.add_unreadable(rt.alloc(), shown_path(path))?;
+                Status::Unreadable
+            }
         };
         status = status.with(checked);
     }
+    let extent = Extent {
+        whole: Whole::Documents(paths.len()),
+        schema_files: 0,
+    };
+    account.end(rt.alloc(), extent, output, faults)?;
     Ok(status)
 }
 
-fn status_of(reported: bool) -> Status {
-    if reported {
-        Status::Reported
-    } else {
-        Status::Accepted
+/// Reports a text that is no document.
+fn check_text<O: Write>(
+    alloc: Global,
+    named: NamedText<'_>,
+    account: &mut Account<'_>,
+    output: &mut O,
+) -> Result<Status, Fault> {
+    match error_of(alloc, named.source)? {
+        None => {
+            account.accept(named.path)?;
+            Ok(Status::Accepted)
+        }
+        Some(error) => {
+            let file_id = named.source.file_id;
+            let mut errors = Vec::new(alloc);
+            errors.push(SyntaxReport { file_id, error })?;
+            let reports = Reports::Syntax(errors);
+            report_document(alloc, reports, named, Bounds::DEFAULT, account, output)?;
+            Ok(Status::Reported)
+        }
     }
 }
 
-/// Prints a line if the text of the file is no document. Whether it did.
-fn report_syntax<O: Write>(
-    alloc: Global,
-    path: &str,
-    text: &str,
-    output: &mut O,
-) -> Result<bool, Fault>
-    ensures accepted { result ≡ Ok false → (tree : Document) × ParsesDocument Bounds.DEFAULT FILE text.now tree }
-    ensures refused { result ≡ Ok true → (tree : Document) → ParsesDocument Bounds.DEFAULT FILE text.now tree → ⊥ }
+/// The error of a text that is no document.
+fn error_of(alloc: Global, source: SourceText<'_>) -> Result<Option<SyntaxError>, Fault>
+    ensures accepted { result ≡ Ok None → (tree : Document) × ParsesDocument Bounds.DEFAULT source.entry.file_id source.entry.text.now tree }
+    ensures refused { (e : SyntaxError) → result ≡ Ok (Some e) →
+        (tree : Document) → ParsesDocument Bounds.DEFAULT source.entry.file_id source.entry.text.now tree → ⊥ }
 {
-    match parse_document(alloc, FILE, text, Bounds::DEFAULT) {
+    match parse_document(alloc, source.file_id, source.text, Bounds::DEFAULT) {
         Ok(document) => {
             drop(document);
-            Ok(false)
+            Ok(None)
         }
         Err(error) => {
             if is_out_of_memory(error) {
                 return Err(Fault::OutOfMemory);
             }
-            print_error(alloc, path, text, error, output)?;
-            Ok(true)
+            Ok(Some(error))
         }
     }
 }
@@ -75,20 +99,4 @@ fn is_out_of_memory(error: SyntaxError) -> bool
     ensures { IsTrue result ↔ (error ≡ SyntaxError.OutOfMemory) }
 {
     matches!(error, SyntaxError::OutOfMemory)
-}
-
-fn print_error<O: Write>(
-    alloc: Global,
-    path: &str,
-    text: &str,
-    error: SyntaxError,
-    output: &mut O,
-) -> Result<(), Fault> {
-    let path = Printable(shown_path(path));
-    let place = Place::of_byte(text, error.at(text).min(text.len()));
-    let line = place.line;
-    let column = place.column;
-    let message = refused(error, text, Bounds::DEFAULT).to_string(alloc)?;
-    let message = Printable(message.as_str());
-    writeln!(output, "{path}:{line}:{column}: error: {message}").map_err(fault_of_output)
 }

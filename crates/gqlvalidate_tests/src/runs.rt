@@ -1,4 +1,5 @@
 use gqlvalidate_commands::command::run;
+use gqlvalidate_commands::terminals::Terminal;
 use std::alloc::Global;
 use std::io::ErrorKind;
 use std::process::Abort;
@@ -9,10 +10,10 @@ use shelf::{Failing, Refusing, Shelf};
 
 /// What a run is to print on standard output and on standard error, and its status.
 #[derive(Clone, Copy)]
-struct Ended<'a> {
-    status: u8,
-    printed: &'a str,
-    said: &'a str,
+pub(crate) struct Ended<'a> {
+    pub(crate) status: u8,
+    pub(crate) printed: &'a str,
+    pub(crate) said: &'a str,
 }
 
 /// The name of a file with characters that control a terminal, the direction of text and the log of a workflow.
@@ -46,6 +47,7 @@ const FILES: &[(&str, &[u8])] = &[
     ),
     ("twice", b"type Query { a: Int }\ntype Query { b: Int }\n"),
     ("rootless", b"type Pet { name: String }\n"),
+    ("a & <b>\"'.graphql", b"type Pet { name: String }\n"),
     ("lists", b"type Query { sum(of: [Int!]): Int }\n"),
     ("misused", b"query($a: Int) { sum(of: [$a]) }\n"),
     ("binary", b"{ a\n \xC3\xA9\xFF }"),
@@ -80,7 +82,12 @@ pub(crate) fn words_of(rt: &impl Abort, alloc: Global, texts: &[&str]) -> Vec<St
 }
 
 /// With these bytes on standard input the words end so.
-fn ends<R: AllocGlobal + Abort>(rt: &R, texts: &[&str], input: &[u8], wanted: Ended<'_>) {
+pub(crate) fn ends<R: AllocGlobal + Abort>(
+    rt: &R,
+    texts: &[&str],
+    input: &[u8],
+    wanted: Ended<'_>,
+) {
     let alloc = rt.alloc();
     let words = Ok(words_of(rt, alloc, texts));
     let mut input = input;
@@ -89,7 +96,7 @@ fn ends<R: AllocGlobal + Abort>(rt: &R, texts: &[&str], input: &[u8], wanted: En
     let status = run(
         &shelf_of(alloc),
         words,
-        false,
+        Terminal::PLAIN,
         &mut input,
         &mut output,
         &mut faults,
@@ -140,14 +147,33 @@ const ACCEPTED: &[(&[&str], &str)] = &[
     ),
     (
         &["check", "--format", "json", "--schema", "schema", "valid"],
-        "{\"errors\":[]}\n",
+        "{\"version\":1,\"findings\":[],\"notShown\":0,\"checked\":{\"schemaFiles\":1,\"documents\":1},\"unreadable\":[]}\n",
     ),
     (
         &["schema", "--format", "json", "schema"],
-        "{\"errors\":[]}\n",
+        "{\"version\":1,\"findings\":[],\"notShown\":0,\"checked\":{\"schemaFiles\":1,\"documents\":0},\"unreadable\":[]}\n",
     ),
     (&["syntax", "schema", "unsupported"], ""),
     (&["--version"], "gqlvalidate 0.1.0\n"),
+    (
+        &["explain", "ReservedName"],
+        "ReservedName: 2.1.9 Name
+
+A name that starts with two underscores is reserved for introspection.
+
+Wrong:
+
+    type Query { __me: Int }
+
+Right:
+
+    type Query { me: Int }
+",
+    ),
+    (
+        &["explain", "MoreReports"],
+        "MoreReports\n\nThere are more reports than are kept.\n",
+    ),
 ];
 
 #[test]
@@ -161,24 +187,31 @@ fn what_holds_is_accepted(rt: HostRuntime) {
 const AS_TEXT: &[(&str, &str)] = &[
     (
         "unsupported",
-        "unsupported:2:14: error: the argument `size` is not supported by `Query.pet`
+        "unsupported:2:14: error: the argument `size` is not supported by `Query.pet` [UndefinedArgument]
   |
 2 |   pet(id: 1, size: 2) {
   |              ^^^^^^^
+schema:1:14: note: `Query.pet` is defined here
+  |
+1 | type Query { pet(id: ID!): Pet }
+  |              ^^^^^^^^^^^^^^^^^
 ",
     ),
     (
         "repeated",
-        "repeated:3:2: error: the argument `id` is provided multiple times
+        "repeated:3:2: error: the argument `id` is provided multiple times [UniqueArgument]
   |
 3 |     id: 2) { name }
   |     ^^^^^
 repeated:2:6: note: first here
+  |
+2 |     pet(id: 1,
+  |         ^^^^^
 ",
     ),
     (
         "unknown",
-        "unknown:1:21: error: type `Pet` does not have a field `colour`
+        "unknown:1:21: error: type `Pet` does not have a field `colour` [UndefinedField]
   |
 1 | { pet(id: 1) { name colour } }
   |                     ^^^^^^
@@ -186,7 +219,7 @@ repeated:2:6: note: first here
     ),
     (
         "unclosed",
-        "unclosed:1:22: error: expected `}`, found the end of the text
+        "unclosed:1:22: error: expected `}`, found the end of the text [Syntax]
   |
 1 | { pet(id: 1) { name }
   |                      ^
@@ -194,10 +227,14 @@ repeated:2:6: note: first here
     ),
     (
         "wide",
-        "wide:1:14: error: the argument `name` is not supported by `Query.pet`
+        "wide:1:14: error: the argument `name` is not supported by `Query.pet` [UndefinedArgument]
   |
 1 | { pet(id: 1, name: \"\u{732b}\u{3042}\") { name } }
   |              ^^^^^^^^^^^^
+schema:1:14: note: `Query.pet` is defined here
+  |
+1 | type Query { pet(id: ID!): Pet }
+  |              ^^^^^^^^^^^^^^^^^
 ",
     ),
 ];
@@ -223,11 +260,14 @@ fn several_files_are_one_document(rt: HostRuntime) {
         "fragment",
     ];
     let printed =
-        "fragment:1:10: error: the fragment `Named` is defined multiple times in the document
+        "fragment:1:10: error: the fragment `Named` is defined multiple times in the document [FragmentNameCollision]
   |
 1 | fragment Named on Pet { name }
   |          ^^^^^
 both:2:10: note: first here
+  |
+2 | fragment Named on Pet { name }
+  |          ^^^^^
 ";
     run_ends(
         &rt,
@@ -243,11 +283,14 @@ both:2:10: note: first here
 fn a_note_names_the_declaration_of_a_variable(rt: HostRuntime) {
     let texts = ["check", "--schema", "lists", "misused"];
     let printed =
-        "misused:1:27: error: variable `$a` of type `Int` used in position expecting type `Int!`
+        "misused:1:27: error: variable `$a` of type `Int` used in position expecting type `Int!` [DisallowedVariableUsage]
   |
 1 | query($a: Int) { sum(of: [$a]) }
   |                           ^^
-misused:1:7: note: the variable is declared here
+misused:1:7: note: `$a` of type `Int` is defined here
+  |
+1 | query($a: Int) { sum(of: [$a]) }
+  |       ^^^^^^^
 ";
     run_ends(
         &rt,
@@ -264,7 +307,7 @@ fn colours_are_escape_sequences(rt: HostRuntime) {
         "check", "--color", "always", "--schema", "schema", "unclosed",
     ];
     let printed =
-        "\x1b[1munclosed:1:22:\x1b[0m \x1b[1;31merror:\x1b[0m \x1b[1mexpected `}`, found the end of the text\x1b[0m
+        "\x1b[1munclosed:1:22:\x1b[0m \x1b[1;31merror:\x1b[0m \x1b[1mexpected `}`, found the end of the text\x1b[0m [Syntax]
   \x1b[1;34m|\x1b[0m
 \x1b[1;34m1 |\x1b[0m { pet(id: 1) { name }
   \x1b[1;34m|\x1b[0m                      \x1b[1;31m^\x1b[0m
@@ -361,7 +404,7 @@ fn a_document_may_nest_as_deep_as_the_words_say(rt: HostRuntime) {
     let deep = ["check", "--max-depth", "2", "--schema", "schema", "valid"];
     run_ends(&rt, deep.as_slice(), 0, "", "");
     let words = ["check", "--max-depth", "1", "--schema", "schema", "valid"];
-    let printed = "valid:1:14: error: more than 1 levels of brackets and braces
+    let printed = "valid:1:14: error: more than 1 levels of brackets and braces [Syntax]
   |
 1 | { pet(id: 1) { name } }
   |              ^
@@ -384,14 +427,18 @@ fn no_question_is_answered_by_a_schema_that_does_not_hold(rt: HostRuntime) {
     run_ends(&rt, &["serve", "--schema", "twice"], 1, printed, "");
 }
 
-const AS_JSON: &str = "{\"errors\":[\
-    {\"message\":\"the argument `size` is not supported by `Query.pet`\",\
-    \"locations\":[{\"line\":2,\"column\":14}],\
-    \"extensions\":{\"file\":\"unsupported\",\"rule\":\"UndefinedArgument\",\"span\":{\"start\":21,\"end\":28}}},\
-    {\"message\":\"the argument `id` is provided multiple times\",\
-    \"locations\":[{\"line\":3,\"column\":2},{\"line\":2,\"column\":6}],\
-    \"extensions\":{\"file\":\"repeated\",\"rule\":\"UniqueArgument\",\"span\":{\"start\":16,\"end\":21}}}\
-    ]}\n";
+const AS_JSON: &str = "{\"version\":1,\"findings\":[\
+    {\"file\":\"unsupported\",\"rule\":\"UndefinedArgument\",\"severity\":\"error\",\
+    \"message\":\"the argument `size` is not supported by `Query.pet`\",\
+    \"span\":{\"start\":{\"line\":2,\"column\":14,\"byte\":21},\"end\":{\"line\":2,\"column\":21,\"byte\":28}},\
+    \"related\":[{\"file\":\"schema\",\"message\":\"`Query.pet` is defined here\",\
+    \"span\":{\"start\":{\"line\":1,\"column\":14,\"byte\":13},\"end\":{\"line\":1,\"column\":31,\"byte\":30}}}],\"help\":[]},\
+    {\"file\":\"repeated\",\"rule\":\"UniqueArgument\",\"severity\":\"error\",\
+    \"message\":\"the argument `id` is provided multiple times\",\
+    \"span\":{\"start\":{\"line\":3,\"column\":2,\"byte\":16},\"end\":{\"line\":3,\"column\":7,\"byte\":21}},\
+    \"related\":[{\"file\":\"repeated\",\"message\":\"first here\",\
+    \"span\":{\"start\":{\"line\":2,\"column\":6,\"byte\":7},\"end\":{\"line\":2,\"column\":11,\"byte\":12}}}],\"help\":[]}\
+    ],\"notShown\":0,\"checked\":{\"schemaFiles\":1,\"documents\":3},\"unreadable\":[]}\n";
 
 #[test]
 fn a_run_is_one_object(rt: HostRuntime) {
@@ -425,7 +472,7 @@ fn a_report_is_one_annotation(rt: HostRuntime) {
         "unsupported",
     ];
     let line =
-        "::error file=unsupported,line=2,endLine=2,col=14,endColumn=21,title=UndefinedArgument::the argument `size` is not supported by `Query.pet`\n";
+        "::error file=unsupported,line=2,endLine=2,col=14,endColumn=21,title=UndefinedArgument::the argument `size` is not supported by `Query.pet`%0Aschema:1:14: note: `Query.pet` is defined here\n";
     run_ends(
         &rt,
         texts.as_slice(),
@@ -439,16 +486,19 @@ fn a_report_is_one_annotation(rt: HostRuntime) {
 const SCHEMAS: &[(&str, &str)] = &[
     (
         "twice",
-        "twice:2:6: error: the type `Query` is defined multiple times in the schema
+        "twice:2:6: error: the type `Query` is defined multiple times in the schema [TypeDefinitionCollision]
   |
 2 | type Query { b: Int }
   |      ^^^^^
 twice:1:6: note: first here
+  |
+1 | type Query { a: Int }
+  |      ^^^^^
 ",
     ),
     (
         "rootless",
-        "rootless: error: missing query root operation type in schema definition\n",
+        "rootless: error: missing query root operation type in schema definition [QueryRootOperationType]\n",
     ),
 ];
 
@@ -476,7 +526,7 @@ const CUT: &[&str] = &[
 
 #[test]
 fn what_is_not_shown_is_counted(rt: HostRuntime) {
-    let printed = "unclosed:1:22: error: expected `}`, found the end of the text
+    let printed = "unclosed:1:22: error: expected `}`, found the end of the text [Syntax]
   |
 1 | { pet(id: 1) { name }
   |                      ^
@@ -485,37 +535,81 @@ fn what_is_not_shown_is_counted(rt: HostRuntime) {
     run_ends(&rt, CUT, 1, printed, said);
 }
 
-/// Texts on standard input, and the line that `syntax` prints of them.
+/// Texts on standard input, and what `syntax` prints of them.
 const REFUSED: &[(&str, &str)] = &[
     (
         "",
-        "<stdin>:1:1: error: expected a definition, found the end of the text\n",
+        "<stdin>:1:1: error: expected a definition, found the end of the text [Syntax]
+  |
+1 | 
+  | ^
+",
     ),
     (
         "{ a\n  \u{e9} }",
-        "<stdin>:2:3: error: unexpected character `\u{e9}`\n",
+        "<stdin>:2:3: error: unexpected character `\u{e9}` [Syntax]
+  |
+2 |   \u{e9} }
+  |   ^
+",
     ),
     (
         "{ a(b: \u{7}) }",
-        "<stdin>:1:8: error: unexpected character U+0007\n",
+        "<stdin>:1:8: error: unexpected character U+0007 [Syntax]
+  |
+1 | { a(b: \u{fffd}) }
+  |        ^
+",
     ),
-    ("{ a(b: 01) }", "<stdin>:1:8: error: invalid number\n"),
-    ("{ a(b: \"c) }", "<stdin>:1:8: error: invalid string\n"),
+    (
+        "{ a(b: 01) }",
+        "<stdin>:1:8: error: invalid number [Syntax]
+  |
+1 | { a(b: 01) }
+  |        ^
+  = help: a number has no zeros before its first digit
+",
+    ),
+    (
+        "{ a(b: \"c) }",
+        "<stdin>:1:8: error: invalid string [Syntax]
+  |
+1 | { a(b: \"c) }
+  |        ^
+  = help: the string has no closing quote on this line
+",
+    ),
     (
         "{ a } \"\u{e9}\" }",
-        "<stdin>:1:11: error: expected a type system definition, found `}`\n",
+        "<stdin>:1:11: error: expected a type system definition, found `}` [Syntax]
+  |
+1 | { a } \"\u{e9}\" }
+  |           ^
+",
     ),
     (
         "fragment on",
-        "<stdin>:1:10: error: expected a fragment name, found `on`\n",
+        "<stdin>:1:10: error: expected a fragment name, found `on` [Syntax]
+  |
+1 | fragment on
+  |          ^^
+",
     ),
     (
         "{ a } aaaaaaaaaabbbbbbbbbbccccccccccddddddddddeeee",
-        "<stdin>:1:7: error: expected a definition, found `aaaaaaaaaabbbbbbbbbbccccccccccdddddddddd`\n",
+        "<stdin>:1:7: error: expected a definition, found `aaaaaaaaaabbbbbbbbbbccccccccccdddddddddd` [Syntax]
+  |
+1 | { a } aaaaaaaaaabbbbbbbbbbccccccccccddddddddddeeee
+  |       ^^^^^^^^^^^^^^^^^^^^^^^^^^^^^^^^^^^^^^^^^^^^
+",
     ),
     (
         "{ \"\"\"a\nb\"\"\" }",
-        "<stdin>:1:3: error: expected a selection, found `\"\"\"a`\n",
+        "<stdin>:1:3: error: expected a selection, found `\"\"\"a` [Syntax]
+  |
+1 | { \"\"\"a
+  |   ^^^^
+",
     ),
 ];
 
@@ -525,7 +619,7 @@ fn what_is_no_document_is_said(rt: HostRuntime) {
         let wanted = Ended {
             status: 1,
             printed,
-            said: "",
+            said: "1 report in 1 of 1 document\n",
         };
         ends(&rt, &["syntax", "-"], text.as_bytes(), wanted);
     }
@@ -534,22 +628,22 @@ fn what_is_no_document_is_said(rt: HostRuntime) {
 /// Words of runs with a file that cannot be read, what they print, and what they say.
 const UNREADABLE: &[(&[&str], &str, &str)] = &[
     (
-        &["syntax", "missing", "-"],
-        "<stdin>:1:1: error: expected a definition, found the end of the text\n",
-        "missing: error: entity not found\n",
+        &["syntax", "--format", "github", "missing", "-"],
+        "::error file=<stdin>,line=1,endLine=1,col=1,endColumn=1,title=Syntax::expected a definition, found the end of the text\n::error file=missing,title=Unreadable::the file could not be read\n",
+        "missing: error: entity not found\n1 report in 1 of 2 documents\n",
     ),
     (
         &[
             "check", "--format", "json", "--schema", "schema", "binary", "valid",
         ],
-        "{\"errors\":[]}\n",
+        "{\"version\":1,\"findings\":[],\"notShown\":0,\"checked\":{\"schemaFiles\":1,\"documents\":1},\"unreadable\":[\"binary\"]}\n",
         "binary:2:3: error: not UTF-8\n",
     ),
     (
         &[
             "check", "--format", "github", "--schema", "schema", "missing", "unclosed",
         ],
-        "::error file=unclosed,line=1,endLine=1,col=22,endColumn=22,title=Syntax::expected `}`, found the end of the text\n",
+        "::error file=unclosed,line=1,endLine=1,col=22,endColumn=22,title=Syntax::expected `}`, found the end of the text\n::error file=missing,title=Unreadable::the file could not be read\n",
         "missing: error: entity not found\n1 report in 1 of 2 documents\n",
     ),
     (
@@ -578,6 +672,8 @@ fn other_documents_are_checked_behind_one_that_cannot_be_read(rt: HostRuntime) {
 fn bad_arguments_are_refused(rt: HostRuntime) {
     let said = "error: standard input, `-`, is named more than once\n";
     run_ends(&rt, &["syntax", "-", "-"], 2, "", said);
+    let said = "error: no rule has the name `Reserved`; `gqlvalidate explain` lists all rules\n";
+    run_ends(&rt, &["explain", "Reserved"], 2, "", said);
 }
 
 /// The words, whose standard input fails in this way, end with this status.
@@ -590,7 +686,7 @@ fn fails<R: AllocGlobal + Abort>(rt: &R, texts: &[&str], kind: ErrorKind, status
     let ended = run(
         &shelf_of(alloc),
         words,
-        false,
+        Terminal::PLAIN,
         &mut input,
         &mut output,
         &mut faults,
@@ -629,7 +725,14 @@ fn a_failed_write_ends_the_run(rt: HostRuntime) {
         let mut input: &[u8] = b"";
         let mut faults = Vec::new(rt.alloc());
         let files = shelf_of(rt.alloc());
-        let ended = run(&files, words, false, &mut input, &mut Refusing, &mut faults);
+        let ended = run(
+            &files,
+            words,
+            Terminal::PLAIN,
+            &mut input,
+            &mut Refusing,
+            &mut faults,
+        );
         assert_eq!(rt; ended.number(), 4);
         assert!(rt; faults.is_empty());
     }
@@ -640,7 +743,7 @@ const CONTROLLED: &[(&[&str], u8, &str, &str)] = &[
     (
         &["check", "--schema", "schema", CONTROLLING],
         1,
-        "\u{fffd}[2J\u{fffd}\u{fffd}\u{fffd}::error:::1:23: error: type `Pet` does not have a field `colour`
+        "\u{fffd}[2J\u{fffd}\u{fffd}\u{fffd}::error:::1:23: error: type `Pet` does not have a field `colour` [UndefinedField]
   |
 1 | { pet(id: \"\u{fffd}\") { name colour } }
   |                       ^^^^^^
@@ -670,17 +773,20 @@ const CONTROLLED: &[(&[&str], u8, &str, &str)] = &[
             CONTROLLING,
         ],
         1,
-        "{\"errors\":[{\"message\":\"type `Pet` does not have a field `colour`\",\"locations\":[{\"line\":1,\"column\":23}],\"extensions\":{\"file\":\"\\u001b[2J\\u009b\\u202e\\n::error::\",\"rule\":\"UndefinedField\",\"span\":{\"start\":24,\"end\":30}}}]}\n",
+        "{\"version\":1,\"findings\":[{\"file\":\"\\u001b[2J\\u009b\\u202e\\n::error::\",\"rule\":\"UndefinedField\",\"severity\":\"error\",\"message\":\"type `Pet` does not have a field `colour`\",\"span\":{\"start\":{\"line\":1,\"column\":23,\"byte\":24},\"end\":{\"line\":1,\"column\":29,\"byte\":30}},\"related\":[],\"help\":[]}],\"notShown\":0,\"checked\":{\"schemaFiles\":1,\"documents\":1},\"unreadable\":[]}\n",
         "1 report in 1 of 1 document\n",
     ),
     (
         &["check", "--schema", "deferring", "labels"],
         1,
-        "labels:3:19: error: the label \"\u{fffd}\u{fffd}\" of @defer is used multiple times
+        "labels:3:19: error: the label \"\u{fffd}\u{fffd}\" of @defer is used multiple times [DuplicateDeferLabel]
   |
 3 | ... @defer(label: \"\\u009b\\u202e\") { a }
   |                   ^^^^^^^^^^^^^^
 labels:2:19: note: first here
+  |
+2 | ... @defer(label: \"\\u009b\\u202e\") { a }
+  |                   ^^^^^^^^^^^^^^
 ",
         "1 report in 1 of 1 document\n",
     ),
@@ -710,7 +816,7 @@ fn refused_words_control_nothing(rt: HostRuntime) {
     let status = run(
         &shelf_of(alloc),
         words,
-        false,
+        Terminal::PLAIN,
         &mut input,
         &mut output,
         &mut faults,

@@ -5,7 +5,12 @@ use std::process::Abort;
 
 /// Words, and what they ask for as its `Debug` shows it, or what is wrong with them.
 const READ: &[(&[&str], &str)] = &[
-    (&["syntax", "a", "-"], "Syntax { files: [\"a\", \"-\"] }"),
+    (
+        &["syntax", "a", "-"],
+        "Syntax { files: [\"a\", \"-\"], reporting: Reporting { format: Text, color: Auto, max_reports: 100 } }",
+    ),
+    (&["explain"], "Explain { rule: None }"),
+    (&["explain", "Syntax"], "Explain { rule: Some(\"Syntax\") }"),
     (
         &["check", "--schema", "s", "a", "--schema=t", "b"],
         "Check { schema: [\"s\", \"t\"], documents: [\"a\", \"b\"], one_document: false, limits: Limits { depth: 500, reach: 64, work: 160000000 }, reporting: Reporting { format: Text, color: Auto, max_reports: 100 } }",
@@ -19,12 +24,28 @@ const READ: &[(&[&str], &str)] = &[
         "Schema { schema: [\"s\"], reporting: Reporting { format: Github, color: Never, max_reports: 18446744073709551615 } }",
     ),
     (
+        &["schema", "--format", "sarif", "s"],
+        "Schema { schema: [\"s\"], reporting: Reporting { format: Sarif, color: Auto, max_reports: 18446744073709551615 } }",
+    ),
+    (
+        &["schema", "--format", "junit", "s"],
+        "Schema { schema: [\"s\"], reporting: Reporting { format: Junit, color: Auto, max_reports: 18446744073709551615 } }",
+    ),
+    (
+        &["schema", "--format", "checkstyle", "s"],
+        "Schema { schema: [\"s\"], reporting: Reporting { format: Checkstyle, color: Auto, max_reports: 18446744073709551615 } }",
+    ),
+    (
+        &["schema", "--format", "gitlab", "s"],
+        "Schema { schema: [\"s\"], reporting: Reporting { format: Gitlab, color: Auto, max_reports: 18446744073709551615 } }",
+    ),
+    (
         &["check", "--schema", "-", "-"],
         "error: standard input, `-`, is named more than once\n",
     ),
     (
         &["schema", "--format", "xml", "s"],
-        "error: invalid value 'xml' for '--format <FORMAT>'\n  [possible values: text, json, github]\n\nFor more information, try '--help'.\n",
+        "error: invalid value 'xml' for '--format <FORMAT>'\n  [possible values: text, json, github, sarif, junit, checkstyle, gitlab]\n\nFor more information, try '--help'.\n",
     ),
     (
         &[

@@ -24,12 +24,16 @@ pub const MAX_WORK: &str = "max-work";
 
 pub const MAX_LINE: &str = "max-line";
 
+pub const RULE: &str = "rule";
+
 /// The names of the commands.
 pub const CHECK: &str = "check";
 
 pub const SERVE: &str = "serve";
 
 pub const SYNTAX: &str = "syntax";
+
+pub const EXPLAIN: &str = "explain";
 
 /// The names of the formats.
 pub const TEXT: &str = "text";
@@ -38,7 +42,15 @@ pub const JSON: &str = "json";
 
 pub const GITHUB: &str = "github";
 
-static FORMATS: [&str; 3] = [TEXT, JSON, GITHUB];
+pub const SARIF: &str = "sarif";
+
+pub const JUNIT: &str = "junit";
+
+pub const CHECKSTYLE: &str = "checkstyle";
+
+pub const GITLAB: &str = "gitlab";
+
+static FORMATS: [&str; 7] = [TEXT, JSON, GITHUB, SARIF, JUNIT, CHECKSTYLE, GITLAB];
 
 /// When text is coloured.
 pub const AUTO: &str = "auto";
@@ -72,7 +84,8 @@ pub fn program<'a>(alloc: Global) -> Result<Command<'a>, Error> {
     let with_check = program.subcommand(check(alloc)?)?;
     let with_schema = with_check.subcommand(schema(alloc)?)?;
     let with_serve = with_schema.subcommand(serve(alloc)?)?;
-    Ok(with_serve.subcommand(syntax(alloc)?)?)
+    let with_syntax = with_serve.subcommand(syntax(alloc)?)?;
+    Ok(with_syntax.subcommand(explain(alloc)?)?)
 }
 
 fn check<'a>(alloc: Global) -> Result<Command<'a>, Error> {
@@ -118,7 +131,15 @@ fn syntax<'a>(alloc: Global) -> Result<Command<'a>, Error> {
     let command = Command::new(alloc, SYNTAX)
         .about("Checks the grammar of files, whether documents or schemas")
         .after_help(STATUSES);
+    let command = with_reporting(alloc, command)?;
     Ok(command.arg(files(alloc, "FILE", "Files to check, each on its own"))?)
+}
+
+fn explain<'a>(alloc: Global) -> Result<Command<'a>, Error> {
+    let command = Command::new(alloc, EXPLAIN).about(
+        "Explains a rule, with a wrong and a right example, or lists all rules",
+    );
+    Ok(command.arg(rule(alloc))?)
 }
 
 fn with_reporting<'a>(alloc: Global, command: Command<'a>) -> Result<Command<'a>, Error> {
@@ -171,6 +192,13 @@ fn one_document<'a>(alloc: Global) -> Arg<'a> {
         .long(ONE_DOCUMENT)
         .help("Treat all files as one document, so that they can share fragments")
         .action(ArgAction::SetTrue)
+}
+
+fn rule<'a>(alloc: Global) -> Arg<'a> {
+    Arg::new(alloc, RULE)
+        .value_name("RULE")
+        .help("The name of the rule, as reports have it in brackets or as `rule`")
+        .action(ArgAction::Set)
 }
 
 fn max_depth<'a>(alloc: Global) -> Arg<'a> {

@@ -1,8 +1,9 @@
 //! From words to a request.
 
 use crate::commands::{
-    ALWAYS, CHECK, COLOR, FILES, FORMAT, GITHUB, JSON, MAX_DEPTH, MAX_LINE, MAX_REACH, MAX_REPORTS,
-    MAX_WORK, NEVER, ONE_DOCUMENT, SCHEMA, SERVE, SYNTAX, program,
+    ALWAYS, CHECK, CHECKSTYLE, COLOR, EXPLAIN, FILES, FORMAT, GITHUB, GITLAB, JSON, JUNIT,
+    MAX_DEPTH, MAX_LINE, MAX_REACH, MAX_REPORTS, MAX_WORK, NEVER, ONE_DOCUMENT, RULE, SARIF,
+    SCHEMA, SERVE, SYNTAX, program,
 };
 use crate::requests::{Color, Format, Limits, Refusal, Reporting, Request, STANDARD_INPUT};
 use clap::error::ErrorKind;
@@ -80,7 +81,14 @@ fn request_of<'a>(
             max_reports: given.get_one::<usize>(MAX_REPORTS).unwrap_or(usize::MAX),
         })
     } else if command == SYNTAX {
-        Ok(Request::Syntax { files })
+        Ok(Request::Syntax {
+            files,
+            reporting: reporting(given),
+        })
+    } else if command == EXPLAIN {
+        Ok(Request::Explain {
+            rule: given.get_str(RULE),
+        })
     } else {
         Ok(Request::Schema {
             schema: files,
@@ -118,6 +126,10 @@ fn format_of(name: Option<&str>) -> Format {
     match name {
         Some(name) if name == JSON => Format::Json,
         Some(name) if name == GITHUB => Format::Github,
+        Some(name) if name == SARIF => Format::Sarif,
+        Some(name) if name == JUNIT => Format::Junit,
+        Some(name) if name == CHECKSTYLE => Format::Checkstyle,
+        Some(name) if name == GITLAB => Format::Gitlab,
         _ => Format::Text,
     }
 }

@@ -17,6 +17,14 @@ pub enum Format {
     Json,
     /// Workflow commands of GitHub Actions, which makes annotations of them.
     Github,
+    /// A log of the Static Analysis Results Interchange Format.
+    Sarif,
+    /// The XML of JUnit.
+    Junit,
+    /// The XML of Checkstyle.
+    Checkstyle,
+    /// A code quality report of GitLab.
+    Gitlab,
 }
 
 /// When text is coloured.
@@ -64,7 +72,7 @@ fn most_of(format: Format) -> usize
 {
     match format {
         Format::Text => TEXT_REPORTS,
-        Format::Json | Format::Github => usize::MAX,
+        _ => usize::MAX,
     }
 }
 
@@ -108,6 +116,11 @@ pub enum Request<'a> {
     /// To test whether these files are GraphQL documents, each for itself.
     Syntax {
         files: Vec<&'a str>,
+        reporting: Reporting,
+    },
+    /// To explain the rule of this name, or to list all rules.
+    Explain {
+        rule: Option<&'a str>,
     },
 }
 

@@ -9,13 +9,13 @@ use Rattle.graphql_report_formats.specs.JsonReports.{errors_object}
 use Rattle.graphql_report_formats.specs.NamedTexts.{Text}
 use Rattle.graphql_frontend.specs.Documents.{ValidatesDocument}
 use Rattle.graphql_frontend.specs.Schemas.{ReadsSchema}
-use Rattle.graphql_frontend.specs.Shown.{IsShownAs, Shows, listed}
+use Rattle.graphql_shown_reports.specs.Shown.{IsShownAs, Shows, listed}
 use Rattle.graphql_frontend.specs.Texts.{AreTextsOf, IsTextOf}
 use Rattle.graphql_frontend.specs.Verdicts.{Validates}
 use Rattle.graphql_frontend.specs.declared.reports.Reports.{Reports}
 use Rattle.graphql_frontend.specs.declared.schemas.SchemaReading.{SchemaReading}
 use Rattle.graphql_frontend.specs.declared.schemas.SchemaReading.TheVariants.{Accepted, Rejected, LacksIntrospection}
-use Rattle.graphql_frontend.specs.declared.shown.ShownReport.{ShownReport}
+use Rattle.graphql_shown_reports.specs.declared.shown.ShownReport.{ShownReport}
 use Rattle.graphql_frontend.specs.declared.texts.SourceText.{SourceText}
 use Rattle.graphql_frontend.specs.declared.verdicts.Verdict.{Verdict}
 use Rattle.graphql_frontend.specs.declared.verdicts.Verdict.TheVariants as verdict

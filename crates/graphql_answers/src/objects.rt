@@ -3,7 +3,7 @@
 ghost use Rattle.std.specs.Prelude.{◌≡◌, ◌++◌, [], ◌∷◌, IfOk, IsOkUnless, None, codes, map};
 ghost use Rattle.graphql_answers.specs.Answers.{AreErrorsOf, AreFirstErrorsOf, IsErrorOfLack, no_errors, schema_texts, unnamed};
 ghost use Rattle.graphql_answers.specs.Objects.{AppendsOne, IsAnswer};
-ghost use Rattle.graphql_frontend.specs.Shown.{IsShownAs};
+ghost use Rattle.graphql_shown_reports.specs.Shown.{IsShownAs};
 ghost use Rattle.graphql_report_formats.specs.JsonReports.{Appends, errors_object};
 ghost use Rattle.graphql_report_formats.specs.NamedTexts.{named_text, path_of};
 ghost use Rattle.json.specs.Print.{print};
@@ -11,10 +11,11 @@ ghost use Rattle.json.specs.Print.{print};
 use crate::answers::{Answer, Found, Refusal};
 use crate::limits::Limits;
 use crate::texts::{schema_texts, unnamed};
-use graphql_frontend::{Reports, ShownReport, SourceText, shown_reports};
+use graphql_frontend::{Reports, SourceText};
 use graphql_report_formats::json_format;
 use graphql_report_formats::named_texts::{CountedSubject, Subject};
 use graphql_report_formats::schema_texts::BUILT_IN_TEXT;
+use graphql_shown_reports::{ShownReport, shown_copy, shown_reports};
 use json::Writer;
 use std::alloc::{AllocError, Global};
 
@@ -93,7 +94,7 @@ fn lack(alloc: Global) -> Result<ShownReport, AllocError>
     Ok(ShownReport {
         location: None,
         rule: "LacksIntrospection",
-        message: String::from_str(alloc, "the definitions that every schema has are missing")?,
+        message: shown_copy(alloc, "the definitions that every schema has are missing")?,
         original: None,
     })
 }

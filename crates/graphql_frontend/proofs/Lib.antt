@@ -5,6 +5,5 @@ mod MetaFieldLemmas
 mod PlaceLemmas
 mod ReportLemmas
 mod SchemaLemmas
-mod ShownLemmas
 mod TextLemmas
 mod VerdictLemmas

@@ -1,12 +1,9 @@
-pub mod BuildErrorMessages
 pub mod Documents
 pub mod FirstReports
 pub mod Places
-pub mod RuleNames
 pub mod RuleReadings
 pub mod SchemaRuleReadings
 pub mod Schemas
-pub mod Shown
 pub mod Texts
 pub mod Verdicts
 pub mod Work

@@ -240,8 +240,12 @@ fn validate_standalone_tree(
     }
 }
 
-/// Validates a document that was built, unless it nests or reaches more than the bounds say. Its texts have so many bytes.
-fn validate_built(
+/// Validates a document that was built, against the schema or without one: answers that it nests too deep, by the depth of the
+/// bounds; or that its operations reach too much, where its texts have so many bytes; or the rules that it breaks; or nothing.
+/// The only error is a failed allocation.
+///
+/// Specification: 5 Validation.
+pub fn validate_built(
     alloc: Global,
     schema: Option<&Schema>,
     document: &ExecutableDocument,

@@ -12,7 +12,7 @@ use graphql_parser::Bounds;
 use graphql_reporting::ReportList;
 
 /// How much a list of reports keeps, as the bounds say.
-pub(crate) fn report_bound(bounds: Bounds) -> ReportBound
+pub fn report_bound(bounds: Bounds) -> ReportBound
     ensures reports { result.reports ≡ bounds.reports }
     ensures bytes { result.bytes ≡ bounds.report_bytes }
 {

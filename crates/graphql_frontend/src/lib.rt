@@ -2,27 +2,25 @@
 //! finds, and where it reports something the next one does not begin.
 #![tactic(auto)]
 
-pub mod build_error_messages;
 mod document_rules;
 pub mod documents;
-mod first_reports;
+pub mod first_reports;
 mod meta_fields;
 pub mod reports;
-pub mod rule_names;
 mod schema_rules;
 pub mod schemas;
-pub mod shown;
 pub mod texts;
 pub mod verdicts;
 pub mod work;
 
-pub use documents::{validate_document, validate_documents, validate_standalone_document};
+pub use documents::{
+    validate_built, validate_document, validate_documents, validate_standalone_document,
+};
 pub use graphql_nodes::{FileId, SourceSpan, ValidationError};
 pub use graphql_parser::Bounds;
 pub use graphql_schema_building::BUILT_IN_DEFINITIONS;
 pub use reports::{DocumentReports, Reports, SchemaReports};
 pub use schemas::{SchemaReading, read_schema};
-pub use shown::{ShownReport, shown_reports};
 pub use texts::{SourceText, SyntaxReport};
 pub use verdicts::{Verdict, document_source, schema_sources, validate, validate_texts};
 pub use work::WorkReport;

@@ -26,13 +26,13 @@ pub struct SyntaxReport {
 
 /// The documents that texts are, and the errors of those that are none, in order.
 #[derive(Drop)]
-pub(crate) struct Parsed {
-    pub(crate) documents: Vec<Document>,
-    pub(crate) errors: Vec<SyntaxReport>,
+pub struct Parsed {
+    pub documents: Vec<Document>,
+    pub errors: Vec<SyntaxReport>,
 }
 
 /// The seed that is drawn from the texts, one after another.
-pub(crate) fn hash_seed_of(sources: &[SourceText<'_>]) -> HashSeed {
+pub fn hash_seed_of(sources: &[SourceText<'_>]) -> HashSeed {
     let mut digest = DefaultHasher::new();
     for source in sources {
         digest.write(source.text.as_bytes());
@@ -43,7 +43,7 @@ pub(crate) fn hash_seed_of(sources: &[SourceText<'_>]) -> HashSeed {
 /// Parses texts. The only error is a failed allocation.
 ///
 /// Specification: 2.2 Document.
-pub(crate) fn parse_texts(
+pub fn parse_texts(
     alloc: Global,
     sources: &[SourceText<'_>],
     bounds: Bounds,
@@ -91,7 +91,7 @@ fn parse_text(
 }
 
 /// Whether the parser lacked memory.
-pub(crate) fn is_out_of_memory(error: SyntaxError) -> bool
+pub fn is_out_of_memory(error: SyntaxError) -> bool
     ensures { IsTrue result ↔ (error ≡ SyntaxError.OutOfMemory) }
 {
     matches!(error, SyntaxError::OutOfMemory)

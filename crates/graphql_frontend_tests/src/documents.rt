@@ -1,12 +1,11 @@
 ghost use Rattle.graphql_frontend.specs.Schemas.{IsUsable};
 
 use graphql_documents::documents::Schema;
-use graphql_frontend::{
-    Reports, SchemaReading, SourceText, read_schema, shown_reports, validate_documents,
-};
+use graphql_frontend::{Reports, SchemaReading, SourceText, read_schema, validate_documents};
 use graphql_nodes::FileId;
 use graphql_parser::Bounds;
 use graphql_schema_building::BUILT_IN_DEFINITIONS;
+use graphql_shown_reports::shown_reports;
 use std::alloc::Global;
 use std::fmt::Write;
 use std::process::Abort;

@@ -6,6 +6,8 @@ mod bounds;
 #[cfg(test)]
 mod documents;
 #[cfg(test)]
+mod explanations;
+#[cfg(test)]
 mod introspection;
 #[cfg(test)]
 mod limits;

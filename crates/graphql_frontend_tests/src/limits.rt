@@ -1,7 +1,8 @@
-use graphql_frontend::{Reports, SchemaReading, SourceText, read_schema, shown_reports};
+use graphql_frontend::{Reports, SchemaReading, SourceText, read_schema};
 use graphql_nodes::FileId;
 use graphql_parser::Bounds;
 use graphql_schema_building::BUILT_IN_DEFINITIONS;
+use graphql_shown_reports::shown_reports;
 use std::alloc::Global;
 use std::fmt::Write;
 use std::process::Abort;

@@ -2,7 +2,5 @@
 #![tactic(auto)]
 
 pub mod seeds;
-#[cfg(test)]
-mod tests;
 
 pub use seeds::HashSeed;

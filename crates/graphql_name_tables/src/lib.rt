@@ -4,8 +4,6 @@
 pub mod by_name;
 pub mod named;
 pub mod places;
-#[cfg(test)]
-mod tests;
 
 pub use by_name::ByName;
 pub use named::Named;

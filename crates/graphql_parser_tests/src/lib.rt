@@ -10,6 +10,8 @@ mod names;
 #[cfg(test)]
 mod places;
 #[cfg(test)]
+mod strings;
+#[cfg(test)]
 mod texts;
 #[cfg(test)]
 mod tokens;

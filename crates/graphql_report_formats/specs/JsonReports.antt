@@ -2,7 +2,7 @@
 use Rattle.std.specs.Prelude.{◌≡◌, ◌==◌, ℕ, List, [], ◌∷◌, ◌++◌, Option, None, Some, OnOk, Result, codes, decimal, flat_map, string_bytes, if◌then◌else◌}
 use Rattle.json.specs.Token.{Token, begin_array, begin_object, end_array, end_object, key, number, string}
 use Rattle.json.specs.Written.{Written}
-use Rattle.graphql_frontend.specs.declared.shown.ShownReport.{ShownReport}
+use Rattle.graphql_shown_reports.specs.declared.shown.ShownReport.{ShownReport}
 use Rattle.graphql_places.specs.declared.Place.{Place}
 use Rattle.graphql_report_formats.specs.NamedTexts.{Part, Text, part_at}
 

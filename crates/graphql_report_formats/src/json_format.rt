@@ -7,8 +7,8 @@ ghost use Rattle.graphql_report_formats.specs.JsonReports.{Appends, error, error
 ghost use Rattle.graphql_report_formats.specs.NamedTexts.{part, path_of, texts_of};
 
 use crate::named_texts::{CountedSubject, Located};
-use graphql_frontend::ShownReport;
 use graphql_places::Place;
+use graphql_shown_reports::ShownReport;
 use json::Writer;
 use std::alloc::AllocError;
 

@@ -1,17 +1,18 @@
 //! The arguments of fields and directives.
 
-ghost use Rattle.std.specs.Prelude.{All};
+ghost use Rattle.std.specs.Prelude.{All, IsTrue, OnOk};
 ghost use Rattle.graphql_schema_changes.specs.Keeps.{KeepsArguments};
-ghost use Rattle.graphql_schema_comparison.specs.Comparisons.{Confirms, KeepsArgument, WasRequired};
+ghost use Rattle.graphql_schema_comparison.specs.Breaks.{Finds};
+ghost use Rattle.graphql_schema_comparison.specs.Comparisons.{KeepsArgument, WasRequired, is_owner_given};
 
-use crate::change_list::{ChangeList, Places, both};
+use crate::change_list::{ChangeList, Places};
 use crate::inputs::{Owner, compare_inputs, push_added_input, push_removed_input};
 use graphql_documents::documents::InputValueDefinition;
 use graphql_name_tables::ByName;
 use graphql_nodes::{Node, ValidationError};
 
-/// Finds the changes of the arguments of a field or a directive. Answers whether all that could be given for the old ones can be
-/// given for the new ones.
+/// Finds the changes of the arguments of a field or a directive. If none breaks documents, all that could be given for the old ones can
+/// be given for the new ones.
 ///
 /// Specification: 5.4 Arguments.
 pub(crate) fn compare_arguments(
@@ -20,33 +21,31 @@ pub(crate) fn compare_arguments(
     around: Places,
     old: &[Node<InputValueDefinition>],
     new: &[Node<InputValueDefinition>],
-) -> Result<bool, ValidationError>
-    ensures { Confirms result (KeepsArguments old.now new.now) }
+) -> Result<(), ValidationError>
+    ensures { OnOk result (Finds changes.old changes.new (λ merging. IsTrue (is_owner_given owner.entry) → KeepsArguments old.now new.now)) }
 {
     let alloc = changes.allocator();
     let old_by_name = ByName::new(alloc, changes.hash_seed, old, new.len())?;
     let new_by_name = ByName::new(alloc, changes.hash_seed, new, old.len())?;
-    let keeps_old = compare_old_arguments(changes, owner, around, old, &new_by_name)?;
-    let keeps_new = compare_new_arguments(changes, owner, around, &old_by_name, new)?;
-    Ok(both(keeps_old, keeps_new))
+    compare_old_arguments(changes, owner, around, old, &new_by_name)?;
+    compare_new_arguments(changes, owner, around, &old_by_name, &new_by_name, new)?;
+    Ok(())
 }
 
-/// Whether each old argument is there and takes what it took.
+/// Finds whether each old argument is there and takes what it took.
 fn compare_old_arguments(
     changes: &mut ChangeList,
     owner: Owner<'_>,
     around: Places,
     old: &[Node<InputValueDefinition>],
     new: &ByName<Node<InputValueDefinition>>,
-) -> Result<bool, ValidationError>
-    ensures { Confirms result (All (KeepsArgument new.now) old.now) }
+) -> Result<(), ValidationError>
+    ensures { OnOk result (Finds changes.old changes.new (λ merging. IsTrue (is_owner_given owner.entry) → All (KeepsArgument new.now) old.now)) }
 {
-    let mut keeps = true;
     for argument in old {
-        let keeps_this = compare_old_argument(changes, owner, around, argument, new)?;
-        keeps = both(keeps, keeps_this);
+        compare_old_argument(changes, owner, around, argument, new)?;
     }
-    Ok(keeps)
+    Ok(())
 }
 
 fn compare_old_argument(
@@ -55,34 +54,38 @@ fn compare_old_argument(
     around: Places,
     argument: &Node<InputValueDefinition>,
     new: &ByName<Node<InputValueDefinition>>,
-) -> Result<bool, ValidationError>
-    ensures { Confirms result (KeepsArgument new.now argument.now) }
+) -> Result<(), ValidationError>
+    ensures { OnOk result (Finds changes.old changes.new (λ merging. IsTrue (is_owner_given owner.entry) → KeepsArgument new.now argument.now)) }
 {
     match new.find(&argument.value.name) {
-        Some(new) => compare_inputs(changes, owner, argument, new),
+        Some(new) => {
+            compare_inputs(changes, owner, argument, new)?;
+            Ok(())
+        }
         None => {
             push_removed_input(changes, owner, around, argument)?;
-            Ok(false)
+            Ok(())
         }
     }
 }
 
-/// Whether each new argument that is required was required before.
+/// Finds the arguments that were not there. If no change breaks documents, each new argument that is required was required before, where
+/// each old argument takes what it took.
 fn compare_new_arguments(
     changes: &mut ChangeList,
     owner: Owner<'_>,
     around: Places,
     old: &ByName<Node<InputValueDefinition>>,
+    new_by_name: &ByName<Node<InputValueDefinition>>,
     new: &[Node<InputValueDefinition>],
-) -> Result<bool, ValidationError>
-    ensures { Confirms result (All (WasRequired old.now) new.now) }
+) -> Result<(), ValidationError>
+    ensures { OnOk result (Finds changes.old changes.new (λ merging. IsTrue (is_owner_given owner.entry) →
+        All (KeepsArgument new_by_name.now) old.now → All (WasRequired old.now) new.now)) }
 {
-    let mut keeps = true;
     for argument in new {
-        let keeps_this = compare_new_argument(changes, owner, around, old, argument)?;
-        keeps = both(keeps, keeps_this);
+        compare_new_argument(changes, owner, around, old, new_by_name, argument)?;
     }
-    Ok(keeps)
+    Ok(())
 }
 
 fn compare_new_argument(
@@ -90,12 +93,36 @@ fn compare_new_argument(
     owner: Owner<'_>,
     around: Places,
     old: &ByName<Node<InputValueDefinition>>,
+    new: &ByName<Node<InputValueDefinition>>,
     argument: &Node<InputValueDefinition>,
-) -> Result<bool, ValidationError>
-    ensures { Confirms result (WasRequired old.now argument.now) }
+) -> Result<(), ValidationError>
+    ensures { OnOk result (Finds changes.old changes.new (λ merging. IsTrue (is_owner_given owner.entry) →
+        All (KeepsArgument new.now) old.now → WasRequired old.now argument.now)) }
 {
-    match old.find(&argument.value.name) {
-        Some(old) => Ok(old.value.is_required() || !argument.value.is_required()),
-        None => push_added_input(changes, owner, around, argument),
+    if was_required(old, new, argument) {
+        return Ok(());
+    }
+    push_added_input(changes, owner, around, argument)?;
+    Ok(())
+}
+
+/// Whether an old argument has the name, so that an argument that is required now either was required, or changed, which its old
+/// argument shows.
+fn was_required(
+    old: &ByName<Node<InputValueDefinition>>,
+    new: &ByName<Node<InputValueDefinition>>,
+    argument: &Node<InputValueDefinition>,
+) -> bool
+    ensures { IsTrue result → All (KeepsArgument new.now) old.now → WasRequired old.now argument.now }
+{
+    let Some(old) = old.find(&argument.value.name) else {
+        return false;
+    };
+    if old.value.is_required() || !argument.value.is_required() {
+        return true;
+    }
+    match new.find(&argument.value.name) {
+        Some(new) => new.value.is_required(),
+        None => false,
     }
 }

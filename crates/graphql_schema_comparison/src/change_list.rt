@@ -1,19 +1,13 @@
 //! The changes that are found.
 
-ghost use Rattle.std.specs.Prelude.{IsTrue};
+ghost use Rattle.std.specs.Prelude.{IsFalse, OnOk};
+ghost use Rattle.graphql_schema_comparison.specs.Breaks.{Finds, breaks};
 
 use crate::changes::{Change, SchemaChange};
 use graphql_documents::documents::Schema;
 use graphql_hash_seeds::HashSeed;
 use graphql_nodes::{SourceSpan, ValidationError};
 use std::alloc::Global;
-
-/// Whether both hold. A call keeps what the two say apart for a proof, where `&&` in a loop does not.
-pub(crate) fn both(first: bool, second: bool) -> bool
-    ensures { IsTrue result → IsTrue first × IsTrue second }
-{
-    first && second
-}
 
 /// Two schemas: the old one and the new one.
 #[derive(Clone, Copy)]
@@ -43,7 +37,9 @@ impl ChangeList {
     }
 
     /// Adds a change at the end.
-    pub fn push(&mut self, change: Change, places: Places) -> Result<(), ValidationError> {
+    pub fn push(&mut self, change: Change, places: Places) -> Result<(), ValidationError>
+        ensures { OnOk result (Finds self.old self.new (λ merging. IsFalse (breaks merging change))) }
+    {
         let Places { old, new } = places;
         self.changes.push(SchemaChange { change, old, new })?;
         Ok(())

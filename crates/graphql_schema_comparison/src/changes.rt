@@ -1,7 +1,8 @@
 //! What can differ between two schemas.
 
-ghost use Rattle.std.specs.Prelude.{◌≡◌, IsTrue};
-ghost use Rattle.graphql_schema_comparison.specs.Comparisons.{KindStays, is_in_documents, kind_of};
+ghost use Rattle.std.specs.Prelude.{◌≡◌};
+ghost use Rattle.graphql_schema_comparison.specs.Breaks.{can_become};
+ghost use Rattle.graphql_schema_comparison.specs.Comparisons.{kind_of};
 
 use graphql_coordinates::{
     DirectiveArgumentCoordinate, DirectiveCoordinate, FieldArgumentCoordinate,
@@ -197,7 +198,7 @@ impl TypeKind {
     /// Whether a type of the other kind can stand for one of this kind: each composite type but an object for a union or an
     /// interface, and a custom scalar for an input type.
     pub fn can_become(self, other: TypeKind) -> bool
-        ensures { IsTrue result → KindStays self other }
+        ensures { result ≡ can_become self other }
     {
         match self {
             TypeKind::Object => other == TypeKind::Object,
@@ -211,23 +212,4 @@ impl TypeKind {
             | TypeKind::InputObject => other == self || other == TypeKind::CustomScalar,
         }
     }
-}
-
-/// Whether documents, and not only schemas, can apply a directive at a location.
-///
-/// Specification: 3.13 Directives, ExecutableDirectiveLocation.
-pub fn is_executable_location(location: DirectiveLocation) -> bool
-    ensures { result ≡ is_in_documents location }
-{
-    matches!(
-        location,
-        DirectiveLocation::Query
-            | DirectiveLocation::Mutation
-            | DirectiveLocation::Subscription
-            | DirectiveLocation::Field
-            | DirectiveLocation::FragmentDefinition
-            | DirectiveLocation::FragmentSpread
-            | DirectiveLocation::InlineFragment
-            | DirectiveLocation::VariableDefinition
-    )
 }

@@ -1,7 +1,12 @@
 //! Two schemas, compared.
 
-ghost use Rattle.std.specs.Prelude.{IfOk, IsTrue};
-ghost use Rattle.graphql_schema_changes.specs.Keeps.{KeepsRoots};
+ghost use Rattle.std.specs.Prelude.{◌↔◌, All, Any, Bool, IfOk, IsFalse, IsTrue, false, true};
+ghost use Rattle.std.specs.List.Sorted.{IsPermutation};
+ghost use Rattle.graphql_documents.specs.Built.{StandsUnderOwnNames};
+ghost use Rattle.graphql_document_building.specs.Documents.{HasOutputFields};
+ghost use Rattle.graphql_schema_changes.specs.Keeps.{KeepsDocumentsValid, KeepsLoneFieldsValid, KeepsRoots};
+ghost use Rattle.graphql_schema_comparison.specs.Breaks.{Breaks, IsHarmless};
+ghost use Rattle.graphql_schema_comparison.specs.Comparisons.{KeepsAll};
 
 use crate::change_list::{ChangeList, SchemaPair};
 use crate::changes::SchemaChange;
@@ -25,34 +30,64 @@ pub struct Comparison {
 }
 
 /// Finds what changes from an old schema to a new one. The only error is a failed allocation.
+///
+/// If `keeps_documents` is true, documents stay valid, for schemas that were read: their types are listed under their own names, and
+/// their fields have output types. If `keeps_lone_fields` is true, so do those in which no two fields come together in a response.
+/// If one is false, a change says why.
 pub fn compare_schemas(
     alloc: Global,
     old: &Schema,
     new: &Schema,
 ) -> Result<Comparison, ValidationError>
     ensures roots { IfOk result (λ found. IsTrue found.keeps_lone_fields → KeepsRoots old.now new.now) }
-    ensures documents { IfOk result (λ found. IsTrue found.keeps_documents → IsTrue found.keeps_lone_fields) }
+    ensures lone_fields { IfOk result (λ found. IsTrue found.keeps_lone_fields →
+        StandsUnderOwnNames old.now → StandsUnderOwnNames new.now → HasOutputFields old.now → HasOutputFields new.now → KeepsLoneFieldsValid old.now new.now) }
+    ensures documents { IfOk result (λ found. IsTrue found.keeps_documents →
+        StandsUnderOwnNames old.now → StandsUnderOwnNames new.now → HasOutputFields old.now → HasOutputFields new.now → KeepsDocumentsValid old.now new.now) }
+    ensures fewer { IfOk result (λ found. IsTrue found.keeps_documents → IsTrue found.keeps_lone_fields) }
+    ensures lone_fields_explained { IfOk result (λ found. IsFalse found.keeps_lone_fields ↔ Any (Breaks false) found.changes.items) }
+    ensures explained { IfOk result (λ found. IsFalse found.keeps_documents ↔ Any (Breaks true) found.changes.items) }
 {
     let pair = SchemaPair { old, new };
-    let hash_seed = *new.types.hasher();
+    let changes = find_changes(alloc, pair)?;
+    let breaks_lone_fields = break_documents(&changes, false);
+    let breaks_documents = break_documents(&changes, true);
+    Ok(Comparison {
+        changes,
+        keeps_lone_fields: !breaks_lone_fields,
+        keeps_documents: !breaks_documents,
+    })
+}
+
+/// The changes in order.
+fn find_changes(alloc: Global, pair: SchemaPair<'_>) -> Result<Vec<SchemaChange>, ValidationError>
+    ensures { IfOk result (λ changes. (merging : Bool) → All (IsHarmless merging) changes.items → KeepsAll pair.entry.old.now pair.entry.new.now merging) }
+{
+    let hash_seed = *pair.new.types.hasher();
     let meetings = Meetings::new(alloc, hash_seed, pair)?;
     let mut list = ChangeList {
         changes: Vec::new(alloc),
         hash_seed,
     };
-    let keeps_roots = compare_roots(&mut list, pair)?;
-    let keeps_types = compare_types(&mut list, pair, &meetings)?;
-    let keeps_directives = compare_directives(&mut list, pair)?;
-    let keeps_lone_fields = keeps_roots && keeps_types && keeps_directives;
-    Ok(Comparison {
-        changes: in_order(list.changes)?,
-        keeps_lone_fields,
-        keeps_documents: keeps_lone_fields && meetings.keep_shapes(),
-    })
+    compare_roots(&mut list, pair)?;
+    compare_types(&mut list, pair, &meetings)?;
+    compare_directives(&mut list, pair)?;
+    let changes = in_order(list.changes)?;
+    Ok(changes)
+}
+
+/// Whether one of the changes breaks documents: with merging, some of all; without it, some of those in which no two fields come together
+/// in a response.
+fn break_documents(changes: &[SchemaChange], merging: bool) -> bool
+    ensures { IsTrue result ↔ Any (Breaks merging) changes.now }
+{
+    changes.iter().any(|found| found.change.breaks(merging))
 }
 
 /// The changes by their places in the new schema, and then what was removed, by its places in the old one.
-fn in_order(mut changes: Vec<SchemaChange>) -> Result<Vec<SchemaChange>, ValidationError> {
+fn in_order(mut changes: Vec<SchemaChange>) -> Result<Vec<SchemaChange>, ValidationError>
+    ensures { IfOk result (λ sorted. IsPermutation changes.items sorted.items) }
+{
     changes.sort_by_key(|change| order_of(change))?;
     Ok(changes)
 }

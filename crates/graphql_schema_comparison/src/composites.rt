@@ -1,14 +1,17 @@
 //! The interfaces that types list, and the members of unions.
 
-ghost use Rattle.graphql_documents.specs.Schemas.{IsSubtype};
-ghost use Rattle.graphql_schema_comparison.specs.Comparisons.{Confirms};
+ghost use Rattle.std.specs.Prelude.{◌≡◌, ◌↔◌, All, IsFalse, IsTrue, OnOk};
+ghost use Rattle.graphql_documents.specs.Schemas.{IsSubtype, is_object_type};
+ghost use Rattle.graphql_specification.specs.CollectFields.{AppliesTo};
+ghost use Rattle.graphql_schema_comparison.specs.Breaks.{Adds, Finds, breaks_subscriptions};
+ghost use Rattle.graphql_schema_comparison.specs.Comparisons.{IsObjectOf, KeepsInterfaces, KeepsSubscriptionRootFrom, members_of};
 
 use crate::change_list::{ChangeList, Places, SchemaPair};
 use crate::changes::{Change, Gain};
 use graphql_documents::documents::{ComponentName, ExtendedType, Schema};
-use graphql_nodes::{NamedType, OperationType, ValidationError};
+use graphql_nodes::{NamedType, OperationType, SourceSpan, ValidationError};
 
-/// Finds the changes of the interfaces that a type lists. Answers whether an object is still one of those of each interface.
+/// Finds the changes of the interfaces that a type lists. If none breaks documents, an object is still one of those of each interface.
 ///
 /// Specification: 3.6 Objects; 5.5.2.3 Fragment Spread Is Possible.
 pub(crate) fn compare_interfaces(
@@ -18,10 +21,12 @@ pub(crate) fn compare_interfaces(
     around: Places,
     old: &ExtendedType,
     new: &ExtendedType,
-) -> Result<bool, ValidationError> {
-    let keeps = compare_old_interfaces(changes, pair, ty, around, old, new)?;
+) -> Result<(), ValidationError>
+    ensures { OnOk result (Finds changes.old changes.new (λ merging. KeepsInterfaces pair.entry.new.now ty.now old.now)) }
+{
+    compare_old_interfaces(changes, pair, ty, around, old, new)?;
     find_added_interfaces(changes, pair, ty, around, old, new)?;
-    Ok(keeps)
+    Ok(())
 }
 
 fn compare_old_interfaces(
@@ -31,33 +36,58 @@ fn compare_old_interfaces(
     around: Places,
     old: &ExtendedType,
     new: &ExtendedType,
-) -> Result<bool, ValidationError> {
-    let is_object = matches!(old, ExtendedType::Object(_));
-    let mut keeps = true;
+) -> Result<(), ValidationError>
+    ensures { OnOk result (Finds changes.old changes.new (λ merging. KeepsInterfaces pair.entry.new.now ty.now old.now)) }
+{
+    let is_object = is_object_type(old);
     for listed in old.implements_interfaces() {
-        let is_kept = compare_old_interface(changes, pair, ty, around, listed, new)?;
-        keeps = (is_kept || !is_object) && keeps;
+        compare_old_interface(changes, pair, ty, around, is_object, listed, new)?;
     }
-    Ok(keeps)
+    Ok(())
 }
 
-/// Whether the type is one of those of the interface.
+fn is_object_type(definition: &ExtendedType) -> bool
+    ensures { result ≡ is_object_type definition.now }
+{
+    matches!(definition, ExtendedType::Object(_))
+}
+
+/// Finds whether the type lists the interface, and, if it was an object, is one of those of the interface.
 fn compare_old_interface(
     changes: &mut ChangeList,
     pair: SchemaPair<'_>,
     ty: &NamedType,
     around: Places,
+    is_object: bool,
     listed: &ComponentName,
     new: &ExtendedType,
-) -> Result<bool, ValidationError>
-    ensures { Confirms result (IsSubtype pair.entry.new.now listed.now.name ty.now) }
+) -> Result<(), ValidationError>
+    ensures { OnOk result (Finds changes.old changes.new (λ merging. IsTrue is_object → IsSubtype pair.entry.new.now listed.now.name ty.now)) }
 {
-    let is_kept = pair.new.is_subtype(&listed.name, ty);
-    if !is_kept || !new.lists_interface(&listed.name) {
-        let was_object = matches!(pair.old.types.get(ty), Some(ExtendedType::Object(_)));
-        push_removed_interface(changes, ty, around, listed, was_object && !is_kept)?;
+    if pair.new.is_subtype(&listed.name, ty) {
+        compare_listing(changes, ty, around, listed, new)?;
+        Ok(())
+    } else {
+        push_removed_interface(changes, ty, around, listed, is_object)?;
+        Ok(())
     }
-    Ok(is_kept)
+}
+
+/// Finds whether the type no longer lists the interface, and is one of those of a union of its name.
+fn compare_listing(
+    changes: &mut ChangeList,
+    ty: &NamedType,
+    around: Places,
+    listed: &ComponentName,
+    new: &ExtendedType,
+) -> Result<(), ValidationError>
+    ensures { OnOk result (Adds changes.old changes.new) }
+{
+    if new.lists_interface(&listed.name) {
+        return Ok(());
+    }
+    push_removed_interface(changes, ty, around, listed, false)?;
+    Ok(())
 }
 
 fn push_removed_interface(
@@ -66,7 +96,9 @@ fn push_removed_interface(
     around: Places,
     listed: &ComponentName,
     is_lost: bool,
-) -> Result<(), ValidationError> {
+) -> Result<(), ValidationError>
+    ensures { OnOk result (Finds changes.old changes.new (λ merging. IsFalse is_lost)) }
+{
     let alloc = changes.allocator();
     let ty = ty.clone_in(alloc)?;
     let interface = listed.name.clone_in(alloc)?;
@@ -81,7 +113,8 @@ fn push_removed_interface(
             is_lost,
         },
         places,
-    )
+    )?;
+    Ok(())
 }
 
 fn find_added_interfaces(
@@ -91,30 +124,49 @@ fn find_added_interfaces(
     around: Places,
     old: &ExtendedType,
     new: &ExtendedType,
-) -> Result<(), ValidationError> {
+) -> Result<(), ValidationError>
+    ensures { OnOk result (Adds changes.old changes.new) }
+{
     for listed in new.implements_interfaces() {
-        if !old.lists_interface(&listed.name) {
-            let gain = gain_of(pair, &listed.name, ty);
-            push_added_interface(changes, ty, around, listed, gain)?;
-        }
+        find_added_interface(changes, pair, ty, around, old, listed)?;
     }
+    Ok(())
+}
+
+fn find_added_interface(
+    changes: &mut ChangeList,
+    pair: SchemaPair<'_>,
+    ty: &NamedType,
+    around: Places,
+    old: &ExtendedType,
+    listed: &ComponentName,
+) -> Result<(), ValidationError>
+    ensures { OnOk result (Adds changes.old changes.new) }
+{
+    if old.lists_interface(&listed.name) || is_gained_root(pair, &listed.name, ty) {
+        return Ok(());
+    }
+    let places = Places {
+        old: around.old,
+        new: listed.name.location(),
+    };
+    let gain = gain_of(pair, &listed.name, ty);
+    push_added_interface(changes, ty, places, &listed.name, gain)?;
     Ok(())
 }
 
 fn push_added_interface(
     changes: &mut ChangeList,
     ty: &NamedType,
-    around: Places,
-    listed: &ComponentName,
+    places: Places,
+    interface: &NamedType,
     gain: Gain,
-) -> Result<(), ValidationError> {
+) -> Result<(), ValidationError>
+    ensures { OnOk result (Finds changes.old changes.new (λ merging. IsFalse (breaks_subscriptions gain))) }
+{
     let alloc = changes.allocator();
     let ty = ty.clone_in(alloc)?;
-    let interface = listed.name.clone_in(alloc)?;
-    let places = Places {
-        old: around.old,
-        new: listed.name.location(),
-    };
+    let interface = interface.clone_in(alloc)?;
     changes.push(
         Change::InterfaceAdded {
             ty,
@@ -122,10 +174,11 @@ fn push_added_interface(
             gain,
         },
         places,
-    )
+    )?;
+    Ok(())
 }
 
-/// Finds the changes of the members of a union. Answers whether each old member is still an object of the type.
+/// Finds the changes of the members of a union. If none breaks documents, each old member is still an object of the type.
 ///
 /// Specification: 3.8 Unions; 5.5.2.3 Fragment Spread Is Possible.
 pub(crate) fn compare_members(
@@ -135,10 +188,12 @@ pub(crate) fn compare_members(
     around: Places,
     old: &ExtendedType,
     new: &ExtendedType,
-) -> Result<bool, ValidationError> {
-    let keeps = compare_old_members(changes, pair, ty, around, old)?;
+) -> Result<(), ValidationError>
+    ensures { OnOk result (Finds changes.old changes.new (λ merging. All (λ member. IsObjectOf pair.entry.new.now ty.now member.name) (members_of old.now))) }
+{
+    compare_old_members(changes, pair, ty, around, old)?;
     find_added_members(changes, pair, ty, around, new)?;
-    Ok(keeps)
+    Ok(())
 }
 
 fn compare_old_members(
@@ -147,12 +202,13 @@ fn compare_old_members(
     ty: &NamedType,
     around: Places,
     old: &ExtendedType,
-) -> Result<bool, ValidationError> {
-    let mut keeps = true;
+) -> Result<(), ValidationError>
+    ensures { OnOk result (Finds changes.old changes.new (λ merging. All (λ member. IsObjectOf pair.entry.new.now ty.now member.name) (members_of old.now))) }
+{
     for member in members_of(old) {
-        keeps = compare_old_member(changes, pair, ty, around, member)? && keeps;
+        compare_old_member(changes, pair, ty, around, member)?;
     }
-    Ok(keeps)
+    Ok(())
 }
 
 fn compare_old_member(
@@ -161,11 +217,11 @@ fn compare_old_member(
     ty: &NamedType,
     around: Places,
     member: &ComponentName,
-) -> Result<bool, ValidationError>
-    ensures { Confirms result (IsSubtype pair.entry.new.now ty.now member.now.name) }
+) -> Result<(), ValidationError>
+    ensures { OnOk result (Finds changes.old changes.new (λ merging. IsObjectOf pair.entry.new.now ty.now member.now.name)) }
 {
-    if pair.new.is_subtype(ty, &member.name) {
-        return Ok(true);
+    if is_object_of(pair.new, ty, &member.name) {
+        return Ok(());
     }
     let alloc = changes.allocator();
     let union = ty.clone_in(alloc)?;
@@ -175,7 +231,19 @@ fn compare_old_member(
     };
     let member = member.name.clone_in(alloc)?;
     changes.push(Change::MemberRemoved { union, member }, places)?;
-    Ok(false)
+    Ok(())
+}
+
+/// Whether the name is that of an object of the type.
+///
+/// Specification: 5.5.2.3 Fragment Spread Is Possible, GetPossibleTypes.
+fn is_object_of(schema: &Schema, ty: &NamedType, object: &NamedType) -> bool
+    ensures { IsTrue result → IsObjectOf schema.now ty.now object.now }
+{
+    match schema.types.get(object) {
+        Some(ExtendedType::Object(_)) => schema.is_subtype(ty, object),
+        _ => false,
+    }
 }
 
 fn find_added_members(
@@ -184,30 +252,48 @@ fn find_added_members(
     ty: &NamedType,
     around: Places,
     new: &ExtendedType,
-) -> Result<(), ValidationError> {
+) -> Result<(), ValidationError>
+    ensures { OnOk result (Adds changes.old changes.new) }
+{
     for member in members_of(new) {
-        if !pair.old.is_subtype(ty, &member.name) {
-            let gain = gain_of(pair, ty, &member.name);
-            push_added_member(changes, ty, around, member, gain)?;
-        }
+        find_added_member(changes, pair, ty, around, member)?;
     }
+    Ok(())
+}
+
+fn find_added_member(
+    changes: &mut ChangeList,
+    pair: SchemaPair<'_>,
+    ty: &NamedType,
+    around: Places,
+    member: &ComponentName,
+) -> Result<(), ValidationError>
+    ensures { OnOk result (Adds changes.old changes.new) }
+{
+    if pair.old.is_subtype(ty, &member.name) || is_gained_root(pair, ty, &member.name) {
+        return Ok(());
+    }
+    let places = Places {
+        old: around.old,
+        new: member.name.location(),
+    };
+    let gain = gain_of(pair, ty, &member.name);
+    push_added_member(changes, ty, places, &member.name, gain)?;
     Ok(())
 }
 
 fn push_added_member(
     changes: &mut ChangeList,
     ty: &NamedType,
-    around: Places,
-    member: &ComponentName,
+    places: Places,
+    member: &NamedType,
     gain: Gain,
-) -> Result<(), ValidationError> {
+) -> Result<(), ValidationError>
+    ensures { OnOk result (Finds changes.old changes.new (λ merging. IsFalse (breaks_subscriptions gain))) }
+{
     let alloc = changes.allocator();
     let union = ty.clone_in(alloc)?;
-    let places = Places {
-        old: around.old,
-        new: member.name.location(),
-    };
-    let member = member.name.clone_in(alloc)?;
+    let member = member.clone_in(alloc)?;
     changes.push(
         Change::MemberAdded {
             union,
@@ -215,21 +301,13 @@ fn push_added_member(
             gain,
         },
         places,
-    )
+    )?;
+    Ok(())
 }
 
-/// What it means that a type becomes one of those of an interface or a union.
+/// What it means for responses that a type becomes one of those of an interface or a union.
 fn gain_of(pair: SchemaPair<'_>, wide: &NamedType, ty: &NamedType) -> Gain {
-    let was_composite = match pair.old.types.get(wide) {
-        Some(definition) => definition.is_composite(),
-        None => false,
-    };
-    if was_composite
-        && !keeps_subscription_root(pair, wide)
-        && pair.old.root_operation(OperationType::Subscription) == Some(ty)
-    {
-        Gain::SubscriptionRoot
-    } else if matches!(pair.new.types.get(ty), Some(ExtendedType::Object(_)))
+    if matches!(pair.new.types.get(ty), Some(ExtendedType::Object(_)))
         && !applies_to(pair.old, ty, wide)
     {
         Gain::Object
@@ -238,10 +316,84 @@ fn gain_of(pair: SchemaPair<'_>, wide: &NamedType, ty: &NamedType) -> Gain {
     }
 }
 
+/// Whether the type is the root of subscriptions and becomes one of those of an interface or a union, which
+/// `compare_subscription_root` finds.
+fn is_gained_root(pair: SchemaPair<'_>, wide: &NamedType, ty: &NamedType) -> bool {
+    is_composite_in(pair.old, wide)
+        && is_composite_in(pair.new, wide)
+        && !keeps_subscription_root(pair, wide)
+        && pair.old.root_operation(OperationType::Subscription) == Some(ty)
+}
+
+fn is_composite_in(schema: &Schema, ty: &NamedType) -> bool {
+    match schema.types.get(ty) {
+        Some(definition) => definition.is_composite(),
+        None => false,
+    }
+}
+
+/// Finds whether the root of subscriptions becomes one of the objects of a composite type, so that what is selected on the type is
+/// selected on the root for the first time.
+///
+/// Specification: 5.2.3.1 Single Root Field.
+pub(crate) fn compare_subscription_root(
+    changes: &mut ChangeList,
+    pair: SchemaPair<'_>,
+    ty: &NamedType,
+    around: Places,
+    new: &ExtendedType,
+) -> Result<(), ValidationError>
+    ensures { OnOk result (Finds changes.old changes.new (λ merging. KeepsSubscriptionRootFrom pair.entry.old.now pair.entry.new.now ty.now)) }
+{
+    let Some(root) = pair.old.root_operation(OperationType::Subscription) else {
+        return Ok(());
+    };
+    if keeps_subscription_root(pair, ty) {
+        return Ok(());
+    }
+    match new {
+        ExtendedType::Union(_) => {
+            let places = Places {
+                old: around.old,
+                new: place_in(members_of(new), root),
+            };
+            push_added_member(changes, ty, places, root, Gain::SubscriptionRoot)?;
+            Ok(())
+        }
+        _ => {
+            let places = places_in_root(pair, root, ty);
+            push_added_interface(changes, root, places, ty, Gain::SubscriptionRoot)?;
+            Ok(())
+        }
+    }
+}
+
+/// The places where the root type is in the old schema, and where it lists the interface in the new one.
+fn places_in_root(pair: SchemaPair<'_>, root: &NamedType, interface: &NamedType) -> Places {
+    Places {
+        old: match pair.old.types.get_key_value(root) {
+            Some((key, _)) => key.location(),
+            None => None,
+        },
+        new: match pair.new.types.get(root) {
+            Some(definition) => place_in(definition.implements_interfaces(), interface),
+            None => None,
+        },
+    }
+}
+
+/// The place of a name in a list of a definition.
+fn place_in(listed: &[ComponentName], name: &NamedType) -> Option<SourceSpan> {
+    let found = listed.iter().find(|other| other.name == *name)?;
+    found.name.location()
+}
+
 /// Whether what is selected on a composite type is selected on the root of subscriptions only if it was before.
 ///
 /// Specification: 5.2.3.1 Single Root Field.
-pub(crate) fn keeps_subscription_root(pair: SchemaPair<'_>, ty: &NamedType) -> bool {
+fn keeps_subscription_root(pair: SchemaPair<'_>, ty: &NamedType) -> bool
+    ensures { IsTrue result → KeepsSubscriptionRootFrom pair.entry.old.now pair.entry.new.now ty.now }
+{
     match pair.old.root_operation(OperationType::Subscription) {
         Some(root) => !applies_to(pair.new, root, ty) || applies_to(pair.old, root, ty),
         None => true,
@@ -251,7 +403,9 @@ pub(crate) fn keeps_subscription_root(pair: SchemaPair<'_>, ty: &NamedType) -> b
 /// Whether what is selected on the type is selected on the object of this name.
 ///
 /// Specification: 6.3.2 Field Collection, DoesFragmentTypeApply.
-fn applies_to(schema: &Schema, object: &NamedType, ty: &NamedType) -> bool {
+fn applies_to(schema: &Schema, object: &NamedType, ty: &NamedType) -> bool
+    ensures { IsTrue result ↔ AppliesTo schema.now object.now ty.now }
+{
     if ty == object {
         return true;
     }
@@ -262,7 +416,9 @@ fn applies_to(schema: &Schema, object: &NamedType, ty: &NamedType) -> bool {
 }
 
 /// The members of a union; none of another type.
-fn members_of(definition: &ExtendedType) -> &[ComponentName] {
+fn members_of(definition: &ExtendedType) -> &[ComponentName]
+    ensures { result.now ≡ members_of definition.now }
+{
     match definition {
         ExtendedType::Union(definition) => definition.value.members.as_slice(),
         _ => &[],

@@ -1,37 +1,45 @@
 //! Directive definitions.
 
-ghost use Rattle.std.specs.Prelude.{◌↔◌, Any, IsTrue};
-ghost use Rattle.graphql_schema_comparison.specs.Comparisons.{Confirms, KeepsLocation, is_in_documents};
+ghost use Rattle.std.specs.Prelude.{◌↔◌, All, Any, IsFalse, IsTrue, OnOk};
+ghost use Rattle.graphql_schema_parts.specs.Locations.{is_in_documents};
+ghost use Rattle.graphql_schema_comparison.specs.Breaks.{Adds, Finds};
+ghost use Rattle.graphql_schema_comparison.specs.Comparisons.{KeepsApplications, KeepsDirectiveNamed, KeepsLocation};
 
 use crate::arguments::compare_arguments;
 use crate::change_list::{ChangeList, Places, SchemaPair};
-use crate::changes::{Change, is_executable_location};
+use crate::changes::Change;
 use crate::inputs::Owner;
 use graphql_coordinates::DirectiveCoordinate;
 use graphql_documents::documents::DirectiveDefinition;
 use graphql_nodes::{DirectiveLocation, Name, Node, SourceSpan, ValidationError};
+use graphql_schema_parts::is_executable_location;
 
-/// Finds the changes of directive definitions. Answers whether each application in a document that was valid still is.
+/// Finds the changes of directive definitions. If none breaks documents, each application in a document that was valid still is.
 ///
 /// Specification: 3.13 Directives; 5.7 Directives.
 pub(crate) fn compare_directives(
     changes: &mut ChangeList,
     pair: SchemaPair<'_>,
-) -> Result<bool, ValidationError> {
-    let keeps = compare_old_directives(changes, pair)?;
+) -> Result<(), ValidationError>
+    ensures { OnOk result (Finds changes.old changes.new (λ merging.
+        All (λ entry. KeepsDirectiveNamed pair.entry.new.now entry.0 entry.1) pair.entry.old.now.directive_definitions.entries)) }
+{
+    compare_old_directives(changes, pair)?;
     find_added_directives(changes, pair)?;
-    Ok(keeps)
+    Ok(())
 }
 
 fn compare_old_directives(
     changes: &mut ChangeList,
     pair: SchemaPair<'_>,
-) -> Result<bool, ValidationError> {
-    let mut keeps = true;
+) -> Result<(), ValidationError>
+    ensures { OnOk result (Finds changes.old changes.new (λ merging.
+        All (λ entry. KeepsDirectiveNamed pair.entry.new.now entry.0 entry.1) pair.entry.old.now.directive_definitions.entries)) }
+{
     for (name, directive) in &pair.old.directive_definitions {
-        keeps = compare_old_directive(changes, pair, name, directive)? && keeps;
+        compare_old_directive(changes, pair, name, directive)?;
     }
-    Ok(keeps)
+    Ok(())
 }
 
 fn compare_old_directive(
@@ -39,16 +47,20 @@ fn compare_old_directive(
     pair: SchemaPair<'_>,
     name: &Name,
     old: &Node<DirectiveDefinition>,
-) -> Result<bool, ValidationError> {
+) -> Result<(), ValidationError>
+    ensures { OnOk result (Finds changes.old changes.new (λ merging. KeepsDirectiveNamed pair.entry.new.now name.now old.now)) }
+{
     let is_executable = is_executable(&old.value);
-    let keeps = match pair.new.directive_definitions.get(name) {
-        Some(new) => compare_two_directives(changes, name, is_executable, old, new)?,
+    match pair.new.directive_definitions.get(name) {
+        Some(new) => {
+            compare_two_directives(changes, name, is_executable, old, new)?;
+            Ok(())
+        }
         None => {
             push_removed_directive(changes, name, is_executable, old)?;
-            false
+            Ok(())
         }
-    };
-    Ok(keeps || !is_executable)
+    }
 }
 
 fn push_removed_directive(
@@ -56,7 +68,9 @@ fn push_removed_directive(
     name: &Name,
     is_executable: bool,
     old: &Node<DirectiveDefinition>,
-) -> Result<(), ValidationError> {
+) -> Result<(), ValidationError>
+    ensures { OnOk result (Finds changes.old changes.new (λ merging. IsFalse is_executable)) }
+{
     let directive = DirectiveCoordinate::new(changes.allocator(), name)?;
     let places = Places {
         old: place_of_directive(old),
@@ -68,63 +82,74 @@ fn push_removed_directive(
             is_executable,
         },
         places,
-    )
+    )?;
+    Ok(())
 }
 
 fn find_added_directives(
     changes: &mut ChangeList,
     pair: SchemaPair<'_>,
-) -> Result<(), ValidationError> {
+) -> Result<(), ValidationError>
+    ensures { OnOk result (Adds changes.old changes.new) }
+{
     for (name, directive) in &pair.new.directive_definitions {
-        if !pair.old.directive_definitions.contains_key(name) {
-            let coordinate = DirectiveCoordinate::new(changes.allocator(), name)?;
-            let places = Places {
-                old: None,
-                new: place_of_directive(directive),
-            };
-            changes.push(Change::DirectiveAdded(coordinate), places)?;
-        }
+        find_added_directive(changes, pair, name, directive)?;
     }
     Ok(())
 }
 
-/// Whether the new directive can be applied in documents wherever and as often as the old one, with the same arguments.
+fn find_added_directive(
+    changes: &mut ChangeList,
+    pair: SchemaPair<'_>,
+    name: &Name,
+    directive: &Node<DirectiveDefinition>,
+) -> Result<(), ValidationError>
+    ensures { OnOk result (Adds changes.old changes.new) }
+{
+    if pair.old.directive_definitions.contains_key(name) {
+        return Ok(());
+    }
+    let coordinate = DirectiveCoordinate::new(changes.allocator(), name)?;
+    let places = Places {
+        old: None,
+        new: place_of_directive(directive),
+    };
+    changes.push(Change::DirectiveAdded(coordinate), places)?;
+    Ok(())
+}
+
+/// Finds whether documents can apply the new directive wherever and as often as the old one, with the same arguments.
 fn compare_two_directives(
     changes: &mut ChangeList,
     name: &Name,
     is_executable: bool,
     old: &Node<DirectiveDefinition>,
     new: &Node<DirectiveDefinition>,
-) -> Result<bool, ValidationError> {
+) -> Result<(), ValidationError>
+    ensures { OnOk result (Finds changes.old changes.new (λ merging. IsTrue is_executable → KeepsApplications old.now.value.value new.now.value.value)) }
+{
     let places = Places {
         old: place_of_directive(old),
         new: place_of_directive(new),
     };
-    let keeps_repeatable = compare_repeatable(
-        changes,
-        name,
-        is_executable,
-        places,
-        &old.value,
-        &new.value,
-    )?;
-    let keeps_locations = compare_locations(changes, name, places, &old.value, &new.value)?;
+    compare_repeatable(changes, name, is_executable, places, &old.value, &new.value)?;
+    compare_locations(changes, name, places, &old.value, &new.value)?;
     find_added_locations(changes, name, places, &old.value, &new.value)?;
     let owner = Owner::Directive {
         directive: name,
         is_executable,
     };
-    let keeps_arguments = compare_arguments(
+    compare_arguments(
         changes,
         owner,
         places,
         &old.value.arguments,
         &new.value.arguments,
     )?;
-    Ok(keeps_repeatable && keeps_locations && keeps_arguments)
+    Ok(())
 }
 
-/// Whether a directive that could be repeated still can.
+/// Finds whether a directive that could be repeated still can.
 fn compare_repeatable(
     changes: &mut ChangeList,
     name: &Name,
@@ -132,38 +157,42 @@ fn compare_repeatable(
     places: Places,
     old: &DirectiveDefinition,
     new: &DirectiveDefinition,
-) -> Result<bool, ValidationError>
-    ensures { Confirms result (IsTrue old.now.repeatable → IsTrue new.now.repeatable) }
+) -> Result<(), ValidationError>
+    ensures { OnOk result (Finds changes.old changes.new (λ merging. IsTrue is_executable → IsTrue old.now.repeatable → IsTrue new.now.repeatable)) }
 {
     if old.repeatable == new.repeatable {
-        return Ok(true);
+        return Ok(());
     }
     let directive = DirectiveCoordinate::new(changes.allocator(), name)?;
-    let change = if old.repeatable {
-        Change::RepeatableRemoved {
-            directive,
-            is_executable,
-        }
+    if old.repeatable {
+        changes.push(
+            Change::RepeatableRemoved {
+                directive,
+                is_executable,
+            },
+            places,
+        )?;
+        Ok(())
     } else {
-        Change::RepeatableAdded(directive)
-    };
-    changes.push(change, places)?;
-    Ok(!old.repeatable)
+        changes.push(Change::RepeatableAdded(directive), places)?;
+        Ok(())
+    }
 }
 
-/// Whether each old location in documents is there.
+/// Finds whether each old location in documents is there.
 fn compare_locations(
     changes: &mut ChangeList,
     name: &Name,
     places: Places,
     old: &DirectiveDefinition,
     new: &DirectiveDefinition,
-) -> Result<bool, ValidationError> {
-    let mut keeps = true;
+) -> Result<(), ValidationError>
+    ensures { OnOk result (Finds changes.old changes.new (λ merging. All (KeepsLocation new.now) old.now.locations.items)) }
+{
     for location in &old.locations {
-        keeps = compare_location(changes, name, places, location, new)? && keeps;
+        compare_location(changes, name, places, location, new)?;
     }
-    Ok(keeps)
+    Ok(())
 }
 
 fn compare_location(
@@ -172,11 +201,11 @@ fn compare_location(
     places: Places,
     location: &DirectiveLocation,
     new: &DirectiveDefinition,
-) -> Result<bool, ValidationError>
-    ensures { Confirms result (KeepsLocation new.now location.now) }
+) -> Result<(), ValidationError>
+    ensures { OnOk result (Finds changes.old changes.new (λ merging. KeepsLocation new.now location.now)) }
 {
     if new.locations.contains(location) {
-        return Ok(true);
+        return Ok(());
     }
     let directive = DirectiveCoordinate::new(changes.allocator(), name)?;
     changes.push(
@@ -186,7 +215,7 @@ fn compare_location(
         },
         places,
     )?;
-    Ok(!is_executable_location(*location))
+    Ok(())
 }
 
 fn find_added_locations(
@@ -195,19 +224,35 @@ fn find_added_locations(
     places: Places,
     old: &DirectiveDefinition,
     new: &DirectiveDefinition,
-) -> Result<(), ValidationError> {
+) -> Result<(), ValidationError>
+    ensures { OnOk result (Adds changes.old changes.new) }
+{
     for location in &new.locations {
-        if !old.locations.contains(location) {
-            let directive = DirectiveCoordinate::new(changes.allocator(), name)?;
-            changes.push(
-                Change::LocationAdded {
-                    directive,
-                    location: *location,
-                },
-                places,
-            )?;
-        }
+        find_added_location(changes, name, places, old, location)?;
     }
+    Ok(())
+}
+
+fn find_added_location(
+    changes: &mut ChangeList,
+    name: &Name,
+    places: Places,
+    old: &DirectiveDefinition,
+    location: &DirectiveLocation,
+) -> Result<(), ValidationError>
+    ensures { OnOk result (Adds changes.old changes.new) }
+{
+    if old.locations.contains(location) {
+        return Ok(());
+    }
+    let directive = DirectiveCoordinate::new(changes.allocator(), name)?;
+    changes.push(
+        Change::LocationAdded {
+            directive,
+            location: *location,
+        },
+        places,
+    )?;
     Ok(())
 }
 

@@ -1,38 +1,24 @@
 //! The fields of objects, interfaces and unions.
 
-ghost use Rattle.std.specs.Prelude.{◌≡◌, [], All, IsTrue, MatchOption};
+ghost use Rattle.std.specs.Prelude.{◌≡◌, All, Bool, IfOk, IsFalse, IsTrue, OnOk};
 ghost use Rattle.graphql_documents.specs.Schemas.{fields_of};
 ghost use Rattle.graphql_document_building.specs.Trees.{names_leaf_type};
-ghost use Rattle.graphql_schema_changes.specs.Keeps.{KeepsField};
-ghost use Rattle.graphql_schema_comparison.specs.Comparisons.{Confirms, KeepsFieldNamed, KeepsSelections};
+ghost use Rattle.graphql_schema_comparison.specs.Breaks.{Adds, Finds, breaks_selections};
+ghost use Rattle.graphql_schema_comparison.specs.Comparisons.{KeepsFieldIfAny, KeepsFieldNamed, KeepsFieldType, KeepsFieldsOf, KeepsSelections, KeepsUses};
 
 use crate::arguments::compare_arguments;
 use crate::change_list::{ChangeList, Places, SchemaPair};
 use crate::changes::{Change, TypeEffect};
-use crate::inputs::Owner;
+use crate::inputs::{Owner, is_same_type};
 use crate::meetings::Meetings;
 use graphql_coordinates::TypeAttributeCoordinate;
 use graphql_documents::documents::{Component, ExtendedType, FieldDefinition, Schema, Type};
-use graphql_hash_seeds::HashSeed;
 use graphql_nodes::{Name, NamedType, SourceSpan, ValidationError};
-use indexmap::IndexMap;
+use graphql_schema_parts::{FieldMap, fields_of};
+use std::alloc::Global;
 
-/// The fields of a type, by their names.
-pub(crate) type FieldMap = IndexMap<Name, Component<FieldDefinition>, HashSeed>;
-
-/// The fields that an object or interface itself defines.
-pub(crate) fn fields_of(definition: &ExtendedType) -> Option<&FieldMap>
-    ensures { MatchOption result (fields_of definition.now ≡ []) (λ fields. fields.now.entries ≡ fields_of definition.now) }
-{
-    match definition {
-        ExtendedType::Object(definition) => Some(&definition.value.fields),
-        ExtendedType::Interface(definition) => Some(&definition.value.fields),
-        _ => None,
-    }
-}
-
-/// Finds the changes of the fields of a composite type of this name. Answers whether each selection of a field that was valid on
-/// the old type is valid on the new one, merging apart.
+/// Finds the changes of the fields of a composite type of this name. If none breaks documents, each selection of a field that was valid
+/// on the old type is valid on the new one, merging apart; if none breaks them by merging, that is so too.
 ///
 /// Specification: 5.3 Fields.
 pub(crate) fn compare_fields(
@@ -43,34 +29,55 @@ pub(crate) fn compare_fields(
     around: Places,
     old: &ExtendedType,
     new: &ExtendedType,
-) -> Result<bool, ValidationError> {
-    let keeps_own = match fields_of(old) {
-        Some(fields) => compare_own_fields(changes, pair, meetings, ty, around, fields)?,
-        None => true,
-    };
-    if let Some(fields) = fields_of(new) {
-        find_added_fields(changes, pair, ty, around, fields)?;
-    }
-    let keeps_meta = compare_meta_fields(changes, pair, meetings, ty)?;
-    Ok(keeps_own && keeps_meta)
+) -> Result<(), ValidationError>
+    ensures { OnOk result (Finds changes.old changes.new (λ merging.
+        KeepsFieldsOf meetings.now.by_shape pair.entry.old.now pair.entry.new.now merging ty.now old.now)) }
+{
+    compare_own_fields(changes, pair, meetings, ty, around, old)?;
+    find_added_fields(changes, pair, ty, around, new)?;
+    let fields = &pair.old.meta_fields;
+    compare_meta_field(changes, pair, meetings, ty, &fields.typename)?;
+    compare_meta_field(changes, pair, meetings, ty, &fields.schema)?;
+    compare_meta_field(changes, pair, meetings, ty, &fields.type_by_name)?;
+    Ok(())
 }
 
-/// Whether each of these fields is there and can be selected as before.
+/// Finds whether each field that the old type itself defines is there and can be selected as before.
 fn compare_own_fields(
     changes: &mut ChangeList,
     pair: SchemaPair<'_>,
     meetings: &Meetings<'_>,
     ty: &NamedType,
     around: Places,
-    fields: &FieldMap,
-) -> Result<bool, ValidationError>
-    ensures { Confirms result (All (λ entry. KeepsFieldNamed pair.entry.old.now pair.entry.new.now ty.now entry.0 entry.1) fields.now.entries) }
+    old: &ExtendedType,
+) -> Result<(), ValidationError>
+    ensures { OnOk result (Finds changes.old changes.new (λ merging.
+        All (λ entry. KeepsFieldNamed meetings.now.by_shape pair.entry.old.now pair.entry.new.now merging ty.now entry.0 entry.1) (fields_of old.now))) }
 {
-    let mut keeps = true;
-    for (name, field) in fields {
-        keeps = compare_own_field(changes, pair, meetings, ty, around, name, field)? && keeps;
+    match fields_of(old) {
+        Some(fields) => {
+            compare_listed_fields(changes, pair, meetings, ty, around, fields)?;
+            Ok(())
+        }
+        None => Ok(()),
     }
-    Ok(keeps)
+}
+
+fn compare_listed_fields(
+    changes: &mut ChangeList,
+    pair: SchemaPair<'_>,
+    meetings: &Meetings<'_>,
+    ty: &NamedType,
+    around: Places,
+    fields: &FieldMap,
+) -> Result<(), ValidationError>
+    ensures { OnOk result (Finds changes.old changes.new (λ merging.
+        All (λ entry. KeepsFieldNamed meetings.now.by_shape pair.entry.old.now pair.entry.new.now merging ty.now entry.0 entry.1) fields.now.entries)) }
+{
+    for (name, field) in fields {
+        compare_own_field(changes, pair, meetings, ty, around, name, field)?;
+    }
+    Ok(())
 }
 
 fn compare_own_field(
@@ -81,11 +88,15 @@ fn compare_own_field(
     around: Places,
     name: &Name,
     field: &Component<FieldDefinition>,
-) -> Result<bool, ValidationError>
-    ensures { Confirms result (KeepsFieldNamed pair.entry.old.now pair.entry.new.now ty.now name.now field.now) }
+) -> Result<(), ValidationError>
+    ensures { OnOk result (Finds changes.old changes.new (λ merging.
+        KeepsFieldNamed meetings.now.by_shape pair.entry.old.now pair.entry.new.now merging ty.now name.now field.now)) }
 {
     match pair.new.type_field(ty, name) {
-        Ok(new) => compare_two_fields(changes, pair, meetings, ty, name, field, new),
+        Ok(new) => {
+            compare_two_fields(changes, pair, meetings, ty, name, field, new)?;
+            Ok(())
+        }
         Err(_) => {
             let coordinate = TypeAttributeCoordinate::new(changes.allocator(), ty, name)?;
             let places = Places {
@@ -93,7 +104,7 @@ fn compare_own_field(
                 new: around.new,
             };
             changes.push(Change::FieldRemoved(coordinate), places)?;
-            Ok(false)
+            Ok(())
         }
     }
 }
@@ -104,56 +115,82 @@ fn find_added_fields(
     pair: SchemaPair<'_>,
     ty: &NamedType,
     around: Places,
-    fields: &FieldMap,
-) -> Result<(), ValidationError> {
-    for (name, field) in fields {
-        if pair.old.type_field(ty, name).is_err() {
-            let coordinate = TypeAttributeCoordinate::new(changes.allocator(), ty, name)?;
-            let places = Places {
-                old: around.old,
-                new: place_of_field(field),
-            };
-            changes.push(Change::FieldAdded(coordinate), places)?;
+    new: &ExtendedType,
+) -> Result<(), ValidationError>
+    ensures { OnOk result (Adds changes.old changes.new) }
+{
+    match fields_of(new) {
+        Some(fields) => {
+            find_added_among(changes, pair, ty, around, fields)?;
+            Ok(())
         }
+        None => Ok(()),
+    }
+}
+
+fn find_added_among(
+    changes: &mut ChangeList,
+    pair: SchemaPair<'_>,
+    ty: &NamedType,
+    around: Places,
+    fields: &FieldMap,
+) -> Result<(), ValidationError>
+    ensures { OnOk result (Adds changes.old changes.new) }
+{
+    for (name, field) in fields {
+        find_added_field(changes, pair, ty, around, name, field)?;
     }
     Ok(())
 }
 
-/// Whether the meta-fields of a type can be selected as before.
-///
-/// Specification: 4.1 Type Name Introspection; 4.2 Schema Introspection.
-fn compare_meta_fields(
+fn find_added_field(
     changes: &mut ChangeList,
     pair: SchemaPair<'_>,
-    meetings: &Meetings<'_>,
     ty: &NamedType,
-) -> Result<bool, ValidationError> {
-    let fields = &pair.old.meta_fields;
-    let keeps_typename = compare_meta_field(changes, pair, meetings, ty, &fields.typename)?;
-    let keeps_schema = compare_meta_field(changes, pair, meetings, ty, &fields.schema)?;
-    let keeps_type = compare_meta_field(changes, pair, meetings, ty, &fields.type_by_name)?;
-    Ok(keeps_typename && keeps_schema && keeps_type)
+    around: Places,
+    name: &Name,
+    field: &Component<FieldDefinition>,
+) -> Result<(), ValidationError>
+    ensures { OnOk result (Adds changes.old changes.new) }
+{
+    if pair.old.type_field(ty, name).is_ok() {
+        return Ok(());
+    }
+    let coordinate = TypeAttributeCoordinate::new(changes.allocator(), ty, name)?;
+    let places = Places {
+        old: around.old,
+        new: place_of_field(field),
+    };
+    changes.push(Change::FieldAdded(coordinate), places)?;
+    Ok(())
 }
 
+/// Finds whether a meta-field of both types can be selected as before. If the new type has none, it is no longer the query root, which is
+/// a change of its own.
+///
+/// Specification: 4.1 Type Name Introspection; 4.2 Schema Introspection.
 fn compare_meta_field(
     changes: &mut ChangeList,
     pair: SchemaPair<'_>,
     meetings: &Meetings<'_>,
     ty: &NamedType,
     field: &Component<FieldDefinition>,
-) -> Result<bool, ValidationError> {
+) -> Result<(), ValidationError>
+    ensures { OnOk result (Finds changes.old changes.new (λ merging.
+        KeepsFieldIfAny meetings.now.by_shape pair.entry.old.now pair.entry.new.now merging ty.now field.now.node.value.value.name)) }
+{
     let name = &field.node.value.name;
     let Ok(old) = pair.old.type_field(ty, name) else {
-        return Ok(true);
+        return Ok(());
     };
-    match pair.new.type_field(ty, name) {
-        Ok(new) => compare_two_fields(changes, pair, meetings, ty, name, old, new),
-        // The type is no longer the query root, which is a change of its own.
-        Err(_) => Ok(false),
-    }
+    let Ok(new) = pair.new.type_field(ty, name) else {
+        return Ok(());
+    };
+    compare_two_fields(changes, pair, meetings, ty, name, old, new)?;
+    Ok(())
 }
 
-/// Whether the new field of a type can be selected as the old one of its name.
+/// Finds whether the new field of a type can be selected as the old one of its name.
 fn compare_two_fields(
     changes: &mut ChangeList,
     pair: SchemaPair<'_>,
@@ -162,26 +199,27 @@ fn compare_two_fields(
     name: &Name,
     old: &Component<FieldDefinition>,
     new: &Component<FieldDefinition>,
-) -> Result<bool, ValidationError>
-    ensures { Confirms result (KeepsField pair.entry.old.now pair.entry.new.now old.now new.now) }
+) -> Result<(), ValidationError>
+    ensures { OnOk result (Finds changes.old changes.new (λ merging.
+        KeepsUses meetings.now.by_shape pair.entry.old.now pair.entry.new.now merging old.now.node.value.value new.now.node.value.value)) }
 {
     let places = Places {
         old: place_of_field(old),
         new: place_of_field(new),
     };
-    let keeps_type = compare_field_types(changes, pair, meetings, ty, places, old, new)?;
+    compare_field_types(changes, pair, meetings, ty, places, old, new)?;
     let owner = Owner::Field { ty, field: name };
-    let keeps_arguments = compare_arguments(
+    compare_arguments(
         changes,
         owner,
         places,
         &old.node.value.arguments,
         &new.node.value.arguments,
     )?;
-    Ok(keeps_type && keeps_arguments)
+    Ok(())
 }
 
-/// Whether the same can be selected below the two fields, merging apart.
+/// Finds whether the same can be selected below the two fields.
 fn compare_field_types(
     changes: &mut ChangeList,
     pair: SchemaPair<'_>,
@@ -190,44 +228,46 @@ fn compare_field_types(
     places: Places,
     old: &Component<FieldDefinition>,
     new: &Component<FieldDefinition>,
-) -> Result<bool, ValidationError>
-    ensures { Confirms result (KeepsSelections pair.entry.old.now pair.entry.new.now old.now.node.value.value.ty new.now.node.value.value.ty) }
+) -> Result<(), ValidationError>
+    ensures { OnOk result (Finds changes.old changes.new (λ merging.
+        KeepsFieldType meetings.now.by_shape pair.entry.old.now pair.entry.new.now merging old.now.node.value.value.ty new.now.node.value.value.ty)) }
 {
     let from = &old.node.value.ty;
     let to = &new.node.value.ty;
-    let keeps_selections = keeps_selections(pair, from, to);
-    if *from != *to {
-        let alloc = changes.allocator();
-        let field = TypeAttributeCoordinate::new(alloc, ty, &old.node.value.name)?;
-        let effect = if keeps_selections {
-            effect_of(changes, pair, meetings, from, to)?
-        } else {
-            TypeEffect::OtherSelections
-        };
-        let from = from.clone()?;
-        let to = to.clone()?;
-        changes.push(
-            Change::FieldTypeChanged {
-                field,
-                from,
-                to,
-                effect,
-            },
-            places,
-        )?;
+    if is_same_type(from, to) {
+        return Ok(());
     }
-    Ok(keeps_selections)
+    let alloc = changes.allocator();
+    let field = TypeAttributeCoordinate::new(alloc, ty, &old.node.value.name)?;
+    let effect = effect_of(alloc, pair, meetings, from, to)?;
+    let from = from.clone()?;
+    let to = to.clone()?;
+    changes.push(
+        Change::FieldTypeChanged {
+            field,
+            from,
+            to,
+            effect,
+        },
+        places,
+    )?;
+    Ok(())
 }
 
-/// What the new type of a field means, if the same can be selected below it.
+/// What the new type of a field means.
 fn effect_of(
-    changes: &ChangeList,
+    alloc: Global,
     pair: SchemaPair<'_>,
     meetings: &Meetings<'_>,
     from: &Type,
     to: &Type,
-) -> Result<TypeEffect, ValidationError> {
-    let alloc = changes.allocator();
+) -> Result<TypeEffect, ValidationError>
+    ensures { IfOk result (λ effect. (merging : Bool) → IsFalse (breaks_selections merging effect) →
+        KeepsFieldType meetings.now.by_shape pair.entry.old.now pair.entry.new.now merging from.now to.now) }
+{
+    if !keeps_selections(pair, from, to) {
+        return Ok(TypeEffect::OtherSelections);
+    }
     match meetings.met(alloc, pair, from, to)? {
         Some(other) => Ok(TypeEffect::MeetsOther(other)),
         None if to.is_assignable_to(from) => Ok(TypeEffect::Narrower),

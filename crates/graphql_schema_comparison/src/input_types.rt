@@ -1,8 +1,9 @@
 //! Enums and input objects.
 
-ghost use Rattle.std.specs.Prelude.{All};
+ghost use Rattle.std.specs.Prelude.{All, IsTrue, OnOk};
 ghost use Rattle.graphql_schema_changes.specs.Keeps.{KeepsInputFields};
-ghost use Rattle.graphql_schema_comparison.specs.Comparisons.{Confirms, FieldWasRequired, KeepsInputField, KeepsEnumValue};
+ghost use Rattle.graphql_schema_comparison.specs.Breaks.{Adds, Finds};
+ghost use Rattle.graphql_schema_comparison.specs.Comparisons.{FieldWasRequired, KeepsInputField, KeepsEnumValue};
 
 use crate::change_list::{ChangeList, Places};
 use crate::changes::Change;
@@ -22,12 +23,12 @@ pub(crate) fn compare_enums(
     around: Places,
     old: &EnumType,
     new: &EnumType,
-) -> Result<bool, ValidationError>
-    ensures { Confirms result (All (λ entry. KeepsEnumValue new.now entry.0) old.now.values.entries) }
+) -> Result<(), ValidationError>
+    ensures { OnOk result (Finds changes.old changes.new (λ merging. All (λ entry. KeepsEnumValue new.now entry.0) old.now.values.entries)) }
 {
-    let keeps = compare_values(changes, ty, around, old, new)?;
+    compare_values(changes, ty, around, old, new)?;
     find_added_values(changes, ty, around, old, new)?;
-    Ok(keeps)
+    Ok(())
 }
 
 fn compare_values(
@@ -36,14 +37,13 @@ fn compare_values(
     around: Places,
     old: &EnumType,
     new: &EnumType,
-) -> Result<bool, ValidationError>
-    ensures { Confirms result (All (λ entry. KeepsEnumValue new.now entry.0) old.now.values.entries) }
+) -> Result<(), ValidationError>
+    ensures { OnOk result (Finds changes.old changes.new (λ merging. All (λ entry. KeepsEnumValue new.now entry.0) old.now.values.entries)) }
 {
-    let mut keeps = true;
     for (name, value) in &old.values {
-        keeps = compare_value(changes, ty, around, name, value, new)? && keeps;
+        compare_value(changes, ty, around, name, value, new)?;
     }
-    Ok(keeps)
+    Ok(())
 }
 
 fn compare_value(
@@ -53,11 +53,11 @@ fn compare_value(
     name: &Name,
     value: &Component<EnumValueDefinition>,
     new: &EnumType,
-) -> Result<bool, ValidationError>
-    ensures { Confirms result (KeepsEnumValue new.now name.now) }
+) -> Result<(), ValidationError>
+    ensures { OnOk result (Finds changes.old changes.new (λ merging. KeepsEnumValue new.now name.now)) }
 {
     if new.values.contains_key(name) {
-        return Ok(true);
+        return Ok(());
     }
     let coordinate = TypeAttributeCoordinate::new(changes.allocator(), ty, name)?;
     let places = Places {
@@ -65,7 +65,7 @@ fn compare_value(
         new: around.new,
     };
     changes.push(Change::EnumValueRemoved(coordinate), places)?;
-    Ok(false)
+    Ok(())
 }
 
 fn find_added_values(
@@ -74,17 +74,34 @@ fn find_added_values(
     around: Places,
     old: &EnumType,
     new: &EnumType,
-) -> Result<(), ValidationError> {
+) -> Result<(), ValidationError>
+    ensures { OnOk result (Adds changes.old changes.new) }
+{
     for (name, value) in &new.values {
-        if !old.values.contains_key(name) {
-            let coordinate = TypeAttributeCoordinate::new(changes.allocator(), ty, name)?;
-            let places = Places {
-                old: around.old,
-                new: place_of_value(value),
-            };
-            changes.push(Change::EnumValueAdded(coordinate), places)?;
-        }
+        find_added_value(changes, ty, around, old, name, value)?;
     }
+    Ok(())
+}
+
+fn find_added_value(
+    changes: &mut ChangeList,
+    ty: &NamedType,
+    around: Places,
+    old: &EnumType,
+    name: &Name,
+    value: &Component<EnumValueDefinition>,
+) -> Result<(), ValidationError>
+    ensures { OnOk result (Adds changes.old changes.new) }
+{
+    if old.values.contains_key(name) {
+        return Ok(());
+    }
+    let coordinate = TypeAttributeCoordinate::new(changes.allocator(), ty, name)?;
+    let places = Places {
+        old: around.old,
+        new: place_of_value(value),
+    };
+    changes.push(Change::EnumValueAdded(coordinate), places)?;
     Ok(())
 }
 
@@ -102,12 +119,12 @@ pub(crate) fn compare_input_objects(
     around: Places,
     old: &InputObjectType,
     new: &InputObjectType,
-) -> Result<bool, ValidationError>
-    ensures { Confirms result (KeepsInputFields old.now new.now) }
+) -> Result<(), ValidationError>
+    ensures { OnOk result (Finds changes.old changes.new (λ merging. KeepsInputFields old.now new.now)) }
 {
-    let keeps_old = compare_old_fields(changes, ty, around, old, new)?;
-    let keeps_new = compare_new_fields(changes, ty, around, old, new)?;
-    Ok(keeps_old && keeps_new)
+    compare_old_fields(changes, ty, around, old, new)?;
+    compare_new_fields(changes, ty, around, old, new)?;
+    Ok(())
 }
 
 /// Whether each old field is there and takes what it took.
@@ -117,14 +134,13 @@ fn compare_old_fields(
     around: Places,
     old: &InputObjectType,
     new: &InputObjectType,
-) -> Result<bool, ValidationError>
-    ensures { Confirms result (All (KeepsInputField new.now) old.now.fields.entries) }
+) -> Result<(), ValidationError>
+    ensures { OnOk result (Finds changes.old changes.new (λ merging. All (KeepsInputField new.now) old.now.fields.entries)) }
 {
-    let mut keeps = true;
     for (name, field) in &old.fields {
-        keeps = compare_old_field(changes, ty, around, name, field, new)? && keeps;
+        compare_old_field(changes, ty, around, name, field, new)?;
     }
-    Ok(keeps)
+    Ok(())
 }
 
 fn compare_old_field(
@@ -134,34 +150,37 @@ fn compare_old_field(
     name: &Name,
     field: &Component<InputValueDefinition>,
     new: &InputObjectType,
-) -> Result<bool, ValidationError>
-    ensures { Confirms result (KeepsInputField new.now (name.now, field.now)) }
+) -> Result<(), ValidationError>
+    ensures { OnOk result (Finds changes.old changes.new (λ merging. KeepsInputField new.now (name.now, field.now))) }
 {
     let owner = Owner::InputObject(ty);
     match new.fields.get(name) {
-        Some(new) => compare_inputs(changes, owner, &field.node, &new.node),
+        Some(new) => {
+            compare_inputs(changes, owner, &field.node, &new.node)?;
+            Ok(())
+        }
         None => {
             push_removed_input(changes, owner, around, &field.node)?;
-            Ok(false)
+            Ok(())
         }
     }
 }
 
-/// Whether each new field that is required was required before.
+/// Finds the fields that were not there. If no change breaks documents, each new field that is required was required before, where each
+/// old field takes what it took.
 fn compare_new_fields(
     changes: &mut ChangeList,
     ty: &NamedType,
     around: Places,
     old: &InputObjectType,
     new: &InputObjectType,
-) -> Result<bool, ValidationError>
-    ensures { Confirms result (All (FieldWasRequired old.now) new.now.fields.entries) }
+) -> Result<(), ValidationError>
+    ensures { OnOk result (Finds changes.old changes.new (λ merging. All (KeepsInputField new.now) old.now.fields.entries → All (FieldWasRequired old.now) new.now.fields.entries)) }
 {
-    let mut keeps = true;
     for (name, field) in &new.fields {
-        keeps = compare_new_field(changes, ty, around, old, name, field)? && keeps;
+        compare_new_field(changes, ty, around, old, new, name, field)?;
     }
-    Ok(keeps)
+    Ok(())
 }
 
 fn compare_new_field(
@@ -169,13 +188,36 @@ fn compare_new_field(
     ty: &NamedType,
     around: Places,
     old: &InputObjectType,
+    new: &InputObjectType,
     name: &Name,
     field: &Component<InputValueDefinition>,
-) -> Result<bool, ValidationError>
-    ensures { Confirms result (FieldWasRequired old.now (name.now, field.now)) }
+) -> Result<(), ValidationError>
+    ensures { OnOk result (Finds changes.old changes.new (λ merging. All (KeepsInputField new.now) old.now.fields.entries → FieldWasRequired old.now (name.now, field.now))) }
 {
-    match old.fields.get(name) {
-        Some(old) => Ok(old.node.value.is_required() || !field.node.value.is_required()),
-        None => push_added_input(changes, Owner::InputObject(ty), around, &field.node),
+    if was_field_required(old, new, name, field) {
+        return Ok(());
+    }
+    push_added_input(changes, Owner::InputObject(ty), around, &field.node)?;
+    Ok(())
+}
+
+/// Whether an old field has the name, so that a field that is required now either was required, or changed, which its old field shows.
+fn was_field_required(
+    old: &InputObjectType,
+    new: &InputObjectType,
+    name: &Name,
+    field: &Component<InputValueDefinition>,
+) -> bool
+    ensures { IsTrue result → All (KeepsInputField new.now) old.now.fields.entries → FieldWasRequired old.now (name.now, field.now) }
+{
+    let Some(old) = old.fields.get(name) else {
+        return false;
+    };
+    if old.node.value.is_required() || !field.node.value.is_required() {
+        return true;
+    }
+    match new.fields.get(name) {
+        Some(new) => new.node.value.is_required(),
+        None => false,
     }
 }

@@ -1,17 +1,18 @@
 //! Arguments and input fields, two of one name at a time.
 
-ghost use Rattle.std.specs.Prelude.{IsFalse, IsTrue};
+ghost use Rattle.std.specs.Prelude.{◌≡◌, IfOk, IsFalse, IsTrue, OnOk};
 ghost use Rattle.graphql_documents.specs.Schemas.{is_required};
-ghost use Rattle.graphql_documents.specs.TypeReferences.{is_assignable, is_non_null};
+ghost use Rattle.graphql_documents.specs.TypeReferences.{is_assignable, is_non_null, same_type};
 ghost use Rattle.graphql_schema_changes.specs.Keeps.{KeepsInputValue};
-ghost use Rattle.graphql_schema_comparison.specs.Comparisons.{Confirms, KeepsDefault};
+ghost use Rattle.graphql_schema_comparison.specs.Breaks.{Finds, is_given};
+ghost use Rattle.graphql_schema_comparison.specs.Comparisons.{KeepsDefault, is_owner_given};
 
 use crate::change_list::{ChangeList, Places};
 use crate::changes::{Change, InputCoordinate};
 use graphql_coordinates::{
     DirectiveArgumentCoordinate, FieldArgumentCoordinate, TypeAttributeCoordinate,
 };
-use graphql_documents::documents::InputValueDefinition;
+use graphql_documents::documents::{InputValueDefinition, Type};
 use graphql_nodes::{Name, NamedType, Node, SourceSpan, ValidationError};
 use std::alloc::Global;
 
@@ -31,7 +32,9 @@ pub(crate) enum Owner<'a> {
 
 impl Owner<'_> {
     /// The coordinate of the argument or input field of this name.
-    pub fn input(self, alloc: Global, name: &Name) -> Result<InputCoordinate, ValidationError> {
+    pub fn input(self, alloc: Global, name: &Name) -> Result<InputCoordinate, ValidationError>
+        ensures { IfOk result (λ input. is_given input ≡ is_owner_given self.entry) }
+    {
         match self {
             Owner::Field { ty, field } => Ok(InputCoordinate::Argument(FieldArgumentCoordinate::new(
                 alloc, ty, field, name,
@@ -59,8 +62,8 @@ pub(crate) fn place_of_input(input: &Node<InputValueDefinition>) -> Option<Sourc
     SourceSpan::recompose(input.value.name.location(), input.location)
 }
 
-/// Finds the changes of an argument or input field. Answers whether each value and each variable that could be given for the
-/// old one can be given for the new one.
+/// Finds the changes of an argument or input field. If none breaks documents, each value and each variable that could be given for
+/// the old one can be given for the new one.
 ///
 /// Specification: 5.8.5 All Variable Usages Are Allowed.
 pub(crate) fn compare_inputs(
@@ -68,71 +71,81 @@ pub(crate) fn compare_inputs(
     owner: Owner<'_>,
     old: &Node<InputValueDefinition>,
     new: &Node<InputValueDefinition>,
-) -> Result<bool, ValidationError>
-    ensures { Confirms result (KeepsInputValue old.now.value.value new.now.value.value) }
+) -> Result<(), ValidationError>
+    ensures { OnOk result (Finds changes.old changes.new (λ merging. IsTrue (is_owner_given owner.entry) → KeepsInputValue old.now.value.value new.now.value.value)) }
 {
-    let keeps_type = compare_types_of(changes, owner, old, new)?;
-    let keeps_default = compare_defaults(changes, owner, old, new)?;
-    Ok(keeps_type && keeps_default)
+    compare_types_of(changes, owner, old, new)?;
+    compare_defaults(changes, owner, old, new)?;
+    Ok(())
 }
 
-/// Whether what can be used for the old type can be used for the new one.
+/// Finds whether what can be used for the old type can be used for the new one.
 fn compare_types_of(
     changes: &mut ChangeList,
     owner: Owner<'_>,
     old: &Node<InputValueDefinition>,
     new: &Node<InputValueDefinition>,
-) -> Result<bool, ValidationError>
-    ensures { Confirms result (IsTrue (is_assignable old.now.value.value.ty.value.value new.now.value.value.ty.value.value)) }
+) -> Result<(), ValidationError>
+    ensures { OnOk result (Finds changes.old changes.new (λ merging. IsTrue (is_owner_given owner.entry) → IsTrue (is_assignable old.now.value.value.ty.value.value new.now.value.value.ty.value.value))) }
 {
-    let from = &old.value.ty.value;
-    let to = &new.value.ty.value;
-    if **from != **to {
-        let input = owner.input(changes.allocator(), &old.value.name)?;
-        let from = (**from).clone()?;
-        let to = (**to).clone()?;
-        changes.push(
-            Change::InputTypeChanged { input, from, to },
-            places_of(old, new),
-        )?;
+    let from = type_of_input(old);
+    let to = type_of_input(new);
+    if is_same_type(from, to) {
+        return Ok(());
     }
-    Ok(from.is_assignable_to(to))
+    let input = owner.input(changes.allocator(), &old.value.name)?;
+    let from = from.clone()?;
+    let to = to.clone()?;
+    changes.push(
+        Change::InputTypeChanged { input, from, to },
+        places_of(old, new),
+    )?;
+    Ok(())
 }
 
-/// Whether a value that could be left out still can.
+fn type_of_input(input: &Node<InputValueDefinition>) -> &Type
+    ensures { result.now ≡ input.now.value.value.ty.value.value }
+{
+    &input.value.ty.value
+}
+
+/// Finds whether a value that could be left out still can.
 fn compare_defaults(
     changes: &mut ChangeList,
     owner: Owner<'_>,
     old: &Node<InputValueDefinition>,
     new: &Node<InputValueDefinition>,
-) -> Result<bool, ValidationError>
-    ensures { Confirms result (KeepsDefault old.now.value.value new.now.value.value) }
+) -> Result<(), ValidationError>
+    ensures { OnOk result (Finds changes.old changes.new (λ merging. IsTrue (is_owner_given owner.entry) → KeepsDefault old.now.value.value new.now.value.value)) }
 {
     match (&old.value.default_value, &new.value.default_value) {
-        (Some(_), None) => report_removed_default(changes, owner, old, new),
+        (Some(_), None) => {
+            push_removed_default(changes, owner, old, new)?;
+            Ok(())
+        }
         (None, Some(_)) => {
             let input = owner.input(changes.allocator(), &old.value.name)?;
             changes.push(Change::DefaultAdded(input), places_of(old, new))?;
-            Ok(true)
+            Ok(())
         }
         (Some(from), Some(to)) => {
             if *from.value != *to.value {
                 let input = owner.input(changes.allocator(), &old.value.name)?;
                 changes.push(Change::DefaultChanged(input), places_of(old, new))?;
             }
-            Ok(true)
+            Ok(())
         }
-        (None, None) => Ok(true),
+        (None, None) => Ok(()),
     }
 }
 
-fn report_removed_default(
+fn push_removed_default(
     changes: &mut ChangeList,
     owner: Owner<'_>,
     old: &Node<InputValueDefinition>,
     new: &Node<InputValueDefinition>,
-) -> Result<bool, ValidationError>
-    ensures { Confirms result (IsFalse (is_non_null new.now.value.value.ty.value.value)) }
+) -> Result<(), ValidationError>
+    ensures { OnOk result (Finds changes.old changes.new (λ merging. IsTrue (is_owner_given owner.entry) → IsFalse (is_non_null new.now.value.value.ty.value.value))) }
 {
     let input = owner.input(changes.allocator(), &old.value.name)?;
     let is_required = new.value.ty.value.is_non_null();
@@ -140,7 +153,20 @@ fn report_removed_default(
         Change::DefaultRemoved { input, is_required },
         places_of(old, new),
     )?;
-    Ok(!is_required)
+    Ok(())
+}
+
+/// Whether the two are one type as written.
+pub(crate) fn is_same_type(from: &Type, to: &Type) -> bool
+    ensures { result ≡ same_type from.now to.now }
+{
+    match (from, to) {
+        (Type::Named(name), Type::Named(other)) => name == other,
+        (Type::NonNullNamed(name), Type::NonNullNamed(other)) => name == other,
+        (Type::List(item), Type::List(other)) => is_same_type(item, other),
+        (Type::NonNullList(item), Type::NonNullList(other)) => is_same_type(item, other),
+        _ => false,
+    }
 }
 
 fn places_of(old: &Node<InputValueDefinition>, new: &Node<InputValueDefinition>) -> Places {
@@ -156,23 +182,26 @@ pub(crate) fn push_removed_input(
     owner: Owner<'_>,
     around: Places,
     old: &Node<InputValueDefinition>,
-) -> Result<(), ValidationError> {
+) -> Result<(), ValidationError>
+    ensures { OnOk result (Finds changes.old changes.new (λ merging. IsFalse (is_owner_given owner.entry))) }
+{
     let input = owner.input(changes.allocator(), &old.value.name)?;
     let places = Places {
         old: place_of_input(old),
         new: around.new,
     };
-    changes.push(Change::InputRemoved(input), places)
+    changes.push(Change::InputRemoved(input), places)?;
+    Ok(())
 }
 
-/// Adds an argument or input field that was not there. Answers whether it can be left out.
+/// Adds an argument or input field that was not there. If that breaks no documents, it can be left out.
 pub(crate) fn push_added_input(
     changes: &mut ChangeList,
     owner: Owner<'_>,
     around: Places,
     new: &Node<InputValueDefinition>,
-) -> Result<bool, ValidationError>
-    ensures { Confirms result (IsFalse (is_required new.now.value.value)) }
+) -> Result<(), ValidationError>
+    ensures { OnOk result (Finds changes.old changes.new (λ merging. IsTrue (is_owner_given owner.entry) → IsFalse (is_required new.now.value.value))) }
 {
     let input = owner.input(changes.allocator(), &new.value.name)?;
     let is_required = new.value.is_required();
@@ -181,5 +210,5 @@ pub(crate) fn push_added_input(
         new: place_of_input(new),
     };
     changes.push(Change::InputAdded { input, is_required }, places)?;
-    Ok(!is_required)
+    Ok(())
 }

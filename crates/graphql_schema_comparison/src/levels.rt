@@ -1,8 +1,10 @@
 //! How grave a change is.
 
-use crate::changes::{
-    Change, Gain, InputCoordinate, SchemaChange, TypeEffect, TypeKind, is_executable_location,
-};
+ghost use Rattle.std.specs.Prelude.{◌≡◌, Bool, IsTrue, false, not};
+ghost use Rattle.graphql_schema_comparison.specs.Breaks.{breaks, breaks_selections, breaks_subscriptions, can_become, is_breaking, is_given, is_input_change};
+
+use crate::changes::{Change, Gain, InputCoordinate, SchemaChange, TypeEffect, TypeKind};
+use graphql_schema_parts::is_executable_location;
 
 /// How grave a change is.
 #[derive(Clone, Copy, Debug, PartialEq, Eq)]
@@ -63,8 +65,22 @@ impl SchemaChange {
 }
 
 impl Change {
+    /// Whether some documents break that were valid: with merging, of all documents; without it, of those in which no two fields come
+    /// together in a response.
+    pub(crate) fn breaks(&self, merging: bool) -> bool
+        ensures { result ≡ breaks merging self.now }
+    {
+        match self.level() {
+            Level::Breaking(BreakingReason::Documents) => true,
+            Level::Breaking(BreakingReason::Merging) => merging,
+            _ => false,
+        }
+    }
+
     /// How grave the change is for documents that have no two fields under one response key.
-    pub fn level_of_lone_fields(&self) -> Level {
+    pub fn level_of_lone_fields(&self) -> Level
+        ensures { is_breaking false result ≡ breaks false self.now }
+    {
         match self {
             Change::FieldTypeChanged {
                 from,
@@ -83,7 +99,9 @@ impl Change {
     }
 
     /// How grave the change is.
-    pub fn level(&self) -> Level {
+    pub fn level(&self) -> Level
+        ensures { (merging : Bool) → is_breaking merging result ≡ breaks merging self.now }
+    {
         match self {
             Change::RootRemoved { .. }
             | Change::RootChanged { .. }
@@ -119,7 +137,10 @@ impl Change {
     }
 
     /// The same of a change of an argument or an input field.
-    fn level_of_input(&self) -> Level {
+    fn level_of_input(&self) -> Level
+        requires { IsTrue (is_input_change self.now) }
+        ensures { (merging : Bool) → is_breaking merging result ≡ breaks merging self.now }
+    {
         match self {
             Change::InputAdded { input, is_required } => {
                 documents_if(input.is_in_documents() && *is_required)
@@ -145,12 +166,16 @@ impl Change {
 
 const DOCUMENTS: Level = Level::Breaking(BreakingReason::Documents);
 
-fn documents_if(breaks: bool) -> Level {
+fn documents_if(breaks: bool) -> Level
+    ensures { (merging : Bool) → is_breaking merging result ≡ breaks }
+{
     if breaks { DOCUMENTS } else { Level::Safe }
 }
 
 /// The level of a type of one kind that becomes one of another.
-fn level_of_kinds(from: TypeKind, to: TypeKind) -> Level {
+fn level_of_kinds(from: TypeKind, to: TypeKind) -> Level
+    ensures { (merging : Bool) → is_breaking merging result ≡ not (can_become from to) }
+{
     if !from.can_become(to) {
         DOCUMENTS
     } else if to == TypeKind::CustomScalar {
@@ -160,7 +185,9 @@ fn level_of_kinds(from: TypeKind, to: TypeKind) -> Level {
     }
 }
 
-fn level_of_gain(gain: Gain) -> Level {
+fn level_of_gain(gain: Gain) -> Level
+    ensures { (merging : Bool) → is_breaking merging result ≡ breaks_subscriptions gain }
+{
     match gain {
         Gain::SubscriptionRoot => DOCUMENTS,
         Gain::Object => Level::Dangerous,
@@ -168,7 +195,9 @@ fn level_of_gain(gain: Gain) -> Level {
     }
 }
 
-fn level_of_effect(effect: &TypeEffect) -> Level {
+fn level_of_effect(effect: &TypeEffect) -> Level
+    ensures { (merging : Bool) → is_breaking merging result ≡ breaks_selections merging effect.now }
+{
     match effect {
         TypeEffect::OtherSelections => DOCUMENTS,
         TypeEffect::MeetsOther(_) => Level::Breaking(BreakingReason::Merging),
@@ -179,12 +208,16 @@ fn level_of_effect(effect: &TypeEffect) -> Level {
 
 impl InputCoordinate {
     /// Whether documents can give it a value.
-    pub fn is_in_documents(&self) -> bool {
+    pub fn is_in_documents(&self) -> bool
+        ensures { result ≡ is_given self.now }
+    {
         !matches!(self, InputCoordinate::SchemaDirectiveArgument(_))
     }
 
     /// The level of a default that is another one, while documents stay valid.
-    fn level_of_default(&self) -> Level {
+    fn level_of_default(&self) -> Level
+        ensures { (merging : Bool) → is_breaking merging result ≡ false }
+    {
         if self.is_in_documents() {
             Level::Dangerous
         } else {

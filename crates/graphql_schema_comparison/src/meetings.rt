@@ -1,12 +1,16 @@
 //! Fields that can come under one response key, by the shapes of their types.
 
+ghost use Rattle.std.specs.Prelude.{◌≡◌, ◌⊎◌, All, IfOk, IsNone, IsSome, IsTrue, OnOk};
+ghost use Rattle.graphql_documents.specs.Schemas.{fields_of, is_composite};
+ghost use Rattle.graphql_schema_comparison.specs.Shapes.{Knows, KnowsAllFields, KnowsEntry, KnowsField, KnowsNoOther, KnowsType, Learns, form_in, form_of};
+
 use crate::change_list::SchemaPair;
-use crate::fields::{FieldMap, fields_of};
 use crate::shapes::{Shape, shape_of};
 use graphql_coordinates::TypeAttributeCoordinate;
 use graphql_documents::documents::{Component, ExtendedType, FieldDefinition, Type};
 use graphql_hash_seeds::HashSeed;
 use graphql_nodes::{Name, NamedType, ValidationError};
+use graphql_schema_parts::{FieldMap, fields_of};
 use std::alloc::Global;
 use std::collections::HashMap;
 
@@ -15,8 +19,6 @@ use std::collections::HashMap;
 #[derive(Drop)]
 pub(crate) struct Meetings<'a> {
     by_shape: HashMap<Shape, Meeting<'a>, HashSeed>,
-    /// All fields whose old types have one shape have new types of one shape.
-    keeps_shapes: bool,
 }
 
 #[derive(Drop)]
@@ -38,20 +40,17 @@ impl<'a> Meetings<'a> {
         alloc: Global,
         hash_seed: HashSeed,
         pair: SchemaPair<'a>,
-    ) -> Result<Meetings<'a>, ValidationError> {
+    ) -> Result<Meetings<'a>, ValidationError>
+        ensures { IfOk result (λ meetings. All (λ entry. IsTrue (is_composite entry.1) →
+            KnowsType meetings.by_shape pair.entry.old.now pair.entry.new.now entry.0 entry.1) pair.entry.old.now.types.entries) }
+    {
         let mut meetings = Meetings {
             by_shape: HashMap::with_hasher(alloc, hash_seed),
-            keeps_shapes: true,
         };
         for (ty, definition) in &pair.old.types {
             meetings.add_type(alloc, pair, ty, definition)?;
         }
         Ok(meetings)
-    }
-
-    /// Whether all fields whose old types have one shape have new types of one shape.
-    pub fn keep_shapes(&self) -> bool {
-        self.keeps_shapes
     }
 
     fn add_type(
@@ -60,17 +59,38 @@ impl<'a> Meetings<'a> {
         pair: SchemaPair<'a>,
         ty: &'a NamedType,
         definition: &'a ExtendedType,
-    ) -> Result<(), ValidationError> {
+    ) -> Result<(), ValidationError>
+        ensures { OnOk result (Learns self.old.by_shape self.new.by_shape (λ table. IsTrue (is_composite definition.now) →
+            KnowsType table pair.entry.old.now pair.entry.new.now ty.now definition.now)) }
+    {
         if !definition.is_composite() {
             return Ok(());
         }
-        if let Some(fields) = fields_of(definition) {
-            self.add_fields(alloc, pair, ty, fields)?;
-        }
+        self.add_own_fields(alloc, pair, ty, definition)?;
         let meta_fields = &pair.old.meta_fields;
         self.add_meta_field(alloc, pair, ty, &meta_fields.typename)?;
         self.add_meta_field(alloc, pair, ty, &meta_fields.schema)?;
-        self.add_meta_field(alloc, pair, ty, &meta_fields.type_by_name)
+        self.add_meta_field(alloc, pair, ty, &meta_fields.type_by_name)?;
+        Ok(())
+    }
+
+    fn add_own_fields(
+        &mut self,
+        alloc: Global,
+        pair: SchemaPair<'a>,
+        ty: &'a NamedType,
+        definition: &'a ExtendedType,
+    ) -> Result<(), ValidationError>
+        ensures { OnOk result (Learns self.old.by_shape self.new.by_shape (λ table.
+            All (λ entry. KnowsEntry table pair.entry.old.now pair.entry.new.now ty.now entry.0 entry.1) (fields_of definition.now))) }
+    {
+        match fields_of(definition) {
+            Some(fields) => {
+                self.add_fields(alloc, pair, ty, fields)?;
+                Ok(())
+            }
+            None => Ok(()),
+        }
     }
 
     fn add_fields(
@@ -79,7 +99,10 @@ impl<'a> Meetings<'a> {
         pair: SchemaPair<'a>,
         ty: &'a NamedType,
         fields: &'a FieldMap,
-    ) -> Result<(), ValidationError> {
+    ) -> Result<(), ValidationError>
+        ensures { OnOk result (Learns self.old.by_shape self.new.by_shape (λ table.
+            All (λ entry. KnowsEntry table pair.entry.old.now pair.entry.new.now ty.now entry.0 entry.1) fields.now.entries)) }
+    {
         for (name, field) in fields {
             self.add_field(alloc, pair, FieldPlace { ty, field: name }, field)?;
         }
@@ -92,10 +115,16 @@ impl<'a> Meetings<'a> {
         pair: SchemaPair<'a>,
         ty: &'a NamedType,
         field: &'a Component<FieldDefinition>,
-    ) -> Result<(), ValidationError> {
+    ) -> Result<(), ValidationError>
+        ensures { OnOk result (Learns self.old.by_shape self.new.by_shape (λ table.
+            KnowsField table pair.entry.old.now pair.entry.new.now ty.now field.now.node.value.value.name)) }
+    {
         let name = &field.node.value.name;
         match pair.old.type_field(ty, name) {
-            Ok(field) => self.add_field(alloc, pair, FieldPlace { ty, field: name }, field),
+            Ok(field) => {
+                self.add_field(alloc, pair, FieldPlace { ty, field: name }, field)?;
+                Ok(())
+            }
             Err(_) => Ok(()),
         }
     }
@@ -106,13 +135,17 @@ impl<'a> Meetings<'a> {
         pair: SchemaPair<'a>,
         place: FieldPlace<'a>,
         field: &Component<FieldDefinition>,
-    ) -> Result<(), ValidationError> {
+    ) -> Result<(), ValidationError>
+        ensures { OnOk result (Learns self.old.by_shape self.new.by_shape (λ table.
+            KnowsEntry table pair.entry.old.now pair.entry.new.now place.entry.ty.now place.entry.field.now field.now)) }
+    {
         let Ok(new) = pair.new.type_field(place.ty, place.field) else {
             return Ok(());
         };
         let old_shape = shape_of(alloc, pair.old, &field.node.value.ty)?;
         let new_shape = shape_of(alloc, pair.new, &new.node.value.ty)?;
-        self.add_shapes(place, old_shape, new_shape)
+        self.add_shapes(place, old_shape, new_shape)?;
+        Ok(())
     }
 
     fn add_shapes(
@@ -120,23 +153,24 @@ impl<'a> Meetings<'a> {
         place: FieldPlace<'a>,
         old_shape: Shape,
         new_shape: Shape,
-    ) -> Result<(), ValidationError> {
-        let Some(meeting) = self.by_shape.get_mut(&old_shape) else {
-            let meeting = Meeting {
-                first: place,
-                shape: new_shape,
-                other: None,
-            };
-            self.by_shape.insert(old_shape, meeting)?;
-            return Ok(());
-        };
-        if meeting.shape != new_shape {
-            self.keeps_shapes = false;
-            if meeting.other.is_none() {
-                meeting.other = Some(place);
+    ) -> Result<(), ValidationError>
+        ensures { OnOk result (Learns self.old.by_shape self.new.by_shape (λ table. Knows table (form_of old_shape) (form_of new_shape))) }
+    {
+        match self.by_shape.get_mut(&old_shape) {
+            Some(meeting) => {
+                meeting.meet(place, &new_shape);
+                Ok(())
+            }
+            None => {
+                let meeting = Meeting {
+                    first: place,
+                    shape: new_shape,
+                    other: None,
+                };
+                self.by_shape.insert(old_shape, meeting)?;
+                Ok(())
             }
         }
-        Ok(())
     }
 
     /// A field whose old type has the shape of this old type, and whose new type has not the shape of this new one.
@@ -146,20 +180,47 @@ impl<'a> Meetings<'a> {
         pair: SchemaPair<'_>,
         from: &Type,
         to: &Type,
-    ) -> Result<Option<TypeAttributeCoordinate>, ValidationError> {
+    ) -> Result<Option<TypeAttributeCoordinate>, ValidationError>
+        ensures { IfOk result (λ met. IsNone met → KnowsNoOther self.now.by_shape (form_in pair.entry.old.now from.now) (form_in pair.entry.new.now to.now)) }
+    {
         let old_shape = shape_of(alloc, pair.old, from)?;
+        let new_shape = shape_of(alloc, pair.new, to)?;
         let Some(meeting) = self.by_shape.get(&old_shape) else {
             return Ok(None);
         };
-        let new_shape = shape_of(alloc, pair.new, to)?;
-        let met = if meeting.shape == new_shape {
-            meeting.other
-        } else {
-            Some(meeting.first)
-        };
-        match met {
-            Some(place) => Ok(Some(place.coordinate(alloc)?)),
+        match meeting.differing(&new_shape) {
+            Some(place) => {
+                let coordinate = place.coordinate(alloc)?;
+                Ok(Some(coordinate))
+            }
             None => Ok(None),
+        }
+    }
+}
+
+impl<'a> Meeting<'a> {
+    /// Notes a further field, if its new type has another shape.
+    fn meet(&mut self, place: FieldPlace<'a>, shape: &Shape)
+        ensures same { self.new.shape ≡ self.old.shape }
+        ensures noted { (form_of self.new.shape ≡ form_of shape.now) ⊎ IsSome self.new.other }
+        ensures others { IsSome self.old.other → IsSome self.new.other }
+    {
+        if self.shape == *shape {
+            return;
+        }
+        if self.other.is_none() {
+            self.other = Some(place);
+        }
+    }
+
+    /// A field whose new type has not this shape.
+    fn differing(&self, shape: &Shape) -> Option<FieldPlace<'a>>
+        ensures { IsNone result → (form_of self.now.shape ≡ form_of shape.now) × IsNone self.now.other }
+    {
+        if self.shape == *shape {
+            self.other
+        } else {
+            Some(self.first)
         }
     }
 }

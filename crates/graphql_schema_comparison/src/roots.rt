@@ -1,65 +1,70 @@
 //! Root operation types.
 
+ghost use Rattle.std.specs.Prelude.{OnOk};
 ghost use Rattle.graphql_nodes.specs.Names.{SameName};
 ghost use Rattle.graphql_schema_changes.specs.Keeps.{KeepsRoots};
-ghost use Rattle.graphql_schema_comparison.specs.Comparisons.{Confirms, KeepsRoot};
+ghost use Rattle.graphql_schema_comparison.specs.Breaks.{Finds};
+ghost use Rattle.graphql_schema_comparison.specs.Comparisons.{KeepsRoot};
 
 use crate::change_list::{ChangeList, Places, SchemaPair};
 use crate::changes::Change;
 use graphql_nodes::{NamedType, OperationType, SourceSpan, ValidationError};
 
-/// Finds the changes of the root types. Answers whether each root type that was there is there, with its name.
+/// Finds the changes of the root types. If none breaks documents, each root type that was there is there, with its name.
 ///
 /// Specification: 3.3.1 Root Operation Types.
 pub(crate) fn compare_roots(
     changes: &mut ChangeList,
     pair: SchemaPair<'_>,
-) -> Result<bool, ValidationError>
-    ensures { Confirms result (KeepsRoots pair.entry.old.now pair.entry.new.now) }
+) -> Result<(), ValidationError>
+    ensures { OnOk result (Finds changes.old changes.new (λ merging. KeepsRoots pair.entry.old.now pair.entry.new.now)) }
 {
-    let query = compare_root(changes, pair, OperationType::Query)?;
-    let mutation = compare_root(changes, pair, OperationType::Mutation)?;
-    let subscription = compare_root(changes, pair, OperationType::Subscription)?;
-    Ok(query && mutation && subscription)
+    compare_root(changes, pair, OperationType::Query)?;
+    compare_root(changes, pair, OperationType::Mutation)?;
+    compare_root(changes, pair, OperationType::Subscription)?;
+    Ok(())
 }
 
 fn compare_root(
     changes: &mut ChangeList,
     pair: SchemaPair<'_>,
     operation: OperationType,
-) -> Result<bool, ValidationError>
-    ensures { Confirms result (KeepsRoot pair.entry.old.now pair.entry.new.now operation) }
+) -> Result<(), ValidationError>
+    ensures { OnOk result (Finds changes.old changes.new (λ merging. KeepsRoot pair.entry.old.now pair.entry.new.now operation)) }
 {
     let old = pair.old.root_operation(operation);
     let new = pair.new.root_operation(operation);
     match (old, new) {
-        (Some(old), Some(new)) => compare_names(changes, pair, operation, old, new),
+        (Some(old), Some(new)) => {
+            compare_names(changes, pair, operation, old, new)?;
+            Ok(())
+        }
         (Some(old), None) => {
             let places = places_of(pair, old.location(), None);
             changes.push(Change::RootRemoved { operation }, places)?;
-            Ok(false)
+            Ok(())
         }
         (None, Some(new)) => {
             let places = places_of(pair, None, new.location());
             changes.push(Change::RootAdded { operation }, places)?;
-            Ok(true)
+            Ok(())
         }
-        (None, None) => Ok(true),
+        (None, None) => Ok(()),
     }
 }
 
-/// Whether the two root types have one name.
+/// Finds whether the two root types have one name.
 fn compare_names(
     changes: &mut ChangeList,
     pair: SchemaPair<'_>,
     operation: OperationType,
     old: &NamedType,
     new: &NamedType,
-) -> Result<bool, ValidationError>
-    ensures { Confirms result (SameName old.now new.now) }
+) -> Result<(), ValidationError>
+    ensures { OnOk result (Finds changes.old changes.new (λ merging. SameName old.now new.now)) }
 {
     if old == new {
-        return Ok(true);
+        return Ok(());
     }
     let alloc = changes.allocator();
     let places = places_of(pair, old.location(), new.location());
@@ -73,7 +78,7 @@ fn compare_names(
         },
         places,
     )?;
-    Ok(false)
+    Ok(())
 }
 
 /// The places of two root types; of one that is not there, that of the schema definition.

@@ -1,5 +1,9 @@
 //! The shapes of the types of fields, by which fields merge.
 
+ghost use Rattle.std.specs.Prelude.{◌≡◌, IfOk, MatchOption, false, true};
+ghost use Rattle.graphql_document_building.specs.Trees.{names_leaf_type};
+ghost use Rattle.graphql_schema_comparison.specs.Shapes.{form_in, form_of};
+
 use crate::fields::names_leaf_type;
 use graphql_documents::documents::{Schema, Type};
 use graphql_nodes::{Name, NamedType, ValidationError};
@@ -20,11 +24,9 @@ pub(crate) enum Shape {
 }
 
 /// The shape of a type in a schema.
-pub(crate) fn shape_of(
-    alloc: Global,
-    schema: &Schema,
-    ty: &Type,
-) -> Result<Shape, ValidationError> {
+pub(crate) fn shape_of(alloc: Global, schema: &Schema, ty: &Type) -> Result<Shape, ValidationError>
+    ensures { IfOk result (λ shape. form_of shape ≡ form_in schema.now ty.now) }
+{
     match ty {
         Type::Named(name) => match leaf_name(alloc, schema, name)? {
             Some(name) => Ok(Shape::Leaf(name)),
@@ -50,7 +52,9 @@ fn leaf_name(
     alloc: Global,
     schema: &Schema,
     name: &NamedType,
-) -> Result<Option<Name>, ValidationError> {
+) -> Result<Option<Name>, ValidationError>
+    ensures { IfOk result (λ found. MatchOption found (names_leaf_type schema.now name.now ≡ false) (λ leaf. (names_leaf_type schema.now name.now ≡ true) × (leaf.text ≡ name.now.text))) }
+{
     if names_leaf_type(schema, name) {
         Ok(Some(name.clone_in(alloc)?))
     } else {

@@ -1,8 +1,12 @@
 //! Types, two of one name at a time.
 
+ghost use Rattle.std.specs.Prelude.{All, IsTrue, OnOk};
+ghost use Rattle.graphql_schema_comparison.specs.Breaks.{Adds, Finds, can_become};
+ghost use Rattle.graphql_schema_comparison.specs.Comparisons.{KeepsContents, KeepsPlace, KeepsType, kind_of};
+
 use crate::change_list::{ChangeList, Places, SchemaPair};
 use crate::changes::{Change, TypeKind};
-use crate::composites::{compare_interfaces, compare_members, keeps_subscription_root};
+use crate::composites::{compare_interfaces, compare_members, compare_subscription_root};
 use crate::fields::compare_fields;
 use crate::input_types::{compare_enums, compare_input_objects};
 use crate::meetings::Meetings;
@@ -11,29 +15,35 @@ use graphql_documents::documents::ExtendedType;
 use graphql_nodes::{NamedType, SourceSpan, ValidationError};
 use std::alloc::Global;
 
-/// Finds the changes of types. Answers whether what could be selected on each type and given for it still can, merging apart.
+/// Finds the changes of types. If none breaks documents, what could be selected on each type and given for it still can; if none
+/// breaks them by merging, all fields of one shape have one shape.
 ///
 /// Specification: 3.4 Types.
 pub(crate) fn compare_types(
     changes: &mut ChangeList,
     pair: SchemaPair<'_>,
     meetings: &Meetings<'_>,
-) -> Result<bool, ValidationError> {
-    let keeps = compare_old_types(changes, pair, meetings)?;
+) -> Result<(), ValidationError>
+    ensures { OnOk result (Finds changes.old changes.new (λ merging.
+        All (λ entry. KeepsType meetings.now.by_shape pair.entry.old.now pair.entry.new.now merging entry.0 entry.1) pair.entry.old.now.types.entries)) }
+{
+    compare_old_types(changes, pair, meetings)?;
     find_added_types(changes, pair)?;
-    Ok(keeps)
+    Ok(())
 }
 
 fn compare_old_types(
     changes: &mut ChangeList,
     pair: SchemaPair<'_>,
     meetings: &Meetings<'_>,
-) -> Result<bool, ValidationError> {
-    let mut keeps = true;
-    for (name, _) in &pair.old.types {
-        keeps = compare_old_type(changes, pair, meetings, name)? && keeps;
+) -> Result<(), ValidationError>
+    ensures { OnOk result (Finds changes.old changes.new (λ merging.
+        All (λ entry. KeepsType meetings.now.by_shape pair.entry.old.now pair.entry.new.now merging entry.0 entry.1) pair.entry.old.now.types.entries)) }
+{
+    for (name, definition) in &pair.old.types {
+        compare_old_type(changes, pair, meetings, name, definition)?;
     }
-    Ok(keeps)
+    Ok(())
 }
 
 fn compare_old_type(
@@ -41,71 +51,74 @@ fn compare_old_type(
     pair: SchemaPair<'_>,
     meetings: &Meetings<'_>,
     name: &NamedType,
-) -> Result<bool, ValidationError> {
-    let Some(old) = pair.old.types.get(name) else {
-        return Ok(true);
-    };
-    match pair.new.types.get(name) {
-        Some(new) => compare_two_types(changes, pair, meetings, name, old, new),
-        None => {
-            let ty = type_coordinate(changes.allocator(), name)?;
-            let places = Places {
-                old: name.location(),
-                new: None,
-            };
-            changes.push(Change::TypeRemoved(ty), places)?;
-            Ok(false)
-        }
-    }
-}
-
-fn find_added_types(changes: &mut ChangeList, pair: SchemaPair<'_>) -> Result<(), ValidationError> {
-    for (name, _) in &pair.new.types {
-        if !pair.old.types.contains_key(name) {
-            let ty = type_coordinate(changes.allocator(), name)?;
-            let places = Places {
-                old: None,
-                new: name.location(),
-            };
-            changes.push(Change::TypeAdded(ty), places)?;
-        }
-    }
-    Ok(())
-}
-
-/// Whether what could be selected on a type and given for it still can.
-fn compare_two_types(
-    changes: &mut ChangeList,
-    pair: SchemaPair<'_>,
-    meetings: &Meetings<'_>,
-    name: &NamedType,
     old: &ExtendedType,
-    new: &ExtendedType,
-) -> Result<bool, ValidationError> {
+) -> Result<(), ValidationError>
+    ensures { OnOk result (Finds changes.old changes.new (λ merging. KeepsType meetings.now.by_shape pair.entry.old.now pair.entry.new.now merging name.now old.now)) }
+{
+    let Some(new) = pair.new.types.get(name) else {
+        let ty = type_coordinate(changes.allocator(), name)?;
+        let places = Places {
+            old: name.location(),
+            new: None,
+        };
+        changes.push(Change::TypeRemoved(ty), places)?;
+        return Ok(());
+    };
     let places = Places {
         old: name.location(),
         new: place_of_name(pair, name),
     };
-    let keeps_kind = compare_kinds(changes, name, places, old, new)?;
-    let keeps_contents = compare_contents(changes, pair, meetings, name, places, old, new)?;
-    Ok(keeps_kind && keeps_contents)
+    compare_kinds(changes, name, places, old, new)?;
+    compare_contents(changes, pair, meetings, name, places, old, new)?;
+    Ok(())
 }
 
-/// Whether a type of the new kind can stand for one of the old kind.
+fn find_added_types(changes: &mut ChangeList, pair: SchemaPair<'_>) -> Result<(), ValidationError>
+    ensures { OnOk result (Adds changes.old changes.new) }
+{
+    for (name, _) in &pair.new.types {
+        find_added_type(changes, pair, name)?;
+    }
+    Ok(())
+}
+
+fn find_added_type(
+    changes: &mut ChangeList,
+    pair: SchemaPair<'_>,
+    name: &NamedType,
+) -> Result<(), ValidationError>
+    ensures { OnOk result (Adds changes.old changes.new) }
+{
+    if pair.old.types.contains_key(name) {
+        return Ok(());
+    }
+    let ty = type_coordinate(changes.allocator(), name)?;
+    let places = Places {
+        old: None,
+        new: name.location(),
+    };
+    changes.push(Change::TypeAdded(ty), places)?;
+    Ok(())
+}
+
+/// Finds whether a type of the new kind can be in the place of one of the old kind.
 fn compare_kinds(
     changes: &mut ChangeList,
     name: &NamedType,
     places: Places,
     old: &ExtendedType,
     new: &ExtendedType,
-) -> Result<bool, ValidationError> {
+) -> Result<(), ValidationError>
+    ensures { OnOk result (Finds changes.old changes.new (λ merging. IsTrue (can_become (kind_of old.now) (kind_of new.now)))) }
+{
     let from = TypeKind::of(old);
     let to = TypeKind::of(new);
-    if from != to {
-        let ty = type_coordinate(changes.allocator(), name)?;
-        changes.push(Change::KindChanged { ty, from, to }, places)?;
+    if from == to {
+        return Ok(());
     }
-    Ok(from.can_become(to))
+    let ty = type_coordinate(changes.allocator(), name)?;
+    changes.push(Change::KindChanged { ty, from, to }, places)?;
+    Ok(())
 }
 
 fn compare_contents(
@@ -116,23 +129,44 @@ fn compare_contents(
     places: Places,
     old: &ExtendedType,
     new: &ExtendedType,
-) -> Result<bool, ValidationError> {
+) -> Result<(), ValidationError>
+    ensures { OnOk result (Finds changes.old changes.new (λ merging.
+        KeepsContents meetings.now.by_shape pair.entry.old.now pair.entry.new.now merging name.now old.now new.now)) }
+{
     match (old, new) {
         (ExtendedType::Enum(old), ExtendedType::Enum(new)) => {
-            compare_enums(changes, name, places, &old.value, &new.value)
+            compare_enums(changes, name, places, &old.value, &new.value)?;
+            Ok(())
         }
         (ExtendedType::InputObject(old), ExtendedType::InputObject(new)) => {
-            compare_input_objects(changes, name, places, &old.value, &new.value)
+            compare_input_objects(changes, name, places, &old.value, &new.value)?;
+            Ok(())
         }
         _ if old.is_composite() && new.is_composite() => {
-            let keeps_fields = compare_fields(changes, pair, meetings, name, places, old, new)?;
-            let keeps_interfaces = compare_interfaces(changes, pair, name, places, old, new)?;
-            let keeps_members = compare_members(changes, pair, name, places, old, new)?;
-            let keeps_root = keeps_subscription_root(pair, name);
-            Ok(keeps_fields && keeps_interfaces && keeps_members && keeps_root)
+            compare_composites(changes, pair, meetings, name, places, old, new)?;
+            Ok(())
         }
-        _ => Ok(true),
+        _ => Ok(()),
     }
+}
+
+fn compare_composites(
+    changes: &mut ChangeList,
+    pair: SchemaPair<'_>,
+    meetings: &Meetings<'_>,
+    name: &NamedType,
+    places: Places,
+    old: &ExtendedType,
+    new: &ExtendedType,
+) -> Result<(), ValidationError>
+    ensures { OnOk result (Finds changes.old changes.new (λ merging.
+        KeepsPlace meetings.now.by_shape pair.entry.old.now pair.entry.new.now merging name.now old.now)) }
+{
+    compare_fields(changes, pair, meetings, name, places, old, new)?;
+    compare_interfaces(changes, pair, name, places, old, new)?;
+    compare_members(changes, pair, name, places, old, new)?;
+    compare_subscription_root(changes, pair, name, places, new)?;
+    Ok(())
 }
 
 /// The place of the name of a type in the new schema.

@@ -7,8 +7,6 @@ mod block_strings;
 pub mod laws;
 mod lines;
 mod parts;
-#[cfg(test)]
-mod tests;
 mod values;
 
 pub use values::{StringValue, string_value};

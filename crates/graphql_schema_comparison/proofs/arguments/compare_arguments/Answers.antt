@@ -1,11 +1,12 @@
-use Rattle.std.proofs.Common.{All, subst}
+use Rattle.std.proofs.Common.{All, subst, sym}
 use Rattle.graphql_schema_comparison.specs.Comparisons.{KeepsArgument, WasRequired}
+use Rattle.graphql_schema_comparison.proofs.FindsLemmas.{found_both, found_words}
 use Rattle.graphql_schema_comparison.proofs.arguments.compare_arguments.Goals as goal
 
 pub returns : goal.returns
-returns c = λ yes.
-    let two = c.both.ensures yes in
-    record {
-      kept = subst (λ l. All (KeepsArgument l) c.args.old.now) c.in_ok-new_by_name.ensures (c.in_ok-keeps_old.ensures two.0);
-      required = subst (λ l. All (WasRequired l) c.args.new.now) c.in_ok-old_by_name.ensures (c.in_ok-keeps_new.ensures two.1);
-    }
+returns c =
+    found_words (λ merging h given. record {
+      kept = subst (λ l. All (KeepsArgument l) c.args.old.now) c.in_ok-new_by_name.ensures (h.0 given);
+      required = subst (λ l. All (WasRequired l) c.args.new.now) c.in_ok-old_by_name.ensures (h.1 given (subst (λ l. All (KeepsArgument c.in_ok-new_by_name.new_by_name) l) (sym c.in_ok-old_by_name.ensures) (h.0 given)));
+    })
+    (found_both c.in_ok-compare_old_arguments.ensures c.in_ok-compare_new_arguments.ensures)

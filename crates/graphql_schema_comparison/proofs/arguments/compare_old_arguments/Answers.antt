@@ -1,14 +1,23 @@
-use Rattle.std.proofs.Common.{◌≡◌, ◌∙◌, All, ap, refl}
-use Rattle.graphql_schema_comparison.specs.Comparisons.{KeepsArgument}
-use Rattle.graphql_schema_comparison.proofs.KeepsLemmas.{all_of, one_more}
+use Rattle.std.proofs.Common.{All}
+use Rattle.std.specs.Prelude.{IsTrue}
+use Rattle.std.proofs.lemmas.List.Elements.{All-weaker}
+use Rattle.graphql_nodes.specs.declared.nodes.Node.{Node}
+use Rattle.graphql_documents.specs.declared.documents.definitions.InputValueDefinition.{InputValueDefinition}
+use Rattle.graphql_schema_comparison.specs.Comparisons.{KeepsArgument, is_owner_given}
+use Rattle.graphql_schema_comparison.proofs.FindsLemmas.{found_all_of, found_more, found_none, found_words}
 use Rattle.graphql_schema_comparison.proofs.arguments.compare_old_arguments.Goals as goal
 
+pub loop-argument-init : goal.loop-argument-init
+loop-argument-init c = found_none (λ merging (x : Node InputValueDefinition). IsTrue (is_owner_given c.args.owner) → KeepsArgument c.args.new.now x)
+
 pub loop-argument-preserved : goal.loop-argument-preserved
-loop-argument-preserved c = λ kept.
-    let two = c.both-keeps.ensures kept in
-    one_more (KeepsArgument c.args.new.now) c.args.old.now c.loop-argument.argument-index c.argument-item.result c.loop-argument-test.true c.argument-item.is
-    (c.in_ok-keeps_this.ensures two.1) (c.loop-argument.invariant two.0)
+loop-argument-preserved c =
+    found_more (λ merging (x : Node InputValueDefinition). IsTrue (is_owner_given c.args.owner) → KeepsArgument c.args.new.now x) c.args.old.now c.loop-argument.argument-index c.argument-item.result c.loop-argument-test.true c.argument-item.is
+    c.loop-argument.invariant c.in_ok-compare_old_argument.ensures
 
 pub returns : goal.returns
-returns c = λ kept.
-    all_of (KeepsArgument c.args.new.now) c.args.old.now c.args.old.now c.loop-argument.argument-index refl c.loop-argument-test.false (c.loop-argument.invariant kept)
+returns c =
+    found_words (λ merging all given. All-weaker (λ (x : Node InputValueDefinition). IsTrue (is_owner_given c.args.owner) → KeepsArgument c.args.new.now x)
+    (KeepsArgument c.args.new.now) (λ x keeps. keeps given) c.args.old.now all)
+    (found_all_of (λ merging (x : Node InputValueDefinition). IsTrue (is_owner_given c.args.owner) → KeepsArgument c.args.new.now x) c.args.old.now
+    c.loop-argument.argument-index c.loop-argument-test.false c.loop-argument.invariant)

@@ -1,7 +1,10 @@
 use Rattle.std.proofs.Common.{All, take}
 use Rattle.std.specs.Prelude.{IsTrue}
-use Rattle.graphql_schema_comparison.specs.Comparisons.{KeepsArgument}
+use Rattle.graphql_nodes.specs.declared.nodes.Node.{Node}
+use Rattle.graphql_documents.specs.declared.documents.definitions.InputValueDefinition.{InputValueDefinition}
+use Rattle.graphql_schema_comparison.specs.Comparisons.{KeepsArgument, is_owner_given}
+use Rattle.graphql_schema_comparison.specs.Breaks.{Finds}
 use Rattle.graphql_schema_comparison.proofs.arguments.compare_old_arguments.Given as goal
 
 abbrev pub invariant-loop-argument : goal.invariant-loop-argument
-invariant-loop-argument l = IsTrue l.keeps → All (KeepsArgument l.new) (take l.argument-index l.old)
+invariant-loop-argument l = Finds l.initial.changes l.changes (λ merging. All (λ (x : Node InputValueDefinition). IsTrue (is_owner_given l.owner) → KeepsArgument l.new x) (take l.argument-index l.old))

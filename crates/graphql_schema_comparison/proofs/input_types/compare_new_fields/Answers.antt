@@ -1,40 +1,29 @@
-use Rattle.std.proofs.Common.{◌≡◌, ◌++◌, [], ◌∷◌, true, false}
-use Rattle.std.specs.Prelude.{IsTrue}
+use Rattle.std.proofs.Common.{◌≡◌, ◌∙◌, ◌++◌, [], ◌∷◌, All, refl}
+use Rattle.std.proofs.lemmas.List.Elements.{All-weaker}
 use Rattle.graphql_documents.proofs.ListLemmas.{done_next}
-use Rattle.std.proofs.Common.{◌∙◌, All, ap, subst, sym}
-use Rattle.std.proofs.lemmas.List.{append-nil}
-use Rattle.graphql_schema_comparison.specs.Comparisons.{FieldWasRequired, InputField}
-use Rattle.graphql_schema_comparison.proofs.KeepsLemmas.{one_behind}
+use Rattle.graphql_schema_comparison.specs.Comparisons.{FieldWasRequired, InputField, KeepsInputField}
+use Rattle.graphql_schema_comparison.proofs.FindsLemmas.{found_behind, found_none, found_whole, found_words}
 use Rattle.graphql_schema_comparison.proofs.input_types.compare_new_fields.Goals as goal
 
-pub loop-name-preserved-then-branch : goal.loop-name-preserved-then-branch
-loop-name-preserved-then-branch c =
-    let done = c.loop-name.invariant.done in
-    let x : InputField = (c.in-Some.name.now, c.in-Some.field.now) in
-    let yes : IsTrue c.in_ok-keeps.keeps = cc in
-    record {
-      can_next = tt;
-      is_finite = tt;
-      done = done ++ x ∷ [];
-      all = done_next _ done c.loop-name.name-iterator c.next.new.self x c.loop-name.invariant.all c.in-Some.ensures.steps;
-      kept = λ so_far. one_behind (FieldWasRequired c.args.old.now) done x (c.loop-name.invariant.kept so_far) (c.in_ok-keeps.ensures yes);
-    }
+pub loop-name-init : goal.loop-name-init
+loop-name-init c = record { can_next = tt; is_finite = tt; done = []; all = refl; found = found_none (λ merging (entry : InputField). All (KeepsInputField c.args.new.now) c.args.old.now.fields.entries → FieldWasRequired c.args.old.now entry) }
 
 pub loop-name-preserved : goal.loop-name-preserved
 loop-name-preserved c =
     let done = c.loop-name.invariant.done in
     let x : InputField = (c.in-Some.name.now, c.in-Some.field.now) in
-    let not : c.in_ok-keeps.keeps ≡ false = cc in
     record {
       can_next = tt;
       is_finite = tt;
       done = done ++ x ∷ [];
       all = done_next _ done c.loop-name.name-iterator c.next.new.self x c.loop-name.invariant.all c.in-Some.ensures.steps;
-      kept = λ (yes : IsTrue c.in_ok-keeps.keeps). absurd (let no : ⊥ = cc in no);
+      found = found_behind (λ merging (entry : InputField). All (KeepsInputField c.args.new.now) c.args.old.now.fields.entries → FieldWasRequired c.args.old.now entry) done x c.loop-name.invariant.found c.in_ok-compare_new_field.ensures;
     }
 
 pub returns : goal.returns
-returns c = λ yes.
-    let done = c.loop-name.invariant.done in
+returns c =
     let whole : c.args.new.now.fields.entries ≡ c.into_iter-name-iterator.result = cc in
-    subst (All (FieldWasRequired c.args.old.now)) (sym (whole ∙ c.loop-name.invariant.all ∙ ap (λ l. done ++ l) c.in-None.ensures.steps.0 ∙ append-nil done)) (c.loop-name.invariant.kept yes)
+    found_words (λ merging all kept. All-weaker (λ (entry : InputField). All (KeepsInputField c.args.new.now) c.args.old.now.fields.entries → FieldWasRequired c.args.old.now entry)
+    (FieldWasRequired c.args.old.now) (λ entry was. was kept) c.args.new.now.fields.entries all)
+    (found_whole (λ merging (entry : InputField). All (KeepsInputField c.args.new.now) c.args.old.now.fields.entries → FieldWasRequired c.args.old.now entry) c.args.new.now.fields.entries c.loop-name.invariant.done
+    c.loop-name.name-iterator (whole ∙ c.loop-name.invariant.all) c.in-None.ensures.steps.0 c.loop-name.invariant.found)

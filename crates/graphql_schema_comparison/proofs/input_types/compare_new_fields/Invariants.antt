@@ -1,6 +1,6 @@
 use Rattle.std.proofs.Common.{◌≡◌, ◌++◌, List, All}
-use Rattle.std.specs.Prelude.{IsTrue}
-use Rattle.graphql_schema_comparison.specs.Comparisons.{FieldWasRequired, InputField}
+use Rattle.graphql_schema_comparison.specs.Breaks.{Finds}
+use Rattle.graphql_schema_comparison.specs.Comparisons.{FieldWasRequired, InputField, KeepsInputField}
 use Rattle.graphql_schema_comparison.proofs.input_types.compare_new_fields.Given as goal
 
 abbrev pub invariant-loop-name : goal.invariant-loop-name
@@ -9,5 +9,5 @@ invariant-loop-name l = record {
   is_finite : (goal.iterator-loop-name).is_finite l.name-iterator;
   done : List InputField;
   all : l.initial.name-iterator ≡ done ++ l.name-iterator;
-  kept : IsTrue l.keeps → All (FieldWasRequired l.old) done;
+  found : Finds l.initial.changes l.changes (λ merging. All (λ (entry : InputField). All (KeepsInputField l.new) l.old.fields.entries → FieldWasRequired l.old entry) done);
 }

@@ -1,13 +1,13 @@
 use Rattle.std.proofs.Common.{◌≡◌, ◌++◌, List, All}
-use Rattle.std.specs.Prelude.{IsTrue}
 use Rattle.graphql_schema_comparison.specs.Comparisons.{InputField, KeepsInputField}
+use Rattle.graphql_schema_comparison.specs.Breaks.{Finds}
 use Rattle.graphql_schema_comparison.proofs.input_types.compare_old_fields.Given as goal
 
 abbrev pub invariant-loop-name : goal.invariant-loop-name
 invariant-loop-name l = record {
   can_next : (goal.iterator-loop-name).can_next l.name-iterator;
   is_finite : (goal.iterator-loop-name).is_finite l.name-iterator;
-  done : List InputField;
+  done : List (InputField);
   all : l.initial.name-iterator ≡ done ++ l.name-iterator;
-  kept : IsTrue l.keeps → All (KeepsInputField l.new) done;
+  found : Finds l.initial.changes l.changes (λ merging. All (λ (entry : InputField). KeepsInputField l.new entry) done);
 }

@@ -1,0 +1,3 @@
+mod FindingLemmas
+mod OrderLemmas
+mod SingleLemmas

@@ -1,0 +1,5 @@
+pub mod Findings
+pub mod Helps
+pub mod Notes
+pub mod Order
+pub mod Singles

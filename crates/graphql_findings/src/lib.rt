@@ -1,0 +1,11 @@
+//! What is shown of reports: each fault once, in the order of files and places, with notes on its other places and what helps.
+#![tactic(auto)]
+
+pub mod findings;
+pub mod helps;
+mod notes;
+mod order;
+mod singles;
+
+pub use findings::{Finding, Findings, findings_of};
+pub use helps::FindingHelp;

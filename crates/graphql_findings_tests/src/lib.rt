@@ -1,0 +1,5 @@
+//! Tests of findings: each fault once, in order, with its notes.
+#![tactic(auto)]
+
+#[cfg(test)]
+mod findings;

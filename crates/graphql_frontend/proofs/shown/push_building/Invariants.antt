@@ -1,6 +1,0 @@
-use Rattle.std.proofs.Common.{take}
-use Rattle.graphql_frontend.specs.Shown.{ShowsMore, ShowsBuilding}
-use Rattle.graphql_frontend.proofs.shown.push_building.Given as goal
-
-abbrev pub invariant-loop-report : goal.invariant-loop-report
-invariant-loop-report l = ShowsMore ShowsBuilding (take l.report-index l.reports) l.fn.shown.items l.shown.items

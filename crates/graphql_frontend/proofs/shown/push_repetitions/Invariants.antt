@@ -1,6 +1,0 @@
-use Rattle.std.proofs.Common.{take}
-use Rattle.graphql_frontend.specs.Shown.{ShowsMore, ShowsRepetition}
-use Rattle.graphql_frontend.proofs.shown.push_repetitions.Given as goal
-
-abbrev pub invariant-loop-repetition : goal.invariant-loop-repetition
-invariant-loop-repetition l = ShowsMore ShowsRepetition (take l.repetition-index l.repetitions) l.fn.shown.items l.shown.items

@@ -1,0 +1,19 @@
+use Rattle.std.proofs.Common.{All, subst}
+use Rattle.graphql_nodes.specs.declared.directive_locations.DirectiveLocation.{DirectiveLocation}
+use Rattle.graphql_schema_comparison.specs.Comparisons.{KeepsLocation}
+use Rattle.graphql_schema_comparison.proofs.FindsLemmas.{found_all_of, found_more_copy, found_none, found_words}
+use Rattle.graphql_schema_comparison.proofs.directives.compare_locations.Goals as goal
+
+pub loop-location-init : goal.loop-location-init
+loop-location-init c = found_none (λ merging (x : DirectiveLocation). KeepsLocation c.args.new.now x)
+
+pub loop-location-preserved : goal.loop-location-preserved
+loop-location-preserved c =
+    found_more_copy (λ merging (x : DirectiveLocation). KeepsLocation c.args.new.now x) c.deref-location-items.result.now c.loop-location.location-index _
+    c.loop-location-test.true c.loop-location.invariant c.in_ok-compare_location.ensures
+
+pub returns : goal.returns
+returns c =
+    found_words (λ merging all. subst (All (KeepsLocation c.args.new.now)) c.deref-location-items.ensures.value all)
+    (found_all_of (λ merging (x : DirectiveLocation). KeepsLocation c.args.new.now x) c.deref-location-items.result.now c.loop-location.location-index
+    c.loop-location-test.false c.loop-location.invariant)

@@ -1,0 +1,5 @@
+use Rattle.graphql_schema_comparison.specs.Breaks.{Adds}
+use Rattle.graphql_schema_comparison.proofs.directives.find_added_locations.Given as goal
+
+abbrev pub invariant-loop-location : goal.invariant-loop-location
+invariant-loop-location l = Adds l.initial.changes l.changes

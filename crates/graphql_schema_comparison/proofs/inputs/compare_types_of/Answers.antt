@@ -1,0 +1,28 @@
+use Rattle.std.proofs.Common.{◌≡◌, ◌∙◌, not, rules, subst, sym, true}
+use Rattle.graphql_documents.specs.TypeReferences.{IsTypeCopy, is_assignable, same_type}
+use Rattle.graphql_documents.specs.declared.documents.type_references.Type.{«Type»}
+use Rattle.graphql_schema_comparison.specs.Breaks.{is_given}
+use Rattle.graphql_schema_comparison.proofs.FindsLemmas.{found_words, keeps_here}
+use Rattle.graphql_schema_comparison.proofs.TypeCopyLemmas.{assignable_copies, assignable_same, not_false, second_false}
+use Rattle.graphql_schema_comparison.proofs.inputs.compare_types_of.Goals as goal
+
+pub returns-then-is_same_type : goal.returns-then-is_same_type
+returns-then-is_same_type c =
+    let from = c.args.old.now.value.value.ty.value.value in
+    let to = c.args.new.now.value.value.ty.value.value in
+    let same : same_type from to ≡ true = search rules in
+    keeps_here (λ merging given. assignable_same from to same)
+
+pub returns : goal.returns
+returns c =
+    let from = c.args.old.now.value.value.ty.value.value in
+    let to = c.args.new.now.value.value.ty.value.value in
+    let first = c.in_ok-from.from in
+    let second = c.in_ok-to.to in
+    let input = c.in_ok-input.input in
+    let from_copy : IsTypeCopy from first = subst (λ (t : «Type»). IsTypeCopy t first) c.type_of_input-from.ensures c.in_ok-from.ensures.cases in
+    let to_copy : IsTypeCopy to second = subst (λ (t : «Type»). IsTypeCopy t second) c.type_of_input-to.ensures c.in_ok-to.ensures.cases in
+    found_words (λ merging harmless given.
+    sym (assignable_copies from to first second from_copy to_copy) ∙
+    not_false (is_assignable first second) (second_false (is_given input) (not (is_assignable first second)) harmless (c.in_ok-input.ensures ∙ given)))
+    c.in_ok-push.ensures

@@ -1,0 +1,28 @@
+use Rattle.std.proofs.Common.{◌≡◌, ◌∙◌, ◌++◌, [], ◌∷◌, refl}
+use Rattle.graphql_documents.proofs.ListLemmas.{done_next}
+use Rattle.graphql_nodes.specs.Names.{NameText}
+use Rattle.graphql_documents.specs.declared.documents.schemas.ExtendedType.{ExtendedType}
+use Rattle.graphql_schema_comparison.specs.Comparisons.{KeepsType}
+use Rattle.graphql_schema_comparison.proofs.FindsLemmas.{found_behind, found_none, found_whole}
+use Rattle.graphql_schema_comparison.proofs.types.compare_old_types.Goals as goal
+
+pub loop-name-init : goal.loop-name-init
+loop-name-init c = record { can_next = tt; is_finite = tt; done = []; all = refl; found = found_none (λ merging (entry : NameText × ExtendedType). KeepsType c.args.meetings.now.by_shape c.args.pair.old.now c.args.pair.new.now merging entry.0 entry.1) }
+
+pub loop-name-preserved : goal.loop-name-preserved
+loop-name-preserved c =
+    let done = c.loop-name.invariant.done in
+    let x : NameText × ExtendedType = (c.in-Some.name.now, c.in-Some.definition.now) in
+    record {
+      can_next = tt;
+      is_finite = tt;
+      done = done ++ x ∷ [];
+      all = done_next _ done c.loop-name.name-iterator c.next.new.self x c.loop-name.invariant.all c.in-Some.ensures.steps;
+      found = found_behind (λ merging (entry : NameText × ExtendedType). KeepsType c.args.meetings.now.by_shape c.args.pair.old.now c.args.pair.new.now merging entry.0 entry.1) done x c.loop-name.invariant.found c.in_ok-compare_old_type.ensures;
+    }
+
+pub returns : goal.returns
+returns c =
+    let whole : c.args.pair.old.now.types.entries ≡ c.into_iter-name-iterator.result = cc in
+    found_whole (λ merging (entry : NameText × ExtendedType). KeepsType c.args.meetings.now.by_shape c.args.pair.old.now c.args.pair.new.now merging entry.0 entry.1) c.args.pair.old.now.types.entries c.loop-name.invariant.done
+    c.loop-name.name-iterator (whole ∙ c.loop-name.invariant.all) c.in-None.ensures.steps.0 c.loop-name.invariant.found

@@ -1,0 +1,4 @@
+pub mod BuildErrorMessages
+pub mod RuleNames
+pub mod Shown
+pub mod ShownTexts

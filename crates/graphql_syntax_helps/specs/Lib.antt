@@ -1,0 +1,2 @@
+pub mod Brackets
+pub mod SyntaxHelps
