@@ -1,5 +1,6 @@
 """Prints the JSON that the library has to answer on examples/faulty.graphql, by what docs/CLI.md states of the program: the
-annotations there have the rule, the message and both ends of each report, in lines and columns."""
+annotations there have the rule, the message and both ends of each report, in lines and columns. What follows a line end in an
+annotation is a note or a help, which the library's JSON lacks."""
 
 import json
 import re
@@ -22,6 +23,7 @@ def byte(line, column):
 def error(line, end_line, column, end_column, rule, message):
     span = {"start": byte(line, column), "end": byte(end_line, end_column)}
     place = {"line": line, "column": column}
+    message, *_ = message.split("%0A")
     return {"message": message, "locations": [place], "extensions": {"rule": rule, "span": span}}
 
 
