@@ -5,7 +5,7 @@ _gqlvalidate() {
   local limits="--max-depth --max-reach --max-work"
   COMPREPLY=()
   if [ "$COMP_CWORD" -eq 1 ]; then
-    mapfile -t COMPREPLY < <(compgen -W "check schema serve syntax explain help --help --version" -- "$word")
+    mapfile -t COMPREPLY < <(compgen -W "check print-schema schema serve syntax explain help --help --version" -- "$word")
     return
   fi
   case "$before" in
@@ -19,7 +19,7 @@ _gqlvalidate() {
     schema | syntax) options="$reporting" ;;
     serve) options="--schema --max-line --max-reports --help $limits" ;;
     explain) options=$(gqlvalidate explain 2> /dev/null | cut -d' ' -f1) ;;
-    help) options="check schema serve syntax explain" ;;
+    help) options="check print-schema schema serve syntax explain" ;;
   esac
   case "$command:$word" in
     explain:* | help:* | *:-*) mapfile -t COMPREPLY < <(compgen -W "$options" -- "$word") ;;

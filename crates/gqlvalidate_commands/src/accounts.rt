@@ -2,12 +2,11 @@
 
 use crate::faults::{Fault, fault_of_output};
 use crate::presentations::Presentation;
-use gqlvalidate_formats::{Run, Sheet, Texts};
+use gqlvalidate_formats::named_texts::{CountedSubject, Subject};
+use gqlvalidate_formats::{Run, Sheet, Texts, findings_of};
 use graphql_documents::documents::Schema;
-use graphql_findings::findings_of;
 use graphql_frontend::Reports;
 use graphql_parser::Bounds;
-use graphql_report_formats::named_texts::{CountedSubject, Subject};
 use std::alloc::{AllocError, Global};
 use std::fmt;
 use std::io::Write;
@@ -54,6 +53,16 @@ pub struct Extent {
     pub whole: Whole,
     /// How many files the schema has that were read.
     pub schema_files: usize,
+}
+
+impl Extent {
+    /// Whether what the run validates could be read: the schema, or one document at least of so many that were checked.
+    fn is_checked(self, documents: usize) -> bool {
+        match self.whole {
+            Whole::Schema => self.schema_files > 0,
+            Whole::Documents(_) => documents > 0,
+        }
+    }
 }
 
 impl<'a> Account<'a> {
@@ -165,7 +174,7 @@ impl<'a> Account<'a> {
         Ok(())
     }
 
-    /// Prints what is left to print, and says on standard error how many reports there are, if any.
+    /// Prints what is left to print, and says on standard error how many reports there are, or that there are none of what was checked.
     pub fn end<O: Write, F: Write>(
         self,
         alloc: Global,
@@ -187,7 +196,7 @@ impl<'a> Account<'a> {
             unreadable: views.as_slice(),
         };
         print(sheet.end(alloc, run)?, output)?;
-        if tally.reports > 0 {
+        if tally.reports > 0 || extent.is_checked(tally.documents) {
             let whole = extent.whole;
             let summary = Summary { tally, whole };
             let _ = writeln!(faults, "{summary}");
@@ -232,6 +241,9 @@ struct Summary {
 
 impl fmt::Display for Summary {
     fn fmt<W: fmt::Write>(&self, f: &mut fmt::Formatter<W>) -> fmt::Result {
+        if self.tally.reports == 0 {
+            return self.write_silence(f);
+        }
         let reports = Counted(self.tally.reports, "report");
         match self.whole {
             Whole::Schema => write!(f, "{reports} in the schema")?,
@@ -246,6 +258,19 @@ impl fmt::Display for Summary {
             write!(f, ", {left_out} not shown")?;
         }
         Ok(())
+    }
+}
+
+impl Summary {
+    /// What was checked, if nothing is reported of it.
+    fn write_silence<W: fmt::Write>(&self, f: &mut fmt::Formatter<W>) -> fmt::Result {
+        match self.whole {
+            Whole::Schema => f.write_str("checked the schema: no reports"),
+            Whole::Documents(_) => {
+                let documents = Counted(self.tally.documents, "document");
+                write!(f, "checked {documents}: no reports")
+            }
+        }
     }
 }
 

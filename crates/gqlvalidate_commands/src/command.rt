@@ -2,6 +2,7 @@ use crate::bounds::{bounds_of, bounds_of_answers};
 use crate::check::{Paths, check};
 use crate::explain::{explain, list_rules};
 use crate::faults::{Fault, fault_of_output, fault_of_words};
+use crate::introspections::print_schema;
 use crate::presentations::Presentation;
 use crate::schemas::check_schema;
 use crate::serve::{Allowance, serve};
@@ -80,6 +81,7 @@ fn answer<R: Files + AllocGlobal, I: Read, O: Write, F: Write>(
             let presentation = Presentation::new(*reporting, terminal);
             check(rt, paths, presentation, input, output, faults)
         }
+        Request::PrintSchema { answer } => print_schema(rt, answer, input, output, faults),
         Request::Schema { schema, reporting } => {
             let presentation = Presentation::new(*reporting, terminal);
             check_schema(rt, schema, presentation, input, output, faults)

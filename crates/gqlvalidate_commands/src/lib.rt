@@ -7,6 +7,7 @@ mod check;
 pub mod command;
 mod explain;
 mod faults;
+mod introspections;
 mod json_lines;
 mod lines;
 mod one_document;

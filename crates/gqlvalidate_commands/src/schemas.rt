@@ -4,11 +4,11 @@ use crate::accounts::{Account, Extent, Whole};
 use crate::bounds::OF_SCHEMA;
 use crate::faults::Fault;
 use crate::presentations::Presentation;
-use crate::schema_files::{ReadFiles, named_schema, read_files};
+use crate::schema_files::{FileKind, ReadFiles, named_schema, read_files};
 use crate::statuses::Status;
+use gqlvalidate_formats::named_texts::{NamedText, Subject};
+use gqlvalidate_formats::schema_texts::{schema_subject, sources_of};
 use graphql_frontend::{Reports, SchemaReading, read_schema};
-use graphql_report_formats::named_texts::{NamedText, Subject};
-use graphql_report_formats::schema_texts::{schema_subject, sources_of};
 use std::alloc::{AllocError, Global};
 use std::io::{Read, Write};
 use std::mem;
@@ -23,7 +23,7 @@ pub fn check_schema<'a, R: Files + AllocGlobal, I: Read, O: Write, F: Write>(
     output: &mut O,
     faults: &mut F,
 ) -> Result<Status, Fault> {
-    let ReadFiles { texts, unreadable } = read_files(rt, paths, input, faults)?;
+    let ReadFiles { texts, unreadable } = read_files(rt, paths, FileKind::Schema, input, faults)?;
     let Some(texts) = texts else {
         return end_unread(rt.alloc(), unreadable, presentation, output, faults);
     };

@@ -7,17 +7,17 @@ use crate::faults::{Fault, fault_of_output};
 use crate::json_lines::print_line;
 use crate::lines::{ReadLine, read_line};
 use crate::questions::{Question, QuestionError};
-use crate::schema_files::{ReadFiles, named_schema, read_files};
+use crate::schema_files::{FileKind, ReadFiles, named_schema, read_files};
 use crate::sources::explain_input;
 use crate::statuses::Status;
+use gqlvalidate_formats::json_format::{add_reports, begin_errors};
+use gqlvalidate_formats::named_texts::{CountedSubject, NamedText, Subject};
+use gqlvalidate_formats::schema_texts::{schema_subject, sources_of};
+use gqlvalidate_formats::shown_reports;
 use graphql_documents::documents::Schema;
 use graphql_frontend::{Reports, SchemaReading, SourceText, read_schema, validate_document};
 use graphql_nodes::FileId;
 use graphql_parser::Bounds;
-use graphql_report_formats::json_format::{add_reports, begin_errors};
-use graphql_report_formats::named_texts::{CountedSubject, NamedText, Subject};
-use graphql_report_formats::schema_texts::{schema_subject, sources_of};
-use graphql_shown_reports::shown_reports;
 use json::{Scratch, Writer};
 use std::alloc::{AllocError, Global};
 use std::io;
@@ -47,7 +47,7 @@ pub fn serve<R: Files + AllocGlobal, I: Read, O: Write, F: Write>(
     output: &mut O,
     faults: &mut F,
 ) -> Result<Status, Fault> {
-    let ReadFiles { texts, .. } = read_files(rt, paths, input, faults)?;
+    let ReadFiles { texts, .. } = read_files(rt, paths, FileKind::Schema, input, faults)?;
     let Some(texts) = texts else {
         return Ok(Status::Unreadable);
     };

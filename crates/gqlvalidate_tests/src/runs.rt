@@ -4,6 +4,7 @@ use std::alloc::Global;
 use std::io::ErrorKind;
 use std::process::Abort;
 
+mod introspections;
 mod shelf;
 
 use shelf::{Failing, Refusing, Shelf};
@@ -26,6 +27,20 @@ const FILES: &[(&str, &[u8])] = &[
         b"type Query { pet(id: ID!): Pet }\n\ntype Pet { name: String }\n",
     ),
     ("more", b"extend type Pet { age: Int }\n"),
+    (
+        "answer.json",
+        b"{\"data\":{\"__schema\":{\"queryType\":{\"name\":\"Query\"},\"types\":[\
+        {\"kind\":\"OBJECT\",\"name\":\"Query\",\"interfaces\":[],\"fields\":[\
+        {\"name\":\"me\",\"args\":[],\"type\":{\"kind\":\"SCALAR\",\"name\":\"String\"}}]},\
+        {\"kind\":\"SCALAR\",\"name\":\"String\"}],\"directives\":[]}}}",
+    ),
+    (
+        "nameless.json",
+        b"{\"__schema\":{\"queryType\":{\"name\":\"Query\"},\"types\":[{\"kind\":\"SCALAR\"}],\"directives\":[]}}",
+    ),
+    ("unclosed.json", b"{\n  \"__schema\": }"),
+    ("me", b"{ me }\n"),
+    ("you", b"{ you }\n"),
     ("valid", b"{ pet(id: 1) { name } }\n"),
     ("aged", b"{ pet(id: 1) { name age } }\n"),
     (
@@ -120,16 +135,25 @@ fn run_ends<R: AllocGlobal + Abort>(rt: &R, texts: &[&str], status: u8, printed:
     ends(rt, texts, b"", wanted);
 }
 
-/// Words whose run has nothing to report, and what it prints.
-const ACCEPTED: &[(&[&str], &str)] = &[
-    (&["check", "--schema", "schema", "valid"], ""),
+/// Words whose run has nothing to report, what it prints, and what it says.
+const ACCEPTED: &[(&[&str], &str, &str)] = &[
+    (
+        &["check", "--schema", "schema", "valid"],
+        "",
+        "checked 1 document: no reports\n",
+    ),
     (
         &[
             "check", "--schema", "schema", "--schema", "more", "valid", "aged",
         ],
         "",
+        "checked 2 documents: no reports\n",
     ),
-    (&["schema", "more", "schema"], ""),
+    (
+        &["schema", "more", "schema"],
+        "",
+        "checked the schema: no reports\n",
+    ),
     (
         &[
             "check",
@@ -140,21 +164,29 @@ const ACCEPTED: &[(&[&str], &str)] = &[
             "fragment",
         ],
         "",
+        "checked 1 document: no reports\n",
     ),
     (
         &["check", "--format", "github", "--schema", "schema", "valid"],
         "",
+        "checked 1 document: no reports\n",
     ),
     (
         &["check", "--format", "json", "--schema", "schema", "valid"],
         "{\"version\":1,\"findings\":[],\"notShown\":0,\"checked\":{\"schemaFiles\":1,\"documents\":1},\"unreadable\":[]}\n",
+        "checked 1 document: no reports\n",
     ),
     (
         &["schema", "--format", "json", "schema"],
         "{\"version\":1,\"findings\":[],\"notShown\":0,\"checked\":{\"schemaFiles\":1,\"documents\":0},\"unreadable\":[]}\n",
+        "checked the schema: no reports\n",
     ),
-    (&["syntax", "schema", "unsupported"], ""),
-    (&["--version"], "gqlvalidate 0.1.0\n"),
+    (
+        &["syntax", "schema", "unsupported"],
+        "",
+        "checked 2 documents: no reports\n",
+    ),
+    (&["--version"], "gqlvalidate 0.1.0\n", ""),
     (
         &["explain", "ReservedName"],
         "ReservedName: 2.1.9 Name
@@ -169,17 +201,19 @@ Right:
 
     type Query { me: Int }
 ",
+        "",
     ),
     (
         &["explain", "MoreReports"],
         "MoreReports\n\nThere are more reports than are kept.\n",
+        "",
     ),
 ];
 
 #[test]
 fn what_holds_is_accepted(rt: HostRuntime) {
-    for (texts, printed) in ACCEPTED {
-        run_ends(&rt, texts, 0, printed, "");
+    for (texts, printed, said) in ACCEPTED {
+        run_ends(&rt, texts, 0, printed, said);
     }
 }
 
@@ -402,7 +436,8 @@ fn an_answer_counts_what_it_does_not_show(rt: HostRuntime) {
 #[test]
 fn a_document_may_nest_as_deep_as_the_words_say(rt: HostRuntime) {
     let deep = ["check", "--max-depth", "2", "--schema", "schema", "valid"];
-    run_ends(&rt, deep.as_slice(), 0, "", "");
+    let said = "checked 1 document: no reports\n";
+    run_ends(&rt, deep.as_slice(), 0, "", said);
     let words = ["check", "--max-depth", "1", "--schema", "schema", "valid"];
     let printed = "valid:1:14: error: more than 1 levels of brackets and braces [Syntax]
   |
@@ -637,7 +672,7 @@ const UNREADABLE: &[(&[&str], &str, &str)] = &[
             "check", "--format", "json", "--schema", "schema", "binary", "valid",
         ],
         "{\"version\":1,\"findings\":[],\"notShown\":0,\"checked\":{\"schemaFiles\":1,\"documents\":1},\"unreadable\":[\"binary\"]}\n",
-        "binary:2:3: error: not UTF-8\n",
+        "binary:2:3: error: not UTF-8\nchecked 1 document: no reports\n",
     ),
     (
         &[

@@ -26,8 +26,12 @@ pub const MAX_LINE: &str = "max-line";
 
 pub const RULE: &str = "rule";
 
+pub const ANSWER: &str = "answer";
+
 /// The names of the commands.
 pub const CHECK: &str = "check";
+
+pub const PRINT_SCHEMA: &str = "print-schema";
 
 pub const SERVE: &str = "serve";
 
@@ -82,7 +86,8 @@ pub fn program<'a>(alloc: Global) -> Result<Command<'a>, Error> {
         .subcommand_required(true)
         .bin_name("gqlvalidate")?;
     let with_check = program.subcommand(check(alloc)?)?;
-    let with_schema = with_check.subcommand(schema(alloc)?)?;
+    let with_print = with_check.subcommand(print_schema(alloc)?)?;
+    let with_schema = with_print.subcommand(schema(alloc)?)?;
     let with_serve = with_schema.subcommand(serve(alloc)?)?;
     let with_syntax = with_serve.subcommand(syntax(alloc)?)?;
     Ok(with_syntax.subcommand(explain(alloc)?)?)
@@ -99,6 +104,18 @@ fn check<'a>(alloc: Global) -> Result<Command<'a>, Error> {
     let command = command.arg(max_reach(alloc, "64"))?;
     let command = command.arg(max_work(alloc))?;
     Ok(command.arg(files(alloc, "DOCUMENT", "Executable documents"))?)
+}
+
+fn print_schema<'a>(alloc: Global) -> Result<Command<'a>, Error> {
+    let command = Command::new(alloc, PRINT_SCHEMA)
+        .about("Prints the schema that an answer to an introspection query describes")
+        .after_help(STATUSES);
+    let answer = Arg::new(alloc, ANSWER)
+        .value_name("FILE")
+        .help("The answer, as JSON")
+        .required(true)
+        .action(ArgAction::Set);
+    Ok(command.arg(answer)?)
 }
 
 fn schema<'a>(alloc: Global) -> Result<Command<'a>, Error> {

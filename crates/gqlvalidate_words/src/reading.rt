@@ -1,9 +1,9 @@
 //! From words to a request.
 
 use crate::commands::{
-    ALWAYS, CHECK, CHECKSTYLE, COLOR, EXPLAIN, FILES, FORMAT, GITHUB, GITLAB, JSON, JUNIT,
-    MAX_DEPTH, MAX_LINE, MAX_REACH, MAX_REPORTS, MAX_WORK, NEVER, ONE_DOCUMENT, RULE, SARIF,
-    SCHEMA, SERVE, SYNTAX, program,
+    ALWAYS, ANSWER, CHECK, CHECKSTYLE, COLOR, EXPLAIN, FILES, FORMAT, GITHUB, GITLAB, JSON, JUNIT,
+    MAX_DEPTH, MAX_LINE, MAX_REACH, MAX_REPORTS, MAX_WORK, NEVER, ONE_DOCUMENT, PRINT_SCHEMA, RULE,
+    SARIF, SCHEMA, SERVE, SYNTAX, program,
 };
 use crate::requests::{Color, Format, Limits, Refusal, Reporting, Request, STANDARD_INPUT};
 use clap::error::ErrorKind;
@@ -79,6 +79,10 @@ fn request_of<'a>(
             limits: limits(given),
             max_line: given.get_one::<u64>(MAX_LINE).unwrap_or(u64::MAX),
             max_reports: given.get_one::<usize>(MAX_REPORTS).unwrap_or(usize::MAX),
+        })
+    } else if command == PRINT_SCHEMA {
+        Ok(Request::PrintSchema {
+            answer: given.get_str(ANSWER).unwrap_or(STANDARD_INPUT),
         })
     } else if command == SYNTAX {
         Ok(Request::Syntax {
@@ -162,6 +166,7 @@ fn inputs(command: &str, given: &ArgMatches<'_>) -> usize {
     questions
         .saturating_add(inputs_of(given, SCHEMA))
         .saturating_add(inputs_of(given, FILES))
+        .saturating_add(inputs_of(given, ANSWER))
 }
 
 /// How many paths of an argument name standard input.

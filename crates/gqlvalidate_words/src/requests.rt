@@ -99,6 +99,10 @@ pub enum Request<'a> {
         limits: Limits,
         reporting: Reporting,
     },
+    /// To print the schema that this answer to an introspection query describes.
+    PrintSchema {
+        answer: &'a str,
+    },
     /// To validate the schema of these files.
     Schema {
         schema: Vec<&'a str>,
