@@ -4,11 +4,12 @@ use crate::faults::{Fault, fault_of_output};
 use crate::presentations::Presentation;
 use gqlvalidate_formats::{Run, Sheet, Texts};
 use graphql_documents::documents::Schema;
-use graphql_findings::findings_of;
+use graphql_findings::{Finding, findings_of};
 use graphql_frontend::Reports;
 use graphql_parser::Bounds;
 use graphql_report_formats::named_texts::{CountedSubject, Subject};
 use std::alloc::{AllocError, Global};
+use std::collections::BTreeSet;
 use std::fmt;
 use std::io::Write;
 
@@ -102,6 +103,11 @@ impl<'a> Account<'a> {
         self.pass(path)
     }
 
+    /// So many documents were checked together.
+    pub fn add_documents(&mut self, count: usize) {
+        self.tally.documents = self.tally.documents.saturating_add(count);
+    }
+
     /// Nothing is reported of this file.
     pub fn pass(&mut self, path: Option<&str>) -> Result<(), AllocError> {
         match path {
@@ -123,6 +129,60 @@ impl<'a> Account<'a> {
         self.report(alloc, reports, subject, bounds, output)
     }
 
+    /// Reports what is wrong with documents that were read within these bounds, and validated together: each fault once.
+    pub fn reject_together<O: Write>(
+        &mut self,
+        alloc: Global,
+        reports: &[Reports],
+        subject: Subject<'_>,
+        bounds: Bounds,
+        output: &mut O,
+    ) -> Result<(), Fault> {
+        let most = self.room();
+        let mut findings = findings_of(
+            alloc,
+            self.definitions,
+            reports,
+            subject.sources,
+            bounds,
+            usize::MAX,
+        )?;
+        let faulty = files_of(alloc, &findings.shown, subject)?;
+        let others = findings.shown.len().saturating_sub(most);
+        findings.shown.truncate(most);
+        let counted = CountedSubject::new(alloc, subject)?;
+        self.count_schema(alloc)?;
+        self.tally.add(findings.shown.len(), others, faulty.len());
+        let texts = Texts {
+            subject: &counted,
+            schema: self.counted.as_ref(),
+        };
+        print(self.sheet.add(alloc, &findings.shown, texts)?, output)?;
+        Ok(self.pass_others(subject, &faulty)?)
+    }
+
+    /// Nothing is reported of the files of the subject but for these.
+    fn pass_others(
+        &mut self,
+        subject: Subject<'_>,
+        faulty: &BTreeSet<u32>,
+    ) -> Result<(), AllocError> {
+        for text in subject.texts {
+            if !faulty.contains(&text.source.file_id.0) {
+                self.pass(text.path)?;
+            }
+        }
+        Ok(())
+    }
+
+    /// As many reports may still be printed.
+    fn room(&self) -> usize {
+        self.presentation
+            .reporting
+            .max_reports
+            .saturating_sub(self.tally.shown)
+    }
+
     /// Reports what is wrong with one subject, which was read within these bounds: each fault once.
     pub fn report<O: Write>(
         &mut self,
@@ -132,11 +192,7 @@ impl<'a> Account<'a> {
         bounds: Bounds,
         output: &mut O,
     ) -> Result<(), Fault> {
-        let most = self
-            .presentation
-            .reporting
-            .max_reports
-            .saturating_sub(self.tally.shown);
+        let most = self.room();
         let findings = findings_of(
             alloc,
             self.definitions,
@@ -147,7 +203,7 @@ impl<'a> Account<'a> {
         )?;
         let counted = CountedSubject::new(alloc, subject)?;
         self.count_schema(alloc)?;
-        self.tally.add(findings.shown.len(), findings.others);
+        self.tally.add(findings.shown.len(), findings.others, 1);
         let texts = Texts {
             subject: &counted,
             schema: self.counted.as_ref(),
@@ -196,6 +252,23 @@ impl<'a> Account<'a> {
     }
 }
 
+/// The files that these are about. Those without a place are about the first file of the subject.
+fn files_of(
+    alloc: Global,
+    findings: &[Finding<'_>],
+    subject: Subject<'_>,
+) -> Result<BTreeSet<u32>, AllocError> {
+    let mut files = BTreeSet::new(alloc);
+    let first = subject.sources.first().map(|source| source.file_id.0);
+    for finding in findings {
+        let file = finding.report.location.map(|place| place.file_id.0);
+        if let Some(file) = file.or(first) {
+            files.insert(file)?;
+        }
+    }
+    Ok(files)
+}
+
 fn views(alloc: Global, paths: &[String]) -> Result<Vec<&str>, AllocError> {
     let mut views = Vec::new(alloc);
     for path in paths {
@@ -204,17 +277,18 @@ fn views(alloc: Global, paths: &[String]) -> Result<Vec<&str>, AllocError> {
     Ok(views)
 }
 
-fn print<O: Write>(text: String, output: &mut O) -> Result<(), Fault> {
+/// Prints the text, in one write.
+pub fn print<O: Write>(text: String, output: &mut O) -> Result<(), Fault> {
     output.write_all(text.as_bytes()).map_err(fault_of_output)
 }
 
 impl Tally {
-    /// Counts the reports of one more file.
-    fn add(&mut self, shown: usize, others: usize) {
+    /// Counts the reports of so many more files.
+    fn add(&mut self, shown: usize, others: usize, files: usize) {
         let reports = shown.saturating_add(others);
         self.reports = self.reports.saturating_add(reports);
         self.shown = self.shown.saturating_add(shown);
-        self.files = self.files.saturating_add(1);
+        self.files = self.files.saturating_add(files);
     }
 
     /// How many reports are not printed.

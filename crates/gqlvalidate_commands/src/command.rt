@@ -1,5 +1,6 @@
 use crate::bounds::{bounds_of, bounds_of_answers};
-use crate::check::{Paths, check};
+use crate::changes::{Compared, compare, presentation_of};
+use crate::expansions::{Words, check_words};
 use crate::explain::{explain, list_rules};
 use crate::faults::{Fault, fault_of_output, fault_of_words};
 use crate::presentations::Presentation;
@@ -17,7 +18,7 @@ use std::rt::Files;
 
 /// Runs the program on these words, without its own name. The status says how it ended; what is
 /// wrong, if anything, is said to `faults`.
-pub fn run<R: Files + AllocGlobal, I: Read, O: Write, F: Write>(
+pub fn run<R: Files + AllocGlobal + Clone + Drop, I: Read, O: Write, F: Write>(
     rt: &R,
     words: io::Result<Vec<String>>,
     terminal: Terminal,
@@ -38,7 +39,7 @@ pub fn run<R: Files + AllocGlobal, I: Read, O: Write, F: Write>(
     }
 }
 
-fn run_words<R: Files + AllocGlobal, I: Read, O: Write, F: Write>(
+fn run_words<R: Files + AllocGlobal + Clone + Drop, I: Read, O: Write, F: Write>(
     rt: &R,
     words: &[String],
     terminal: Terminal,
@@ -55,7 +56,7 @@ fn run_words<R: Files + AllocGlobal, I: Read, O: Write, F: Write>(
 }
 
 /// Does what is asked for.
-fn answer<R: Files + AllocGlobal, I: Read, O: Write, F: Write>(
+fn answer<R: Files + AllocGlobal + Clone + Drop, I: Read, O: Write, F: Write>(
     rt: &R,
     request: &Request<'_>,
     terminal: Terminal,
@@ -67,18 +68,41 @@ fn answer<R: Files + AllocGlobal, I: Read, O: Write, F: Write>(
         Request::Check {
             schema,
             documents,
-            one_document,
+            files_from,
+            fragments,
+            grouping,
             limits,
             reporting,
         } => {
-            let paths = Paths {
+            let words = Words {
                 schema,
                 documents,
-                one_document: *one_document,
+                files_from: *files_from,
+                fragments,
+                grouping: *grouping,
                 bounds: bounds_of(*limits),
             };
             let presentation = Presentation::new(*reporting, terminal);
-            check(rt, paths, presentation, input, output, faults)
+            check_words(rt, words, presentation, input, output, faults)
+        }
+        Request::Diff {
+            old,
+            new,
+            operations,
+            lone_fields,
+            fail_on,
+            format,
+        } => {
+            let compared = Compared {
+                old,
+                new,
+                operations,
+                lone_fields: *lone_fields,
+                fail_on: *fail_on,
+                format: *format,
+                presentation: presentation_of(*format, terminal),
+            };
+            compare(rt, compared, input, output, faults)
         }
         Request::Schema { schema, reporting } => {
             let presentation = Presentation::new(*reporting, terminal);

@@ -10,6 +10,11 @@ use thiserror::Error;
 pub enum Fault {
     #[error("error: a word of the command line is not UTF-8")]
     WordsNotUtf8,
+    /// What is wrong with the word was said.
+    #[error("error: a path is not well written")]
+    WordRefused,
+    #[error("error: no file is a document")]
+    NoDocument,
     #[error("out of memory")]
     OutOfMemory,
     /// This can not be, since they are among the texts of each schema.
@@ -23,17 +28,17 @@ impl Fault {
     /// The status of a run that this ended.
     pub fn status(self) -> Status {
         match self {
-            Fault::WordsNotUtf8 => Status::BadArguments,
+            Fault::WordsNotUtf8 | Fault::WordRefused | Fault::NoDocument => Status::BadArguments,
             Fault::LacksIntrospection => Status::Reported,
             Fault::OutOfMemory => Status::OutOfMemory,
             Fault::OutputFailed => Status::OutputFailed,
         }
     }
 
-    /// Says on standard error what is wrong, except where standard output failed. That this fails
+    /// Says on standard error what is wrong, except where standard output failed, or it was said. That this fails
     /// too changes nothing.
     pub fn explain<F: Write>(self, faults: &mut F) {
-        if self != Fault::OutputFailed {
+        if self != Fault::OutputFailed && self != Fault::WordRefused {
             let _ = writeln!(faults, "{self}");
         }
     }

@@ -3,14 +3,18 @@
 
 mod accounts;
 mod bounds;
+mod changes;
 mod check;
 pub mod command;
+mod expansions;
 mod explain;
 mod faults;
 mod json_lines;
 mod lines;
 mod one_document;
+mod operations;
 mod presentations;
+mod project_files;
 mod questions;
 mod schema_files;
 mod schemas;

@@ -4,6 +4,7 @@ use std::alloc::Global;
 use std::io::ErrorKind;
 use std::process::Abort;
 
+mod changes;
 mod shelf;
 
 use shelf::{Failing, Refusing, Shelf};
@@ -26,6 +27,14 @@ const FILES: &[(&str, &[u8])] = &[
         b"type Query { pet(id: ID!): Pet }\n\ntype Pet { name: String }\n",
     ),
     ("more", b"extend type Pet { age: Int }\n"),
+    (
+        "later",
+        b"type Query { pet(id: ID!): Pet }\n\ntype Pet { title: String }\n",
+    ),
+    (
+        "stricter",
+        b"type Query { pet(id: ID!): Pet }\n\ntype Pet { name: String! }\n",
+    ),
     ("valid", b"{ pet(id: 1) { name } }\n"),
     ("aged", b"{ pet(id: 1) { name age } }\n"),
     (
@@ -44,6 +53,44 @@ const FILES: &[(&str, &[u8])] = &[
     (
         "both",
         b"{ pet(id: 1) { ...Named } }\nfragment Named on Pet { name }\n",
+    ),
+    (
+        "project/schema/main.graphql",
+        b"type Query { pet(id: ID!): Pet }\n",
+    ),
+    (
+        "project/schema/types/pet.graphql",
+        b"type Pet { name: String age: Int }\n",
+    ),
+    (
+        "project/queries/named.graphql",
+        b"query Named { pet(id: 1) { ...Named } }\n",
+    ),
+    (
+        "project/queries/aged.gql",
+        b"query Aged { pet(id: 1) { ...Aged } }\n",
+    ),
+    (
+        "project/fragments/named.graphql",
+        b"fragment Named on Pet { name }\n",
+    ),
+    (
+        "project/fragments/aged.graphql",
+        b"fragment Aged on Pet { age ...Named }\n",
+    ),
+    ("project/fragments/empty.graphql", b"# nothing\n"),
+    ("project/notes.txt", b"{ no document\n"),
+    ("project/.cache/old.graphql", b"{ no document\n"),
+    ("project/node_modules/a.graphql", b"{ no document\n"),
+    ("faulty/query.graphql", b"{ pet(id: 1) { ...Faulty } }\n"),
+    (
+        "faulty/fragment.graphql",
+        b"fragment Faulty on Pet { colour }\n",
+    ),
+    ("locked/query.graphql", b"{ pet(id: 1) { name } }\n"),
+    (
+        "list",
+        b"project/queries/named.graphql\n\nproject/fragments/named.graphql\n",
     ),
     ("twice", b"type Query { a: Int }\ntype Query { b: Int }\n"),
     ("rootless", b"type Pet { name: String }\n"),
@@ -180,6 +227,143 @@ Right:
 fn what_holds_is_accepted(rt: HostRuntime) {
     for (texts, printed) in ACCEPTED {
         run_ends(&rt, texts, 0, printed, "");
+    }
+}
+
+/// Words of runs over a project whose files, together, have nothing to report.
+const PROJECT: &[&[&str]] = &[
+    // A folder stands for its documents; files of the schema are none.
+    &["check", "--schema", "project/schema", "project"],
+    // So do patterns; the order of the words is of no account.
+    &[
+        "check",
+        "--schema",
+        "project/schema/**/*.graphql",
+        "project/{queries,fragments}/*.{graphql,gql}",
+    ],
+    &[
+        "check",
+        "project/fragments",
+        "--schema",
+        "project/schema",
+        "project/queries",
+    ],
+    // A file that two words name counts once, however they write it.
+    &[
+        "check",
+        "--schema",
+        "project/schema",
+        "./project//queries/named.graphql",
+        "project/queries/named.graphql",
+        "project/fragments/named.graphql",
+    ],
+    // What is taken out does not count.
+    &[
+        "check",
+        "--schema",
+        "project/schema",
+        "project",
+        "faulty",
+        "!faulty/*.graphql",
+    ],
+    &[
+        "check",
+        "--schema",
+        "project/schema",
+        "faulty",
+        "project",
+        "!faulty",
+    ],
+    // A fragment that is lent may be unused.
+    &[
+        "check",
+        "--schema",
+        "project/schema",
+        "--fragments",
+        "project/fragments",
+        "project/queries/named.graphql",
+    ],
+    &[
+        "check",
+        "--schema",
+        "project/schema",
+        "--files-from",
+        "list",
+    ],
+    // One document for itself.
+    &["check", "--each", "--schema", "schema", "valid", "both"],
+];
+
+#[test]
+fn files_of_a_project_lend_each_other_fragments(rt: HostRuntime) {
+    for texts in PROJECT {
+        run_ends(&rt, texts, 0, "", "");
+    }
+}
+
+/// A fault of a fragment is in its file, once.
+#[test]
+fn a_fault_of_a_fragment_is_in_its_file(rt: HostRuntime) {
+    let texts = ["check", "--schema", "project/schema", "project", "faulty"];
+    let printed =
+        "faulty/fragment.graphql:1:26: error: type `Pet` does not have a field `colour` [UndefinedField]
+  |
+1 | fragment Faulty on Pet { colour }
+  |                          ^^^^^^
+";
+    run_ends(
+        &rt,
+        texts.as_slice(),
+        1,
+        printed,
+        "1 report in 1 of 7 documents\n",
+    );
+}
+
+/// A folder that cannot be read does not end the run, and nothing is unused beside it.
+#[test]
+fn other_files_are_checked_beside_a_folder_that_cannot_be_read(rt: HostRuntime) {
+    let texts = [
+        "check",
+        "--schema",
+        "project/schema",
+        "project/fragments",
+        "project/queries/named.graphql",
+        "locked",
+    ];
+    run_ends(
+        &rt,
+        texts.as_slice(),
+        5,
+        "",
+        "locked: error: permission denied\n",
+    );
+}
+
+/// Words that do not stand for documents, and what is said of them.
+const NO_DOCUMENTS: &[(&[&str], &str)] = &[
+    (
+        &["check", "--schema", "schema", "[a"],
+        "[a: error: `[` has no `]`\n",
+    ),
+    (
+        &["check", "--schema", "schema", "none/*.graphql"],
+        "none/*.graphql: error: no file has such a path\n",
+    ),
+    (
+        &["check", "--schema", "schema", "project/*.gql"],
+        "project/*.gql: error: no file has such a path\n",
+    ),
+    (
+        &["check", "--schema", "schema", "schema"],
+        "error: no file is a document\n",
+    ),
+];
+
+#[test]
+fn words_stand_for_documents(rt: HostRuntime) {
+    for (texts, said) in NO_DOCUMENTS {
+        run_ends(&rt, texts, 2, "", said);
     }
 }
 
@@ -710,9 +894,11 @@ fn failed_reads_are_told_from_failed_allocations(rt: HostRuntime) {
 /// Words of runs that print something.
 const PRINTING: &[&[&str]] = &[
     &["syntax", "unclosed", "missing"],
-    &["check", "--schema", "schema", "unclosed", "missing"],
     &[
-        "check", "--format", "github", "--schema", "schema", "unclosed", "missing",
+        "check", "--each", "--schema", "schema", "unclosed", "missing",
+    ],
+    &[
+        "check", "--each", "--format", "github", "--schema", "schema", "unclosed", "missing",
     ],
     &["check", "--format", "json", "--schema", "schema", "valid"],
     &["--version"],

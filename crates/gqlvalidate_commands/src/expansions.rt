@@ -1,0 +1,176 @@
+//! The files that the words of a command line stand for.
+
+use crate::check::{Paths, check};
+use crate::faults::Fault;
+use crate::presentations::Presentation;
+use crate::sources::text_or_said;
+use crate::statuses::Status;
+use gqlvalidate_formats::printable::Printable;
+use gqlvalidate_paths::{Expansion, PathError, expand, without};
+use gqlvalidate_words::Grouping;
+use graphql_parser::Bounds;
+use std::alloc::{AllocError, Global};
+use std::io::{Read, Write};
+use std::rt::Files;
+
+/// The words of a run, and what its documents may take.
+#[derive(Clone, Copy)]
+pub struct Words<'a> {
+    pub schema: &'a [&'a str],
+    pub documents: &'a [&'a str],
+    /// The file with further words for documents.
+    pub files_from: Option<&'a str>,
+    pub fragments: &'a [&'a str],
+    pub grouping: Grouping,
+    pub bounds: Bounds,
+}
+
+/// The files of a run.
+#[derive(Drop)]
+struct FilesOfRun {
+    schema: Vec<String>,
+    documents: Vec<String>,
+    fragments: Vec<String>,
+    /// Each folder of documents and of fragments was read.
+    is_all: bool,
+}
+
+/// Validates the schema and the documents for which these words stand.
+pub fn check_words<R: Files + AllocGlobal + Clone + Drop, I: Read, O: Write, F: Write>(
+    rt: &R,
+    words: Words<'_>,
+    presentation: Presentation,
+    input: &mut I,
+    output: &mut O,
+    faults: &mut F,
+) -> Result<Status, Fault> {
+    let Some(further) = further_words(rt, words.files_from, input, faults)? else {
+        return Ok(Status::Unreadable);
+    };
+    let Some(files) = files_of(rt, words, &further, faults)? else {
+        return Ok(Status::Unreadable);
+    };
+    let schema = views(rt.alloc(), &files.schema)?;
+    let documents = views(rt.alloc(), &files.documents)?;
+    let fragments = views(rt.alloc(), &files.fragments)?;
+    let paths = Paths {
+        schema: &schema,
+        documents: &documents,
+        fragments: &fragments,
+        is_all: files.is_all,
+        grouping: words.grouping,
+        bounds: words.bounds,
+    };
+    let status = check(rt, paths, presentation, input, output, faults)?;
+    if files.is_all {
+        Ok(status)
+    } else {
+        Ok(status.with(Status::Unreadable))
+    }
+}
+
+/// The text with further words, which is empty if there are none, if it can be read.
+fn further_words<R: Files + AllocGlobal, I: Read, F: Write>(
+    rt: &R,
+    path: Option<&str>,
+    input: &mut I,
+    faults: &mut F,
+) -> Result<Option<String>, Fault> {
+    match path {
+        Some(path) => text_or_said(rt, path, input, faults),
+        None => Ok(Some(String::new(rt.alloc()))),
+    }
+}
+
+/// The files for which the words stand, and the lines of this text. None, if a folder of the schema cannot be read. A file of the schema is no
+/// document too, and a document lends nothing besides.
+fn files_of<R: Files + AllocGlobal + Clone + Drop, F: Write>(
+    rt: &R,
+    words: Words<'_>,
+    further: &str,
+    faults: &mut F,
+) -> Result<Option<FilesOfRun>, Fault> {
+    let alloc = rt.alloc();
+    let schema = expanded(rt, words.schema, faults)?;
+    if !schema.unread.is_empty() {
+        return Ok(None);
+    }
+    let all_words = with_lines(alloc, words.documents, further)?;
+    let documents = expanded(rt, &all_words, faults)?;
+    let fragments = expanded(rt, words.fragments, faults)?;
+    let is_all = documents.unread.is_empty() && fragments.unread.is_empty();
+    let documents = without(alloc, documents.files, &schema.files)?;
+    if documents.is_empty() && is_all {
+        return Err(Fault::NoDocument);
+    }
+    let lent = without(alloc, fragments.files, &schema.files)?;
+    Ok(Some(FilesOfRun {
+        fragments: without(alloc, lent, &documents)?,
+        schema: schema.files,
+        documents,
+        is_all,
+    }))
+}
+
+/// The words, and behind them the lines of the text that are not empty.
+fn with_lines<'a>(
+    alloc: Global,
+    words: &[&'a str],
+    text: &'a str,
+) -> Result<Vec<&'a str>, AllocError> {
+    let mut all = Vec::from_slice(alloc, words)?;
+    for line in text.lines() {
+        if !line.is_empty() {
+            all.push(line)?;
+        }
+    }
+    Ok(all)
+}
+
+/// What the words stand for. Which folders cannot be read is said on standard error, and so is what is wrong with a word.
+fn expanded<R: Files + AllocGlobal + Clone + Drop, F: Write>(
+    rt: &R,
+    words: &[&str],
+    faults: &mut F,
+) -> Result<Expansion, Fault> {
+    match expand(rt, words) {
+        Ok(expansion) => {
+            say_unread(&expansion, faults);
+            Ok(expansion)
+        }
+        Err(error) => Err(fault_of(&error, faults)),
+    }
+}
+
+fn say_unread<F: Write>(expansion: &Expansion, faults: &mut F) {
+    for folder in &expansion.unread {
+        let path = Printable(folder.path.as_str());
+        let error = &folder.error;
+        let _ = writeln!(faults, "{path}: error: {error}");
+    }
+}
+
+/// Says what is wrong with a word.
+fn fault_of<F: Write>(error: &PathError, faults: &mut F) -> Fault {
+    match error {
+        PathError::OutOfMemory => Fault::OutOfMemory,
+        PathError::BadPattern(word, why) => {
+            let word = Printable(word.as_str());
+            let _ = writeln!(faults, "{word}: error: {why}");
+            Fault::WordRefused
+        }
+        PathError::NoFile(word) => {
+            let word = Printable(word.as_str());
+            let _ = writeln!(faults, "{word}: error: no file has such a path");
+            Fault::WordRefused
+        }
+    }
+}
+
+fn views(alloc: Global, paths: &[String]) -> Result<Vec<&str>, AllocError> {
+    let mut views = Vec::new(alloc);
+    for path in paths {
+        views.push(path.as_str())?;
+    }
+    Ok(views)
+}

@@ -1,0 +1,97 @@
+//! Whether fragments of files are used.
+
+use crate::building::Building;
+use crate::file_rules::add_rules;
+use graphql_diagnostics::{Details, DiagnosticData, DiagnosticList};
+use graphql_documents::documents::ExecutableDocument;
+use graphql_frontend::first_reports::report_bound;
+use graphql_frontend::{Reports, ValidationError};
+use graphql_hash_seeds::HashSeed;
+use graphql_nodes::Name;
+use graphql_trees::{Definition, Document, FragmentDefinition};
+use indexmap::IndexSet;
+use std::alloc::Global;
+
+/// The names of fragments that operations reach.
+pub(crate) type Used<'a> = IndexSet<&'a Name, HashSeed>;
+
+/// Notes that an operation reaches the fragments of these names.
+pub(crate) fn note_uses<'a>(
+    pool: &'a ExecutableDocument,
+    names: &IndexSet<&Name, HashSeed>,
+    used: &mut Used<'a>,
+) -> Result<(), ValidationError> {
+    for name in names {
+        note_use(pool, *name, used)?;
+    }
+    Ok(())
+}
+
+fn note_use<'a>(
+    pool: &'a ExecutableDocument,
+    name: &Name,
+    used: &mut Used<'a>,
+) -> Result<(), ValidationError> {
+    if let Some(fragment) = pool.fragments.get(name) {
+        used.insert(&fragment.value.name)?;
+    }
+    Ok(())
+}
+
+/// Reports each fragment of these documents that no operation reaches, at the fragment.
+///
+/// Specification: 5.5.1.4 Fragments Must Be Used.
+pub(crate) fn check_uses(
+    alloc: Global,
+    building: Building<'_>,
+    documents: &[Document],
+    used: &Used<'_>,
+    found: &mut Vec<Reports>,
+) -> Result<(), ValidationError> {
+    for document in documents {
+        check_uses_in(alloc, building, document, used, found)?;
+    }
+    Ok(())
+}
+
+fn check_uses_in(
+    alloc: Global,
+    building: Building<'_>,
+    document: &Document,
+    used: &Used<'_>,
+    found: &mut Vec<Reports>,
+) -> Result<(), ValidationError> {
+    let bound = report_bound(building.bounds);
+    let mut rules = DiagnosticList::with_bound(alloc, building.hash_seed, bound);
+    let checked = report_unused(document.definitions.as_slice(), used, &mut rules);
+    add_rules(alloc, rules, checked, building.bounds, found)
+}
+
+fn report_unused(
+    definitions: &[Definition],
+    used: &Used<'_>,
+    rules: &mut DiagnosticList,
+) -> Result<(), ValidationError> {
+    for definition in definitions {
+        let Definition::Fragment(fragment) = definition else {
+            continue;
+        };
+        check_use(fragment, used, rules)?;
+    }
+    Ok(())
+}
+
+fn check_use(
+    fragment: &FragmentDefinition,
+    used: &Used<'_>,
+    rules: &mut DiagnosticList,
+) -> Result<(), ValidationError> {
+    if used.contains(&&fragment.name) {
+        return Ok(());
+    }
+    let name = fragment.name.clone_in(rules.allocator())?;
+    rules.push(
+        Some(fragment.span),
+        Details::Diagnostic(DiagnosticData::UnusedFragment { name }),
+    )
+}
