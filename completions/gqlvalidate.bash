@@ -5,7 +5,7 @@ _gqlvalidate() {
   local limits="--max-depth --max-reach --max-work"
   COMPREPLY=()
   if [ "$COMP_CWORD" -eq 1 ]; then
-    mapfile -t COMPREPLY < <(compgen -W "check diff schema serve syntax explain help --help --version" -- "$word")
+    mapfile -t COMPREPLY < <(compgen -W "check diff print-schema schema serve syntax explain help --help --version" -- "$word")
     return
   fi
   case "$before" in
@@ -25,7 +25,7 @@ _gqlvalidate() {
     schema | syntax) options="$reporting" ;;
     serve) options="--schema --max-line --max-reports --help $limits" ;;
     explain) options=$(gqlvalidate explain 2> /dev/null | cut -d' ' -f1) ;;
-    help) options="check diff schema serve syntax explain" ;;
+    help) options="check diff print-schema schema serve syntax explain" ;;
   esac
   case "$command:$word" in
     explain:* | help:* | *:-*) mapfile -t COMPREPLY < <(compgen -W "$options" -- "$word") ;;

@@ -1,9 +1,10 @@
 # Completion of gqlvalidate for fish: put this file into ~/.config/fish/completions.
 
-set -l commands check diff schema serve syntax explain help
+set -l commands check diff print-schema schema serve syntax explain help
 
 complete -c gqlvalidate -n "not __fish_seen_subcommand_from $commands" -f -a check -d 'Validate documents against a schema'
 complete -c gqlvalidate -n "not __fish_seen_subcommand_from $commands" -f -a diff -d 'Find what changes from one schema to another'
+complete -c gqlvalidate -n "not __fish_seen_subcommand_from $commands" -f -a print-schema -d 'Print the schema that an introspection answer describes'
 complete -c gqlvalidate -n "not __fish_seen_subcommand_from $commands" -f -a schema -d 'Validate a schema'
 complete -c gqlvalidate -n "not __fish_seen_subcommand_from $commands" -f -a serve -d 'Answer questions in lines of JSON'
 complete -c gqlvalidate -n "not __fish_seen_subcommand_from $commands" -f -a syntax -d 'Check the grammar of files'

@@ -4,16 +4,18 @@ ghost use Rattle.graphql_frontend.specs.Schemas.{IsUsable};
 
 use crate::accounts::{Account, Extent, Whole, print};
 use crate::bounds::OF_SCHEMA;
+use crate::expansions::{expanded, schema_paths, views};
 use crate::faults::Fault;
 use crate::json_lines::print_line;
 use crate::operations::{Operations, check_operations};
 use crate::presentations::Presentation;
-use crate::schema_files::{named_text, read_files};
+use crate::schema_files::{FileKind, named_text, read_files};
 use crate::schemas::reject;
 use crate::statuses::Status;
 use crate::terminals::Terminal;
 use gqlvalidate_formats::github::{Annotation, push_annotation};
 use gqlvalidate_formats::printable::Printable;
+use gqlvalidate_paths::Expansion;
 use gqlvalidate_words::{ChangeFormat, Color, FailOn, Format, Reporting};
 use graphql_change_formats::{
     ChangeTally, ComparedTexts, ShownChange, json_format, markdown_format, text_format, verdict_of,
@@ -76,8 +78,30 @@ pub fn presentation_of(format: ChangeFormat, terminal: Terminal) -> Presentation
     Presentation::new(Reporting::new(format, Color::Auto, None), terminal)
 }
 
-/// Compares two schemas, and validates documents against both, if both schemas hold.
-pub fn compare<R: Files + AllocGlobal, I: Read, O: Write, F: Write>(
+/// Compares the schemas of the files for which these words stand, and validates documents against both, if both schemas hold.
+pub fn compare<R: Files + AllocGlobal + Clone + Drop, I: Read, O: Write, F: Write>(
+    rt: &R,
+    words: Compared<'_>,
+    input: &mut I,
+    output: &mut O,
+    faults: &mut F,
+) -> Result<Status, Fault> {
+    let Expansion { files, unread } = expanded(rt, words.operations, faults)?;
+    let operations = views(rt.alloc(), &files)?;
+    let compared = Compared {
+        operations: &operations,
+        ..words
+    };
+    let status = compare_files(rt, compared, input, output, faults)?;
+    if unread.is_empty() {
+        Ok(status)
+    } else {
+        Ok(status.with(Status::Unreadable))
+    }
+}
+
+/// Compares two schemas, and validates these documents against both, if both schemas hold.
+fn compare_files<R: Files + AllocGlobal + Clone + Drop, I: Read, O: Write, F: Write>(
     rt: &R,
     compared: Compared<'_>,
     input: &mut I,
@@ -96,18 +120,22 @@ pub fn compare<R: Files + AllocGlobal, I: Read, O: Write, F: Write>(
     }
 }
 
-/// The files of a schema, if all of them have a text. What is wrong with the others is said.
-fn files_of<R: Files + AllocGlobal, I: Read, F: Write>(
+/// The files of a schema for which these words stand, if all of them have a text. Standard error says what is wrong with the others.
+fn files_of<R: Files + AllocGlobal + Clone + Drop, I: Read, F: Write>(
     rt: &R,
-    paths: &[&str],
+    words: &[&str],
     format: ChangeFormat,
     input: &mut I,
     faults: &mut F,
 ) -> Result<Option<SchemaFiles>, Fault> {
-    let Some(texts) = read_files(rt, paths, input, faults)?.texts else {
+    let Some(files) = schema_paths(rt, words, faults)? else {
         return Ok(None);
     };
-    let paths = paths_as_shown(rt.alloc(), paths, format)?;
+    let paths = views(rt.alloc(), &files)?;
+    let Some(texts) = read_files(rt, &paths, FileKind::Schema, input, faults)?.texts else {
+        return Ok(None);
+    };
+    let paths = paths_as_shown(rt.alloc(), &paths, format)?;
     Ok(Some(SchemaFiles { paths, texts }))
 }
 

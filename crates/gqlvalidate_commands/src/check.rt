@@ -10,7 +10,7 @@ use crate::faults::Fault;
 use crate::one_document::check_together;
 use crate::presentations::Presentation;
 use crate::project_files::check_files;
-use crate::schema_files::{ReadFiles, named_schema, named_text, read_files};
+use crate::schema_files::{FileKind, ReadFiles, named_schema, named_text, read_files};
 use crate::schemas::{end_unread, reject};
 use crate::sources::{shown_path, text_or_said};
 use crate::statuses::Status;
@@ -64,7 +64,8 @@ pub fn check<R: Files + AllocGlobal, I: Read, O: Write, F: Write>(
     output: &mut O,
     faults: &mut F,
 ) -> Result<Status, Fault> {
-    let ReadFiles { texts, unreadable } = read_files(rt, paths.schema, input, faults)?;
+    let ReadFiles { texts, unreadable } =
+        read_files(rt, paths.schema, FileKind::Schema, input, faults)?;
     let Some(texts) = texts else {
         return end_unread(rt.alloc(), unreadable, presentation, output, faults);
     };

@@ -3,6 +3,7 @@ use crate::changes::{Compared, compare, presentation_of};
 use crate::expansions::{Words, check_words};
 use crate::explain::{explain, list_rules};
 use crate::faults::{Fault, fault_of_output, fault_of_words};
+use crate::introspections::print_schema;
 use crate::presentations::Presentation;
 use crate::schemas::check_schema;
 use crate::serve::{Allowance, serve};
@@ -104,6 +105,7 @@ fn answer<R: Files + AllocGlobal + Clone + Drop, I: Read, O: Write, F: Write>(
             };
             compare(rt, compared, input, output, faults)
         }
+        Request::PrintSchema { answer } => print_schema(rt, answer, input, output, faults),
         Request::Schema { schema, reporting } => {
             let presentation = Presentation::new(*reporting, terminal);
             check_schema(rt, schema, presentation, input, output, faults)

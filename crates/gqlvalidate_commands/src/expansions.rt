@@ -91,22 +91,21 @@ fn files_of<R: Files + AllocGlobal + Clone + Drop, F: Write>(
     faults: &mut F,
 ) -> Result<Option<FilesOfRun>, Fault> {
     let alloc = rt.alloc();
-    let schema = expanded(rt, words.schema, faults)?;
-    if !schema.unread.is_empty() {
+    let Some(schema) = schema_paths(rt, words.schema, faults)? else {
         return Ok(None);
-    }
+    };
     let all_words = with_lines(alloc, words.documents, further)?;
     let documents = expanded(rt, &all_words, faults)?;
     let fragments = expanded(rt, words.fragments, faults)?;
     let is_all = documents.unread.is_empty() && fragments.unread.is_empty();
-    let documents = without(alloc, documents.files, &schema.files)?;
+    let documents = without(alloc, documents.files, &schema)?;
     if documents.is_empty() && is_all {
         return Err(Fault::NoDocument);
     }
-    let lent = without(alloc, fragments.files, &schema.files)?;
+    let lent = without(alloc, fragments.files, &schema)?;
     Ok(Some(FilesOfRun {
         fragments: without(alloc, lent, &documents)?,
-        schema: schema.files,
+        schema,
         documents,
         is_all,
     }))
@@ -127,8 +126,22 @@ fn with_lines<'a>(
     Ok(all)
 }
 
+/// The files of a schema for which these words stand. None if a folder cannot be read, which standard error says.
+pub fn schema_paths<R: Files + AllocGlobal + Clone + Drop, F: Write>(
+    rt: &R,
+    words: &[&str],
+    faults: &mut F,
+) -> Result<Option<Vec<String>>, Fault> {
+    let expansion = expanded(rt, words, faults)?;
+    if expansion.unread.is_empty() {
+        Ok(Some(expansion.files))
+    } else {
+        Ok(None)
+    }
+}
+
 /// What the words stand for. Which folders cannot be read is said on standard error, and so is what is wrong with a word.
-fn expanded<R: Files + AllocGlobal + Clone + Drop, F: Write>(
+pub fn expanded<R: Files + AllocGlobal + Clone + Drop, F: Write>(
     rt: &R,
     words: &[&str],
     faults: &mut F,
@@ -167,7 +180,8 @@ fn fault_of<F: Write>(error: &PathError, faults: &mut F) -> Fault {
     }
 }
 
-fn views(alloc: Global, paths: &[String]) -> Result<Vec<&str>, AllocError> {
+/// The paths, borrowed.
+pub fn views(alloc: Global, paths: &[String]) -> Result<Vec<&str>, AllocError> {
     let mut views = Vec::new(alloc);
     for path in paths {
         views.push(path.as_str())?;

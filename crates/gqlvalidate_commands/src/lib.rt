@@ -9,6 +9,7 @@ pub mod command;
 mod expansions;
 mod explain;
 mod faults;
+mod introspections;
 mod json_lines;
 mod lines;
 mod one_document;

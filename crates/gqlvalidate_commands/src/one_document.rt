@@ -7,7 +7,7 @@ ghost use Rattle.graphql_frontend.specs.Schemas.{IsUsable};
 use crate::accounts::Account;
 use crate::check::Paths;
 use crate::faults::Fault;
-use crate::schema_files::{ReadFiles, named_text, read_files};
+use crate::schema_files::{FileKind, ReadFiles, named_text, read_files};
 use crate::statuses::Status;
 use graphql_documents::documents::Schema;
 use graphql_frontend::{Reports, SourceText, validate_documents};
@@ -30,7 +30,8 @@ pub fn check_together<R: Files + AllocGlobal, I: Read, O: Write, F: Write>(
 ) -> Result<Status, Fault>
     requires { IsUsable schema.now }
 {
-    let ReadFiles { texts, unreadable } = read_files(rt, paths.documents, input, faults)?;
+    let ReadFiles { texts, unreadable } =
+        read_files(rt, paths.documents, FileKind::Document, input, faults)?;
     let Some(texts) = texts else {
         account.add_all_unreadable(unreadable)?;
         return Ok(Status::Unreadable);

@@ -1,6 +1,7 @@
 //! The files of a schema.
 
 use crate::faults::Fault;
+use crate::introspections::schema_text_or_said;
 use crate::sources::{shown_path, text_or_said};
 use graphql_frontend::SourceText;
 use graphql_nodes::FileId;
@@ -9,6 +10,15 @@ use graphql_report_formats::schema_texts::BUILT_IN_TEXT;
 use std::alloc::{AllocError, Global};
 use std::io::{Read, Write};
 use std::rt::Files;
+
+/// What files are read as.
+#[derive(Clone, Copy)]
+pub enum FileKind {
+    /// Files of a schema. Some may have answers to introspection queries.
+    Schema,
+    /// Executable documents.
+    Document,
+}
 
 /// What was read of files.
 #[derive(Drop)]
@@ -23,13 +33,18 @@ pub struct ReadFiles {
 pub fn read_files<R: Files + AllocGlobal, I: Read, F: Write>(
     rt: &R,
     paths: &[&str],
+    kind: FileKind,
     input: &mut I,
     faults: &mut F,
 ) -> Result<ReadFiles, Fault> {
     let mut texts = Vec::new(rt.alloc());
     let mut unreadable = Vec::new(rt.alloc());
     for path in paths {
-        match text_or_said(rt, path, input, faults)? {
+        let read = match kind {
+            FileKind::Schema => schema_text_or_said(rt, path, input, faults)?,
+            FileKind::Document => text_or_said(rt, path, input, faults)?,
+        };
+        match read {
             Some(text) => texts.push(text)?,
             None => unreadable.push(String::from_str(rt.alloc(), shown_path(path))?)?,
         }

@@ -2,9 +2,10 @@
 
 use crate::accounts::{Account, Extent, Whole};
 use crate::bounds::OF_SCHEMA;
+use crate::expansions::{schema_paths, views};
 use crate::faults::Fault;
 use crate::presentations::Presentation;
-use crate::schema_files::{ReadFiles, named_schema, read_files};
+use crate::schema_files::{FileKind, ReadFiles, named_schema, read_files};
 use crate::statuses::Status;
 use graphql_frontend::{Reports, SchemaReading, read_schema};
 use graphql_report_formats::named_texts::{NamedText, Subject};
@@ -14,8 +15,24 @@ use std::io::{Read, Write};
 use std::mem;
 use std::rt::Files;
 
+/// Validates the schema of the files for which these words stand.
+pub fn check_schema<R: Files + AllocGlobal + Clone + Drop, I: Read, O: Write, F: Write>(
+    rt: &R,
+    words: &[&str],
+    presentation: Presentation,
+    input: &mut I,
+    output: &mut O,
+    faults: &mut F,
+) -> Result<Status, Fault> {
+    let Some(files) = schema_paths(rt, words, faults)? else {
+        return Ok(Status::Unreadable);
+    };
+    let paths = views(rt.alloc(), &files)?;
+    check_files(rt, &paths, presentation, input, output, faults)
+}
+
 /// Validates the schema of these files.
-pub fn check_schema<'a, R: Files + AllocGlobal, I: Read, O: Write, F: Write>(
+fn check_files<'a, R: Files + AllocGlobal, I: Read, O: Write, F: Write>(
     rt: &R,
     paths: &'a [&'a str],
     presentation: Presentation,
@@ -23,7 +40,7 @@ pub fn check_schema<'a, R: Files + AllocGlobal, I: Read, O: Write, F: Write>(
     output: &mut O,
     faults: &mut F,
 ) -> Result<Status, Fault> {
-    let ReadFiles { texts, unreadable } = read_files(rt, paths, input, faults)?;
+    let ReadFiles { texts, unreadable } = read_files(rt, paths, FileKind::Schema, input, faults)?;
     let Some(texts) = texts else {
         return end_unread(rt.alloc(), unreadable, presentation, output, faults);
     };

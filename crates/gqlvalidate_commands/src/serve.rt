@@ -3,11 +3,12 @@
 ghost use Rattle.graphql_frontend.specs.Schemas.{IsUsable};
 
 use crate::bounds::OF_SCHEMA;
+use crate::expansions::{schema_paths, views};
 use crate::faults::{Fault, fault_of_output};
 use crate::json_lines::print_line;
 use crate::lines::{ReadLine, read_line};
 use crate::questions::{Question, QuestionError};
-use crate::schema_files::{ReadFiles, named_schema, read_files};
+use crate::schema_files::{FileKind, ReadFiles, named_schema, read_files};
 use crate::sources::explain_input;
 use crate::statuses::Status;
 use graphql_documents::documents::Schema;
@@ -37,9 +38,25 @@ pub struct Allowance {
     pub reports: usize,
 }
 
-/// Reads the schema of these files, and answers each line of standard input by a line, until there are no more. If the schema
-/// is reported, one line with its reports ends the run.
-pub fn serve<R: Files + AllocGlobal, I: Read, O: Write, F: Write>(
+/// Reads the schema of the files for which these words stand, and answers each line of standard input by a line, until there are no more.
+/// If the schema is reported, one line with its reports ends the run.
+pub fn serve<R: Files + AllocGlobal + Clone + Drop, I: Read, O: Write, F: Write>(
+    rt: &R,
+    words: &[&str],
+    allowance: Allowance,
+    input: &mut I,
+    output: &mut O,
+    faults: &mut F,
+) -> Result<Status, Fault> {
+    let Some(files) = schema_paths(rt, words, faults)? else {
+        return Ok(Status::Unreadable);
+    };
+    let paths = views(rt.alloc(), &files)?;
+    serve_files(rt, &paths, allowance, input, output, faults)
+}
+
+/// Reads the schema of these files, and answers each line of standard input.
+fn serve_files<R: Files + AllocGlobal, I: Read, O: Write, F: Write>(
     rt: &R,
     paths: &[&str],
     allowance: Allowance,
@@ -47,7 +64,7 @@ pub fn serve<R: Files + AllocGlobal, I: Read, O: Write, F: Write>(
     output: &mut O,
     faults: &mut F,
 ) -> Result<Status, Fault> {
-    let ReadFiles { texts, .. } = read_files(rt, paths, input, faults)?;
+    let ReadFiles { texts, .. } = read_files(rt, paths, FileKind::Schema, input, faults)?;
     let Some(texts) = texts else {
         return Ok(Status::Unreadable);
     };

@@ -5,6 +5,7 @@ use std::io::ErrorKind;
 use std::process::Abort;
 
 mod changes;
+mod introspections;
 mod shelf;
 
 use shelf::{Failing, Refusing, Shelf};
@@ -27,6 +28,20 @@ const FILES: &[(&str, &[u8])] = &[
         b"type Query { pet(id: ID!): Pet }\n\ntype Pet { name: String }\n",
     ),
     ("more", b"extend type Pet { age: Int }\n"),
+    (
+        "answer.json",
+        b"{\"data\":{\"__schema\":{\"queryType\":{\"name\":\"Query\"},\"types\":[\
+        {\"kind\":\"OBJECT\",\"name\":\"Query\",\"interfaces\":[],\"fields\":[\
+        {\"name\":\"me\",\"args\":[],\"type\":{\"kind\":\"SCALAR\",\"name\":\"String\"}}]},\
+        {\"kind\":\"SCALAR\",\"name\":\"String\"}],\"directives\":[]}}}",
+    ),
+    (
+        "nameless.json",
+        b"{\"__schema\":{\"queryType\":{\"name\":\"Query\"},\"types\":[{\"kind\":\"SCALAR\"}],\"directives\":[]}}",
+    ),
+    ("unclosed.json", b"{\n  \"__schema\": }"),
+    ("me", b"{ me }\n"),
+    ("you", b"{ you }\n"),
     (
         "later",
         b"type Query { pet(id: ID!): Pet }\n\ntype Pet { title: String }\n",

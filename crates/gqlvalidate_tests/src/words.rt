@@ -40,6 +40,10 @@ const READ: &[(&[&str], &str)] = &[
         "Schema { schema: [\"s\"], reporting: Reporting { format: Gitlab, color: Auto, max_reports: 18446744073709551615 } }",
     ),
     (
+        &["print-schema", "a"],
+        "PrintSchema { answer: \"a\" }",
+    ),
+    (
         &["check", "--schema", "-", "-"],
         "error: standard input, `-`, is named more than once\n",
     ),

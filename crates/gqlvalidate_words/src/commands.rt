@@ -32,6 +32,8 @@ pub const MAX_LINE: &str = "max-line";
 
 pub const RULE: &str = "rule";
 
+pub const ANSWER: &str = "answer";
+
 pub const OLD: &str = "old";
 
 pub const NEW: &str = "new";
@@ -50,6 +52,8 @@ pub const FAIL_ON: &str = "fail-on";
 pub const CHECK: &str = "check";
 
 pub const DIFF: &str = "diff";
+
+pub const PRINT_SCHEMA: &str = "print-schema";
 
 pub const SERVE: &str = "serve";
 
@@ -116,7 +120,8 @@ pub fn program<'a>(alloc: Global) -> Result<Command<'a>, Error> {
         .bin_name("gqlvalidate")?;
     let with_check = program.subcommand(check(alloc)?)?;
     let with_diff = with_check.subcommand(diff(alloc)?)?;
-    let with_schema = with_diff.subcommand(schema(alloc)?)?;
+    let with_print = with_diff.subcommand(print_schema(alloc)?)?;
+    let with_schema = with_print.subcommand(schema(alloc)?)?;
     let with_serve = with_schema.subcommand(serve(alloc)?)?;
     let with_syntax = with_serve.subcommand(syntax(alloc)?)?;
     Ok(with_syntax.subcommand(explain(alloc)?)?)
@@ -162,6 +167,13 @@ fn diff<'a>(alloc: Global) -> Result<Command<'a>, Error> {
     ))?;
     let command = command.arg(one_file(alloc, OLD, "OLD", "The old schema"))?;
     Ok(command.arg(one_file(alloc, NEW, "NEW", "The new schema"))?)
+}
+
+fn print_schema<'a>(alloc: Global) -> Result<Command<'a>, Error> {
+    let command = Command::new(alloc, PRINT_SCHEMA)
+        .about("Prints the schema that an answer to an introspection query describes")
+        .after_help(STATUSES);
+    Ok(command.arg(one_file(alloc, ANSWER, "FILE", "The answer, as JSON"))?)
 }
 
 fn schema<'a>(alloc: Global) -> Result<Command<'a>, Error> {

@@ -1,10 +1,10 @@
 //! From words to a request.
 
 use crate::commands::{
-    ALWAYS, CHECK, CHECKSTYLE, COLOR, DANGEROUS, DIFF, EACH, EXPLAIN, FAIL_ON, FILES, FILES_FROM,
+    ALWAYS, ANSWER, CHECK, CHECKSTYLE, COLOR, DANGEROUS, DIFF, EACH, EXPLAIN, FAIL_ON, FILES, FILES_FROM,
     FORMAT, FRAGMENTS, GITHUB, GITLAB, JSON, JUNIT, LONE_FIELDS, MARKDOWN, MAX_DEPTH, MAX_LINE,
     MAX_REACH, MAX_REPORTS, MAX_WORK, NEVER, NEW, NEW_SCHEMA, OLD, OLD_SCHEMA, ONE_DOCUMENT,
-    OPERATIONS, RULE, SARIF, SCHEMA, SERVE, SYNTAX, program,
+    OPERATIONS, PRINT_SCHEMA, RULE, SARIF, SCHEMA, SERVE, SYNTAX, program,
 };
 use crate::requests::{
     ChangeFormat, Color, FailOn, Format, Grouping, Limits, Refusal, Reporting, Request,
@@ -88,6 +88,10 @@ fn request_of<'a>(
         })
     } else if command == DIFF {
         diff(alloc, given)
+    } else if command == PRINT_SCHEMA {
+        Ok(Request::PrintSchema {
+            answer: given.get_str(ANSWER).unwrap_or(STANDARD_INPUT),
+        })
     } else if command == SYNTAX {
         Ok(Request::Syntax {
             files,
@@ -230,6 +234,7 @@ fn inputs(command: &str, given: &ArgMatches<'_>) -> usize {
         .saturating_add(inputs_of(given, FILES_FROM))
         .saturating_add(inputs_of_schemas(given))
         .saturating_add(inputs_of(given, OPERATIONS))
+        .saturating_add(inputs_of(given, ANSWER))
 }
 
 /// How many paths of the two schemas of a comparison name standard input.

@@ -146,6 +146,10 @@ pub enum Request<'a> {
         fail_on: FailOn,
         format: ChangeFormat,
     },
+    /// To print the schema that this answer to an introspection query describes.
+    PrintSchema {
+        answer: &'a str,
+    },
     /// To validate the schema of these files.
     Schema {
         schema: Vec<&'a str>,
