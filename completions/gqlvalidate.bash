@@ -20,10 +20,10 @@ _gqlvalidate() {
   esac
   local options="--help"
   case "$command" in
-    check) options="--schema --fragments --each --one-document --files-from $reporting $limits" ;;
+    check) options="--schema --fragments --only --each --one-document --files-from --null $reporting $limits" ;;
     diff) options="--old-schema --new-schema --operations --lone-fields --fail-on --format --help" ;;
     schema | syntax) options="$reporting" ;;
-    serve) options="--schema --max-line --max-reports --help $limits" ;;
+    serve) options="--schema --fragments --max-line --max-reports --help $limits" ;;
     explain) options=$(gqlvalidate explain 2> /dev/null | cut -d' ' -f1) ;;
     help) options="check diff print-schema schema serve syntax explain" ;;
   esac

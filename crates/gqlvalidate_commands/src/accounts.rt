@@ -57,6 +57,15 @@ pub struct Extent {
     pub schema_files: usize,
 }
 
+/// The files of documents that are validated together.
+#[derive(Clone, Copy)]
+pub struct FilesOfProject<'a> {
+    /// So many come first; the others lend fragments.
+    pub judged: usize,
+    /// The numbers of those whose reports are not shown.
+    pub hidden: &'a BTreeSet<u32>,
+}
+
 impl<'a> Account<'a> {
     /// Nothing is reported yet.
     pub fn new(alloc: Global, presentation: Presentation) -> Result<Account<'a>, AllocError> {
@@ -129,15 +138,17 @@ impl<'a> Account<'a> {
         self.report(alloc, reports, subject, bounds, output)
     }
 
-    /// Reports what is wrong with documents that were read within these bounds, and validated together: each fault once.
-    pub fn reject_together<O: Write>(
+    /// Reports what is wrong with documents that were read within these bounds, and validated together: each fault once, unless it is in a
+    /// file of those that are hidden. The answer is how many reports there are.
+    pub fn report_together<O: Write>(
         &mut self,
         alloc: Global,
         reports: &[Reports],
         subject: Subject<'_>,
+        files: FilesOfProject<'_>,
         bounds: Bounds,
         output: &mut O,
-    ) -> Result<(), Fault> {
+    ) -> Result<usize, Fault> {
         let most = self.room();
         let mut findings = findings_of(
             alloc,
@@ -147,28 +158,46 @@ impl<'a> Account<'a> {
             bounds,
             usize::MAX,
         )?;
+        findings.shown.retain(|finding| is_in_none(finding, files.hidden));
+        let count = findings.shown.len();
         let faulty = files_of(alloc, &findings.shown, subject)?;
-        let others = findings.shown.len().saturating_sub(most);
+        let others = count.saturating_sub(most);
         findings.shown.truncate(most);
+        self.tally.add(findings.shown.len(), others, faulty.len());
+        if count > 0 {
+            self.print_findings(alloc, &findings.shown, subject, output)?;
+        }
+        self.pass_others(subject, &faulty, files)?;
+        Ok(count)
+    }
+
+    /// Prints findings of this subject.
+    fn print_findings<O: Write>(
+        &mut self,
+        alloc: Global,
+        findings: &[Finding<'_>],
+        subject: Subject<'_>,
+        output: &mut O,
+    ) -> Result<(), Fault> {
         let counted = CountedSubject::new(alloc, subject)?;
         self.count_schema(alloc)?;
-        self.tally.add(findings.shown.len(), others, faulty.len());
         let texts = Texts {
             subject: &counted,
             schema: self.counted.as_ref(),
         };
-        print(self.sheet.add(alloc, &findings.shown, texts)?, output)?;
-        Ok(self.pass_others(subject, &faulty)?)
+        print(self.sheet.add(alloc, findings, texts)?, output)
     }
 
-    /// Nothing is reported of the files of the subject but for these.
+    /// Nothing is reported of the other files that are judged and shown.
     fn pass_others(
         &mut self,
         subject: Subject<'_>,
         faulty: &BTreeSet<u32>,
+        files: FilesOfProject<'_>,
     ) -> Result<(), AllocError> {
-        for text in subject.texts {
-            if !faulty.contains(&text.source.file_id.0) {
+        for text in subject.texts.iter().take(files.judged) {
+            let file = text.source.file_id.0;
+            if !faulty.contains(&file) && !files.hidden.contains(&file) {
                 self.pass(text.path)?;
             }
         }
@@ -201,14 +230,8 @@ impl<'a> Account<'a> {
             bounds,
             most,
         )?;
-        let counted = CountedSubject::new(alloc, subject)?;
-        self.count_schema(alloc)?;
         self.tally.add(findings.shown.len(), findings.others, 1);
-        let texts = Texts {
-            subject: &counted,
-            schema: self.counted.as_ref(),
-        };
-        print(self.sheet.add(alloc, &findings.shown, texts)?, output)
+        self.print_findings(alloc, &findings.shown, subject, output)
     }
 
     /// Counts the lines of the schema, unless they are counted.
@@ -249,6 +272,14 @@ impl<'a> Account<'a> {
             let _ = writeln!(faults, "{summary}");
         }
         Ok(())
+    }
+}
+
+/// Whether the finding has no place, or one in a file that is none of these.
+fn is_in_none(finding: &Finding<'_>, files: &BTreeSet<u32>) -> bool {
+    match finding.report.location {
+        Some(span) => !files.contains(&span.file_id.0),
+        None => true,
     }
 }
 

@@ -32,6 +32,8 @@ pub struct Paths<'a> {
     pub documents: &'a [&'a str],
     /// The files whose fragments are lent.
     pub fragments: &'a [&'a str],
+    /// Of all these the files whose reports are not shown.
+    pub hidden: &'a [&'a str],
     /// No file of the run is missing, for all that is known before they are read.
     pub is_all: bool,
     /// Which documents are validated together.
@@ -51,7 +53,10 @@ impl Paths<'_> {
 
     /// Whether the run is of one document, which has no other fragments than its own.
     fn is_of_one(&self) -> bool {
-        self.is_all && self.documents.len() == 1 && self.fragments.is_empty()
+        self.is_all
+            && self.documents.len() == 1
+            && self.fragments.is_empty()
+            && self.hidden.is_empty()
     }
 }
 

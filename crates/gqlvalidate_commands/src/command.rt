@@ -71,6 +71,7 @@ fn answer<R: Files + AllocGlobal + Clone + Drop, I: Read, O: Write, F: Write>(
             documents,
             files_from,
             fragments,
+            only,
             grouping,
             limits,
             reporting,
@@ -80,6 +81,7 @@ fn answer<R: Files + AllocGlobal + Clone + Drop, I: Read, O: Write, F: Write>(
                 documents,
                 files_from: *files_from,
                 fragments,
+                only,
                 grouping: *grouping,
                 bounds: bounds_of(*limits),
             };
@@ -112,6 +114,7 @@ fn answer<R: Files + AllocGlobal + Clone + Drop, I: Read, O: Write, F: Write>(
         }
         Request::Serve {
             schema,
+            fragments,
             limits,
             max_line,
             max_reports,
@@ -121,7 +124,7 @@ fn answer<R: Files + AllocGlobal + Clone + Drop, I: Read, O: Write, F: Write>(
                 line: *max_line,
                 reports: *max_reports,
             };
-            serve(rt, schema, allowance, input, output, faults)
+            serve(rt, schema, fragments, allowance, input, output, faults)
         }
         Request::Syntax { files, reporting } => {
             let presentation = Presentation::new(*reporting, terminal);

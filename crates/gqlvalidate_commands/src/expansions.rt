@@ -7,7 +7,7 @@ use crate::sources::text_or_said;
 use crate::statuses::Status;
 use gqlvalidate_formats::printable::Printable;
 use gqlvalidate_paths::{Expansion, PathError, expand, without};
-use gqlvalidate_words::Grouping;
+use gqlvalidate_words::{Grouping, PathEnds, PathList};
 use graphql_parser::Bounds;
 use std::alloc::{AllocError, Global};
 use std::io::{Read, Write};
@@ -18,9 +18,11 @@ use std::rt::Files;
 pub struct Words<'a> {
     pub schema: &'a [&'a str],
     pub documents: &'a [&'a str],
-    /// The file with further words for documents.
-    pub files_from: Option<&'a str>,
+    /// The list of further words for documents.
+    pub files_from: Option<PathList<'a>>,
     pub fragments: &'a [&'a str],
+    /// The files whose reports are shown; all, if there are none.
+    pub only: &'a [&'a str],
     pub grouping: Grouping,
     pub bounds: Bounds,
 }
@@ -31,6 +33,8 @@ struct FilesOfRun {
     schema: Vec<String>,
     documents: Vec<String>,
     fragments: Vec<String>,
+    /// The documents and the files of fragments whose reports are not shown.
+    hidden: Vec<String>,
     /// Each folder of documents and of fragments was read.
     is_all: bool,
 }
@@ -53,10 +57,12 @@ pub fn check_words<R: Files + AllocGlobal + Clone + Drop, I: Read, O: Write, F: 
     let schema = views(rt.alloc(), &files.schema)?;
     let documents = views(rt.alloc(), &files.documents)?;
     let fragments = views(rt.alloc(), &files.fragments)?;
+    let hidden = views(rt.alloc(), &files.hidden)?;
     let paths = Paths {
         schema: &schema,
         documents: &documents,
         fragments: &fragments,
+        hidden: &hidden,
         is_all: files.is_all,
         grouping: words.grouping,
         bounds: words.bounds,
@@ -72,12 +78,12 @@ pub fn check_words<R: Files + AllocGlobal + Clone + Drop, I: Read, O: Write, F: 
 /// The text with further words, which is empty if there are none, if it can be read.
 fn further_words<R: Files + AllocGlobal, I: Read, F: Write>(
     rt: &R,
-    path: Option<&str>,
+    list: Option<PathList<'_>>,
     input: &mut I,
     faults: &mut F,
 ) -> Result<Option<String>, Fault> {
-    match path {
-        Some(path) => text_or_said(rt, path, input, faults),
+    match list {
+        Some(list) => text_or_said(rt, list.file, input, faults),
         None => Ok(Some(String::new(rt.alloc()))),
     }
 }
@@ -94,7 +100,8 @@ fn files_of<R: Files + AllocGlobal + Clone + Drop, F: Write>(
     let Some(schema) = schema_paths(rt, words.schema, faults)? else {
         return Ok(None);
     };
-    let all_words = with_lines(alloc, words.documents, further)?;
+    let ends = words.files_from.map(|list| list.ends);
+    let all_words = with_further(alloc, words.documents, further, ends)?;
     let documents = expanded(rt, &all_words, faults)?;
     let fragments = expanded(rt, words.fragments, faults)?;
     let is_all = documents.unread.is_empty() && fragments.unread.is_empty();
@@ -103,27 +110,61 @@ fn files_of<R: Files + AllocGlobal + Clone + Drop, F: Write>(
         return Err(Fault::NoDocument);
     }
     let lent = without(alloc, fragments.files, &schema)?;
+    let fragments = without(alloc, lent, &documents)?;
     Ok(Some(FilesOfRun {
-        fragments: without(alloc, lent, &documents)?,
+        hidden: hidden(rt, words.only, &documents, &fragments, faults)?,
+        fragments,
         schema,
         documents,
         is_all,
     }))
 }
 
-/// The words, and behind them the lines of the text that are not empty.
-fn with_lines<'a>(
+/// The words, and then the paths of the text that are not empty. They end with line ends, unless they end with null bytes.
+fn with_further<'a>(
     alloc: Global,
     words: &[&'a str],
     text: &'a str,
+    ends: Option<PathEnds>,
 ) -> Result<Vec<&'a str>, AllocError> {
     let mut all = Vec::from_slice(alloc, words)?;
-    for line in text.lines() {
-        if !line.is_empty() {
-            all.push(line)?;
-        }
+    match ends {
+        Some(PathEnds::Null) => add_words(text.split('\0'), &mut all)?,
+        _ => add_words(text.lines(), &mut all)?,
     }
     Ok(all)
+}
+
+fn add_words<'a, W: Iterator<Item = &'a str>>(
+    words: W,
+    all: &mut Vec<&'a str>,
+) -> Result<(), AllocError> {
+    for word in words {
+        if !word.is_empty() {
+            all.push(word)?;
+        }
+    }
+    Ok(())
+}
+
+/// Of these files those for which no word stands. None, if there are no words.
+fn hidden<R: Files + AllocGlobal + Clone + Drop, F: Write>(
+    rt: &R,
+    only: &[&str],
+    documents: &[String],
+    fragments: &[String],
+    faults: &mut F,
+) -> Result<Vec<String>, Fault> {
+    let alloc = rt.alloc();
+    let mut all = Vec::new(alloc);
+    if only.is_empty() {
+        return Ok(all);
+    }
+    let shown = expanded(rt, only, faults)?;
+    for file in documents.iter().chain(fragments.iter()) {
+        all.push(String::from_str(alloc, file.as_str())?)?;
+    }
+    Ok(without(alloc, all, &shown.files)?)
 }
 
 /// The files of a schema for which these words stand. None if a folder cannot be read, which standard error says.

@@ -2,7 +2,7 @@
 
 ghost use Rattle.graphql_frontend.specs.Schemas.{IsUsable};
 
-use crate::accounts::Account;
+use crate::accounts::{Account, FilesOfProject};
 use crate::check::Paths;
 use crate::faults::Fault;
 use crate::schema_files::named_text;
@@ -15,6 +15,7 @@ use graphql_project_checking::{check_part_of_project, check_project};
 use graphql_report_formats::named_texts::{NamedText, Subject};
 use graphql_report_formats::schema_texts::sources_of;
 use std::alloc::{AllocError, Global};
+use std::collections::BTreeSet;
 use std::io::{Read, Write};
 use std::rt::Files;
 
@@ -33,6 +34,16 @@ struct ReadFiles<'a> {
     files: Vec<ReadFile<'a>>,
     /// Those that could not, as lines call them.
     unreadable: Vec<String>,
+}
+
+/// Texts that are validated together.
+#[derive(Clone, Copy)]
+struct Project<'a> {
+    texts: &'a [NamedText<'a>],
+    /// So many come first; the others lend fragments.
+    judged: usize,
+    /// No file of the run is missing.
+    is_whole: bool,
 }
 
 /// Validates these files together, with the fragments of those that are lent. One that cannot be read does not end the run.
@@ -64,22 +75,62 @@ pub fn check_files<R: Files + AllocGlobal, I: Read, O: Write, F: Write>(
     let mut named = Vec::new(rt.alloc());
     add_named(&own, &mut named)?;
     add_named(&lent, &mut named)?;
-    let sources = sources_of(rt.alloc(), &named)?;
-    let (judged, borrowed) = sources.as_slice().split_at(own.len().min(sources.len()));
-    let whole = is_all && paths.is_all;
-    let found = reports_of(rt.alloc(), schema, judged, borrowed, paths.bounds, whole)?;
-    let subject = Subject {
-        path: named.first().and_then(|text| text.path),
+    let project = Project {
         texts: &named,
+        judged: own.len(),
+        is_whole: is_all && paths.is_all,
+    };
+    let count = check_texts(rt.alloc(), schema, project, paths, account, output)?;
+    Ok(status_of(count, is_all))
+}
+
+/// Validates these texts together. The answer is how many reports there are.
+fn check_texts<O: Write>(
+    alloc: Global,
+    schema: &Schema,
+    project: Project<'_>,
+    paths: Paths<'_>,
+    account: &mut Account<'_>,
+    output: &mut O,
+) -> Result<usize, Fault>
+    requires { IsUsable schema.now }
+{
+    let sources = sources_of(alloc, project.texts)?;
+    let (own, lent) = sources
+        .as_slice()
+        .split_at(project.judged.min(sources.len()));
+    let found = reports_of(alloc, schema, own, lent, paths.bounds, project.is_whole)?;
+    let subject = Subject {
+        path: project.texts.first().and_then(|text| text.path),
+        texts: project.texts,
         sources: &sources,
     };
-    if found.is_empty() {
-        accept_all(&own, account)?;
-    } else {
-        account.add_documents(own.len());
-        account.reject_together(rt.alloc(), &found, subject, paths.bounds, output)?;
+    let hidden = hidden_files(alloc, project.texts, paths.hidden)?;
+    let files = FilesOfProject {
+        judged: project.judged,
+        hidden: &hidden,
+    };
+    account.add_documents(project.judged);
+    account.report_together(alloc, &found, subject, files, paths.bounds, output)
+}
+
+/// The numbers of the files whose reports are not shown.
+fn hidden_files(
+    alloc: Global,
+    named: &[NamedText<'_>],
+    hidden: &[&str],
+) -> Result<BTreeSet<u32>, AllocError> {
+    let mut paths = BTreeSet::new(alloc);
+    for path in hidden {
+        paths.insert(*path)?;
     }
-    Ok(status_of(&found, is_all))
+    let mut files = BTreeSet::new(alloc);
+    for text in named {
+        if text.path.is_some_and(|path| paths.contains(path)) {
+            files.insert(text.source.file_id.0)?;
+        }
+    }
+    Ok(files)
 }
 
 /// The texts of these files, of which the first has this position. What is wrong with those that have none is said.
@@ -134,18 +185,11 @@ fn reports_of(
     }
 }
 
-/// Nothing is reported of these files.
-fn accept_all(files: &[ReadFile<'_>], account: &mut Account<'_>) -> Result<(), AllocError> {
-    for file in files {
-        account.accept(Some(shown_path(file.path)))?;
-    }
-    Ok(())
-}
-
-fn status_of(found: &[Reports], is_all: bool) -> Status {
+/// The status of a run that shows, or counts, so many reports.
+fn status_of(count: usize, is_all: bool) -> Status {
     if !is_all {
         Status::Unreadable
-    } else if found.is_empty() {
+    } else if count == 0 {
         Status::Accepted
     } else {
         Status::Reported

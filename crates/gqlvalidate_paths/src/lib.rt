@@ -7,3 +7,4 @@ mod plain;
 
 pub use expansion::{Expansion, PathError, expand, without};
 pub use folders::UnreadFolder;
+pub use plain::plain;

@@ -3,7 +3,7 @@
 use std::alloc::{AllocError, Global};
 
 /// The path without `.` between its names and without doubled slashes. That of the folder in which the program runs is `.`.
-pub(crate) fn plain(alloc: Global, path: &str) -> Result<String, AllocError> {
+pub fn plain(alloc: Global, path: &str) -> Result<String, AllocError> {
     let mut plain = String::new(alloc);
     if path.starts_with('/') {
         plain.push_str("/")?;

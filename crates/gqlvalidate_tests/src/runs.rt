@@ -6,6 +6,7 @@ use std::process::Abort;
 
 mod changes;
 mod introspections;
+mod projects;
 mod shelf;
 
 use shelf::{Failing, Refusing, Shelf};

@@ -22,6 +22,10 @@ pub const FRAGMENTS: &str = "fragments";
 
 pub const FILES_FROM: &str = "files-from";
 
+pub const NULL: &str = "null";
+
+pub const ONLY: &str = "only";
+
 pub const MAX_DEPTH: &str = "max-depth";
 
 pub const MAX_REACH: &str = "max-reach";
@@ -137,6 +141,8 @@ fn check<'a>(alloc: Global) -> Result<Command<'a>, Error> {
     let command = command.arg(each(alloc)?)?;
     let command = command.arg(one_document(alloc))?;
     let command = command.arg(files_from(alloc))?;
+    let command = command.arg(null(alloc))?;
+    let command = command.arg(only(alloc)?)?;
     let command = command.arg(max_depth(alloc))?;
     let command = command.arg(max_reach(alloc, "64"))?;
     let command = command.arg(max_work(alloc))?;
@@ -199,6 +205,7 @@ fn serve<'a>(alloc: Global) -> Result<Command<'a>, Error> {
     let command = command.arg(max_work(alloc))?;
     let command = command.arg(max_line(alloc))?;
     let command = command.arg(max_reports_of_an_answer(alloc))?;
+    let command = command.arg(lent_fragments(alloc))?;
     Ok(command.arg(schema_files(alloc))?)
 }
 
@@ -251,6 +258,25 @@ fn files_from<'a>(alloc: Global) -> Arg<'a> {
         .value_name("FILE")
         .help("A file with further paths of documents, one on each line")
         .action(ArgAction::Set)
+}
+
+fn null<'a>(alloc: Global) -> Arg<'a> {
+    Arg::new(alloc, NULL)
+        .short('0')
+        .long(NULL)
+        .help("The paths of --files-from end with a byte of value 0, as those of find -print0")
+        .action(ArgAction::SetTrue)
+}
+
+fn only<'a>(alloc: Global) -> Result<Arg<'a>, Error> {
+    let only = Arg::new(alloc, ONLY)
+        .long(ONLY)
+        .value_name("PATH")
+        .help(
+            "Show only the reports on these files, folders or quoted patterns of a whole run; may be repeated",
+        )
+        .action(ArgAction::Append);
+    Ok(only.conflicts_with(ONE_DOCUMENT)?.conflicts_with(EACH)?)
 }
 
 fn lent_fragments<'a>(alloc: Global) -> Arg<'a> {

@@ -7,5 +7,6 @@ pub mod requests;
 
 pub use reading::parse;
 pub use requests::{
-    ChangeFormat, Color, FailOn, Format, Grouping, Limits, Refusal, Reporting, Request,
+    ChangeFormat, Color, FailOn, Format, Grouping, Limits, PathEnds, PathList, Refusal, Reporting,
+    Request,
 };

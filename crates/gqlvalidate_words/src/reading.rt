@@ -3,11 +3,12 @@
 use crate::commands::{
     ALWAYS, ANSWER, CHECK, CHECKSTYLE, COLOR, DANGEROUS, DIFF, EACH, EXPLAIN, FAIL_ON, FILES, FILES_FROM,
     FORMAT, FRAGMENTS, GITHUB, GITLAB, JSON, JUNIT, LONE_FIELDS, MARKDOWN, MAX_DEPTH, MAX_LINE,
-    MAX_REACH, MAX_REPORTS, MAX_WORK, NEVER, NEW, NEW_SCHEMA, OLD, OLD_SCHEMA, ONE_DOCUMENT,
+    MAX_REACH, MAX_REPORTS, MAX_WORK, NEVER, NEW, NEW_SCHEMA, NULL, OLD, OLD_SCHEMA, ONE_DOCUMENT, ONLY,
     OPERATIONS, PRINT_SCHEMA, RULE, SARIF, SCHEMA, SERVE, SYNTAX, program,
 };
 use crate::requests::{
-    ChangeFormat, Color, FailOn, Format, Grouping, Limits, Refusal, Reporting, Request,
+    ChangeFormat, Color, FailOn, Format, Grouping, Limits, PathEnds, PathList, Refusal, Reporting,
+    Request,
     STANDARD_INPUT,
 };
 use clap::error::ErrorKind;
@@ -72,8 +73,9 @@ fn request_of<'a>(
         Ok(Request::Check {
             schema,
             documents: files,
-            files_from: given.get_str(FILES_FROM),
+            files_from: path_list(given),
             fragments: paths(alloc, given, FRAGMENTS)?,
+            only: paths(alloc, given, ONLY)?,
             grouping: grouping(given),
             limits: limits(given),
             reporting: reporting(given),
@@ -82,6 +84,7 @@ fn request_of<'a>(
         let schema = paths(alloc, given, SCHEMA)?;
         Ok(Request::Serve {
             schema,
+            fragments: paths(alloc, given, FRAGMENTS)?,
             limits: limits(given),
             max_line: given.get_one::<u64>(MAX_LINE).unwrap_or(u64::MAX),
             max_reports: given.get_one::<usize>(MAX_REPORTS).unwrap_or(usize::MAX),
@@ -107,6 +110,17 @@ fn request_of<'a>(
             reporting: reporting(given),
         })
     }
+}
+
+/// The list of further documents, if one is named.
+fn path_list<'a>(given: &ArgMatches<'a>) -> Option<PathList<'a>> {
+    let file = given.get_str(FILES_FROM)?;
+    let ends = if given.get_flag(NULL) {
+        PathEnds::Null
+    } else {
+        PathEnds::Lines
+    };
+    Some(PathList { file, ends })
 }
 
 /// Which documents are validated together.

@@ -120,6 +120,22 @@ pub enum Grouping {
     Each,
 }
 
+/// A file with paths.
+#[derive(Clone, Copy, Debug, PartialEq, Eq)]
+pub struct PathList<'a> {
+    pub file: &'a str,
+    pub ends: PathEnds,
+}
+
+/// How the paths of a list end.
+#[derive(Clone, Copy, Debug, PartialEq, Eq)]
+pub enum PathEnds {
+    /// With a line end.
+    Lines,
+    /// With a byte of value 0.
+    Null,
+}
+
 /// What a command line asks for. Paths are in the order of the command line.
 #[derive(Debug, Drop)]
 pub enum Request<'a> {
@@ -127,10 +143,12 @@ pub enum Request<'a> {
     Check {
         schema: Vec<&'a str>,
         documents: Vec<&'a str>,
-        /// The file with the paths of further documents.
-        files_from: Option<&'a str>,
+        /// The list of further documents.
+        files_from: Option<PathList<'a>>,
         /// The files whose fragments are lent.
         fragments: Vec<&'a str>,
+        /// The files whose reports are shown; all, if there are none.
+        only: Vec<&'a str>,
         grouping: Grouping,
         limits: Limits,
         reporting: Reporting,
@@ -158,6 +176,8 @@ pub enum Request<'a> {
     /// To answer lines of JSON on standard input, a document each, against the schema of these files.
     Serve {
         schema: Vec<&'a str>,
+        /// The files whose fragments are lent.
+        fragments: Vec<&'a str>,
         limits: Limits,
         /// So many bytes a line may have, without its end.
         max_line: u64,

@@ -26,10 +26,6 @@ fn a_schema_may_be_an_answer(rt: HostRuntime) {
   |
 1 | { you }
   |   ^^^
-answer.json:5:6: note: type `Query` is defined here
-  |
-5 | type Query {
-  |      ^^^^^
 ";
     run_ends(&rt, words.as_slice(), 1, printed, "1 report in 1 of 1 document\n");
 }
