@@ -101,6 +101,12 @@ const DIRECTIVES: &[Row] = &[
         "type Query { a: Int } directive @d(x: String) on FIELD",
         "documents DirectiveArgumentTypeChanged { __typename @d(x: 1) }\n",
     ),
+    // An argument of a directive is removed that schemas alone could apply.
+    (
+        "type Query { a: Int } directive @d(x: Int) on OBJECT",
+        "type Query { a: Int } directive @d on OBJECT",
+        "safe DirectiveArgumentRemoved\n",
+    ),
     // The default value of a non-null argument is removed.
     (
         "type Query { a: Int } directive @d(x: Int! = 1) on FIELD",

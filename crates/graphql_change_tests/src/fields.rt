@@ -121,6 +121,12 @@ const FIELDS: &[Row] = &[
         "type Query { a: V v: V } union U = A union V = A | B type A { x: Int } type B { x: Int }",
         "documents FieldTypeChanged\n",
     ),
+    // A union becomes an interface of its members: the same.
+    (
+        "type Query { a: U i: I } union U = A interface I { x: Int } type A implements I { x: Int }",
+        "type Query { a: I i: I } union U = A interface I { x: Int } type A implements I { x: Int }",
+        "documents FieldTypeChanged\n",
+    ),
 ];
 
 #[test]

@@ -50,6 +50,23 @@ const PARTS: &[Row] = &[
         "type Query { i: I } interface I { x: Int } interface J { x: Int } type A implements I & J { x: Int }",
         "safe InterfaceRemoved\n",
     ),
+    // The root type of subscriptions becomes an object of an interface or a union, and a subscription has a second root field.
+    (
+        "type Query { i: I } interface I { x: Int } interface J { x: Int } type A implements I & J { x: Int } type Subscription implements J { x: Int }",
+        "type Query { i: I } interface I { x: Int } interface J { x: Int } type A implements I & J { x: Int } type Subscription implements I & J { x: Int }",
+        "documents InterfaceAdded subscription { x ... on J { ... on I { __typename } } }\n",
+    ),
+    (
+        "type Query { u: U } union U = A interface J { x: Int } type A implements J { x: Int } type Subscription implements J { x: Int }",
+        "type Query { u: U } union U = A | Subscription interface J { x: Int } type A implements J { x: Int } type Subscription implements J { x: Int }",
+        "documents MemberAdded subscription { x ... on J { ... on U { __typename } } }\n",
+    ),
+    // The same, and no condition on the root type leads to the union: it is refused, and no document breaks.
+    (
+        "type Query { u: U } union U = A type A { x: Int } type Subscription { x: Int }",
+        "type Query { u: U } union U = A | Subscription type A { x: Int } type Subscription { x: Int }",
+        "documents MemberAdded\n",
+    ),
     // An object implements one more interface.
     (
         "type Query { i: I a: A } interface I { x: Int } type A { x: Int }",
@@ -113,8 +130,8 @@ const TYPES: &[Row] = &[
     ),
     // A scalar becomes an object.
     (
-        "type Query { s: S } scalar S",
-        "type Query { s: S } type S { x: Int }",
+        "type Query { s: S i: Int } scalar S",
+        "type Query { s: S i: Int } type S { x: Int }",
         "documents KindChanged { s }\n",
     ),
     // A union becomes an interface of the same objects.
@@ -172,6 +189,18 @@ const ROOTS: &[Row] = &[
         "schema { query: Q } type Q { a: Int } type R { a: Int }",
         "schema { query: R } type Q { a: Int } type R { a: Int }",
         "documents RootChanged { ... on Q { __typename } }\n",
+    ),
+    // Its type has another name.
+    (
+        "schema { query: Q } type Q { a: Int }",
+        "schema { query: R } type R { a: Int }",
+        "documents RootChanged { ... on Q { __typename } }\nsafe TypeAdded\ndocuments TypeRemoved { ... on Q { __typename } }\n",
+    ),
+    // An extension of an introspection type is removed.
+    (
+        "type Query { a: Int } extend type __Schema { x: Int }",
+        "type Query { a: Int }",
+        "documents FieldRemoved { __schema { x } }\n",
     ),
     // Descriptions, deprecation and order.
     (

@@ -9,12 +9,13 @@ use graphql_documents::documents::{
     Component, DirectiveDefinition, ExtendedType, FieldDefinition, Schema, Type, definition_named,
 };
 use graphql_nodes::{DirectiveLocation, Name, NamedType, Node, OperationType, ValidationError};
-use graphql_schema_comparison::{Change, InputCoordinate, TypeEffect};
+use graphql_schema_comparison::{Change, Gain, InputCoordinate, TypeEffect};
+use graphql_schema_parts::fields_of;
 use graphql_schema_ways::directives::{application, document_at, document_with};
 use graphql_schema_ways::literals::{Piece, push_literal};
 use graphql_schema_ways::texts::{any_selection, document, field_text, first_field, push_field};
 use graphql_schema_ways::values::{document_giving, document_with_variable};
-use graphql_schema_ways::{InputSite, Step, Ways, fields_of};
+use graphql_schema_ways::{InputSite, Step, Ways};
 
 /// Documents that may be witnesses of a change, the shortest first.
 #[derive(Drop)]
@@ -70,6 +71,16 @@ fn push_candidates(
         }
         Change::EnumValueRemoved(value) => candidates.push(enum_document(ways, value)?),
         Change::MemberRemoved { union, member } => push_overlap(candidates, ways, union, member),
+        Change::MemberAdded {
+            union: wide,
+            member: root,
+            gain: Gain::SubscriptionRoot,
+        }
+        | Change::InterfaceAdded {
+            ty: root,
+            interface: wide,
+            gain: Gain::SubscriptionRoot,
+        } => push_second_root_fields(candidates, ways, root, wide),
         Change::InterfaceRemoved { ty, interface, .. } => {
             push_overlap(candidates, ways, interface, ty)
         }
@@ -246,6 +257,35 @@ fn push_overlap(
 ) -> Result<(), ValidationError> {
     candidates.push(condition_on(ways, wide, object)?)?;
     candidates.push(condition_on(ways, object, wide)?)
+}
+
+/// Adds subscriptions with a second field under a condition that did not apply to their root type, inside one that does.
+///
+/// Specification: 5.2.3.1 Single Root Field.
+fn push_second_root_fields(
+    candidates: &mut Candidates,
+    ways: &Ways<'_>,
+    root: &NamedType,
+    wide: &NamedType,
+) -> Result<(), ValidationError> {
+    let Some(index) = ways.index_of(root) else {
+        return Ok(());
+    };
+    let Some(first) = first_field(ways, index)? else {
+        return Ok(());
+    };
+    for between in ways.overlaps_at(index).iter().take(MOST_CONDITIONS) {
+        if let Some(name) = ways.name_at(*between) {
+            let mut text = String::new(ways.allocator());
+            let first = first.as_str();
+            write!(
+                text,
+                "{first} ... on {name} {{ ... on {wide} {{ __typename }} }}"
+            )?;
+            candidates.push(document(ways, "", index, text.as_str())?)?;
+        }
+    }
+    Ok(())
 }
 
 // ==== fields

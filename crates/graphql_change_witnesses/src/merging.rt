@@ -6,8 +6,9 @@ use crate::candidates::{Candidates, field_named};
 use crate::nested_merging::push_nested_meetings;
 use graphql_documents::documents::{Component, ExtendedType, FieldDefinition, Schema, Type};
 use graphql_nodes::{Name, NamedType, ValidationError};
+use graphql_schema_parts::{FieldMap, fields_of};
+use graphql_schema_ways::Ways;
 use graphql_schema_ways::texts::{document, push_whole_field};
-use graphql_schema_ways::{FieldMap, Ways, fields_of};
 
 /// So many places are tried for two fields, and so many types at each of them.
 pub(crate) const MOST_PLACES: usize = 8;

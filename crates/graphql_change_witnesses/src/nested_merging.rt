@@ -6,8 +6,9 @@ use crate::candidates::Candidates;
 use crate::merging::{MOST_DOCUMENTS, MOST_PLACES, TypeField, is_object, lose_shape, same_shape};
 use graphql_documents::documents::{Component, FieldDefinition, Schema};
 use graphql_nodes::{Name, NamedType, ValidationError};
+use graphql_schema_parts::fields_of;
 use graphql_schema_ways::texts::{document, push_field, push_whole_field};
-use graphql_schema_ways::{Step, Ways, fields_of};
+use graphql_schema_ways::{Step, Ways};
 
 /// So many fields of a type are tried.
 const MOST_FIELDS: usize = 16;

@@ -1,11 +1,11 @@
 //! The places where values of input types can be given.
 
-use crate::ways::{FieldMap, fields_of};
 use graphql_documents::documents::{
     Component, DirectiveDefinition, ExtendedType, FieldDefinition, InputObjectType,
     InputValueDefinition, Schema,
 };
-use graphql_nodes::{DirectiveLocation, NamedType, Node, OperationType, ValidationError};
+use graphql_nodes::{NamedType, Node, OperationType, ValidationError};
+use graphql_schema_parts::{FieldMap, fields_of, is_executable_location};
 use std::alloc::Global;
 
 /// A place where a value is given. Types are known by their indices in the map of types.
@@ -138,7 +138,7 @@ impl<'a> InputSearch<'a> {
                 .value
                 .locations
                 .iter()
-                .any(|l| is_in_documents(*l))
+                .any(|l| is_executable_location(*l))
             {
                 self.reach_from_directive(directive)?;
             }
@@ -241,21 +241,4 @@ impl<'a> InputSearch<'a> {
 /// Specification: 3.5 Scalars.
 fn is_custom_scalar(definition: &ExtendedType) -> bool {
     matches!(definition, ExtendedType::Scalar(_)) && !definition.is_built_in()
-}
-
-/// Whether documents can apply a directive at the location.
-///
-/// Specification: 3.13 Directives, ExecutableDirectiveLocation.
-fn is_in_documents(location: DirectiveLocation) -> bool {
-    matches!(
-        location,
-        DirectiveLocation::Query
-            | DirectiveLocation::Mutation
-            | DirectiveLocation::Subscription
-            | DirectiveLocation::Field
-            | DirectiveLocation::FragmentDefinition
-            | DirectiveLocation::FragmentSpread
-            | DirectiveLocation::InlineFragment
-            | DirectiveLocation::VariableDefinition
-    )
 }

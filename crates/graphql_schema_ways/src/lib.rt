@@ -11,4 +11,4 @@ pub mod values;
 pub mod ways;
 
 pub use inputs::InputSite;
-pub use ways::{FieldMap, Step, Ways, fields_of};
+pub use ways::{Step, Ways};

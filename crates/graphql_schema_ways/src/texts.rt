@@ -1,9 +1,10 @@
 //! Documents as texts.
 
 use crate::literals::push_input;
-use crate::ways::{Step, Ways, fields_of};
+use crate::ways::{Step, Ways};
 use graphql_documents::documents::{Component, FieldDefinition, InputValueDefinition, Schema};
 use graphql_nodes::{Name, Node, OperationType, ValidationError};
+use graphql_schema_parts::fields_of;
 use std::alloc::Global;
 
 /// A value for the argument of this name.

@@ -4,13 +4,9 @@ use crate::inputs::{InputSite, InputSites};
 use graphql_documents::documents::{
     Component, ComponentName, ExtendedType, FieldDefinition, Schema,
 };
-use graphql_hash_seeds::HashSeed;
 use graphql_nodes::{Name, NamedType, OperationType, ValidationError};
-use indexmap::IndexMap;
+use graphql_schema_parts::{FieldMap, fields_of};
 use std::alloc::Global;
-
-/// The fields of a type, by their names.
-pub type FieldMap = IndexMap<Name, Component<FieldDefinition>, HashSeed>;
 
 /// The last step on a way to a type. Types are known by their indices in the map of types.
 #[derive(Clone, Copy)]
@@ -262,13 +258,4 @@ fn add_to(overlaps: &mut [Vec<usize>], index: usize, other: usize) -> Result<(),
         known.push(other)?;
     }
     Ok(())
-}
-
-/// The fields that an object or interface itself defines.
-pub fn fields_of(definition: &ExtendedType) -> Option<&FieldMap> {
-    match definition {
-        ExtendedType::Object(definition) => Some(&definition.value.fields),
-        ExtendedType::Interface(definition) => Some(&definition.value.fields),
-        _ => None,
-    }
 }
