@@ -2,12 +2,11 @@
 
 use crate::faults::{Fault, fault_of_output};
 use crate::presentations::Presentation;
-use gqlvalidate_formats::{Run, Sheet, Texts};
+use gqlvalidate_formats::named_texts::{CountedSubject, Subject};
+use gqlvalidate_formats::{Finding, Run, Sheet, Texts, findings_of};
 use graphql_documents::documents::Schema;
-use graphql_findings::{Finding, findings_of};
 use graphql_frontend::Reports;
 use graphql_parser::Bounds;
-use graphql_report_formats::named_texts::{CountedSubject, Subject};
 use std::alloc::{AllocError, Global};
 use std::collections::BTreeSet;
 use std::fmt;
@@ -158,7 +157,9 @@ impl<'a> Account<'a> {
             bounds,
             usize::MAX,
         )?;
-        findings.shown.retain(|finding| is_in_none(finding, files.hidden));
+        findings
+            .shown
+            .retain(|finding| is_in_none(finding, files.hidden));
         let count = findings.shown.len();
         let faulty = files_of(alloc, &findings.shown, subject)?;
         let others = count.saturating_sub(most);

@@ -14,7 +14,9 @@ use crate::schemas::reject;
 use crate::statuses::Status;
 use crate::terminals::Terminal;
 use gqlvalidate_formats::github::{Annotation, push_annotation};
+use gqlvalidate_formats::named_texts::{CountedSubject, NamedText};
 use gqlvalidate_formats::printable::Printable;
+use gqlvalidate_formats::schema_texts::{BUILT_IN_TEXT, schema_subject, sources_of};
 use gqlvalidate_paths::Expansion;
 use gqlvalidate_words::{ChangeFormat, Color, FailOn, Format, Reporting};
 use graphql_change_formats::{
@@ -24,8 +26,6 @@ use graphql_change_witnesses::confirmed_witness;
 use graphql_documents::documents::Schema;
 use graphql_frontend::{SchemaReading, read_schema};
 use graphql_parser::Bounds;
-use graphql_report_formats::named_texts::{CountedSubject, NamedText};
-use graphql_report_formats::schema_texts::{BUILT_IN_TEXT, schema_subject, sources_of};
 use graphql_schema_comparison::{BreakingReason, Comparison, Level, SchemaChange, compare_schemas};
 use graphql_schema_ways::Ways;
 use json::Writer;

@@ -14,12 +14,12 @@ use crate::schema_files::{FileKind, ReadFiles, named_schema, named_text, read_fi
 use crate::schemas::{end_unread, reject};
 use crate::sources::{shown_path, text_or_said};
 use crate::statuses::Status;
+use gqlvalidate_formats::named_texts::{NamedText, Subject};
+use gqlvalidate_formats::schema_texts::{schema_subject, sources_of};
 use gqlvalidate_words::Grouping;
 use graphql_documents::documents::Schema;
 use graphql_frontend::{Reports, SchemaReading, read_schema, validate_document};
 use graphql_parser::Bounds;
-use graphql_report_formats::named_texts::{NamedText, Subject};
-use graphql_report_formats::schema_texts::{schema_subject, sources_of};
 use std::alloc::Global;
 use std::io::{Read, Write};
 use std::mem;
@@ -69,8 +69,13 @@ pub fn check<R: Files + AllocGlobal, I: Read, O: Write, F: Write>(
     output: &mut O,
     faults: &mut F,
 ) -> Result<Status, Fault> {
-    let ReadFiles { texts, unreadable } =
-        read_files(rt, paths.schema, FileKind::Schema, input, faults)?;
+    let ReadFiles { texts, unreadable } = read_files(
+        rt,
+        paths.schema,
+        FileKind::Schema,
+        input,
+        faults,
+    )?;
     let Some(texts) = texts else {
         return end_unread(rt.alloc(), unreadable, presentation, output, faults);
     };

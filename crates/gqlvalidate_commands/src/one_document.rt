@@ -9,11 +9,11 @@ use crate::check::Paths;
 use crate::faults::Fault;
 use crate::schema_files::{FileKind, ReadFiles, named_text, read_files};
 use crate::statuses::Status;
+use gqlvalidate_formats::named_texts::{NamedText, Subject};
+use gqlvalidate_formats::schema_texts::sources_of;
 use graphql_documents::documents::Schema;
 use graphql_frontend::{Reports, SourceText, validate_documents};
 use graphql_parser::Bounds;
-use graphql_report_formats::named_texts::{NamedText, Subject};
-use graphql_report_formats::schema_texts::sources_of;
 use std::alloc::{AllocError, Global};
 use std::io::{Read, Write};
 use std::rt::Files;
@@ -30,8 +30,13 @@ pub fn check_together<R: Files + AllocGlobal, I: Read, O: Write, F: Write>(
 ) -> Result<Status, Fault>
     requires { IsUsable schema.now }
 {
-    let ReadFiles { texts, unreadable } =
-        read_files(rt, paths.documents, FileKind::Document, input, faults)?;
+    let ReadFiles { texts, unreadable } = read_files(
+        rt,
+        paths.documents,
+        FileKind::Document,
+        input,
+        faults,
+    )?;
     let Some(texts) = texts else {
         account.add_all_unreadable(unreadable)?;
         return Ok(Status::Unreadable);

@@ -3,10 +3,10 @@
 use crate::faults::Fault;
 use crate::introspections::schema_text_or_said;
 use crate::sources::{shown_path, text_or_said};
+use gqlvalidate_formats::named_texts::NamedText;
+use gqlvalidate_formats::schema_texts::BUILT_IN_TEXT;
 use graphql_frontend::SourceText;
 use graphql_nodes::FileId;
-use graphql_report_formats::named_texts::NamedText;
-use graphql_report_formats::schema_texts::BUILT_IN_TEXT;
 use std::alloc::{AllocError, Global};
 use std::io::{Read, Write};
 use std::rt::Files;

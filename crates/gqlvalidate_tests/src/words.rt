@@ -39,10 +39,7 @@ const READ: &[(&[&str], &str)] = &[
         &["schema", "--format", "gitlab", "s"],
         "Schema { schema: [\"s\"], reporting: Reporting { format: Gitlab, color: Auto, max_reports: 18446744073709551615 } }",
     ),
-    (
-        &["print-schema", "a"],
-        "PrintSchema { answer: \"a\" }",
-    ),
+    (&["print-schema", "a"], "PrintSchema { answer: \"a\" }"),
     (
         &["check", "--schema", "-", "-"],
         "error: standard input, `-`, is named more than once\n",

@@ -4,9 +4,9 @@ ghost use Rattle.std.specs.Prelude.{◌≡◌, IfOk, codes, map, unwrap_or};
 ghost use Rattle.std.specs.Option.{option_map};
 ghost use Rattle.graphql_report_formats.specs.NamedTexts.{counted_text, named_text, part, part_at, part_of, path_of, place_in, texts_of};
 
-use graphql_frontend::SourceText;
 use graphql_nodes::{FileId, SourceSpan};
 use graphql_places::{LineIndex, Place};
+use graphql_shown_reports::SourceText;
 use std::alloc::{AllocError, Global};
 
 /// A text, and what reports call its file, if it is of one.

@@ -27,7 +27,13 @@ fn a_schema_may_be_an_answer(rt: HostRuntime) {
 1 | { you }
   |   ^^^
 ";
-    run_ends(&rt, words.as_slice(), 1, printed, "1 report in 1 of 1 document\n");
+    run_ends(
+        &rt,
+        words.as_slice(),
+        1,
+        printed,
+        "1 report in 1 of 1 document\n",
+    );
 }
 
 /// What is no answer, and what is said of it.
