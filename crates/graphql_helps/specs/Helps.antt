@@ -1,5 +1,6 @@
 -- What helps with a report. Specification: 5 Validation.
-use Rattle.std.specs.Prelude.{◌≡◌, ◌≢◌, List, []}
+use Rattle.std.specs.Prelude.{◌≡◌, ◌≢◌, List, [], Ok}
+use Rattle.std.specs.List.{All}
 use Rattle.graphql_building_reports.specs.declared.rules.BuildingRule.{BuildingRule}
 use Rattle.graphql_building_reports.specs.declared.rules.BuildingRule.TheVariants as rule
 use Rattle.graphql_coordinates.specs.declared.coordinates.SchemaCoordinate.{SchemaCoordinate}
@@ -8,6 +9,9 @@ use Rattle.graphql_diagnostics.specs.declared.data.DiagnosticData.{DiagnosticDat
 use Rattle.graphql_diagnostics.specs.declared.data.DiagnosticData.TheVariants as broken
 use Rattle.graphql_diagnostics.specs.declared.details.Details.{Details}
 use Rattle.graphql_diagnostics.specs.declared.details.Details.TheVariants as details
+use Rattle.graphql_documents.specs.Schemas.{IsSubtype, type_field}
+use Rattle.graphql_documents.specs.declared.documents.components.Component.{Component}
+use Rattle.graphql_documents.specs.declared.documents.definitions.FieldDefinition.{FieldDefinition}
 use Rattle.graphql_documents.specs.declared.documents.schemas.Schema.{Schema}
 use Rattle.graphql_nodes.specs.Names.{NameText}
 use Rattle.graphql_nodes.specs.declared.directive_locations.DirectiveLocation.{DirectiveLocation}
@@ -37,9 +41,20 @@ IsArgumentHelp schema (coordinates.TypeAttribute field) name h = IsDidYouMean (a
 IsArgumentHelp schema (coordinates.Directive d) name h = IsDidYouMean (directive_argument_names schema d.directive) name h
 IsArgumentHelp schema other name h = ⊥
 
+-- a value of the type `ty` may be of the type t, which has the field
+pub record HasFieldFor (schema : Schema) (ty field t : NameText) : Type 0 where
+  pub is_one : IsSubtype schema ty t
+  pub definition : Component FieldDefinition
+  pub has : type_field schema t field ≡ Ok definition
+
+-- types of an abstract type have the field; or another field may have been meant
+abbrev pub IsFieldHelp : Schema → NameText → NameText → Help → Type 0
+IsFieldHelp schema ty field (help.OnTypes f types) = (f.now ≡ field) × (types.items ≢ []) × All (HasFieldFor schema ty field) types.items
+IsFieldHelp schema ty field other = IsDidYouMean (field_names schema ty) field other
+
 -- names that are defined there may have been meant; a built-in scalar is to be left out
 abbrev pub HelpsWithBuilding : Schema → BuildingRule → Help → Type 0
-HelpsWithBuilding schema (rule.UndefinedField ty field) h = IsDidYouMean (field_names schema ty) field h
+HelpsWithBuilding schema (rule.UndefinedField ty field) h = IsFieldHelp schema ty field h
 HelpsWithBuilding schema (rule.UndefinedTypeInNamedFragmentTypeCondition ty fragment) h = IsDidYouMean (type_names schema) ty h
 HelpsWithBuilding schema (rule.UndefinedTypeInInlineFragmentTypeCondition ty) h = IsDidYouMean (type_names schema) ty h
 HelpsWithBuilding schema rule.BuiltInScalarTypeRedefinition h = h ≡ help.LeaveOut

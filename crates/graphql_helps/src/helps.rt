@@ -14,6 +14,8 @@ use std::fmt;
 pub enum Help<'a> {
     /// One of these names may have been meant.
     DidYouMean(Vec<Suggestion>),
+    /// These types, of which a value may be at that place, have the field.
+    OnTypes { field: &'a Name, types: Vec<Name> },
     /// The field is of this composite type, and needs selections.
     Select { field: &'a Name, ty: &'a Name },
     /// The directive may be applied at these locations.
@@ -37,6 +39,7 @@ impl fmt::Display for Help<'_> {
     fn fmt<W: fmt::Write>(&self, f: &mut fmt::Formatter<W>) -> fmt::Result {
         match self {
             Help::DidYouMean(found) => write_names(found, f),
+            Help::OnTypes { field, types } => write_types(field, types, f),
             Help::Select { field, ty } => write!(
                 f,
                 "`{field}` is of type `{ty}`: select fields of it, `{field} {{ .. }}`"
@@ -53,6 +56,20 @@ fn write_names<W: fmt::Write>(found: &[Suggestion], f: &mut fmt::Formatter<W>) -
     for suggestion in found {
         let name = &suggestion.name;
         write!(f, "{separator}`{name}`")?;
+        separator = " or ";
+    }
+    f.write_str("?")
+}
+
+fn write_types<W: fmt::Write>(
+    field: &Name,
+    types: &[Name],
+    f: &mut fmt::Formatter<W>,
+) -> fmt::Result {
+    f.write_str("did you mean ")?;
+    let mut separator = "";
+    for ty in types {
+        write!(f, "{separator}`... on {ty} {{ {field} }}`")?;
         separator = " or ";
     }
     f.write_str("?")

@@ -2,6 +2,7 @@
 #![tactic(auto)]
 
 pub mod building;
+mod field_types;
 pub mod helps;
 pub mod validation;
 
