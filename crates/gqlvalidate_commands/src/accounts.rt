@@ -56,6 +56,16 @@ pub struct Extent {
     pub schema_files: usize,
 }
 
+impl Extent {
+    /// Whether what the run validates could be read: the schema, or one document at least of so many that were checked.
+    fn is_checked(self, documents: usize) -> bool {
+        match self.whole {
+            Whole::Schema => self.schema_files > 0,
+            Whole::Documents(_) => documents > 0,
+        }
+    }
+}
+
 /// The files of documents that are validated together.
 #[derive(Clone, Copy)]
 pub struct FilesOfProject<'a> {
@@ -245,7 +255,7 @@ impl<'a> Account<'a> {
         Ok(())
     }
 
-    /// Prints what is left to print, and says on standard error how many reports there are, if any.
+    /// Prints what is left to print, and says on standard error how many reports there are, or that there are none of what was checked.
     pub fn end<O: Write, F: Write>(
         self,
         alloc: Global,
@@ -267,7 +277,7 @@ impl<'a> Account<'a> {
             unreadable: views.as_slice(),
         };
         print(sheet.end(alloc, run)?, output)?;
-        if tally.reports > 0 {
+        if tally.reports > 0 || extent.is_checked(tally.documents) {
             let whole = extent.whole;
             let summary = Summary { tally, whole };
             let _ = writeln!(faults, "{summary}");
@@ -338,6 +348,9 @@ struct Summary {
 
 impl fmt::Display for Summary {
     fn fmt<W: fmt::Write>(&self, f: &mut fmt::Formatter<W>) -> fmt::Result {
+        if self.tally.reports == 0 {
+            return self.write_silence(f);
+        }
         let reports = Counted(self.tally.reports, "report");
         match self.whole {
             Whole::Schema => write!(f, "{reports} in the schema")?,
@@ -352,6 +365,19 @@ impl fmt::Display for Summary {
             write!(f, ", {left_out} not shown")?;
         }
         Ok(())
+    }
+}
+
+impl Summary {
+    /// What was checked, if nothing is reported of it.
+    fn write_silence<W: fmt::Write>(&self, f: &mut fmt::Formatter<W>) -> fmt::Result {
+        match self.whole {
+            Whole::Schema => f.write_str("checked the schema: no reports"),
+            Whole::Documents(_) => {
+                let documents = Counted(self.tally.documents, "document");
+                write!(f, "checked {documents}: no reports")
+            }
+        }
     }
 }
 

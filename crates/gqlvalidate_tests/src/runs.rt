@@ -183,16 +183,25 @@ fn run_ends<R: AllocGlobal + Abort>(rt: &R, texts: &[&str], status: u8, printed:
     ends(rt, texts, b"", wanted);
 }
 
-/// Words whose run has nothing to report, and what it prints.
-const ACCEPTED: &[(&[&str], &str)] = &[
-    (&["check", "--schema", "schema", "valid"], ""),
+/// Words whose run has nothing to report, what it prints, and what it says.
+const ACCEPTED: &[(&[&str], &str, &str)] = &[
+    (
+        &["check", "--schema", "schema", "valid"],
+        "",
+        "checked 1 document: no reports\n",
+    ),
     (
         &[
             "check", "--schema", "schema", "--schema", "more", "valid", "aged",
         ],
         "",
+        "checked 2 documents: no reports\n",
     ),
-    (&["schema", "more", "schema"], ""),
+    (
+        &["schema", "more", "schema"],
+        "",
+        "checked the schema: no reports\n",
+    ),
     (
         &[
             "check",
@@ -203,21 +212,29 @@ const ACCEPTED: &[(&[&str], &str)] = &[
             "fragment",
         ],
         "",
+        "checked 1 document: no reports\n",
     ),
     (
         &["check", "--format", "github", "--schema", "schema", "valid"],
         "",
+        "checked 1 document: no reports\n",
     ),
     (
         &["check", "--format", "json", "--schema", "schema", "valid"],
         "{\"version\":1,\"findings\":[],\"notShown\":0,\"checked\":{\"schemaFiles\":1,\"documents\":1},\"unreadable\":[]}\n",
+        "checked 1 document: no reports\n",
     ),
     (
         &["schema", "--format", "json", "schema"],
         "{\"version\":1,\"findings\":[],\"notShown\":0,\"checked\":{\"schemaFiles\":1,\"documents\":0},\"unreadable\":[]}\n",
+        "checked the schema: no reports\n",
     ),
-    (&["syntax", "schema", "unsupported"], ""),
-    (&["--version"], "gqlvalidate 0.1.0\n"),
+    (
+        &["syntax", "schema", "unsupported"],
+        "",
+        "checked 2 documents: no reports\n",
+    ),
+    (&["--version"], "gqlvalidate 0.1.0\n", ""),
     (
         &["explain", "ReservedName"],
         "ReservedName: 2.1.9 Name
@@ -232,88 +249,120 @@ Right:
 
     type Query { me: Int }
 ",
+        "",
     ),
     (
         &["explain", "MoreReports"],
         "MoreReports\n\nThere are more reports than are kept.\n",
+        "",
     ),
 ];
 
 #[test]
 fn what_holds_is_accepted(rt: HostRuntime) {
-    for (texts, printed) in ACCEPTED {
-        run_ends(&rt, texts, 0, printed, "");
+    for (texts, printed, said) in ACCEPTED {
+        run_ends(&rt, texts, 0, printed, said);
     }
 }
 
-/// Words of runs over a project whose files, together, have nothing to report.
-const PROJECT: &[&[&str]] = &[
+/// Words of runs over a project whose files, together, have nothing to report, and how many documents are checked.
+const PROJECT: &[(&[&str], &str)] = &[
     // A folder stands for its documents; files of the schema are none.
-    &["check", "--schema", "project/schema", "project"],
+    (
+        &["check", "--schema", "project/schema", "project"],
+        "5 documents",
+    ),
     // So do patterns; the order of the words is of no account.
-    &[
-        "check",
-        "--schema",
-        "project/schema/**/*.graphql",
-        "project/{queries,fragments}/*.{graphql,gql}",
-    ],
-    &[
-        "check",
-        "project/fragments",
-        "--schema",
-        "project/schema",
-        "project/queries",
-    ],
+    (
+        &[
+            "check",
+            "--schema",
+            "project/schema/**/*.graphql",
+            "project/{queries,fragments}/*.{graphql,gql}",
+        ],
+        "5 documents",
+    ),
+    (
+        &[
+            "check",
+            "project/fragments",
+            "--schema",
+            "project/schema",
+            "project/queries",
+        ],
+        "5 documents",
+    ),
     // A file that two words name counts once, however they write it.
-    &[
-        "check",
-        "--schema",
-        "project/schema",
-        "./project//queries/named.graphql",
-        "project/queries/named.graphql",
-        "project/fragments/named.graphql",
-    ],
+    (
+        &[
+            "check",
+            "--schema",
+            "project/schema",
+            "./project//queries/named.graphql",
+            "project/queries/named.graphql",
+            "project/fragments/named.graphql",
+        ],
+        "2 documents",
+    ),
     // What is taken out does not count.
-    &[
-        "check",
-        "--schema",
-        "project/schema",
-        "project",
-        "faulty",
-        "!faulty/*.graphql",
-    ],
-    &[
-        "check",
-        "--schema",
-        "project/schema",
-        "faulty",
-        "project",
-        "!faulty",
-    ],
+    (
+        &[
+            "check",
+            "--schema",
+            "project/schema",
+            "project",
+            "faulty",
+            "!faulty/*.graphql",
+        ],
+        "5 documents",
+    ),
+    (
+        &[
+            "check",
+            "--schema",
+            "project/schema",
+            "faulty",
+            "project",
+            "!faulty",
+        ],
+        "5 documents",
+    ),
     // A fragment that is lent may be unused.
-    &[
-        "check",
-        "--schema",
-        "project/schema",
-        "--fragments",
-        "project/fragments",
-        "project/queries/named.graphql",
-    ],
-    &[
-        "check",
-        "--schema",
-        "project/schema",
-        "--files-from",
-        "list",
-    ],
+    (
+        &[
+            "check",
+            "--schema",
+            "project/schema",
+            "--fragments",
+            "project/fragments",
+            "project/queries/named.graphql",
+        ],
+        "1 document",
+    ),
+    (
+        &[
+            "check",
+            "--schema",
+            "project/schema",
+            "--files-from",
+            "list",
+        ],
+        "2 documents",
+    ),
     // One document for itself.
-    &["check", "--each", "--schema", "schema", "valid", "both"],
+    (
+        &["check", "--each", "--schema", "schema", "valid", "both"],
+        "2 documents",
+    ),
 ];
 
 #[test]
 fn files_of_a_project_lend_each_other_fragments(rt: HostRuntime) {
-    for texts in PROJECT {
-        run_ends(&rt, texts, 0, "", "");
+    for (texts, documents) in PROJECT {
+        let said = format!(in rt.alloc(); "checked {documents}: no reports\n").expect(
+            &rt, "memory",
+        );
+        run_ends(&rt, texts, 0, "", said.as_str());
     }
 }
 
@@ -352,7 +401,7 @@ fn other_files_are_checked_beside_a_folder_that_cannot_be_read(rt: HostRuntime) 
         texts.as_slice(),
         5,
         "",
-        "locked: error: permission denied\n",
+        "locked: error: permission denied\nchecked 4 documents: no reports\n",
     );
 }
 
@@ -602,7 +651,8 @@ fn an_answer_counts_what_it_does_not_show(rt: HostRuntime) {
 #[test]
 fn a_document_may_nest_as_deep_as_the_words_say(rt: HostRuntime) {
     let deep = ["check", "--max-depth", "2", "--schema", "schema", "valid"];
-    run_ends(&rt, deep.as_slice(), 0, "", "");
+    let said = "checked 1 document: no reports\n";
+    run_ends(&rt, deep.as_slice(), 0, "", said);
     let words = ["check", "--max-depth", "1", "--schema", "schema", "valid"];
     let printed = "valid:1:14: error: more than 1 levels of brackets and braces [Syntax]
   |
@@ -837,7 +887,7 @@ const UNREADABLE: &[(&[&str], &str, &str)] = &[
             "check", "--format", "json", "--schema", "schema", "binary", "valid",
         ],
         "{\"version\":1,\"findings\":[],\"notShown\":0,\"checked\":{\"schemaFiles\":1,\"documents\":1},\"unreadable\":[\"binary\"]}\n",
-        "binary:2:3: error: not UTF-8\n",
+        "binary:2:3: error: not UTF-8\nchecked 1 document: no reports\n",
     ),
     (
         &[

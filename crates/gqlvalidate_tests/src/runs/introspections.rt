@@ -18,9 +18,11 @@ fn an_answer_is_printed_as_a_schema(rt: HostRuntime) {
 /// Commands that read a schema read the one that an answer describes.
 #[test]
 fn a_schema_may_be_an_answer(rt: HostRuntime) {
-    run_ends(&rt, &["schema", "answer.json"], 0, "", "");
+    let said = "checked the schema: no reports\n";
+    run_ends(&rt, &["schema", "answer.json"], 0, "", said);
     let words = ["check", "--schema", "answer.json", "me"];
-    run_ends(&rt, words.as_slice(), 0, "", "");
+    let said = "checked 1 document: no reports\n";
+    run_ends(&rt, words.as_slice(), 0, "", said);
     let words = ["check", "--schema", "answer.json", "you"];
     let printed = "you:1:3: error: type `Query` does not have a field `you` [UndefinedField]
   |

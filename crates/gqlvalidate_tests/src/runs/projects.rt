@@ -12,7 +12,8 @@ fn some_files_of_a_run_are_shown(rt: HostRuntime) {
         "project",
         "faulty",
     ];
-    run_ends(&rt, words.as_slice(), 0, "", "");
+    let said = "checked 7 documents: no reports\n";
+    run_ends(&rt, words.as_slice(), 0, "", said);
     let words = [
         "check",
         "--only",
@@ -51,7 +52,7 @@ fn paths_of_a_list_end_with_null_bytes(rt: HostRuntime) {
     let wanted = Ended {
         status: 0,
         printed: "",
-        said: "",
+        said: "checked 5 documents: no reports\n",
     };
     let paths = b"project/queries\0project/fragments\0";
     ends(&rt, words.as_slice(), paths.as_slice(), wanted);
