@@ -8,6 +8,8 @@ mod directives;
 #[cfg(test)]
 mod fields;
 #[cfg(test)]
+mod formats;
+#[cfg(test)]
 mod inputs;
 #[cfg(test)]
 mod types;

@@ -54,12 +54,12 @@ const PARTS: &[Row] = &[
     (
         "type Query { i: I } interface I { x: Int } interface J { x: Int } type A implements I & J { x: Int } type Subscription implements J { x: Int }",
         "type Query { i: I } interface I { x: Int } interface J { x: Int } type A implements I & J { x: Int } type Subscription implements I & J { x: Int }",
-        "documents InterfaceAdded subscription { x ... on J { ... on I { __typename } } }\n",
+        "documents InterfaceAdded subscription { x ... on J { ... on I { k: x } } }\n",
     ),
     (
         "type Query { u: U } union U = A interface J { x: Int } type A implements J { x: Int } type Subscription implements J { x: Int }",
         "type Query { u: U } union U = A | Subscription interface J { x: Int } type A implements J { x: Int } type Subscription implements J { x: Int }",
-        "documents MemberAdded subscription { x ... on J { ... on U { __typename } } }\n",
+        "documents MemberAdded subscription { x ... on J { ... on U { ... on J { k: x } } } }\n",
     ),
     // The same, and no condition on the root type leads to the union: it is refused, and no document breaks.
     (
@@ -195,12 +195,6 @@ const ROOTS: &[Row] = &[
         "schema { query: Q } type Q { a: Int }",
         "schema { query: R } type R { a: Int }",
         "documents RootChanged { ... on Q { __typename } }\nsafe TypeAdded\ndocuments TypeRemoved { ... on Q { __typename } }\n",
-    ),
-    // An extension of an introspection type is removed.
-    (
-        "type Query { a: Int } extend type __Schema { x: Int }",
-        "type Query { a: Int }",
-        "documents FieldRemoved { __schema { x } }\n",
     ),
     // Descriptions, deprecation and order.
     (

@@ -271,21 +271,59 @@ fn push_second_root_fields(
     let Some(index) = ways.index_of(root) else {
         return Ok(());
     };
-    let Some(first) = first_field(ways, index)? else {
-        return Ok(());
-    };
     for between in ways.overlaps_at(index).iter().take(MOST_CONDITIONS) {
-        if let Some(name) = ways.name_at(*between) {
-            let mut text = String::new(ways.allocator());
-            let first = first.as_str();
-            write!(
-                text,
-                "{first} ... on {name} {{ ... on {wide} {{ __typename }} }}"
-            )?;
-            candidates.push(document(ways, "", index, text.as_str())?)?;
-        }
+        candidates.push(second_root_field(ways, index, *between, wide)?)?;
     }
     Ok(())
+}
+
+/// A subscription with a second field on the type of this name, inside a condition on the type at the second index.
+fn second_root_field(
+    ways: &Ways<'_>,
+    root: usize,
+    between: usize,
+    wide: &NamedType,
+) -> Result<Option<String>, ValidationError> {
+    let (Some(first), Some(name)) = (first_field(ways, root)?, ways.name_at(between)) else {
+        return Ok(None);
+    };
+    let Some(second) = aliased_field(ways, between, wide)? else {
+        return Ok(None);
+    };
+    let mut text = String::new(ways.allocator());
+    let first = first.as_str();
+    let second = second.as_str();
+    write!(
+        text,
+        "{first} ... on {name} {{ ... on {wide} {{ {second} }} }}"
+    )?;
+    document(ways, "", root, text.as_str())
+}
+
+/// A field on the type of this name, under a response key of its own: of the type itself, or if it has none, of the type at this
+/// index.
+fn aliased_field(
+    ways: &Ways<'_>,
+    other: usize,
+    wide: &NamedType,
+) -> Result<Option<String>, ValidationError> {
+    let Some(index) = ways.index_of(wide) else {
+        return Ok(None);
+    };
+    let mut text = String::new(ways.allocator());
+    if let Some(field) = first_field(ways, index)? {
+        let field = field.as_str();
+        write!(text, "k: {field}")?;
+        return Ok(Some(text));
+    }
+    match (first_field(ways, other)?, ways.name_at(other)) {
+        (Some(field), Some(name)) => {
+            let field = field.as_str();
+            write!(text, "... on {name} {{ k: {field} }}")?;
+            Ok(Some(text))
+        }
+        _ => Ok(None),
+    }
 }
 
 // ==== fields

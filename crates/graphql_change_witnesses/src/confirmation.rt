@@ -1,9 +1,10 @@
 //! Witnesses that validation confirms.
 
-ghost use Rattle.std.specs.Prelude.{◌≡◌, ◌↔◌, All, IfOk, IfSome, IsTrue, None, Ok, Some, string_bytes, true};
-ghost use Rattle.graphql_diagnostics.specs.Diagnostics.{IsLimitEntry, entries};
+ghost use Rattle.std.specs.Prelude.{◌≡◌, ◌↔◌, All, IfOk, IfSome, IsFalse, IsNone, IsTrue, None, Ok, Some, string_bytes, true};
+ghost use Rattle.graphql_diagnostics.specs.Diagnostics.{IsLimit, IsLimitEntry, entries};
 ghost use Rattle.graphql_frontend.specs.Documents.{ValidatesDocument};
 ghost use Rattle.graphql_frontend.specs.Schemas.{IsUsable};
+ghost use Rattle.graphql_schema_comparison.specs.Breaks.{breaks};
 ghost use Rattle.graphql_change_witnesses.specs.Witnesses.{BreaksRules, BreaksRulesOf, IsWitness, IsWitnessText};
 
 use crate::candidates::witness_candidates;
@@ -12,15 +13,15 @@ use graphql_documents::documents::Schema;
 use graphql_frontend::{FileId, Reports, SourceText, validate_document};
 use graphql_nodes::ValidationError;
 use graphql_parser::Bounds;
-use graphql_schema_comparison::Change;
+use graphql_schema_comparison::{BreakingReason, Change, Level};
 use graphql_schema_ways::Ways;
 use std::alloc::Global;
 
 /// The number of the file of a witness.
 const FILE: FileId = FileId(1);
 
-/// A document that is valid against the old schema, whose ways are given, and breaks a rule against the new one. None, if no
-/// candidate is such a document. The only error is a failed allocation.
+/// A document that is valid against the old schema, whose ways are given, and breaks a rule against the new one. None, if the
+/// change breaks no documents, or if no candidate is such a document. The only error is a failed allocation.
 ///
 /// Specification: 5 Validation.
 pub fn confirmed_witness(
@@ -33,14 +34,29 @@ pub fn confirmed_witness(
 ) -> Result<Option<String>, ValidationError>
     requires old { IsUsable old.now }
     requires new { IsUsable new.now }
-    ensures { IfOk result (λ found. IfSome found (λ text. IsWitnessText bounds old.now new.now (string_bytes text))) }
+    ensures witness { IfOk result (λ found. IfSome found (λ text. IsWitnessText bounds old.now new.now (string_bytes text))) }
+    ensures harmless { IsFalse (breaks true change.now) → IfOk result IsNone }
 {
+    if !breaks_documents(change) {
+        return Ok(None);
+    }
     for text in witness_candidates(ways, new, change)? {
         if is_witness(alloc, old, new, source_of(text.as_str()), bounds)? {
             return Ok(Some(text));
         }
     }
     Ok(None)
+}
+
+/// Whether some documents break that were valid.
+fn breaks_documents(change: &Change) -> bool
+    ensures { result ≡ breaks true change.now }
+{
+    match change.level() {
+        Level::Breaking(BreakingReason::Documents) => true,
+        Level::Breaking(BreakingReason::Merging) => true,
+        _ => false,
+    }
 }
 
 fn source_of<'a>(text: &'a str) -> SourceText<'a>
@@ -127,12 +143,26 @@ fn has_no_limit(rules: &DiagnosticList) -> bool
 fn is_of_rule(entry: &DiagnosticEntry) -> bool
     ensures { IsTrue result ↔ ¬ IsLimitEntry entry.now }
 {
-    match &entry.details {
-        Details::Diagnostic(data) => !matches!(
-            data,
-            DiagnosticData::RecursionError | DiagnosticData::DeeplyNestedType { .. }
-        ),
-        Details::Build(_) => true,
-        Details::RecursionLimit(_) => false,
+    !is_limit(&entry.details)
+}
+
+/// Whether a limit is passed: of nesting, of a walk or of a path.
+fn is_limit(details: &Details) -> bool
+    ensures { IsTrue result ↔ IsLimit details.now }
+{
+    match details {
+        Details::Diagnostic(data) => is_limit_of_walk(data),
+        Details::Build(_) => false,
+        Details::RecursionLimit(_) => true,
+    }
+}
+
+fn is_limit_of_walk(data: &DiagnosticData) -> bool
+    ensures { IsTrue result ↔ IsLimit (Details.Diagnostic data.now) }
+{
+    match data {
+        DiagnosticData::RecursionError => true,
+        DiagnosticData::DeeplyNestedType { .. } => true,
+        _ => false,
     }
 }

@@ -11,4 +11,4 @@ pub mod values;
 pub mod ways;
 
 pub use inputs::InputSite;
-pub use ways::{Step, Ways};
+pub use ways::{Step, Way, Ways};

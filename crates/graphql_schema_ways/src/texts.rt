@@ -14,14 +14,6 @@ pub struct Given<'a> {
     pub value: &'a str,
 }
 
-/// A way from a root type.
-#[derive(Drop)]
-struct Way {
-    operation: OperationType,
-    /// The types on the way behind the root, the last one first.
-    indices: Vec<usize>,
-}
-
 /// A document that selects this on the type at this index, if there is a way to it. Its operation declares these variables.
 ///
 /// Specification: 2.3 Operations.
@@ -31,7 +23,7 @@ pub fn document(
     place: usize,
     selection: &str,
 ) -> Result<Option<String>, ValidationError> {
-    let Some(way) = way_to(ways, place)? else {
+    let Some(way) = ways.way_to(place)? else {
         return Ok(None);
     };
     let mut text = String::new(ways.allocator());
@@ -42,23 +34,6 @@ pub fn document(
     text.push_str(selection)?;
     push_ends(&mut text, way.indices.len())?;
     Ok(Some(text))
-}
-
-/// The way to the type at this index. No way has more types than the schema.
-fn way_to(ways: &Ways<'_>, place: usize) -> Result<Option<Way>, ValidationError> {
-    let mut indices = Vec::new(ways.allocator());
-    let mut at = place;
-    for _ in 0..ways.schema.types.len() {
-        match ways.step_to(at) {
-            None => return Ok(None),
-            Some(Step::Root(operation)) => return Ok(Some(Way { operation, indices })),
-            Some(Step::Field { parent, .. } | Step::Condition { parent }) => {
-                indices.push(at)?;
-                at = parent;
-            }
-        }
-    }
-    Ok(None)
 }
 
 /// Adds the beginning of an operation. A query without variables needs no keyword.

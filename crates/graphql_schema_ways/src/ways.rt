@@ -1,5 +1,9 @@
 //! The shortest ways on which documents come to the types of a schema.
 
+ghost use Rattle.std.specs.Prelude.{◌≡◌, IfOk, IfSome, OnOk, Some};
+ghost use Rattle.std.specs.Option.{option_copied, option_map};
+ghost use Rattle.graphql_schema_ways.specs.Ways.{IsWay, LeadsTo, Reaches, StepsLead, entry_at, name_at, start_of, step_at};
+
 use crate::inputs::{InputSite, InputSites};
 use graphql_documents::documents::{
     Component, ComponentName, ExtendedType, FieldDefinition, Schema,
@@ -24,6 +28,19 @@ pub enum Step<'a> {
     },
 }
 
+impl Step<'_> {
+    /// The type from which the step leads, if there is one.
+    fn start(self) -> Option<usize>
+        ensures { result ≡ start_of self.entry }
+    {
+        match self {
+            Step::Root(_) => None,
+            Step::Field { parent, .. } => Some(parent),
+            Step::Condition { parent } => Some(parent),
+        }
+    }
+}
+
 /// For each type of a schema, a shortest way on which a document comes to it: to a selection on it, to a field of it, or to a
 /// place where a value of it is given.
 #[derive(Drop)]
@@ -36,22 +53,26 @@ pub struct Ways<'a> {
     inputs: InputSites<'a>,
 }
 
+/// A way from the root type of a kind of operation.
+#[derive(Drop)]
+pub struct Way {
+    pub operation: OperationType,
+    /// The types on the way behind the root, the last one first.
+    pub indices: Vec<usize>,
+}
+
 impl<'a> Ways<'a> {
     /// Finds the ways of a schema, each type and each field once. The only error is a failed allocation.
-    pub fn new(alloc: Global, schema: &'a Schema) -> Result<Ways<'a>, ValidationError> {
+    pub fn new(alloc: Global, schema: &'a Schema) -> Result<Ways<'a>, ValidationError>
+        ensures schema { IfOk result (λ ways. ways.schema ≡ schema.entry) }
+        ensures steps { IfOk result (λ ways. StepsLead schema.now ways.steps.items) }
+    {
         let overlaps = overlaps_of(alloc, schema)?;
-        let mut search = Search {
-            schema,
-            steps: Vec::new(alloc),
-            order: Vec::new(alloc),
-        };
-        search.begin()?;
-        search.go_on(&overlaps)?;
-        let Search { steps, order, .. } = search;
-        let inputs = InputSites::new(alloc, schema, &order)?;
+        let search = search_from_roots(alloc, schema, &overlaps)?;
+        let inputs = InputSites::new(alloc, schema, &search.order)?;
         Ok(Ways {
             schema,
-            steps,
+            steps: search.steps,
             overlaps,
             inputs,
         })
@@ -68,20 +89,49 @@ impl<'a> Ways<'a> {
     }
 
     /// The name of the type at this index.
-    pub fn name_at(&self, index: usize) -> Option<&'a Name> {
+    pub fn name_at(&self, index: usize) -> Option<&'a Name>
+        ensures { option_copied result ≡ name_at self.now.schema.now index }
+    {
         let (name, _) = self.schema.types.get_index(index)?;
         Some(name)
     }
 
     /// The definition of the type at this index.
-    pub fn definition_at(&self, index: usize) -> Option<&'a ExtendedType> {
+    pub fn definition_at(&self, index: usize) -> Option<&'a ExtendedType>
+        ensures { option_copied result ≡ option_map (λ entry. entry.1) (entry_at self.now.schema.now index) }
+    {
         let (_, definition) = self.schema.types.get_index(index)?;
         Some(definition)
     }
 
     /// The last step to the type at this index, if there is a way to it.
-    pub fn step_to(&self, index: usize) -> Option<Step<'a>> {
+    pub fn step_to(&self, index: usize) -> Option<Step<'a>>
+        ensures { result ≡ step_at self.now.steps.items index }
+    {
         *self.steps.get(index)?
+    }
+
+    /// The way to the type at this index, if there is one. No way has more types than the schema.
+    pub fn way_to(&self, place: usize) -> Result<Option<Way>, ValidationError>
+        ensures { IfOk result (λ found. IfSome found (λ way.
+            StepsLead self.now.schema.now self.now.steps.items → IsWay self.now.schema.now way.operation place way.indices.items)) }
+    {
+        let mut indices = Vec::new(self.allocator());
+        let mut at = place;
+        for _ in 0..self.schema.types.len() {
+            let Some(step) = self.step_to(at) else {
+                return Ok(None);
+            };
+            if let Step::Root(operation) = step {
+                return Ok(Some(Way { operation, indices }));
+            }
+            let Some(parent) = step.start() else {
+                return Ok(None);
+            };
+            indices.push(at)?;
+            at = parent;
+        }
+        Ok(None)
     }
 
     /// A place where a value of the input type at this index can be given, if there is one.
@@ -102,38 +152,67 @@ impl<'a> Ways<'a> {
 /// A search from the root types, in which each type is reached once.
 #[derive(Drop)]
 struct Search<'a> {
-    schema: &'a Schema,
     steps: Vec<Option<Step<'a>>>,
     /// The composite types that were reached, in order.
     order: Vec<usize>,
 }
 
-impl<'a> Search<'a> {
-    /// Reaches the root types.
-    fn begin(&mut self) -> Result<(), ValidationError> {
-        for _ in &self.schema.types {
-            self.steps.push(None)?;
-        }
-        self.reach_root(OperationType::Query)?;
-        self.reach_root(OperationType::Mutation)?;
-        self.reach_root(OperationType::Subscription)
-    }
+fn search_from_roots<'a>(
+    alloc: Global,
+    schema: &'a Schema,
+    overlaps: &[Vec<usize>],
+) -> Result<Search<'a>, ValidationError>
+    ensures { IfOk result (λ search. StepsLead schema.now search.steps.items) }
+{
+    let mut search = Search {
+        steps: no_steps(alloc, schema)?,
+        order: Vec::new(alloc),
+    };
+    search.reach_root(schema, OperationType::Query)?;
+    search.reach_root(schema, OperationType::Mutation)?;
+    search.reach_root(schema, OperationType::Subscription)?;
+    search.go_on(schema, overlaps)?;
+    Ok(search)
+}
 
-    fn reach_root(&mut self, operation: OperationType) -> Result<(), ValidationError> {
-        match self.schema.root_operation(operation) {
-            Some(name) => self.reach(name, Step::Root(operation)),
+/// No step to any type.
+fn no_steps<'a>(alloc: Global, schema: &Schema) -> Result<Vec<Option<Step<'a>>>, ValidationError>
+    ensures { IfOk result (λ steps. StepsLead schema.now steps.items) }
+{
+    let mut steps = Vec::new(alloc);
+    for _ in 0..schema.types.len() {
+        steps.push(None)?;
+    }
+    Ok(steps)
+}
+
+impl<'a> Search<'a> {
+    fn reach_root(
+        &mut self,
+        schema: &'a Schema,
+        operation: OperationType,
+    ) -> Result<(), ValidationError>
+        ensures { OnOk result (Reaches schema.now self.old.steps.items self.new.steps.items) }
+    {
+        match schema.root_operation(operation) {
+            Some(name) => {
+                self.reach(schema, name, Step::Root(operation))?;
+                Ok(())
+            }
             None => Ok(()),
         }
     }
 
     /// Reaches all that follow: there are no more composite types than types.
-    fn go_on(&mut self, overlaps: &[Vec<usize>]) -> Result<(), ValidationError> {
-        for position in 0..self.schema.types.len() {
+    fn go_on(&mut self, schema: &'a Schema, overlaps: &[Vec<usize>]) -> Result<(), ValidationError>
+        ensures { OnOk result (Reaches schema.now self.old.steps.items self.new.steps.items) }
+    {
+        for position in 0..schema.types.len() {
             let Some(index) = self.order.get(position) else {
                 break;
             };
             let index = *index;
-            self.reach_from(index, overlaps)?;
+            self.reach_from(schema, index, overlaps)?;
         }
         Ok(())
     }
@@ -141,62 +220,142 @@ impl<'a> Search<'a> {
     /// Reaches the types of the fields of a type, and those that can be a condition on it.
     fn reach_from(
         &mut self,
+        schema: &'a Schema,
         parent: usize,
         overlaps: &[Vec<usize>],
-    ) -> Result<(), ValidationError> {
-        let Some((name, definition)) = self.schema.types.get_index(parent) else {
+    ) -> Result<(), ValidationError>
+        ensures { OnOk result (Reaches schema.now self.old.steps.items self.new.steps.items) }
+    {
+        let Some((place, definition)) = schema.types.get_index(parent) else {
             return Ok(());
         };
-        if let Some(fields) = fields_of(definition) {
-            self.reach_below(parent, fields)?;
-        }
-        if self.schema.root_operation(OperationType::Query) == Some(name) {
-            self.reach_field(parent, &self.schema.meta_fields.schema)?;
-            self.reach_field(parent, &self.schema.meta_fields.type_by_name)?;
-        }
+        self.reach_below(schema, parent, place, definition)?;
+        let meta_fields = &schema.meta_fields;
+        self.reach_field(schema, parent, place, &meta_fields.schema.node.value.name)?;
+        self.reach_field(
+            schema,
+            parent,
+            place,
+            &meta_fields.type_by_name.node.value.name,
+        )?;
         match overlaps.get(parent) {
-            Some(others) => self.reach_conditions(parent, others),
+            Some(others) => {
+                self.reach_conditions(schema, parent, place, others)?;
+                Ok(())
+            }
             None => Ok(()),
         }
     }
 
-    fn reach_below(&mut self, parent: usize, fields: &'a FieldMap) -> Result<(), ValidationError> {
-        for (_, field) in fields {
-            self.reach_field(parent, field)?;
+    fn reach_below(
+        &mut self,
+        schema: &'a Schema,
+        parent: usize,
+        place: &NamedType,
+        definition: &ExtendedType,
+    ) -> Result<(), ValidationError>
+        requires { name_at schema.now parent ≡ Some place.now }
+        ensures { OnOk result (Reaches schema.now self.old.steps.items self.new.steps.items) }
+    {
+        match fields_of(definition) {
+            Some(fields) => {
+                self.reach_fields(schema, parent, place, fields)?;
+                Ok(())
+            }
+            None => Ok(()),
+        }
+    }
+
+    fn reach_fields(
+        &mut self,
+        schema: &'a Schema,
+        parent: usize,
+        place: &NamedType,
+        fields: &FieldMap,
+    ) -> Result<(), ValidationError>
+        requires { name_at schema.now parent ≡ Some place.now }
+        ensures { OnOk result (Reaches schema.now self.old.steps.items self.new.steps.items) }
+    {
+        for (name, _) in fields {
+            self.reach_field(schema, parent, place, name)?;
         }
         Ok(())
     }
 
+    /// Reaches the type of the field of this name, if the type at the index has it.
     fn reach_field(
         &mut self,
+        schema: &'a Schema,
         parent: usize,
-        field: &'a Component<FieldDefinition>,
-    ) -> Result<(), ValidationError> {
-        let below = field.node.value.ty.inner_named_type();
-        self.reach(below, Step::Field { parent, field })
+        place: &NamedType,
+        name: &Name,
+    ) -> Result<(), ValidationError>
+        requires { name_at schema.now parent ≡ Some place.now }
+        ensures { OnOk result (Reaches schema.now self.old.steps.items self.new.steps.items) }
+    {
+        match schema.type_field(place, name) {
+            Ok(field) => {
+                let below = field.node.value.ty.inner_named_type();
+                self.reach(schema, below, Step::Field { parent, field })?;
+                Ok(())
+            }
+            Err(_) => Ok(()),
+        }
     }
 
-    fn reach_conditions(&mut self, parent: usize, others: &[usize]) -> Result<(), ValidationError> {
+    fn reach_conditions(
+        &mut self,
+        schema: &'a Schema,
+        parent: usize,
+        place: &NamedType,
+        others: &[usize],
+    ) -> Result<(), ValidationError>
+        requires { name_at schema.now parent ≡ Some place.now }
+        ensures { OnOk result (Reaches schema.now self.old.steps.items self.new.steps.items) }
+    {
         for other in others {
-            if let Some((name, _)) = self.schema.types.get_index(*other) {
-                self.reach(name, Step::Condition { parent })?;
-            }
+            self.reach_condition(schema, parent, place, *other)?;
+        }
+        Ok(())
+    }
+
+    /// Reaches the type at the second index, if each of its objects is one of the first type, or the other way round.
+    fn reach_condition(
+        &mut self,
+        schema: &'a Schema,
+        parent: usize,
+        place: &NamedType,
+        other: usize,
+    ) -> Result<(), ValidationError>
+        requires { name_at schema.now parent ≡ Some place.now }
+        ensures { OnOk result (Reaches schema.now self.old.steps.items self.new.steps.items) }
+    {
+        let Some((name, _)) = schema.types.get_index(other) else {
+            return Ok(());
+        };
+        if schema.is_subtype(place, name) || schema.is_subtype(name, place) {
+            self.reach(schema, name, Step::Condition { parent })?;
         }
         Ok(())
     }
 
     /// Reaches a type by this step, if it was not reached before.
-    fn reach(&mut self, name: &NamedType, step: Step<'a>) -> Result<(), ValidationError> {
-        let Some((index, _, definition)) = self.schema.types.get_full(name) else {
+    fn reach(
+        &mut self,
+        schema: &'a Schema,
+        name: &NamedType,
+        step: Step<'a>,
+    ) -> Result<(), ValidationError>
+        requires { LeadsTo schema.now name.now step }
+        ensures { OnOk result (Reaches schema.now self.old.steps.items self.new.steps.items) }
+    {
+        let Some((index, _, definition)) = schema.types.get_full(name) else {
             return Ok(());
         };
-        let Some(known) = self.steps.get_mut(index) else {
+        let Some(None) = self.steps.get(index) else {
             return Ok(());
         };
-        if known.is_some() {
-            return Ok(());
-        }
-        *known = Some(step);
+        self.steps[index] = Some(step);
         if definition.is_composite() {
             self.order.push(index)?;
         }
