@@ -28,9 +28,9 @@ use Rattle.graphql_frontend.specs.Schemas.{IsUsable}
 use Rattle.graphql_pools.specs.Pools.{Entry}
 use Rattle.graphql_projects.specs.OperationTrees.{Pool, ReachesFragment, fragment_named}
 use Rattle.graphql_projects.specs.Projects.{FileHolds, IsDocumentOfFile, OperationIsValid}
-use Rattle.graphql_project_laws.proofs.OperationDocumentLemmas.{own, own_fragments}
-use Rattle.graphql_project_laws.proofs.SaidDefinitionLemmas.{found_entry, one_found, operation_is_said, operation_says}
-use Rattle.graphql_project_laws.proofs.SaidReachLemmas.{SaysIfAny, fragment_said, tree_spread_is_reached, zip_first, zip_second}
+use Rattle.graphql_projects.proofs.OperationDocumentLemmas.{own, own_fragments}
+use Rattle.graphql_projects.proofs.SaidDefinitionLemmas.{found_entry, one_found, operation_is_said, operation_says}
+use Rattle.graphql_projects.proofs.SaidReachLemmas.{SaysIfAny, fragment_said, tree_spread_is_reached, zip_first, zip_second}
 use Rattle.graphql_project_checking.proofs.OperationLemmas.{HasOwnNames, distinct_pairs, document_is_of_tree, found_by_own, found_some, fragment_in_tree, fragment_said_of_same}
 use Rattle.graphql_project_checking.specs.Silence.{BorrowsForAll, FilePasses, IsReachedByOne, OperationPasses}
 

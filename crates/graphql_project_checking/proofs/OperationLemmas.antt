@@ -28,9 +28,9 @@ use Rattle.graphql_leaf_building.specs.Definitions.{VariablesSay}
 use Rattle.graphql_leaf_building.specs.Directives.{DirectivesSay}
 use Rattle.graphql_pools.specs.Pools.{Borrows, Entry, HoldsAlone, IsAlone, IsBorrowed, IsOperationDocument}
 use Rattle.graphql_projects.specs.OperationTrees.{IsTreeOf, Pool, ReachesFragment, SpreadsIn, fragment_named}
-use Rattle.graphql_project_laws.proofs.OperationDocumentLemmas.{document_of, document_says, own}
-use Rattle.graphql_project_laws.proofs.SaidDefinitionLemmas.{found_entry, one_found}
-use Rattle.graphql_project_laws.proofs.SaidReachLemmas.{SaysIfAny, fragment_said, said_fragment, spread_is_in_tree, tree_spread_is_reached, zip_first}
+use Rattle.graphql_projects.proofs.OperationDocumentLemmas.{document_of, document_says, own}
+use Rattle.graphql_projects.proofs.SaidDefinitionLemmas.{found_entry, one_found}
+use Rattle.graphql_projects.proofs.SaidReachLemmas.{SaysIfAny, fragment_said, said_fragment, spread_is_in_tree, tree_spread_is_reached, zip_first}
 use Rattle.graphql_reach.specs.Reached.{IsReachedFrom, IsSpreadFrom, ReachesNames}
 
 -- ==== different names

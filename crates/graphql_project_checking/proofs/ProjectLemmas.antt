@@ -27,8 +27,8 @@ use Rattle.graphql_parser.specs.declared.bounds.Bounds.{Bounds}
 use Rattle.graphql_pools.specs.Pools.{Entry, Gathers, SameEntry, entries_among}
 use Rattle.graphql_projects.specs.OperationTrees.{Pool, ReachesFragment, fragment_named, fragments_among}
 use Rattle.graphql_projects.specs.Projects.{FileHolds, OperationIsValid, ProjectHolds, ReadFiles, operations_among}
-use Rattle.graphql_project_laws.proofs.SaidDefinitionLemmas.{one_found, operation_is_said, own_names}
-use Rattle.graphql_project_laws.proofs.SaidReachLemmas.{SaysIfAny, names_say, zip_first, zip_second}
+use Rattle.graphql_projects.proofs.SaidDefinitionLemmas.{one_found, operation_is_said, own_names}
+use Rattle.graphql_projects.proofs.SaidReachLemmas.{SaysIfAny, names_say, zip_first, zip_second}
 use Rattle.graphql_project_checking.proofs.FileLemmas.{distinct_is_found, file_holds, operations_are_valid, zip_append}
 use Rattle.graphql_project_checking.proofs.OperationLemmas.{HasOwnNames, fragment_in_tree, fragment_said_of_same, found_by_own}
 use Rattle.graphql_project_checking.specs.Silence.{BuildAsLent, FilePasses, FilesHold, HasFragmentsOf, IsUsedName, NotesUses, OthersBuild, is_fragment, others_in}
