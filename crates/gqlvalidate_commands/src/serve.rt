@@ -321,7 +321,7 @@ fn answer_beside(
     let (own, others) = sources.as_slice().split_at(1.min(sources.len()));
     let found = check_project(alloc, schema, own, others, allowance.bounds)?;
     let subject = Subject {
-        path: question.file,
+        path: None,
         texts: &texts,
         sources: &sources,
     };
@@ -346,10 +346,7 @@ fn texts_of<'a>(
         text: question.document,
     };
     let mut texts = Vec::new(alloc);
-    texts.push(NamedText {
-        path: question.file,
-        source,
-    })?;
+    texts.push(NamedText { path: None, source })?;
     let file = plain(alloc, question.file.unwrap_or(""))?;
     for text in lent {
         if plain(alloc, text.path.unwrap_or(""))? != file {
