@@ -151,16 +151,16 @@ fn is_limit(details: &Details) -> bool
     ensures { IsTrue result ↔ IsLimit details.now }
 {
     match details {
-        Details::Diagnostic(data) => is_limit_of_walk(data),
+        Details::Diagnostic(diagnostic) => is_limit_of_walk(diagnostic),
         Details::Build(_) => false,
         Details::RecursionLimit(_) => true,
     }
 }
 
-fn is_limit_of_walk(data: &DiagnosticData) -> bool
-    ensures { IsTrue result ↔ IsLimit (Details.Diagnostic data.now) }
+fn is_limit_of_walk(diagnostic: &DiagnosticData) -> bool
+    ensures { IsTrue result ↔ IsLimit (Details.Diagnostic diagnostic.now) }
 {
-    match data {
+    match diagnostic {
         DiagnosticData::RecursionError => true,
         DiagnosticData::DeeplyNestedType { .. } => true,
         _ => false,

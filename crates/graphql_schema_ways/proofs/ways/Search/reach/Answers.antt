@@ -1,5 +1,4 @@
-use Rattle.std.proofs.Common.{◌≡◌, Some, sym}
-use Rattle.graphql_schema_ways.specs.Ways.{entry_at}
+use Rattle.std.proofs.Common.{sym}
 use Rattle.graphql_schema_ways.proofs.WayLemmas.{step_added}
 use Rattle.graphql_schema_ways.proofs.ways.Search.reach.Goals as goal
 
