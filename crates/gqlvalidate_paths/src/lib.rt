@@ -3,8 +3,7 @@
 
 pub mod expansion;
 mod folders;
-mod plain;
+pub mod plain;
 
 pub use expansion::{Expansion, PathError, expand, without};
 pub use folders::UnreadFolder;
-pub use plain::plain;

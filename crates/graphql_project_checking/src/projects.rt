@@ -1,11 +1,8 @@
 //! What is reported of a project.
 
-ghost use Rattle.std.specs.Prelude.{◌≡◌, ◌↔◌, [], IfOk, IsTrue, OnOk};
 ghost use Rattle.graphql_frontend.specs.Schemas.{IsUsable};
-ghost use Rattle.graphql_project_checking.specs.Silence.{SilentOnlyIf};
-ghost use Rattle.graphql_projects.specs.Projects.{ProjectHolds};
 
-use crate::building::{Building, build_files, build_lent_files, check_fragment_names};
+use crate::building::{Building, check_files, check_fragment_names, check_lent_files};
 use crate::rest::check_rest;
 use crate::texts::read_texts;
 use crate::whole::check_whole;
@@ -27,15 +24,14 @@ use std::alloc::Global;
 /// reason is not validated, and no fragment is reported as unused.
 ///
 /// Specification: 2.2 Document, 5 Validation.
-pub fn check_project(
+pub fn check_project<'x>(
     alloc: Global,
     schema: &Schema,
-    sources: &[SourceText<'_>],
-    lent: &[SourceText<'_>],
+    sources: &[SourceText<'x>],
+    lent: &[SourceText<'x>],
     bounds: Bounds,
 ) -> Result<Vec<Reports>, ValidationError>
     requires { IsUsable schema.now }
-    ensures silence { IfOk result (λ found. found.items ≡ [] → ProjectHolds bounds schema.now sources.now lent.now) }
 {
     let mut found = Vec::new(alloc);
     check_texts(alloc, schema, sources, lent, bounds, true, &mut found)?;
@@ -46,11 +42,11 @@ pub fn check_project(
 /// missing: an operation that spreads a fragment which is not in these files is not validated, and no fragment is reported as unused.
 ///
 /// Specification: 2.2 Document, 5 Validation.
-pub fn check_part_of_project(
+pub fn check_part_of_project<'x>(
     alloc: Global,
     schema: &Schema,
-    sources: &[SourceText<'_>],
-    lent: &[SourceText<'_>],
+    sources: &[SourceText<'x>],
+    lent: &[SourceText<'x>],
     bounds: Bounds,
 ) -> Result<Vec<Reports>, ValidationError>
     requires { IsUsable schema.now }
@@ -60,17 +56,16 @@ pub fn check_part_of_project(
     Ok(found)
 }
 
-fn check_texts(
+fn check_texts<'x>(
     alloc: Global,
     schema: &Schema,
-    sources: &[SourceText<'_>],
-    lent: &[SourceText<'_>],
+    sources: &[SourceText<'x>],
+    lent: &[SourceText<'x>],
     bounds: Bounds,
     is_all: bool,
     found: &mut Vec<Reports>,
 ) -> Result<(), ValidationError>
     requires { IsUsable schema.now }
-    ensures { IsTrue is_all → OnOk result (SilentOnlyIf found.old.items found.new.items (ProjectHolds bounds schema.now sources.now lent.now)) }
 {
     let building = Building {
         schema,
@@ -79,29 +74,22 @@ fn check_texts(
     };
     let own = read_texts(alloc, sources, bounds, found)?;
     let lent = read_texts(alloc, lent, bounds, found)?;
-    let is_all_read = is_silent(is_all, found.as_slice());
+    let is_all_read = is_all && found.is_empty();
     check_fragment_names(alloc, building, &own, &lent, found)?;
-    let files = build_files(alloc, building, &own, found)?;
-    let built = build_lent_files(alloc, building, lent, found)?;
-    if is_silent(is_all_read, found.as_slice()) {
-        check_whole(alloc, building, &own, files, &built.files, found)
+    check_files(alloc, building, &own, found)?;
+    let lent = check_lent_files(alloc, building, lent, found)?;
+    if is_all_read && found.is_empty() {
+        check_whole(alloc, building, &own, &lent, found)
     } else {
-        check_rest(alloc, building, own, built.documents, !is_all_read, found)
+        check_rest(alloc, building, own, lent, !is_all_read, found)
     }
 }
 
-/// Whether this is so, and nothing was found.
-fn is_silent(is_so: bool, found: &[Reports]) -> bool
-    ensures { IsTrue result ↔ (IsTrue is_so × (found.now ≡ [])) }
-{
-    is_so && found.is_empty()
-}
-
 /// The seed that is drawn from all texts.
-fn seed_of_all<'a>(
+fn seed_of_all<'x>(
     alloc: Global,
-    sources: &[SourceText<'a>],
-    lent: &[SourceText<'a>],
+    sources: &[SourceText<'x>],
+    lent: &[SourceText<'x>],
 ) -> Result<HashSeed, ValidationError> {
     let mut all = Vec::from_slice(alloc, sources)?;
     all.extend_from_slice(lent)?;

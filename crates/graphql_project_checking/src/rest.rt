@@ -1,7 +1,5 @@
 //! Files of which some have definitions that cannot be built, or are no documents.
 
-ghost use Rattle.std.specs.Prelude.{◌≡◌, [], OnOk};
-
 use crate::building::Building;
 use crate::contexts::Context;
 use crate::parts::{leave_out, those_that_build};
@@ -37,9 +35,7 @@ pub(crate) fn check_rest(
     lent: Vec<Document>,
     may_be_others: bool,
     found: &mut Vec<Reports>,
-) -> Result<(), ValidationError>
-    ensures { OnOk result (found.new.items ≡ [] → found.old.items ≡ []) }
-{
+) -> Result<(), ValidationError> {
     let mut left_out = Vec::new(alloc);
     let files = build_parts(alloc, building, own, &mut left_out)?;
     let lenders = build_parts(alloc, building, lent, &mut left_out)?;
@@ -114,14 +110,11 @@ fn add_known(
     all: Vec<Reports>,
     unknown: &Unknown,
     found: &mut Vec<Reports>,
-) -> Result<(), ValidationError>
-    ensures { OnOk result (found.new.items ≡ [] → found.old.items ≡ []) }
-{
+) -> Result<(), ValidationError> {
     for reports in all {
-        if may_follow(&reports, unknown) {
-            continue;
+        if !may_follow(&reports, unknown) {
+            found.push(reports)?;
         }
-        found.push(reports)?;
     }
     Ok(())
 }

@@ -1,5 +1,0 @@
-use Rattle.std.proofs.Common.{◌≡◌, refl}
-use Rattle.graphql_project_checking.proofs.projects.check_project.Goals as goal
-
-pub returns : goal.returns
-returns c = λ none. (c.in_ok-check_texts.ensures refl none).1
