@@ -9,7 +9,7 @@ use crate::faults::Fault;
 use crate::json_lines::print_line;
 use crate::operations::{Operations, check_operations};
 use crate::presentations::Presentation;
-use crate::schema_files::{FileKind, named_text, read_files};
+use crate::schema_files::{FileKind, ReadFiles, named_text, read_files};
 use crate::schemas::reject;
 use crate::statuses::Status;
 use crate::terminals::Terminal;
@@ -132,7 +132,8 @@ fn files_of<R: Files + AllocGlobal + Clone + Drop, I: Read, F: Write>(
         return Ok(None);
     };
     let paths = views(rt.alloc(), &files)?;
-    let Some(texts) = read_files(rt, &paths, FileKind::Schema, input, faults)?.texts else {
+    let ReadFiles { texts, .. } = read_files(rt, &paths, FileKind::Schema, input, faults)?;
+    let Some(texts) = texts else {
         return Ok(None);
     };
     let paths = paths_as_shown(rt.alloc(), &paths, format)?;

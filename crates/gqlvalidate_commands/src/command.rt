@@ -123,6 +123,7 @@ fn answer<R: Files + AllocGlobal + Clone + Drop, I: Read, O: Write, F: Write>(
                 bounds: bounds_of_answers(*limits, *max_reports),
                 line: *max_line,
                 reports: *max_reports,
+                lends: !fragments.is_empty(),
             };
             serve(rt, schema, fragments, allowance, input, output, faults)
         }

@@ -21,8 +21,8 @@ use std::rt::Files;
 
 /// A file of the run, with its text.
 #[derive(Drop)]
-struct ReadFile<'a> {
-    path: &'a str,
+struct ReadFile {
+    path: String,
     /// Its position among the files of the run, those of the schema included.
     position: usize,
     text: String,
@@ -30,8 +30,8 @@ struct ReadFile<'a> {
 
 /// The files that could be read.
 #[derive(Drop)]
-struct ReadFiles<'a> {
-    files: Vec<ReadFile<'a>>,
+struct ReadFiles {
+    files: Vec<ReadFile>,
     /// Those that could not, as lines call them.
     unreadable: Vec<String>,
 }
@@ -134,19 +134,19 @@ fn hidden_files(
 }
 
 /// The texts of these files, of which the first has this position. What is wrong with those that have none is said.
-fn read_files<'a, R: Files + AllocGlobal, I: Read, F: Write>(
+fn read_files<R: Files + AllocGlobal, I: Read, F: Write>(
     rt: &R,
-    paths: &[&'a str],
+    paths: &[&str],
     first: usize,
     input: &mut I,
     faults: &mut F,
-) -> Result<ReadFiles<'a>, Fault> {
+) -> Result<ReadFiles, Fault> {
     let mut files = Vec::new(rt.alloc());
     let mut unreadable = Vec::new(rt.alloc());
     for (position, path) in paths.iter().enumerate() {
         match text_or_said(rt, path, input, faults)? {
             Some(text) => files.push(ReadFile {
-                path,
+                path: String::from_str(rt.alloc(), path)?,
                 position: position.saturating_add(first),
                 text,
             })?,
@@ -157,12 +157,9 @@ fn read_files<'a, R: Files + AllocGlobal, I: Read, F: Write>(
 }
 
 /// Adds the texts of the files, with their paths.
-fn add_named<'a>(
-    files: &'a [ReadFile<'a>],
-    named: &mut Vec<NamedText<'a>>,
-) -> Result<(), AllocError> {
+fn add_named<'a>(files: &'a [ReadFile], named: &mut Vec<NamedText<'a>>) -> Result<(), AllocError> {
     for file in files {
-        named.push(named_text(file.position, file.path, file.text.as_str()))?;
+        named.push(named_text(file.position, file.path.as_str(), file.text.as_str()))?;
     }
     Ok(())
 }

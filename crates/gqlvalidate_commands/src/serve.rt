@@ -42,6 +42,8 @@ pub struct Allowance {
     pub line: u64,
     /// As many reports its answer has at most.
     pub reports: usize,
+    /// Whether documents may spread the fragments of files that are lent.
+    pub lends: bool,
 }
 
 /// Reads the schema of the files for which these words stand, and answers each line of standard input by a line, until there are no more.
@@ -119,12 +121,7 @@ fn serve_beside<R: Files + AllocGlobal + Clone + Drop, I: Read, O: Write, F: Wri
         return Ok(Status::Unreadable);
     }
     let lent = named_beside(alloc, of_schema, &paths, &texts)?;
-    let lent = if fragments.is_empty() {
-        None
-    } else {
-        Some(lent.as_slice())
-    };
-    answer_lines(alloc, schema, lent, allowance, input, output, faults)
+    answer_lines(alloc, schema, &lent, allowance, input, output, faults)
 }
 
 /// The texts with their paths, numbered after those of the schema.
@@ -145,7 +142,7 @@ fn named_beside<'a>(
 fn answer_lines<I: Read, O: Write, F: Write>(
     alloc: Global,
     schema: &Schema,
-    lent: Option<&[NamedText<'_>]>,
+    lent: &[NamedText<'_>],
     allowance: Allowance,
     input: &mut I,
     output: &mut O,
@@ -188,7 +185,7 @@ impl From<io::Error> for Ended {
 fn answer_each<I: Read, O: Write>(
     alloc: Global,
     schema: &Schema,
-    lent: Option<&[NamedText<'_>]>,
+    lent: &[NamedText<'_>],
     allowance: Allowance,
     input: &mut I,
     output: &mut O,
@@ -224,7 +221,7 @@ fn say<O: Write>(line: &str, output: &mut O) -> Result<(), Fault> {
 fn answer<O: Write>(
     alloc: Global,
     schema: &Schema,
-    lent: Option<&[NamedText<'_>]>,
+    lent: &[NamedText<'_>],
     allowance: Allowance,
     line: &[u8],
     output: &mut O,
@@ -245,7 +242,7 @@ fn answer<O: Write>(
 fn answer_of(
     alloc: Global,
     schema: &Schema,
-    lent: Option<&[NamedText<'_>]>,
+    lent: &[NamedText<'_>],
     allowance: Allowance,
     line: &[u8],
 ) -> Result<Writer, Fault>
@@ -257,11 +254,10 @@ fn answer_of(
     match Question::read(alloc, line, &mut scratch) {
         Ok(question) => {
             question.add_id(&mut json)?;
-            match lent {
-                None => answer_alone(alloc, schema, allowance, question.document, &mut json)?,
-                Some(lent) => {
-                    answer_beside(alloc, schema, lent, allowance, &question, &mut json)?
-                }
+            if allowance.lends {
+                answer_beside(alloc, schema, lent, allowance, &question, &mut json)?;
+            } else {
+                answer_alone(alloc, schema, allowance, question.document, &mut json)?;
             }
         }
         Err(QuestionError::OutOfMemory) => return Err(Fault::OutOfMemory),
