@@ -39,10 +39,18 @@ pub(crate) fn joined(alloc: Global, folder: &str, name: &str) -> Result<String, 
 
 /// Whether the path is that of the folder, or of something in it. Both are plain.
 pub(crate) fn is_within(path: &str, folder: &str) -> bool {
+    if folder == "." {
+        return is_below_working_folder(path);
+    }
     match path.strip_prefix(folder) {
         Some(rest) => rest.is_empty() || rest.starts_with('/') || folder == "/",
-        None => folder == ".",
+        None => false,
     }
+}
+
+/// Whether a plain path leads to the folder in which the program runs, or to something in it.
+fn is_below_working_folder(path: &str) -> bool {
+    !path.starts_with('/') && path != ".." && !path.starts_with("../")
 }
 
 /// The characters that give a word of the command line a meaning as a pattern.

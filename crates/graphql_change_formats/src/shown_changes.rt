@@ -1,5 +1,10 @@
 //! Changes as they are shown, and the texts that they are about.
 
+ghost use Rattle.std.specs.Prelude.{◌≡◌, Some, count_by};
+ghost use Rattle.std.specs.Option.{option_map};
+ghost use Rattle.graphql_report_formats.specs.NamedTexts.{part, path_of};
+ghost use Rattle.graphql_change_formats.specs.ShownChanges.{is_breaking, is_dangerous, is_other, level_name, reason_name, shown_place};
+
 use graphql_nodes::SourceSpan;
 use graphql_report_formats::named_texts::{CountedSubject, Located};
 use graphql_schema_comparison::{BreakingReason, Level, SchemaChange};
@@ -23,7 +28,9 @@ pub struct ComparedTexts<'a> {
 
 impl<'a> ComparedTexts<'a> {
     /// Where a change is shown: in the new schema, or if it has no place there, in the old one.
-    pub fn place_of(&self, change: &SchemaChange) -> Option<Located<'a>> {
+    pub fn place_of(&self, change: &SchemaChange) -> Option<Located<'a>>
+        ensures { option_map part result ≡ shown_place self.now change.now }
+    {
         match self.new.locate(change.new) {
             Some(located) => Some(located),
             None => self.old.locate(change.old),
@@ -49,7 +56,9 @@ fn earlier(change: &SchemaChange) -> Option<SourceSpan> {
 impl ShownChange<'_> {
     /// What the output calls the level. A change that is neither breaking nor dangerous is another one: only a whole comparison
     /// says that documents stay valid.
-    pub fn level_name(&self) -> &'static str {
+    pub fn level_name(&self) -> &'static str
+        ensures { result.now ≡ level_name self.now.level }
+    {
         match self.level {
             Level::Breaking(_) => "breaking",
             Level::Dangerous => "dangerous",
@@ -58,7 +67,9 @@ impl ShownChange<'_> {
     }
 
     /// What a breaking change breaks.
-    pub fn reason_name(&self) -> Option<&'static str> {
+    pub fn reason_name(&self) -> Option<&'static str>
+        ensures { path_of result ≡ reason_name self.now.level }
+    {
         match self.level {
             Level::Breaking(reason) => Some(name_of_reason(reason)),
             Level::Dangerous | Level::Safe => None,
@@ -66,7 +77,9 @@ impl ShownChange<'_> {
     }
 }
 
-fn name_of_reason(reason: BreakingReason) -> &'static str {
+fn name_of_reason(reason: BreakingReason) -> &'static str
+    ensures { Some result.now ≡ reason_name (Level.Breaking reason) }
+{
     match reason {
         BreakingReason::Documents => "documents",
         BreakingReason::Merging => "merging",
@@ -84,43 +97,41 @@ pub struct ChangeTally {
 
 impl ChangeTally {
     /// Counts the changes.
-    pub fn of(changes: &[ShownChange<'_>]) -> ChangeTally {
-        let mut tally = ChangeTally {
-            breaking: 0,
-            dangerous: 0,
-            other: 0,
-        };
-        for shown in changes {
-            tally = tally.with(shown.level);
+    pub fn of(changes: &[ShownChange<'_>]) -> ChangeTally
+        ensures breaking { result.breaking ≡ count_by (λ shown. is_breaking shown.level) changes.now }
+        ensures dangerous { result.dangerous ≡ count_by (λ shown. is_dangerous shown.level) changes.now }
+        ensures other { result.other ≡ count_by (λ shown. is_other shown.level) changes.now }
+    {
+        ChangeTally {
+            breaking: changes
+                .iter()
+                .filter(|shown| is_breaking(shown.level))
+                .count(),
+            dangerous: changes
+                .iter()
+                .filter(|shown| is_dangerous(shown.level))
+                .count(),
+            other: changes.iter().filter(|shown| is_other(shown.level)).count(),
         }
-        tally
     }
+}
 
-    /// One more change.
-    fn with(self, level: Level) -> ChangeTally {
-        let ChangeTally {
-            breaking,
-            dangerous,
-            other,
-        } = self;
-        match level {
-            Level::Breaking(_) => ChangeTally {
-                breaking: breaking.saturating_add(1),
-                dangerous,
-                other,
-            },
-            Level::Dangerous => ChangeTally {
-                breaking,
-                dangerous: dangerous.saturating_add(1),
-                other,
-            },
-            Level::Safe => ChangeTally {
-                breaking,
-                dangerous,
-                other: other.saturating_add(1),
-            },
-        }
-    }
+fn is_breaking(level: Level) -> bool
+    ensures { result ≡ is_breaking level }
+{
+    matches!(level, Level::Breaking(_))
+}
+
+fn is_dangerous(level: Level) -> bool
+    ensures { result ≡ is_dangerous level }
+{
+    matches!(level, Level::Dangerous)
+}
+
+fn is_other(level: Level) -> bool
+    ensures { result ≡ is_other level }
+{
+    matches!(level, Level::Safe)
 }
 
 impl fmt::Display for ChangeTally {

@@ -1,1 +1,9 @@
-mod CheckLemmas
+mod BuildingLemmas
+mod FileLemmas
+mod OperationLemmas
+mod PartLemmas
+mod ProjectLemmas
+mod ReachingLemmas
+mod SilenceLemmas
+mod TextLemmas
+mod UseLemmas

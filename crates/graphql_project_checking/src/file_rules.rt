@@ -1,5 +1,11 @@
 //! The rules that are asked of the definitions of a file together.
 
+ghost use Rattle.std.specs.Prelude.{◌≡◌, ◌≢◌, [], IsOk, OnOk};
+ghost use Rattle.graphql_diagnostics.specs.Diagnostics.{entries};
+ghost use Rattle.graphql_input_rules.specs.InputFields.{InputFieldsAreUnique};
+ghost use Rattle.graphql_project_checking.specs.Silence.{SilentOnlyIf};
+ghost use Rattle.graphql_specification.specs.Defer.{LabelsHold};
+
 use graphql_diagnostics::DiagnosticList;
 use graphql_documents::documents::ExecutableDocument;
 use graphql_frontend::first_reports::report_bound;
@@ -17,7 +23,9 @@ pub(crate) fn check_file_rules(
     document: &ExecutableDocument,
     bounds: Bounds,
     found: &mut Vec<Reports>,
-) -> Result<(), ValidationError> {
+) -> Result<(), ValidationError>
+    ensures { OnOk result (SilentOnlyIf found.old.items found.new.items (LabelsHold document.now × InputFieldsAreUnique document.now)) }
+{
     check_labels(alloc, document, bounds, found)?;
     check_values(alloc, document, bounds, found)
 }
@@ -27,7 +35,9 @@ fn check_labels(
     document: &ExecutableDocument,
     bounds: Bounds,
     found: &mut Vec<Reports>,
-) -> Result<(), ValidationError> {
+) -> Result<(), ValidationError>
+    ensures { OnOk result (SilentOnlyIf found.old.items found.new.items (LabelsHold document.now)) }
+{
     let mut rules = DiagnosticList::with_bound(alloc, document.hash_seed(), report_bound(bounds));
     let checked = validate_defer(document, &mut rules);
     add_rules(alloc, rules, checked, bounds, found)
@@ -40,33 +50,48 @@ pub(crate) fn add_rules(
     checked: Result<(), ValidationError>,
     bounds: Bounds,
     found: &mut Vec<Reports>,
-) -> Result<(), ValidationError> {
+) -> Result<(), ValidationError>
+    ensures { OnOk result (SilentOnlyIf found.old.items found.new.items (IsOk checked × (entries rules ≡ []))) }
+{
     match checked {
         Ok(()) => add_all_rules(alloc, rules, found),
-        Err(error) => {
-            if !is_full(&rules, bounds) {
-                return Err(error);
-            }
-            found.push(Reports::FirstDocumentRules(rules))?;
-            Ok(())
-        }
+        Err(error) => add_first_rules(rules, error, bounds, found),
     }
+}
+
+/// Adds the first reports, if a check ended with this error because the list keeps no more.
+fn add_first_rules(
+    rules: DiagnosticList,
+    error: ValidationError,
+    bounds: Bounds,
+    found: &mut Vec<Reports>,
+) -> Result<(), ValidationError>
+    ensures { OnOk result (found.new.items ≢ []) }
+{
+    if !is_full(&rules, bounds) {
+        return Err(error);
+    }
+    found.push(Reports::FirstDocumentRules(rules))?;
+    Ok(())
 }
 
 fn add_all_rules(
     alloc: Global,
     rules: DiagnosticList,
     found: &mut Vec<Reports>,
-) -> Result<(), ValidationError> {
-    if !rules.is_empty() {
-        found.push(Reports::DocumentRules(DocumentReports {
-            rules,
-            undefined_variables: Vec::new(alloc),
-            input_fields: Vec::new(alloc),
-            usages: Vec::new(alloc),
-            has_more: false,
-        }))?;
+) -> Result<(), ValidationError>
+    ensures { OnOk result (SilentOnlyIf found.old.items found.new.items (entries rules ≡ [])) }
+{
+    if rules.is_empty() {
+        return Ok(());
     }
+    found.push(Reports::DocumentRules(DocumentReports {
+        rules,
+        undefined_variables: Vec::new(alloc),
+        input_fields: Vec::new(alloc),
+        usages: Vec::new(alloc),
+        has_more: false,
+    }))?;
     Ok(())
 }
 
@@ -80,16 +105,30 @@ fn check_values(
     document: &ExecutableDocument,
     bounds: Bounds,
     found: &mut Vec<Reports>,
-) -> Result<(), ValidationError> {
+) -> Result<(), ValidationError>
+    ensures { OnOk result (SilentOnlyIf found.old.items found.new.items (InputFieldsAreUnique document.now)) }
+{
     let mut list = ReportList::with_bound(alloc, report_bound(bounds));
-    let checked = check_input_fields(&mut list, document);
-    let has_more = list.has_more();
-    if let Err(error) = checked {
-        if !has_more || list.is_empty() {
-            return Err(error);
-        }
+    match check_input_fields(&mut list, document) {
+        Ok(()) => add_values(alloc, document, list.into_reports(), false, found),
+        Err(error) => add_first_values(alloc, document, list, error, found),
     }
-    add_values(alloc, document, list.into_reports(), has_more, found)
+}
+
+/// Adds the first repetitions, if a check ended with this error because the list keeps no more.
+fn add_first_values(
+    alloc: Global,
+    document: &ExecutableDocument,
+    list: ReportList<InputFieldRepetition>,
+    error: ValidationError,
+    found: &mut Vec<Reports>,
+) -> Result<(), ValidationError>
+    ensures { OnOk result (found.new.items ≢ []) }
+{
+    if list.is_empty() || !list.has_more() {
+        return Err(error);
+    }
+    add_values(alloc, document, list.into_reports(), true, found)
 }
 
 fn add_values(
@@ -98,15 +137,18 @@ fn add_values(
     input_fields: Vec<InputFieldRepetition>,
     has_more: bool,
     found: &mut Vec<Reports>,
-) -> Result<(), ValidationError> {
-    if !input_fields.is_empty() {
-        found.push(Reports::DocumentRules(DocumentReports {
-            rules: DiagnosticList::with_hash_seed(alloc, document.hash_seed()),
-            undefined_variables: Vec::new(alloc),
-            input_fields,
-            usages: Vec::new(alloc),
-            has_more,
-        }))?;
+) -> Result<(), ValidationError>
+    ensures { OnOk result (SilentOnlyIf found.old.items found.new.items (input_fields.items ≡ [])) }
+{
+    if input_fields.is_empty() {
+        return Ok(());
     }
+    found.push(Reports::DocumentRules(DocumentReports {
+        rules: DiagnosticList::with_hash_seed(alloc, document.hash_seed()),
+        undefined_variables: Vec::new(alloc),
+        input_fields,
+        usages: Vec::new(alloc),
+        has_more,
+    }))?;
     Ok(())
 }

@@ -1,5 +1,9 @@
 //! The document of one operation, and what is reported of it.
 
+ghost use Rattle.std.specs.Prelude.{OnOk};
+ghost use Rattle.graphql_project_checking.specs.Silence.{HoldsWith, SilentOnlyIf};
+ghost use Rattle.graphql_variables.specs.Uses.{names_of};
+
 use crate::contexts::Context;
 use graphql_documents::documents::{ExecutableDocument, Operation};
 use graphql_frontend::{Reports, ValidationError, validate_built};
@@ -19,20 +23,25 @@ pub(crate) fn check_operation(
     operation: &Node<Operation>,
     names: &IndexSet<&Name, HashSeed>,
     found: &mut Vec<Reports>,
-) -> Result<(), ValidationError> {
+) -> Result<(), ValidationError>
+    ensures { OnOk result (SilentOnlyIf found.old.items found.new.items
+        (HoldsWith context.entry.schema.now context.entry.pool.now operation.now (names_of names.now.keys))) }
+{
     let document = document_of(alloc, context.pool, operation, names)?;
     let bytes = bytes_of(operation, &document);
-    let judged = validate_built(
+    match validate_built(
         alloc,
         Some(context.schema),
         &document,
         context.bounds,
         bytes,
-    )?;
-    if let Some(reports) = judged {
-        found.push(reports)?;
+    )? {
+        None => Ok(()),
+        Some(reports) => {
+            found.push(reports)?;
+            Ok(())
+        }
     }
-    Ok(())
 }
 
 /// How many bytes the operation and the fragments of its document have.

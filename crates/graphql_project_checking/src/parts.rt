@@ -1,5 +1,8 @@
 //! Documents with some of the definitions of others.
 
+ghost use Rattle.std.specs.Prelude.{◌≡◌, ◌++◌, IfOk, OnOk, filter, reverse};
+ghost use Rattle.graphql_project_checking.specs.Silence.{HasFragmentsOf, is_fragment, others_in};
+
 use graphql_building_reports::BuildingReportList;
 use graphql_document_checking::check_definitions;
 use graphql_documents::documents::Schema;
@@ -9,33 +12,53 @@ use sqlite_items::Items;
 use std::alloc::Global;
 use std::slice;
 
-/// The document with the fragments of this one alone.
-pub(crate) fn fragments_alone(
-    alloc: Global,
-    document: Document,
-) -> Result<Document, ValidationError> {
-    let Document { definitions, span } = document;
-    let kept = fragments_from_end(alloc, definitions)?;
-    let definitions = turned(alloc, kept)?;
-    Ok(Document { definitions, span })
+/// A document with the fragments of another alone, and the other definitions of that.
+#[derive(Drop)]
+pub(crate) struct Split {
+    pub fragments: Document,
+    pub others: Items<Definition>,
 }
 
-/// The fragments among the definitions, the last one first.
-fn fragments_from_end(
-    alloc: Global,
+/// The fragments of a document, and its other definitions, each in order.
+pub(crate) fn parts_of(alloc: Global, document: Document) -> Result<Split, ValidationError>
+    ensures fragments { IfOk result (λ split. HasFragmentsOf document split.fragments) }
+    ensures others { IfOk result (λ split. split.others ≡ others_in document.definitions) }
+{
+    let Document { definitions, span } = document;
+    let mut fragments = Items::new(alloc);
+    let mut others = Items::new(alloc);
+    move_from_end(definitions, &mut fragments, &mut others)?;
+    let definitions = turned(alloc, fragments)?;
+    let others = turned(alloc, others)?;
+    Ok(Split {
+        fragments: Document { definitions, span },
+        others,
+    })
+}
+
+/// Moves the definitions behind the fragments or behind the others, the last one first.
+fn move_from_end(
     mut definitions: Items<Definition>,
-) -> Result<Items<Definition>, ValidationError> {
-    let mut kept = Items::new(alloc);
+    fragments: &mut Items<Definition>,
+    others: &mut Items<Definition>,
+) -> Result<(), ValidationError>
+    ensures fragments { OnOk result (fragments.new ≡ fragments.old ++ reverse (filter is_fragment definitions)) }
+    ensures others { OnOk result (others.new ≡ others.old ++ reverse (others_in definitions)) }
+{
     while let Some(definition) = definitions.pop() {
         if is_fragment(&definition) {
-            kept.push(definition)?;
+            fragments.push(definition)?;
+            continue;
         }
+        others.push(definition)?;
     }
-    Ok(kept)
+    Ok(())
 }
 
 /// Whether the definition is one of a fragment.
-fn is_fragment(definition: &Definition) -> bool {
+fn is_fragment(definition: &Definition) -> bool
+    ensures { result ≡ is_fragment definition.now }
+{
     matches!(definition, Definition::Fragment(_))
 }
 
@@ -43,7 +66,9 @@ fn is_fragment(definition: &Definition) -> bool {
 fn turned(
     alloc: Global,
     mut definitions: Items<Definition>,
-) -> Result<Items<Definition>, ValidationError> {
+) -> Result<Items<Definition>, ValidationError>
+    ensures { IfOk result (λ turned. turned ≡ reverse definitions) }
+{
     let mut turned = Items::new(alloc);
     while let Some(definition) = definitions.pop() {
         turned.push(definition)?;

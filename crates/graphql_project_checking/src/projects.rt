@@ -1,8 +1,11 @@
 //! What is reported of a project.
 
+ghost use Rattle.std.specs.Prelude.{◌≡◌, ◌↔◌, [], IfOk, IsTrue, OnOk};
 ghost use Rattle.graphql_frontend.specs.Schemas.{IsUsable};
+ghost use Rattle.graphql_project_checking.specs.Silence.{SilentOnlyIf};
+ghost use Rattle.graphql_projects.specs.Projects.{ProjectHolds};
 
-use crate::building::{Building, check_files, check_fragment_names, check_lent_files};
+use crate::building::{Building, build_files, build_lent_files, check_fragment_names};
 use crate::rest::check_rest;
 use crate::texts::read_texts;
 use crate::whole::check_whole;
@@ -24,14 +27,15 @@ use std::alloc::Global;
 /// reason is not validated, and no fragment is reported as unused.
 ///
 /// Specification: 2.2 Document, 5 Validation.
-pub fn check_project<'x>(
+pub fn check_project(
     alloc: Global,
     schema: &Schema,
-    sources: &[SourceText<'x>],
-    lent: &[SourceText<'x>],
+    sources: &[SourceText<'_>],
+    lent: &[SourceText<'_>],
     bounds: Bounds,
 ) -> Result<Vec<Reports>, ValidationError>
     requires { IsUsable schema.now }
+    ensures silence { IfOk result (λ found. found.items ≡ [] → ProjectHolds bounds schema.now sources.now lent.now) }
 {
     let mut found = Vec::new(alloc);
     check_texts(alloc, schema, sources, lent, bounds, true, &mut found)?;
@@ -42,11 +46,11 @@ pub fn check_project<'x>(
 /// missing: an operation that spreads a fragment which is not in these files is not validated, and no fragment is reported as unused.
 ///
 /// Specification: 2.2 Document, 5 Validation.
-pub fn check_part_of_project<'x>(
+pub fn check_part_of_project(
     alloc: Global,
     schema: &Schema,
-    sources: &[SourceText<'x>],
-    lent: &[SourceText<'x>],
+    sources: &[SourceText<'_>],
+    lent: &[SourceText<'_>],
     bounds: Bounds,
 ) -> Result<Vec<Reports>, ValidationError>
     requires { IsUsable schema.now }
@@ -56,16 +60,17 @@ pub fn check_part_of_project<'x>(
     Ok(found)
 }
 
-fn check_texts<'x>(
+fn check_texts(
     alloc: Global,
     schema: &Schema,
-    sources: &[SourceText<'x>],
-    lent: &[SourceText<'x>],
+    sources: &[SourceText<'_>],
+    lent: &[SourceText<'_>],
     bounds: Bounds,
     is_all: bool,
     found: &mut Vec<Reports>,
 ) -> Result<(), ValidationError>
     requires { IsUsable schema.now }
+    ensures { IsTrue is_all → OnOk result (SilentOnlyIf found.old.items found.new.items (ProjectHolds bounds schema.now sources.now lent.now)) }
 {
     let building = Building {
         schema,
@@ -74,22 +79,29 @@ fn check_texts<'x>(
     };
     let own = read_texts(alloc, sources, bounds, found)?;
     let lent = read_texts(alloc, lent, bounds, found)?;
-    let is_all_read = is_all && found.is_empty();
+    let is_all_read = is_silent(is_all, found.as_slice());
     check_fragment_names(alloc, building, &own, &lent, found)?;
-    check_files(alloc, building, &own, found)?;
-    let lent = check_lent_files(alloc, building, lent, found)?;
-    if is_all_read && found.is_empty() {
-        check_whole(alloc, building, &own, &lent, found)
+    let files = build_files(alloc, building, &own, found)?;
+    let built = build_lent_files(alloc, building, lent, found)?;
+    if is_silent(is_all_read, found.as_slice()) {
+        check_whole(alloc, building, &own, files, &built.files, found)
     } else {
-        check_rest(alloc, building, own, lent, !is_all_read, found)
+        check_rest(alloc, building, own, built.documents, !is_all_read, found)
     }
 }
 
+/// Whether this is so, and nothing was found.
+fn is_silent(is_so: bool, found: &[Reports]) -> bool
+    ensures { IsTrue result ↔ (IsTrue is_so × (found.now ≡ [])) }
+{
+    is_so && found.is_empty()
+}
+
 /// The seed that is drawn from all texts.
-fn seed_of_all<'x>(
+fn seed_of_all<'a>(
     alloc: Global,
-    sources: &[SourceText<'x>],
-    lent: &[SourceText<'x>],
+    sources: &[SourceText<'a>],
+    lent: &[SourceText<'a>],
 ) -> Result<HashSeed, ValidationError> {
     let mut all = Vec::from_slice(alloc, sources)?;
     all.extend_from_slice(lent)?;

@@ -1,5 +1,7 @@
 //! Files of which some have definitions that cannot be built, or are no documents.
 
+ghost use Rattle.std.specs.Prelude.{◌≡◌, [], OnOk};
+
 use crate::building::Building;
 use crate::contexts::Context;
 use crate::parts::{leave_out, those_that_build};
@@ -35,7 +37,9 @@ pub(crate) fn check_rest(
     lent: Vec<Document>,
     may_be_others: bool,
     found: &mut Vec<Reports>,
-) -> Result<(), ValidationError> {
+) -> Result<(), ValidationError>
+    ensures { OnOk result (found.new.items ≡ [] → found.old.items ≡ []) }
+{
     let mut left_out = Vec::new(alloc);
     let files = build_parts(alloc, building, own, &mut left_out)?;
     let lenders = build_parts(alloc, building, lent, &mut left_out)?;
@@ -110,11 +114,14 @@ fn add_known(
     all: Vec<Reports>,
     unknown: &Unknown,
     found: &mut Vec<Reports>,
-) -> Result<(), ValidationError> {
+) -> Result<(), ValidationError>
+    ensures { OnOk result (found.new.items ≡ [] → found.old.items ≡ []) }
+{
     for reports in all {
-        if !may_follow(&reports, unknown) {
-            found.push(reports)?;
+        if may_follow(&reports, unknown) {
+            continue;
         }
+        found.push(reports)?;
     }
     Ok(())
 }

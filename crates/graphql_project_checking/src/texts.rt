@@ -1,7 +1,12 @@
 //! Texts, and the documents that they are.
 
-use graphql_frontend::texts::{Parsed, parse_texts};
-use graphql_frontend::{Bounds, Reports, SourceText, ValidationError};
+ghost use Rattle.std.specs.Prelude.{◌≡◌, IfOk, IsTrue, OnOk, []};
+ghost use Rattle.graphql_projects.specs.Projects.{ReadFiles};
+ghost use Rattle.graphql_project_checking.specs.Silence.{AddsIfToken, LeavesOutEmpty, SilentOnlyIf};
+ghost use Rattle.graphql_tokens.specs.Lexical.{AreTokens};
+
+use graphql_frontend::texts::parse_texts;
+use graphql_frontend::{Bounds, Reports, SourceText, SyntaxReport, ValidationError};
 use graphql_tokens::{Stop, measure};
 use graphql_trees::Document;
 use std::alloc::Global;
@@ -15,30 +20,57 @@ pub(crate) fn read_texts(
     sources: &[SourceText<'_>],
     bounds: Bounds,
     found: &mut Vec<Reports>,
-) -> Result<Vec<Document>, ValidationError> {
+) -> Result<Vec<Document>, ValidationError>
+    ensures { IfOk result (λ documents. SilentOnlyIf found.old.items found.new.items (ReadFiles bounds sources.now documents.items)) }
+{
     let sources = with_tokens(alloc, sources)?;
-    let Parsed { documents, errors } = parse_texts(alloc, &sources, bounds)?;
-    if !errors.is_empty() {
-        found.push(Reports::Syntax(errors))?;
+    let parsed = parse_texts(alloc, &sources, bounds)?;
+    add_errors(parsed.errors, found)?;
+    Ok(parsed.documents)
+}
+
+/// Adds the errors of texts, if there are any.
+fn add_errors(errors: Vec<SyntaxReport>, found: &mut Vec<Reports>) -> Result<(), ValidationError>
+    ensures { OnOk result (SilentOnlyIf found.old.items found.new.items (errors.items ≡ [])) }
+{
+    if errors.is_empty() {
+        return Ok(());
     }
-    Ok(documents)
+    found.push(Reports::Syntax(errors))?;
+    Ok(())
 }
 
 /// The texts that have a token, in order.
 fn with_tokens<'a>(
     alloc: Global,
     sources: &[SourceText<'a>],
-) -> Result<Vec<SourceText<'a>>, ValidationError> {
+) -> Result<Vec<SourceText<'a>>, ValidationError>
+    ensures { IfOk result (λ kept. LeavesOutEmpty sources.now kept.items) }
+{
     let mut kept = Vec::new(alloc);
     for source in sources {
-        if !has_no_token(source.text) {
-            kept.push(*source)?;
-        }
+        add_if_token(*source, &mut kept)?;
     }
     Ok(kept)
 }
 
+/// Adds the text, if it has a token.
+fn add_if_token<'a>(
+    source: SourceText<'a>,
+    kept: &mut Vec<SourceText<'a>>,
+) -> Result<(), ValidationError>
+    ensures { OnOk result (AddsIfToken source.entry kept.old.items kept.new.items) }
+{
+    if has_no_token(source.text) {
+        return Ok(());
+    }
+    kept.push(source)?;
+    Ok(())
+}
+
 /// Whether the text has no token.
-fn has_no_token(text: &str) -> bool {
+fn has_no_token(text: &str) -> bool
+    ensures { IsTrue result → AreTokens text.now [] }
+{
     matches!(measure(text, 0).stop, Stop::End)
 }

@@ -1,5 +1,12 @@
 //! Whether fragments of files are used.
 
+ghost use Rattle.std.specs.Prelude.{◌∷◌, [], All, OnOk};
+ghost use Rattle.graphql_diagnostics.specs.Diagnostics.{entries};
+ghost use Rattle.graphql_document_building.specs.Trees.{fragments_in};
+ghost use Rattle.graphql_project_checking.specs.Silence.{NotesNames, ReportsUnused, SilentOnlyIf};
+ghost use Rattle.graphql_projects.specs.OperationTrees.{fragments_among};
+ghost use Rattle.graphql_variables.specs.Uses.{IsNamedIn, names_of};
+
 use crate::building::Building;
 use crate::file_rules::add_rules;
 use graphql_diagnostics::{Details, DiagnosticData, DiagnosticList};
@@ -20,7 +27,9 @@ pub(crate) fn note_uses<'a>(
     pool: &'a ExecutableDocument,
     names: &IndexSet<&Name, HashSeed>,
     used: &mut Used<'a>,
-) -> Result<(), ValidationError> {
+) -> Result<(), ValidationError>
+    ensures { OnOk result (NotesNames pool.now (names_of names.now.keys) (names_of used.old.keys) (names_of used.new.keys)) }
+{
     for name in names {
         note_use(pool, *name, used)?;
     }
@@ -31,11 +40,16 @@ fn note_use<'a>(
     pool: &'a ExecutableDocument,
     name: &Name,
     used: &mut Used<'a>,
-) -> Result<(), ValidationError> {
-    if let Some(fragment) = pool.fragments.get(name) {
-        used.insert(&fragment.value.name)?;
+) -> Result<(), ValidationError>
+    ensures { OnOk result (NotesNames pool.now (name.now ∷ []) (names_of used.old.keys) (names_of used.new.keys)) }
+{
+    match pool.fragments.get(name) {
+        Some(fragment) => {
+            used.insert(&fragment.value.name)?;
+            Ok(())
+        }
+        None => Ok(()),
     }
-    Ok(())
 }
 
 /// Reports each fragment of these documents that no operation reaches, at the fragment.
@@ -47,7 +61,10 @@ pub(crate) fn check_uses(
     documents: &[Document],
     used: &Used<'_>,
     found: &mut Vec<Reports>,
-) -> Result<(), ValidationError> {
+) -> Result<(), ValidationError>
+    ensures { OnOk result (SilentOnlyIf found.old.items found.new.items
+        (All (λ p. IsNamedIn (names_of used.now.keys) p.0) (fragments_among documents.now))) }
+{
     for document in documents {
         check_uses_in(alloc, building, document, used, found)?;
     }
@@ -60,7 +77,10 @@ fn check_uses_in(
     document: &Document,
     used: &Used<'_>,
     found: &mut Vec<Reports>,
-) -> Result<(), ValidationError> {
+) -> Result<(), ValidationError>
+    ensures { OnOk result (SilentOnlyIf found.old.items found.new.items
+        (All (λ p. IsNamedIn (names_of used.now.keys) p.0) (fragments_in document.now.definitions))) }
+{
     let bound = report_bound(building.bounds);
     let mut rules = DiagnosticList::with_bound(alloc, building.hash_seed, bound);
     let checked = report_unused(document.definitions.as_slice(), used, &mut rules);
@@ -71,7 +91,9 @@ fn report_unused(
     definitions: &[Definition],
     used: &Used<'_>,
     rules: &mut DiagnosticList,
-) -> Result<(), ValidationError> {
+) -> Result<(), ValidationError>
+    ensures { OnOk result (ReportsUnused (names_of used.now.keys) (fragments_in definitions.now) (entries rules.old) (entries rules.new)) }
+{
     for definition in definitions {
         let Definition::Fragment(fragment) = definition else {
             continue;
@@ -85,7 +107,9 @@ fn check_use(
     fragment: &FragmentDefinition,
     used: &Used<'_>,
     rules: &mut DiagnosticList,
-) -> Result<(), ValidationError> {
+) -> Result<(), ValidationError>
+    ensures { OnOk result (ReportsUnused (names_of used.now.keys) ((fragment.now.name, fragment.now) ∷ []) (entries rules.old) (entries rules.new)) }
+{
     if used.contains(&&fragment.name) {
         return Ok(());
     }
