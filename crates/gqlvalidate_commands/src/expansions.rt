@@ -129,19 +129,27 @@ fn with_further<'a>(
 ) -> Result<Vec<&'a str>, AllocError> {
     let mut all = Vec::from_slice(alloc, words)?;
     match ends {
-        Some(PathEnds::Null) => add_words(text.split('\0'), &mut all)?,
-        _ => add_words(text.lines(), &mut all)?,
+        Some(PathEnds::Null) => add_ended(text, &mut all)?,
+        _ => add_lines(text, &mut all)?,
     }
     Ok(all)
 }
 
-fn add_words<'a, W: Iterator<Item = &'a str>>(
-    words: W,
-    all: &mut Vec<&'a str>,
-) -> Result<(), AllocError> {
-    for word in words {
-        if !word.is_empty() {
-            all.push(word)?;
+/// Adds the lines of the text that are not empty.
+fn add_lines<'a>(text: &'a str, all: &mut Vec<&'a str>) -> Result<(), AllocError> {
+    for line in text.lines() {
+        if !line.is_empty() {
+            all.push(line)?;
+        }
+    }
+    Ok(())
+}
+
+/// Adds the parts of the text that end with null bytes and are not empty.
+fn add_ended<'a>(text: &'a str, all: &mut Vec<&'a str>) -> Result<(), AllocError> {
+    for path in text.split('\0') {
+        if !path.is_empty() {
+            all.push(path)?;
         }
     }
     Ok(())

@@ -76,7 +76,7 @@ fn explain<F: Write>(error: &IntrospectionError, path: &str, answer: &str, fault
     let _ = match error {
         IntrospectionError::OutOfMemory => Ok(()),
         IntrospectionError::InvalidJson { byte } => {
-            let place = Place::of_byte(answer, *byte);
+            let place = Place::of_byte(answer, (*byte).min(answer.len()));
             let line = place.line;
             let column = place.column;
             writeln!(
