@@ -1,7 +1,8 @@
 /* Loaded before a program by LD_PRELOAD, this refuses each of its requests for memory, or each of its writes to standard
    output. At each the process forks: the child is refused there, and has to end with the status ENDS, with SAYS on
    standard error; the parent goes on as if nothing had been, and says at its end how often it was so. Who asks for more
-   than is needed may do with less: the child may then also end with the status OR, with nothing on standard error.
+   than is needed may do with less: the child may then also end with the status OR, with OR_SAYS on standard error (nothing,
+   if there is no OR_SAYS).
    REFUSED is
    - "once": the child is refused memory there and nowhere else;
    - "onwards": the child is refused all memory from there on;
@@ -64,7 +65,8 @@ static void judge(pid_t child, int words) {
     stop("the child was stopped by a signal", WTERMSIG(status), said);
   status = WEXITSTATUS(status);
   int is_refusal = status == atoi(getenv("ENDS")) && strcmp(said, getenv("SAYS")) == 0;
-  int is_made_good = status == atoi(getenv("OR")) && length == 0;
+  const char *calm = getenv("OR_SAYS");
+  int is_made_good = status == atoi(getenv("OR")) && strcmp(said, calm ? calm : "") == 0;
   if (!is_refusal && !is_made_good)
     stop("the child ended in another way", status, said);
 }
