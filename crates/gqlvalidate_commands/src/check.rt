@@ -16,11 +16,10 @@ use crate::statuses::Status;
 use gqlvalidate_formats::named_texts::{NamedText, Subject};
 use gqlvalidate_formats::schema_texts::{schema_subject, sources_of};
 use graphql_documents::documents::Schema;
-use graphql_frontend::{Reports, SchemaReading, read_schema, validate_document};
+use graphql_frontend::{Reports, SchemaReading, abandon, read_schema, validate_document};
 use graphql_parser::Bounds;
 use std::alloc::Global;
 use std::io::{Read, Write};
-use std::mem;
 use std::rt::Files;
 
 /// The paths of a run, and what its documents may take.
@@ -92,8 +91,7 @@ fn check_against<R: Files + AllocGlobal, I: Read, O: Write, F: Write>(
                 output,
                 faults,
             );
-            // The process ends here, and its memory is freed at once, not part by part.
-            mem::forget(schema);
+            abandon(schema);
             status
         }
         SchemaReading::Rejected(reports) => {

@@ -8,10 +8,9 @@ use crate::schema_files::{FileKind, ReadFiles, named_schema, read_files};
 use crate::statuses::Status;
 use gqlvalidate_formats::named_texts::{NamedText, Subject};
 use gqlvalidate_formats::schema_texts::{schema_subject, sources_of};
-use graphql_frontend::{Reports, SchemaReading, read_schema};
+use graphql_frontend::{Reports, SchemaReading, abandon, read_schema};
 use std::alloc::{AllocError, Global};
 use std::io::{Read, Write};
-use std::mem;
 use std::rt::Files;
 
 /// Validates the schema of these files.
@@ -42,8 +41,7 @@ fn check_texts<O: Write, F: Write>(
     let sources = sources_of(alloc, named)?;
     match read_schema(alloc, &sources, OF_SCHEMA)? {
         SchemaReading::Accepted(schema) => {
-            // The process ends here, and its memory is freed at once, not part by part.
-            mem::forget(schema);
+            abandon(schema);
             accept(alloc, named, presentation, output, faults)
         }
         SchemaReading::Rejected(reports) => {

@@ -15,7 +15,9 @@ use gqlvalidate_formats::named_texts::{CountedSubject, NamedText, Subject};
 use gqlvalidate_formats::schema_texts::{schema_subject, sources_of};
 use gqlvalidate_formats::shown_reports;
 use graphql_documents::documents::Schema;
-use graphql_frontend::{Reports, SchemaReading, SourceText, read_schema, validate_document};
+use graphql_frontend::{
+    Reports, SchemaReading, SourceText, abandon, read_schema, validate_document,
+};
 use graphql_nodes::FileId;
 use graphql_parser::Bounds;
 use json::{Scratch, Writer};
@@ -55,7 +57,9 @@ pub fn serve<R: Files + AllocGlobal, I: Read, O: Write, F: Write>(
     let sources = sources_of(rt.alloc(), &named)?;
     match read_schema(rt.alloc(), &sources, OF_SCHEMA)? {
         SchemaReading::Accepted(schema) => {
-            answer_lines(rt.alloc(), &schema, allowance, input, output, faults)
+            let status = answer_lines(rt.alloc(), &schema, allowance, input, output, faults);
+            abandon(schema);
+            status
         }
         SchemaReading::Rejected(reports) => {
             let subject = schema_subject(&named, &sources);

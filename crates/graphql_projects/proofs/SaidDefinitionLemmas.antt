@@ -22,7 +22,7 @@ use Rattle.graphql_trees.specs.declared.executable.OperationDefinition.{Operatio
 use Rattle.graphql_document_building.specs.Documents.{DocumentSays, OperationSays, SaysUnderName}
 use Rattle.graphql_document_building.specs.Trees.{anonymous_operations_in, as_anonymous_operation, as_named_operation, as_operation, fragments_in, named_operations_in, operations_in}
 use Rattle.graphql_projects.specs.OperationTrees.{Pool, fragment_named}
-use Rattle.graphql_project_laws.proofs.SaidReachLemmas.{zip_first, zip_second}
+use Rattle.graphql_projects.proofs.SaidReachLemmas.{zip_first, zip_second}
 
 -- ==== entries under names
 

@@ -1,5 +1,5 @@
 use Rattle.std.proofs.Common.{arith}
-use Rattle.gqlvalidate_commands.proofs.syntax.error_of.Goals as goal
+use Rattle.graphql_frontend.proofs.texts.syntax_error_of.Goals as goal
 
 pub returns-else-is_out_of_memory-clause-refused : goal.returns-else-is_out_of_memory-clause-refused
 returns-else-is_out_of_memory-clause-refused c = λ e same tree is.

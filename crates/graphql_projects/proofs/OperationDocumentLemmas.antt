@@ -26,8 +26,8 @@ use Rattle.graphql_document_building.specs.Documents.{DocumentSays, FragmentSays
 use Rattle.graphql_document_building.specs.Trees.{anonymous_operations_in, fragments_in, named_operations_in}
 use Rattle.graphql_operation_laws.specs.Agreement.{AgreeFrom}
 use Rattle.graphql_projects.specs.OperationTrees.{IsTreeOf, ReachesFragment, SpreadsIn, fragment_named}
-use Rattle.graphql_project_laws.proofs.SaidDefinitionLemmas.{found_by_name, found_entry, missed, one_found}
-use Rattle.graphql_project_laws.proofs.SaidReachLemmas.{SaysIfAny, fragment_said, names_say, said_fragment, spread_is_in_tree, zip_second}
+use Rattle.graphql_projects.proofs.SaidDefinitionLemmas.{found_by_name, found_entry, missed, one_found}
+use Rattle.graphql_projects.proofs.SaidReachLemmas.{SaysIfAny, fragment_said, names_say, said_fragment, spread_is_in_tree, zip_second}
 
 -- ==== the definitions of the tree of one operation
 
