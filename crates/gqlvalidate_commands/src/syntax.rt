@@ -1,21 +1,15 @@
 //! Whether texts are GraphQL documents.
 
-ghost use Rattle.std.specs.Prelude.{◌≡◌, ◌↔◌, IsTrue, None, Some, Ok};
-ghost use Rattle.graphql_nodes.specs.declared.spans.FileId.{FileId};
-ghost use Rattle.graphql_parser.specs.Parses.{ParsesDocument};
-ghost use Rattle.graphql_trees.specs.declared.documents.Document.{Document};
-
-use crate::accounts::{Account, Extent, Whole};
 use crate::check::report_document;
-use crate::faults::Fault;
-use crate::presentations::Presentation;
-use crate::schema_files::named_text;
-use crate::sources::{shown_path, text_or_said};
-use crate::statuses::Status;
-use gqlvalidate_formats::named_texts::NamedText;
-use graphql_frontend::Reports;
-use graphql_frontend::texts::{SourceText, SyntaxReport};
-use graphql_parser::{Bounds, SyntaxError, parse_document};
+use gqlvalidate_runs::accounts::{Account, Extent, Whole};
+use gqlvalidate_runs::faults::Fault;
+use gqlvalidate_runs::named_texts::NamedText;
+use gqlvalidate_runs::presentations::Presentation;
+use gqlvalidate_runs::schema_files::named_text;
+use gqlvalidate_runs::sources::{shown_path, text_or_said};
+use gqlvalidate_runs::statuses::Status;
+use graphql_frontend::{Reports, SyntaxReport, syntax_error_of};
+use graphql_parser::Bounds;
 use std::alloc::Global;
 use std::io::{Read, Write};
 use std::rt::Files;
@@ -59,7 +53,7 @@ fn check_text<O: Write>(
     account: &mut Account<'_>,
     output: &mut O,
 ) -> Result<Status, Fault> {
-    match error_of(alloc, named.source)? {
+    match syntax_error_of(alloc, named.source, Bounds::DEFAULT)? {
         None => {
             account.accept(named.path)?;
             Ok(Status::Accepted)
@@ -73,30 +67,4 @@ fn check_text<O: Write>(
             Ok(Status::Reported)
         }
     }
-}
-
-/// The error of a text that is no document.
-fn error_of(alloc: Global, source: SourceText<'_>) -> Result<Option<SyntaxError>, Fault>
-    ensures accepted { result ≡ Ok None → (tree : Document) × ParsesDocument Bounds.DEFAULT source.entry.file_id source.entry.text.now tree }
-    ensures refused { (e : SyntaxError) → result ≡ Ok (Some e) →
-        (tree : Document) → ParsesDocument Bounds.DEFAULT source.entry.file_id source.entry.text.now tree → ⊥ }
-{
-    match parse_document(alloc, source.file_id, source.text, Bounds::DEFAULT) {
-        Ok(document) => {
-            drop(document);
-            Ok(None)
-        }
-        Err(error) => {
-            if is_out_of_memory(error) {
-                return Err(Fault::OutOfMemory);
-            }
-            Ok(Some(error))
-        }
-    }
-}
-
-fn is_out_of_memory(error: SyntaxError) -> bool
-    ensures { IsTrue result ↔ (error ≡ SyntaxError.OutOfMemory) }
-{
-    matches!(error, SyntaxError::OutOfMemory)
 }

@@ -3,10 +3,9 @@
 use crate::printable::printable_character;
 use crate::runs::{UNREADABLE, UNREADABLE_RULE};
 use crate::texts::Texts;
-use graphql_findings::{Finding, FindingHelp};
+use graphql_findings::{Finding, FindingHelp, ShownReport};
 use graphql_notes::Note;
 use graphql_report_formats::named_texts::{Located, shown_name};
-use graphql_shown_reports::ShownReport;
 use std::alloc::{AllocError, Global};
 use std::fmt;
 

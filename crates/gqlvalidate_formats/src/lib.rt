@@ -19,9 +19,8 @@ pub mod text;
 pub mod texts;
 mod xml;
 
-pub use graphql_findings::{Finding, findings_of};
+pub use graphql_findings::{Finding, Reports, ShownReport, SourceText, findings_of, shown_reports};
 pub use graphql_report_formats::{json_format, named_texts, schema_texts};
-pub use graphql_shown_reports::{ShownReport, shown_reports};
 pub use runs::Run;
 pub use sheets::Sheet;
 pub use styles::Style;

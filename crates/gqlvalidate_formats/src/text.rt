@@ -4,10 +4,9 @@ use crate::excerpts::{Line, shown_beginning, shown_end};
 use crate::printable::Printable;
 use crate::styles::Style;
 use crate::texts::Texts;
-use graphql_findings::{Finding, FindingHelp};
+use graphql_findings::{Finding, FindingHelp, ShownReport};
 use graphql_notes::Note;
 use graphql_report_formats::named_texts::{Located, shown_name};
-use graphql_shown_reports::ShownReport;
 use std::alloc::{AllocError, Global};
 use unicode_width::UnicodeWidthStr;
 

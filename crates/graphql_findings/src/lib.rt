@@ -8,4 +8,6 @@ mod order;
 mod singles;
 
 pub use findings::{Finding, Findings, findings_of};
+pub use graphql_frontend::{Reports, SourceText};
+pub use graphql_shown_reports::{ShownReport, shown_reports};
 pub use helps::FindingHelp;

@@ -14,7 +14,7 @@ use graphql_reach::ReachReport;
 use graphql_usage_rules::VariableMisuse;
 
 /// What is reported of texts, by the first stage that reports something.
-#[derive(Debug, Drop)]
+#[derive(Debug)]
 pub enum Reports {
     /// Texts that are no documents.
     Syntax(Vec<SyntaxReport>),
@@ -36,6 +36,22 @@ pub enum Reports {
     DocumentRules(DocumentReports),
     /// The first of these, if there are more than the bounds keep.
     FirstDocumentRules(DiagnosticList),
+}
+
+// Written out, so that only this crate proves it: a derived one is proved again in each crate that drops reports.
+impl Drop for Reports {
+    fn drop(self) {
+        match self {
+            Reports::Syntax(_) => {}
+            Reports::Building(_) | Reports::FirstBuilding(_) => {}
+            Reports::Nesting(_) => {}
+            Reports::Reach(_) => {}
+            Reports::Work(_) => {}
+            Reports::SchemaRules(_) => {}
+            Reports::FirstSchemaRules(_) | Reports::FirstDocumentRules(_) => {}
+            Reports::DocumentRules(_) => {}
+        }
+    }
 }
 
 /// What is reported of a schema that was built.

@@ -23,6 +23,7 @@ use graphql_schema_building::build_schema;
 use graphql_schema_checking::check_schema;
 use graphql_trees::Document;
 use std::alloc::Global;
+use std::mem;
 
 /// What texts come to as a schema.
 #[derive(Drop)]
@@ -124,4 +125,9 @@ fn reading_of(schema: Schema, reports: SchemaReports) -> SchemaReading
     } else {
         SchemaReading::LacksIntrospection
     }
+}
+
+/// Gives up a schema at the end of a process, which frees all memory at once: to free a schema part by part takes time.
+pub fn abandon(schema: Schema) {
+    mem::forget(schema)
 }

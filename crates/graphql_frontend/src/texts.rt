@@ -1,7 +1,9 @@
 //! Texts, and the documents that they are.
 
-ghost use Rattle.std.specs.Prelude.{◌≡◌, ◌↔◌, ◌++◌, ◌∷◌, [], IfOk, IsTrue, OnOk};
+ghost use Rattle.std.specs.Prelude.{◌≡◌, ◌↔◌, ◌++◌, ◌∷◌, [], IfOk, IsTrue, None, Ok, OnOk, Some};
 ghost use Rattle.graphql_frontend.specs.Texts.{ParsesOneMore, ParsesTexts};
+ghost use Rattle.graphql_parser.specs.Parses.{ParsesDocument};
+ghost use Rattle.graphql_trees.specs.declared.documents.Document as document_tree;
 
 use graphql_hash_seeds::HashSeed;
 use graphql_nodes::{FileId, ValidationError};
@@ -90,8 +92,34 @@ fn parse_text(
     }
 }
 
+/// The error of a text that is no document, and `None` for one that is. The only error of the call is a failed allocation.
+///
+/// Specification: 2.2 Document.
+pub fn syntax_error_of(
+    alloc: Global,
+    source: SourceText<'_>,
+    bounds: Bounds,
+) -> Result<Option<SyntaxError>, ValidationError>
+    ensures accepted { result ≡ Ok None → (tree : document_tree.Document) × ParsesDocument bounds source.entry.file_id source.entry.text.now tree }
+    ensures refused { (e : SyntaxError) → result ≡ Ok (Some e) →
+        (tree : document_tree.Document) → ParsesDocument bounds source.entry.file_id source.entry.text.now tree → ⊥ }
+{
+    match parse_document(alloc, source.file_id, source.text, bounds) {
+        Ok(document) => {
+            drop(document);
+            Ok(None)
+        }
+        Err(error) => {
+            if is_out_of_memory(error) {
+                return Err(ValidationError::OutOfMemory);
+            }
+            Ok(Some(error))
+        }
+    }
+}
+
 /// Whether the parser lacked memory.
-pub fn is_out_of_memory(error: SyntaxError) -> bool
+pub(crate) fn is_out_of_memory(error: SyntaxError) -> bool
     ensures { IsTrue result ↔ (error ≡ SyntaxError.OutOfMemory) }
 {
     matches!(error, SyntaxError::OutOfMemory)

@@ -197,8 +197,11 @@ fn names_are_hashed_by_a_seed_of_the_text(rt: HostRuntime) {
             file_id: FileId(1),
             text: *text,
         };
-        let found = validate_standalone_document(alloc, source, Bounds::DEFAULT);
-        match found.expect(&rt, "memory for reports") {
+        let found = validate_standalone_document(alloc, source, Bounds::DEFAULT).expect(
+            &rt,
+            "memory for reports",
+        );
+        match &found {
             Some(Reports::DocumentRules(reports)) => {
                 let seed = reports.rules.hash_seed();
                 let expected = HashSeed::of_text(text);

@@ -1,1 +1,2 @@
 mod PoolLemmas
+mod UseLemmas

@@ -4,6 +4,8 @@
 
 pub mod fragments;
 pub mod operations;
+pub mod uses;
 
 pub use fragments::{borrow_fragments, pool_of};
 pub use operations::document_of;
+pub use uses::{Used, note_uses};

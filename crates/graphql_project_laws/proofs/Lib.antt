@@ -1,5 +1,2 @@
 pub mod DocumentLemmas
 pub mod OneFileLemmas
-pub mod OperationDocumentLemmas
-pub mod SaidDefinitionLemmas
-pub mod SaidReachLemmas

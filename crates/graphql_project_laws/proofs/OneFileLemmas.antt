@@ -38,9 +38,9 @@ use Rattle.graphql_verdict_laws.proofs.EveryRuleLemmas.{one_schema_too}
 use Rattle.graphql_projects.specs.OperationTrees.{Pool, ReachesFragment, fragments_among}
 use Rattle.graphql_projects.specs.Projects.{FileHolds, OperationIsValid, ProjectHolds, ReadFiles, empty_file, next_file, no_file, operations_among}
 use Rattle.graphql_project_laws.proofs.DocumentLemmas.{holds_by_operations}
-use Rattle.graphql_project_laws.proofs.OperationDocumentLemmas.{document_of, document_says, entries_for, fragments_agree}
-use Rattle.graphql_project_laws.proofs.SaidDefinitionLemmas.{found_by_name, found_entry, operation_is_said, operation_says}
-use Rattle.graphql_project_laws.proofs.SaidReachLemmas.{names_say, tree_spread_is_reached, zip_first}
+use Rattle.graphql_projects.proofs.OperationDocumentLemmas.{document_of, document_says, entries_for, fragments_agree}
+use Rattle.graphql_projects.proofs.SaidDefinitionLemmas.{found_by_name, found_entry, operation_is_said, operation_says}
+use Rattle.graphql_projects.proofs.SaidReachLemmas.{names_say, tree_spread_is_reached, zip_first}
 
 -- ==== the trees of the files
 

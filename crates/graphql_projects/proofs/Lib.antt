@@ -1,0 +1,3 @@
+pub mod OperationDocumentLemmas
+pub mod SaidDefinitionLemmas
+pub mod SaidReachLemmas
