@@ -5,21 +5,27 @@ _gqlvalidate() {
   local limits="--max-depth --max-reach --max-work"
   COMPREPLY=()
   if [ "$COMP_CWORD" -eq 1 ]; then
-    mapfile -t COMPREPLY < <(compgen -W "check print-schema schema serve syntax explain help --help --version" -- "$word")
+    mapfile -t COMPREPLY < <(compgen -W "check diff print-schema schema serve syntax explain help --help --version" -- "$word")
     return
   fi
   case "$before" in
-    --format) mapfile -t COMPREPLY < <(compgen -W "text json github sarif junit checkstyle gitlab" -- "$word"); return ;;
+    --format)
+      local formats="text json github sarif junit checkstyle gitlab"
+      [ "$command" = diff ] && formats="text json github markdown"
+      mapfile -t COMPREPLY < <(compgen -W "$formats" -- "$word")
+      return ;;
+    --fail-on) mapfile -t COMPREPLY < <(compgen -W "breaking dangerous never" -- "$word"); return ;;
     --color) mapfile -t COMPREPLY < <(compgen -W "auto always never" -- "$word"); return ;;
     --max-*) return ;;
   esac
   local options="--help"
   case "$command" in
-    check) options="--schema --one-document $reporting $limits" ;;
+    check) options="--schema --fragments --only --each --one-document --files-from --null $reporting $limits" ;;
+    diff) options="--old-schema --new-schema --operations --lone-fields --fail-on --format --help" ;;
     schema | syntax) options="$reporting" ;;
-    serve) options="--schema --max-line --max-reports --help $limits" ;;
+    serve) options="--schema --fragments --max-line --max-reports --help $limits" ;;
     explain) options=$(gqlvalidate explain 2> /dev/null | cut -d' ' -f1) ;;
-    help) options="check print-schema schema serve syntax explain" ;;
+    help) options="check diff print-schema schema serve syntax explain" ;;
   esac
   case "$command:$word" in
     explain:* | help:* | *:-*) mapfile -t COMPREPLY < <(compgen -W "$options" -- "$word") ;;

@@ -1,8 +1,9 @@
 # Completion of gqlvalidate for fish: put this file into ~/.config/fish/completions.
 
-set -l commands check print-schema schema serve syntax explain help
+set -l commands check diff print-schema schema serve syntax explain help
 
 complete -c gqlvalidate -n "not __fish_seen_subcommand_from $commands" -f -a check -d 'Validate documents against a schema'
+complete -c gqlvalidate -n "not __fish_seen_subcommand_from $commands" -f -a diff -d 'Find what changes from one schema to another'
 complete -c gqlvalidate -n "not __fish_seen_subcommand_from $commands" -f -a print-schema -d 'Print the schema that an introspection answer describes'
 complete -c gqlvalidate -n "not __fish_seen_subcommand_from $commands" -f -a schema -d 'Validate a schema'
 complete -c gqlvalidate -n "not __fish_seen_subcommand_from $commands" -f -a serve -d 'Answer questions in lines of JSON'
@@ -12,6 +13,17 @@ complete -c gqlvalidate -n "not __fish_seen_subcommand_from $commands" -f -a hel
 complete -c gqlvalidate -l help -d 'Print help'
 complete -c gqlvalidate -n "not __fish_seen_subcommand_from $commands" -l version -d 'Print the version'
 complete -c gqlvalidate -n '__fish_seen_subcommand_from check schema syntax' -x -l format -a 'text json github sarif junit checkstyle gitlab' -d 'Format of the reports'
+complete -c gqlvalidate -n '__fish_seen_subcommand_from diff' -x -l format -a 'text json github markdown' -d 'Format of the changes'
+complete -c gqlvalidate -n '__fish_seen_subcommand_from diff' -x -l fail-on -a 'breaking dangerous never' -d 'Changes that end with status 1'
+complete -c gqlvalidate -n '__fish_seen_subcommand_from diff' -l lone-fields -d 'Consider only documents with lone fields'
+complete -c gqlvalidate -n '__fish_seen_subcommand_from diff' -r -l old-schema -d 'A further file of the old schema'
+complete -c gqlvalidate -n '__fish_seen_subcommand_from diff' -r -l new-schema -d 'A further file of the new schema'
+complete -c gqlvalidate -n '__fish_seen_subcommand_from diff' -r -l operations -d 'A document to validate against both'
+complete -c gqlvalidate -n '__fish_seen_subcommand_from check serve' -r -l fragments -d 'Files whose fragments are lent'
+complete -c gqlvalidate -n '__fish_seen_subcommand_from check' -l each -d 'Each file is a document for itself'
+complete -c gqlvalidate -n '__fish_seen_subcommand_from check' -r -l files-from -d 'A file with further paths'
+complete -c gqlvalidate -n '__fish_seen_subcommand_from check' -s 0 -l null -d 'These paths end with null bytes'
+complete -c gqlvalidate -n '__fish_seen_subcommand_from check' -r -l only -d 'Files whose reports are shown'
 complete -c gqlvalidate -n '__fish_seen_subcommand_from check schema syntax' -x -l color -a 'auto always never' -d 'When to colour text'
 complete -c gqlvalidate -n '__fish_seen_subcommand_from check schema syntax serve' -x -l max-reports -d 'Reports at most'
 complete -c gqlvalidate -n '__fish_seen_subcommand_from check serve' -r -l schema -d 'A file of the schema'

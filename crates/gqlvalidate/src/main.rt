@@ -1,8 +1,8 @@
 //! Validates GraphQL schemas and documents from files, and prints what is wrong with them.
 #![tactic(auto)]
 
+use gqlvalidate_commands::Terminal;
 use gqlvalidate_commands::command::run;
-use gqlvalidate_commands::terminals::Terminal;
 use std::env::VarError;
 use std::io::IsTerminal;
 use std::process::ExitCode;

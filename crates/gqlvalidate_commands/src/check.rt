@@ -4,17 +4,19 @@ ghost use Rattle.std.specs.Prelude.{◌≡◌, None, Some, Ok};
 ghost use Rattle.graphql_frontend.specs.Documents.{ValidatesDocument};
 ghost use Rattle.graphql_frontend.specs.Schemas.{IsUsable};
 
-use crate::accounts::{Account, Extent, Whole};
-use crate::bounds::OF_SCHEMA;
-use crate::faults::Fault;
 use crate::one_document::check_together;
-use crate::presentations::Presentation;
-use crate::schema_files::{FileKind, ReadFiles, named_schema, named_text, read_files};
-use crate::schemas::{end_unread, reject};
-use crate::sources::{shown_path, text_or_said};
-use crate::statuses::Status;
-use gqlvalidate_formats::named_texts::{NamedText, Subject};
-use gqlvalidate_formats::schema_texts::{schema_subject, sources_of};
+use crate::project_files::check_files;
+use gqlvalidate_runs::accounts::{Account, Extent, Whole};
+use gqlvalidate_runs::bounds::OF_SCHEMA;
+use gqlvalidate_runs::faults::Fault;
+use gqlvalidate_runs::named_texts::{NamedText, Subject};
+use gqlvalidate_runs::presentations::Presentation;
+use gqlvalidate_runs::schema_files::{FileKind, ReadFiles, named_schema, named_text, read_files};
+use gqlvalidate_runs::schema_reports::{end_unread, reject};
+use gqlvalidate_runs::schema_texts::{schema_subject, sources_of};
+use gqlvalidate_runs::sources::{shown_path, text_or_said};
+use gqlvalidate_runs::statuses::Status;
+use gqlvalidate_words::Grouping;
 use graphql_documents::documents::Schema;
 use graphql_frontend::{Reports, SchemaReading, abandon, read_schema, validate_document};
 use graphql_parser::Bounds;
@@ -27,8 +29,14 @@ use std::rt::Files;
 pub struct Paths<'a> {
     pub schema: &'a [&'a str],
     pub documents: &'a [&'a str],
-    /// The documents are one document together.
-    pub one_document: bool,
+    /// The files whose fragments are lent.
+    pub fragments: &'a [&'a str],
+    /// Of all these the files whose reports are not shown.
+    pub hidden: &'a [&'a str],
+    /// No file of the run is missing, for all that is known before they are read.
+    pub is_all: bool,
+    /// Which documents are validated together.
+    pub grouping: Grouping,
     /// What a document may take.
     pub bounds: Bounds,
 }
@@ -36,11 +44,18 @@ pub struct Paths<'a> {
 impl Paths<'_> {
     /// How many documents there are.
     fn count(&self) -> usize {
-        if self.one_document {
-            1
-        } else {
-            self.documents.len()
+        match self.grouping {
+            Grouping::OneDocument => 1,
+            Grouping::Each | Grouping::Project => self.documents.len(),
         }
+    }
+
+    /// Whether the run is of one document, which has no other fragments than its own.
+    fn is_of_one(&self) -> bool {
+        self.is_all
+            && self.documents.len() == 1
+            && self.fragments.is_empty()
+            && self.hidden.is_empty()
     }
 }
 
@@ -117,17 +132,36 @@ fn check_documents<'a, R: Files + AllocGlobal, I: Read, O: Write, F: Write>(
 {
     let mut account = Account::new(rt.alloc(), presentation)?;
     account.add_schema(schema, texts);
-    let status = if paths.one_document {
-        check_together(rt, schema, paths, &mut account, input, output, faults)?
-    } else {
-        check_each(rt, schema, paths, &mut account, input, output, faults)?
-    };
+    let status = check_grouped(rt, schema, paths, &mut account, input, output, faults)?;
     let extent = Extent {
         whole: Whole::Documents(paths.count()),
         schema_files: paths.schema.len(),
     };
     account.end(rt.alloc(), extent, output, faults)?;
     Ok(status)
+}
+
+/// Validates the documents, those together that are to be.
+fn check_grouped<R: Files + AllocGlobal, I: Read, O: Write, F: Write>(
+    rt: &R,
+    schema: &Schema,
+    paths: Paths<'_>,
+    account: &mut Account<'_>,
+    input: &mut I,
+    output: &mut O,
+    faults: &mut F,
+) -> Result<Status, Fault>
+    requires { IsUsable schema.now }
+{
+    match paths.grouping {
+        Grouping::OneDocument => check_together(rt, schema, paths, account, input, output, faults),
+        Grouping::Project if !paths.is_of_one() => {
+            check_files(rt, schema, paths, account, input, output, faults)
+        }
+        Grouping::Project | Grouping::Each => {
+            check_each(rt, schema, paths, account, input, output, faults)
+        }
+    }
 }
 
 /// Validates the documents one after another: one that cannot be read does not end the run.

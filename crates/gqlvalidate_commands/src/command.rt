@@ -1,15 +1,16 @@
-use crate::bounds::{bounds_of, bounds_of_answers};
-use crate::check::{Paths, check};
+use crate::changes::{Compared, compare, presentation_of};
+use crate::expansions::{Words, check_words};
 use crate::explain::{explain, list_rules};
-use crate::faults::{Fault, fault_of_output, fault_of_words};
-use crate::introspections::print_schema;
-use crate::presentations::Presentation;
 use crate::schemas::check_schema;
 use crate::serve::{Allowance, serve};
-use crate::statuses::Status;
 use crate::syntax::check_syntax;
-use crate::terminals::Terminal;
-use gqlvalidate_formats::printable::printable_words;
+use gqlvalidate_runs::bounds::{bounds_of, bounds_of_answers};
+use gqlvalidate_runs::faults::{Fault, fault_of_output, fault_of_words};
+use gqlvalidate_runs::introspections::print_schema;
+use gqlvalidate_runs::presentations::Presentation;
+use gqlvalidate_runs::printable::printable_words;
+use gqlvalidate_runs::statuses::Status;
+use gqlvalidate_runs::terminals::Terminal;
 use gqlvalidate_words::{Refusal, Request, parse};
 use std::alloc::Global;
 use std::io;
@@ -18,7 +19,7 @@ use std::rt::Files;
 
 /// Runs the program on these words, without its own name. The status says how it ended; what is
 /// wrong, if anything, is said to `faults`.
-pub fn run<R: Files + AllocGlobal, I: Read, O: Write, F: Write>(
+pub fn run<R: Files + AllocGlobal + Clone + Drop, I: Read, O: Write, F: Write>(
     rt: &R,
     words: io::Result<Vec<String>>,
     terminal: Terminal,
@@ -39,7 +40,7 @@ pub fn run<R: Files + AllocGlobal, I: Read, O: Write, F: Write>(
     }
 }
 
-fn run_words<R: Files + AllocGlobal, I: Read, O: Write, F: Write>(
+fn run_words<R: Files + AllocGlobal + Clone + Drop, I: Read, O: Write, F: Write>(
     rt: &R,
     words: &[String],
     terminal: Terminal,
@@ -56,7 +57,7 @@ fn run_words<R: Files + AllocGlobal, I: Read, O: Write, F: Write>(
 }
 
 /// Does what is asked for.
-fn answer<R: Files + AllocGlobal, I: Read, O: Write, F: Write>(
+fn answer<R: Files + AllocGlobal + Clone + Drop, I: Read, O: Write, F: Write>(
     rt: &R,
     request: &Request<'_>,
     terminal: Terminal,
@@ -68,18 +69,43 @@ fn answer<R: Files + AllocGlobal, I: Read, O: Write, F: Write>(
         Request::Check {
             schema,
             documents,
-            one_document,
+            files_from,
+            fragments,
+            only,
+            grouping,
             limits,
             reporting,
         } => {
-            let paths = Paths {
+            let words = Words {
                 schema,
                 documents,
-                one_document: *one_document,
+                files_from: *files_from,
+                fragments,
+                only,
+                grouping: *grouping,
                 bounds: bounds_of(*limits),
             };
             let presentation = Presentation::new(*reporting, terminal);
-            check(rt, paths, presentation, input, output, faults)
+            check_words(rt, words, presentation, input, output, faults)
+        }
+        Request::Diff {
+            old,
+            new,
+            operations,
+            lone_fields,
+            fail_on,
+            format,
+        } => {
+            let compared = Compared {
+                old,
+                new,
+                operations,
+                lone_fields: *lone_fields,
+                fail_on: *fail_on,
+                format: *format,
+                presentation: presentation_of(*format, terminal),
+            };
+            compare(rt, compared, input, output, faults)
         }
         Request::PrintSchema { answer } => print_schema(rt, answer, input, output, faults),
         Request::Schema { schema, reporting } => {
@@ -88,6 +114,7 @@ fn answer<R: Files + AllocGlobal, I: Read, O: Write, F: Write>(
         }
         Request::Serve {
             schema,
+            fragments,
             limits,
             max_line,
             max_reports,
@@ -96,8 +123,9 @@ fn answer<R: Files + AllocGlobal, I: Read, O: Write, F: Write>(
                 bounds: bounds_of_answers(*limits, *max_reports),
                 line: *max_line,
                 reports: *max_reports,
+                lends: !fragments.is_empty(),
             };
-            serve(rt, schema, allowance, input, output, faults)
+            serve(rt, schema, fragments, allowance, input, output, faults)
         }
         Request::Syntax { files, reporting } => {
             let presentation = Presentation::new(*reporting, terminal);

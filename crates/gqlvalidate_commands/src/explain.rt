@@ -1,9 +1,9 @@
 //! What a rule asks, as text.
 
-use crate::faults::{Fault, fault_of_output};
-use crate::statuses::Status;
-use gqlvalidate_formats::printable::Printable;
 use gqlvalidate_rules::{Explanation, explanation_of, tables};
+use gqlvalidate_runs::faults::{Fault, fault_of_output};
+use gqlvalidate_runs::printable::Printable;
+use gqlvalidate_runs::statuses::Status;
 use std::io;
 use std::io::Write;
 

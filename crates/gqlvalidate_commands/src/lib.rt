@@ -1,22 +1,19 @@
-//! What the program `gqlvalidate` does: its commands over files, standard input and output, and its exit statuses.
+//! What the program `gqlvalidate` does: its commands over files, standard input and output.
 #![tactic(auto)]
 
-mod accounts;
-mod bounds;
+mod changes;
 mod check;
 pub mod command;
+mod expansions;
 mod explain;
-mod faults;
-mod introspections;
-mod json_lines;
 mod lines;
 mod one_document;
-mod presentations;
+mod operations;
+mod project_files;
 mod questions;
-mod schema_files;
 mod schemas;
 mod serve;
-mod sources;
-pub mod statuses;
 mod syntax;
-pub mod terminals;
+
+pub use gqlvalidate_runs::statuses::Status;
+pub use gqlvalidate_runs::terminals::Terminal;

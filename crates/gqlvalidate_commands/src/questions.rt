@@ -1,4 +1,5 @@
-//! What a line of standard input asks for: `{"document": TEXT}`, with an `"id"` that the answer repeats, if it is there.
+//! What a line of standard input asks for: `{"document": TEXT}`, with an `"id"` that the answer repeats, and the path of its `"file"`, if
+//! these are there.
 
 use json::{Error, Scratch, Value, Writer};
 use std::alloc::{AllocError, Global};
@@ -8,6 +9,8 @@ use std::alloc::{AllocError, Global};
 pub struct Question<'a> {
     id: Option<Id<'a>>,
     pub document: &'a str,
+    /// The path of its file.
+    pub file: Option<&'a str>,
 }
 
 /// What a caller knows a question by.
@@ -38,6 +41,7 @@ impl<'a> Question<'a> {
             Some(document) => Ok(Question {
                 id: id_of(&object)?,
                 document,
+                file: file_of(&object)?,
             }),
             None => Err(QuestionError::Unclear(
                 "the line is no object with a string as its `document`",
@@ -93,5 +97,16 @@ fn id_of<'a>(object: &Value<'a>) -> Result<Option<Id<'a>>, QuestionError> {
         Err(QuestionError::Unclear(
             "the `id` is neither a string nor an integer from 0 up to 2^64 - 1",
         ))
+    }
+}
+
+/// The path of the document's file, if the question has one.
+fn file_of<'a>(object: &Value<'a>) -> Result<Option<&'a str>, QuestionError> {
+    let Some(file) = object.get("file") else {
+        return Ok(None);
+    };
+    match file.as_str() {
+        Some(file) => Ok(Some(file)),
+        None => Err(QuestionError::Unclear("the `file` is not a string")),
     }
 }

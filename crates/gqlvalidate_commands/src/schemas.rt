@@ -1,20 +1,38 @@
 //! A schema that is validated for itself.
 
-use crate::accounts::{Account, Extent, Whole};
-use crate::bounds::OF_SCHEMA;
-use crate::faults::Fault;
-use crate::presentations::Presentation;
-use crate::schema_files::{FileKind, ReadFiles, named_schema, read_files};
-use crate::statuses::Status;
-use gqlvalidate_formats::named_texts::{NamedText, Subject};
-use gqlvalidate_formats::schema_texts::{schema_subject, sources_of};
-use graphql_frontend::{Reports, SchemaReading, abandon, read_schema};
+use gqlvalidate_runs::accounts::Account;
+use gqlvalidate_runs::bounds::OF_SCHEMA;
+use gqlvalidate_runs::faults::Fault;
+use gqlvalidate_runs::named_texts::NamedText;
+use gqlvalidate_runs::presentations::Presentation;
+use gqlvalidate_runs::schema_files::{FileKind, ReadFiles, named_schema, read_files};
+use gqlvalidate_runs::schema_reports::{end_unread, extent_of, reject};
+use gqlvalidate_runs::schema_texts::{schema_subject, sources_of};
+use gqlvalidate_runs::statuses::Status;
+use gqlvalidate_runs::word_paths::{schema_paths, views};
+use graphql_frontend::{SchemaReading, abandon, read_schema};
 use std::alloc::{AllocError, Global};
 use std::io::{Read, Write};
 use std::rt::Files;
 
+/// Validates the schema of the files for which these words stand.
+pub fn check_schema<R: Files + AllocGlobal + Clone + Drop, I: Read, O: Write, F: Write>(
+    rt: &R,
+    words: &[&str],
+    presentation: Presentation,
+    input: &mut I,
+    output: &mut O,
+    faults: &mut F,
+) -> Result<Status, Fault> {
+    let Some(files) = schema_paths(rt, words, faults)? else {
+        return Ok(Status::Unreadable);
+    };
+    let paths = views(rt.alloc(), &files)?;
+    check_files(rt, &paths, presentation, input, output, faults)
+}
+
 /// Validates the schema of these files.
-pub fn check_schema<'a, R: Files + AllocGlobal, I: Read, O: Write, F: Write>(
+fn check_files<'a, R: Files + AllocGlobal, I: Read, O: Write, F: Write>(
     rt: &R,
     paths: &'a [&'a str],
     presentation: Presentation,
@@ -72,46 +90,4 @@ fn pass_own(account: &mut Account<'_>, named: &[NamedText<'_>]) -> Result<(), Al
         account.pass(text.path)?;
     }
     Ok(())
-}
-
-/// A schema of these texts, the first of which has the definitions that every schema has.
-fn extent_of(named: &[NamedText<'_>]) -> Extent {
-    Extent {
-        whole: Whole::Schema,
-        schema_files: named.len().saturating_sub(1),
-    }
-}
-
-/// Ends a run with the reports of a schema.
-pub fn reject<O: Write, F: Write>(
-    alloc: Global,
-    reports: Reports,
-    subject: Subject<'_>,
-    presentation: Presentation,
-    output: &mut O,
-    faults: &mut F,
-) -> Result<Status, Fault> {
-    let mut account = Account::new(alloc, presentation)?;
-    let reports = [reports];
-    account.report(alloc, reports.as_slice(), subject, OF_SCHEMA, output)?;
-    account.end(alloc, extent_of(subject.texts), output, faults)?;
-    Ok(Status::Reported)
-}
-
-/// Ends a run whose schema cannot be read, since these files cannot.
-pub fn end_unread<O: Write, F: Write>(
-    alloc: Global,
-    unreadable: Vec<String>,
-    presentation: Presentation,
-    output: &mut O,
-    faults: &mut F,
-) -> Result<Status, Fault> {
-    let mut account = Account::new(alloc, presentation)?;
-    account.add_all_unreadable(unreadable)?;
-    let extent = Extent {
-        whole: Whole::Schema,
-        schema_files: 0,
-    };
-    account.end(alloc, extent, output, faults)?;
-    Ok(Status::Unreadable)
 }

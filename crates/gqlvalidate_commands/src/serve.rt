@@ -2,24 +2,28 @@
 
 ghost use Rattle.graphql_frontend.specs.Schemas.{IsUsable};
 
-use crate::bounds::OF_SCHEMA;
-use crate::faults::{Fault, fault_of_output};
-use crate::json_lines::print_line;
 use crate::lines::{ReadLine, read_line};
 use crate::questions::{Question, QuestionError};
-use crate::schema_files::{FileKind, ReadFiles, named_schema, read_files};
-use crate::sources::explain_input;
-use crate::statuses::Status;
-use gqlvalidate_formats::json_format::{add_reports, begin_errors};
-use gqlvalidate_formats::named_texts::{CountedSubject, NamedText, Subject};
-use gqlvalidate_formats::schema_texts::{schema_subject, sources_of};
-use gqlvalidate_formats::shown_reports;
+use gqlvalidate_paths::Expansion;
+use gqlvalidate_paths::plain::plain;
+use gqlvalidate_runs::bounds::OF_SCHEMA;
+use gqlvalidate_runs::faults::{Fault, fault_of_output};
+use gqlvalidate_runs::json_format::{add_reports, begin_errors};
+use gqlvalidate_runs::json_lines::print_line;
+use gqlvalidate_runs::named_texts::{CountedSubject, NamedText, Subject};
+use gqlvalidate_runs::schema_files::{FileKind, ReadFiles, named_schema, named_text, read_files};
+use gqlvalidate_runs::schema_texts::{schema_subject, sources_of};
+use gqlvalidate_runs::sources::explain_input;
+use gqlvalidate_runs::statuses::Status;
+use gqlvalidate_runs::word_paths::{expanded, schema_paths, views};
+use gqlvalidate_runs::{ShownReport, findings_of, shown_reports};
 use graphql_documents::documents::Schema;
 use graphql_frontend::{
     Reports, SchemaReading, SourceText, abandon, read_schema, validate_document,
 };
-use graphql_nodes::FileId;
+use graphql_nodes::{FileId, ValidationError};
 use graphql_parser::Bounds;
+use graphql_project_checking::check_project;
 use json::{Scratch, Writer};
 use std::alloc::{AllocError, Global};
 use std::io;
@@ -29,6 +33,9 @@ use std::rt::Files;
 /// The number of the text of a question.
 const QUESTION: FileId = FileId(u32::MAX);
 
+/// The rule that each fragment is used. Specification: 5.5.1.4 Fragments Must Be Used.
+const UNUSED_FRAGMENT: &str = "UnusedFragment";
+
 /// What a question may take.
 #[derive(Clone, Copy)]
 pub struct Allowance {
@@ -37,32 +44,54 @@ pub struct Allowance {
     pub line: u64,
     /// As many reports its answer has at most.
     pub reports: usize,
+    /// Whether documents may spread the fragments of files that are lent.
+    pub lends: bool,
 }
 
-/// Reads the schema of these files, and answers each line of standard input by a line, until there are no more. If the schema
-/// is reported, one line with its reports ends the run.
-pub fn serve<R: Files + AllocGlobal, I: Read, O: Write, F: Write>(
+/// Reads the schema of the files for which these words stand, and answers each line of standard input by a line, until there are no more.
+/// If the schema is reported, one line with its reports ends the run. Documents may spread the fragments of the files that are lent.
+pub fn serve<R: Files + AllocGlobal + Clone + Drop, I: Read, O: Write, F: Write>(
     rt: &R,
-    paths: &[&str],
+    words: &[&str],
+    fragments: &[&str],
     allowance: Allowance,
     input: &mut I,
     output: &mut O,
     faults: &mut F,
 ) -> Result<Status, Fault> {
-    let ReadFiles { texts, .. } = read_files(rt, paths, FileKind::Schema, input, faults)?;
+    let Some(files) = schema_paths(rt, words, faults)? else {
+        return Ok(Status::Unreadable);
+    };
+    let paths = views(rt.alloc(), &files)?;
+    let ReadFiles { texts, .. } = read_files(rt, &paths, FileKind::Schema, input, faults)?;
     let Some(texts) = texts else {
         return Ok(Status::Unreadable);
     };
-    let named = named_schema(rt.alloc(), paths, &texts)?;
-    let sources = sources_of(rt.alloc(), &named)?;
+    let named = named_schema(rt.alloc(), &paths, &texts)?;
+    serve_schema(rt, &named, fragments, allowance, input, output, faults)
+}
+
+/// Reads the schema of these texts, and answers each line of standard input.
+fn serve_schema<R: Files + AllocGlobal + Clone + Drop, I: Read, O: Write, F: Write>(
+    rt: &R,
+    named: &[NamedText<'_>],
+    fragments: &[&str],
+    allowance: Allowance,
+    input: &mut I,
+    output: &mut O,
+    faults: &mut F,
+) -> Result<Status, Fault> {
+    let sources = sources_of(rt.alloc(), named)?;
     match read_schema(rt.alloc(), &sources, OF_SCHEMA)? {
         SchemaReading::Accepted(schema) => {
-            let status = answer_lines(rt.alloc(), &schema, allowance, input, output, faults);
+            let status = serve_beside(
+                rt, &schema, named, fragments, allowance, input, output, faults,
+            );
             abandon(schema);
             status
         }
         SchemaReading::Rejected(reports) => {
-            let subject = schema_subject(&named, &sources);
+            let subject = schema_subject(named, &sources);
             let allowance = Allowance {
                 bounds: OF_SCHEMA,
                 ..allowance
@@ -74,9 +103,12 @@ pub fn serve<R: Files + AllocGlobal, I: Read, O: Write, F: Write>(
     }
 }
 
-fn answer_lines<I: Read, O: Write, F: Write>(
-    alloc: Global,
+/// Reads the files that are lent, if words stand for some, and answers each line of standard input.
+fn serve_beside<R: Files + AllocGlobal + Clone + Drop, I: Read, O: Write, F: Write>(
+    rt: &R,
     schema: &Schema,
+    of_schema: &[NamedText<'_>],
+    fragments: &[&str],
     allowance: Allowance,
     input: &mut I,
     output: &mut O,
@@ -84,7 +116,47 @@ fn answer_lines<I: Read, O: Write, F: Write>(
 ) -> Result<Status, Fault>
     requires { IsUsable schema.now }
 {
-    match answer_each(alloc, schema, allowance, input, output) {
+    let alloc = rt.alloc();
+    let Expansion { files, unread } = expanded(rt, fragments, faults)?;
+    let paths = views(alloc, &files)?;
+    let ReadFiles { texts, .. } = read_files(rt, &paths, FileKind::Document, input, faults)?;
+    let Some(texts) = texts else {
+        return Ok(Status::Unreadable);
+    };
+    if !unread.is_empty() {
+        return Ok(Status::Unreadable);
+    }
+    let lent = named_beside(alloc, of_schema, &paths, &texts)?;
+    answer_lines(alloc, schema, &lent, allowance, input, output, faults)
+}
+
+/// The texts with their paths, numbered after those of the schema.
+fn named_beside<'a>(
+    alloc: Global,
+    of_schema: &[NamedText<'_>],
+    paths: &'a [&'a str],
+    texts: &'a [String],
+) -> Result<Vec<NamedText<'a>>, AllocError> {
+    let mut named = Vec::new(alloc);
+    for (position, (path, text)) in paths.iter().zip(texts.iter()).enumerate() {
+        let position = position.saturating_add(of_schema.len());
+        named.push(named_text(position, path, text.as_str()))?;
+    }
+    Ok(named)
+}
+
+fn answer_lines<I: Read, O: Write, F: Write>(
+    alloc: Global,
+    schema: &Schema,
+    lent: &[NamedText<'_>],
+    allowance: Allowance,
+    input: &mut I,
+    output: &mut O,
+    faults: &mut F,
+) -> Result<Status, Fault>
+    requires { IsUsable schema.now }
+{
+    match answer_each(alloc, schema, lent, allowance, input, output) {
         Ok(()) => Ok(Status::Accepted),
         Err(Ended::Fault(fault)) => Err(fault),
         Err(Ended::InputFailed(error)) => {
@@ -119,6 +191,7 @@ impl From<io::Error> for Ended {
 fn answer_each<I: Read, O: Write>(
     alloc: Global,
     schema: &Schema,
+    lent: &[NamedText<'_>],
     allowance: Allowance,
     input: &mut I,
     output: &mut O,
@@ -130,7 +203,7 @@ fn answer_each<I: Read, O: Write>(
     for _ in 0..u64::MAX {
         match read_line(&mut lines, allowance.line, &mut line)? {
             ReadLine::End => break,
-            ReadLine::Whole => answer(alloc, schema, allowance, &line, output)?,
+            ReadLine::Whole => answer(alloc, schema, lent, allowance, &line, output)?,
             ReadLine::TooLong => say(TOO_LONG, output)?,
             ReadLine::OutOfMemory => say(OUT_OF_MEMORY, output)?,
         }
@@ -154,13 +227,14 @@ fn say<O: Write>(line: &str, output: &mut O) -> Result<(), Fault> {
 fn answer<O: Write>(
     alloc: Global,
     schema: &Schema,
+    lent: &[NamedText<'_>],
     allowance: Allowance,
     line: &[u8],
     output: &mut O,
 ) -> Result<(), Fault>
     requires { IsUsable schema.now }
 {
-    match answer_of(alloc, schema, allowance, line) {
+    match answer_of(alloc, schema, lent, allowance, line) {
         Ok(json) => match print_now(alloc, json, output) {
             Err(Fault::OutOfMemory) => say(OUT_OF_MEMORY, output),
             ended => ended,
@@ -174,6 +248,7 @@ fn answer<O: Write>(
 fn answer_of(
     alloc: Global,
     schema: &Schema,
+    lent: &[NamedText<'_>],
     allowance: Allowance,
     line: &[u8],
 ) -> Result<Writer, Fault>
@@ -183,7 +258,14 @@ fn answer_of(
     let mut json = Writer::new(Vec::new(alloc));
     json.begin_object()?;
     match Question::read(alloc, line, &mut scratch) {
-        Ok(question) => answer_question(alloc, schema, allowance, &question, &mut json)?,
+        Ok(question) => {
+            question.add_id(&mut json)?;
+            if allowance.lends {
+                answer_beside(alloc, schema, lent, allowance, &question, &mut json)?;
+            } else {
+                answer_alone(alloc, schema, allowance, question.document, &mut json)?;
+            }
+        }
         Err(QuestionError::OutOfMemory) => return Err(Fault::OutOfMemory),
         Err(QuestionError::Unclear(why)) => {
             json.key("fault")?;
@@ -194,19 +276,19 @@ fn answer_of(
     Ok(json)
 }
 
-fn answer_question(
+/// Answers what is reported of a document that has all fragments itself.
+fn answer_alone(
     alloc: Global,
     schema: &Schema,
     allowance: Allowance,
-    question: &Question<'_>,
+    document: &str,
     json: &mut Writer,
 ) -> Result<(), Fault>
     requires { IsUsable schema.now }
 {
-    question.add_id(json)?;
     let source = SourceText {
         file_id: QUESTION,
-        text: question.document,
+        text: document,
     };
     let reports = validate_document(alloc, schema, source, allowance.bounds)?;
     let texts = [NamedText { path: None, source }];
@@ -223,6 +305,85 @@ fn answer_question(
             Ok(json.end_array()?)
         }
     }
+}
+
+/// Answers what is reported of a document that may spread the fragments of the files that are lent, without the file of its own name. Other
+/// documents may spread its fragments, so none is reported as unused.
+fn answer_beside(
+    alloc: Global,
+    schema: &Schema,
+    lent: &[NamedText<'_>],
+    allowance: Allowance,
+    question: &Question<'_>,
+    json: &mut Writer,
+) -> Result<(), Fault>
+    requires { IsUsable schema.now }
+{
+    let texts = texts_of(alloc, question, lent)?;
+    let sources = sources_of(alloc, &texts)?;
+    let (own, others) = sources.as_slice().split_at(1.min(sources.len()));
+    let found = check_project(alloc, schema, own, others, allowance.bounds)?;
+    let subject = Subject {
+        path: None,
+        texts: &texts,
+        sources: &sources,
+    };
+    let counted = CountedSubject::new(alloc, subject)?;
+    let mut reports = distinct_reports(alloc, schema, &found, &sources, allowance.bounds)?;
+    let others = reports.len().saturating_sub(allowance.reports);
+    reports.truncate(allowance.reports);
+    begin_errors(json)?;
+    add_reports(json, &reports, &counted)?;
+    json.end_array()?;
+    add_others(json, others)
+}
+
+/// The text of the question, and then those that are lent.
+fn texts_of<'a>(
+    alloc: Global,
+    question: &Question<'a>,
+    lent: &[NamedText<'a>],
+) -> Result<Vec<NamedText<'a>>, AllocError> {
+    let source = SourceText {
+        file_id: QUESTION,
+        text: question.document,
+    };
+    let mut texts = Vec::new(alloc);
+    texts.push(NamedText { path: None, source })?;
+    let file = plain(alloc, question.file.unwrap_or(""))?;
+    for text in lent {
+        if plain(alloc, text.path.unwrap_or(""))? != file {
+            texts.push(*text)?;
+        }
+    }
+    Ok(texts)
+}
+
+/// Each of these reports once, but those of unused fragments.
+fn distinct_reports(
+    alloc: Global,
+    schema: &Schema,
+    found: &[Reports],
+    sources: &[SourceText<'_>],
+    bounds: Bounds,
+) -> Result<Vec<ShownReport>, ValidationError> {
+    let findings = findings_of(alloc, Some(schema), found, sources, bounds, usize::MAX)?;
+    let mut reports = Vec::new(alloc);
+    for finding in findings.shown {
+        if finding.report.rule != UNUSED_FRAGMENT {
+            reports.push(finding.report)?;
+        }
+    }
+    Ok(reports)
+}
+
+/// Adds the number of reports that are not shown, if there are any.
+fn add_others(json: &mut Writer, others: usize) -> Result<(), Fault> {
+    if others > 0 {
+        json.key("notShown")?;
+        json.u64(others as u64)?;
+    }
+    Ok(())
 }
 
 /// Adds the first reports, as many as an answer has at most, and the number of the others, if there are any.
@@ -243,12 +404,7 @@ fn add_errors(
     begin_errors(json)?;
     add_reports(json, &shown, &counted)?;
     json.end_array()?;
-    let others = reports.len().saturating_sub(shown.len());
-    if others > 0 {
-        json.key("notShown")?;
-        json.u64(others as u64)?;
-    }
-    Ok(())
+    add_others(json, reports.len().saturating_sub(shown.len()))
 }
 
 /// Prints the reports of a schema as a line.

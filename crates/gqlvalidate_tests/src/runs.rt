@@ -1,10 +1,12 @@
+use gqlvalidate_commands::Terminal;
 use gqlvalidate_commands::command::run;
-use gqlvalidate_commands::terminals::Terminal;
 use std::alloc::Global;
 use std::io::ErrorKind;
 use std::process::Abort;
 
+mod changes;
 mod introspections;
+mod projects;
 mod shelf;
 
 use shelf::{Failing, Refusing, Shelf};
@@ -41,6 +43,14 @@ const FILES: &[(&str, &[u8])] = &[
     ("unclosed.json", b"{\n  \"__schema\": }"),
     ("me", b"{ me }\n"),
     ("you", b"{ you }\n"),
+    (
+        "later",
+        b"type Query { pet(id: ID!): Pet }\n\ntype Pet { title: String }\n",
+    ),
+    (
+        "stricter",
+        b"type Query { pet(id: ID!): Pet }\n\ntype Pet { name: String! }\n",
+    ),
     ("valid", b"{ pet(id: 1) { name } }\n"),
     ("aged", b"{ pet(id: 1) { name age } }\n"),
     (
@@ -59,6 +69,44 @@ const FILES: &[(&str, &[u8])] = &[
     (
         "both",
         b"{ pet(id: 1) { ...Named } }\nfragment Named on Pet { name }\n",
+    ),
+    (
+        "project/schema/main.graphql",
+        b"type Query { pet(id: ID!): Pet }\n",
+    ),
+    (
+        "project/schema/types/pet.graphql",
+        b"type Pet { name: String age: Int }\n",
+    ),
+    (
+        "project/queries/named.graphql",
+        b"query Named { pet(id: 1) { ...Named } }\n",
+    ),
+    (
+        "project/queries/aged.gql",
+        b"query Aged { pet(id: 1) { ...Aged } }\n",
+    ),
+    (
+        "project/fragments/named.graphql",
+        b"fragment Named on Pet { name }\n",
+    ),
+    (
+        "project/fragments/aged.graphql",
+        b"fragment Aged on Pet { age ...Named }\n",
+    ),
+    ("project/fragments/empty.graphql", b"# nothing\n"),
+    ("project/notes.txt", b"{ no document\n"),
+    ("project/.cache/old.graphql", b"{ no document\n"),
+    ("project/node_modules/a.graphql", b"{ no document\n"),
+    ("faulty/query.graphql", b"{ pet(id: 1) { ...Faulty } }\n"),
+    (
+        "faulty/fragment.graphql",
+        b"fragment Faulty on Pet { colour }\n",
+    ),
+    ("locked/query.graphql", b"{ pet(id: 1) { name } }\n"),
+    (
+        "list",
+        b"project/queries/named.graphql\n\nproject/fragments/named.graphql\n",
     ),
     ("twice", b"type Query { a: Int }\ntype Query { b: Int }\n"),
     ("rootless", b"type Pet { name: String }\n"),
@@ -214,6 +262,173 @@ Right:
 fn what_holds_is_accepted(rt: HostRuntime) {
     for (texts, printed, said) in ACCEPTED {
         run_ends(&rt, texts, 0, printed, said);
+    }
+}
+
+/// Words of runs over a project whose files, together, have nothing to report, and how many documents are checked.
+const PROJECT: &[(&[&str], &str)] = &[
+    // A folder stands for its documents; files of the schema are none.
+    (
+        &["check", "--schema", "project/schema", "project"],
+        "5 documents",
+    ),
+    // So do patterns; the order of the words is of no account.
+    (
+        &[
+            "check",
+            "--schema",
+            "project/schema/**/*.graphql",
+            "project/{queries,fragments}/*.{graphql,gql}",
+        ],
+        "5 documents",
+    ),
+    (
+        &[
+            "check",
+            "project/fragments",
+            "--schema",
+            "project/schema",
+            "project/queries",
+        ],
+        "5 documents",
+    ),
+    // A file that two words name counts once, however they write it.
+    (
+        &[
+            "check",
+            "--schema",
+            "project/schema",
+            "./project//queries/named.graphql",
+            "project/queries/named.graphql",
+            "project/fragments/named.graphql",
+        ],
+        "2 documents",
+    ),
+    // What is taken out does not count.
+    (
+        &[
+            "check",
+            "--schema",
+            "project/schema",
+            "project",
+            "faulty",
+            "!faulty/*.graphql",
+        ],
+        "5 documents",
+    ),
+    (
+        &[
+            "check",
+            "--schema",
+            "project/schema",
+            "faulty",
+            "project",
+            "!faulty",
+        ],
+        "5 documents",
+    ),
+    // A fragment that is lent may be unused.
+    (
+        &[
+            "check",
+            "--schema",
+            "project/schema",
+            "--fragments",
+            "project/fragments",
+            "project/queries/named.graphql",
+        ],
+        "1 document",
+    ),
+    (
+        &[
+            "check",
+            "--schema",
+            "project/schema",
+            "--files-from",
+            "list",
+        ],
+        "2 documents",
+    ),
+    // One document for itself.
+    (
+        &["check", "--each", "--schema", "schema", "valid", "both"],
+        "2 documents",
+    ),
+];
+
+#[test]
+fn files_of_a_project_lend_each_other_fragments(rt: HostRuntime) {
+    for (texts, documents) in PROJECT {
+        let said = format!(in rt.alloc(); "checked {documents}: no reports\n").expect(
+            &rt, "memory",
+        );
+        run_ends(&rt, texts, 0, "", said.as_str());
+    }
+}
+
+/// A fault of a fragment is in its file, once.
+#[test]
+fn a_fault_of_a_fragment_is_in_its_file(rt: HostRuntime) {
+    let texts = ["check", "--schema", "project/schema", "project", "faulty"];
+    let printed =
+        "faulty/fragment.graphql:1:26: error: type `Pet` does not have a field `colour` [UndefinedField]
+  |
+1 | fragment Faulty on Pet { colour }
+  |                          ^^^^^^
+";
+    run_ends(
+        &rt,
+        texts.as_slice(),
+        1,
+        printed,
+        "1 report in 1 of 7 documents\n",
+    );
+}
+
+/// A folder that cannot be read does not end the run, and nothing is unused beside it.
+#[test]
+fn other_files_are_checked_beside_a_folder_that_cannot_be_read(rt: HostRuntime) {
+    let texts = [
+        "check",
+        "--schema",
+        "project/schema",
+        "project/fragments",
+        "project/queries/named.graphql",
+        "locked",
+    ];
+    run_ends(
+        &rt,
+        texts.as_slice(),
+        5,
+        "",
+        "locked: error: permission denied\nchecked 4 documents: no reports\n",
+    );
+}
+
+/// Words that do not stand for documents, and what is said of them.
+const NO_DOCUMENTS: &[(&[&str], &str)] = &[
+    (
+        &["check", "--schema", "schema", "[a"],
+        "[a: error: `[` has no `]`\n",
+    ),
+    (
+        &["check", "--schema", "schema", "none/*.graphql"],
+        "none/*.graphql: error: no file has such a path\n",
+    ),
+    (
+        &["check", "--schema", "schema", "project/*.gql"],
+        "project/*.gql: error: no file has such a path\n",
+    ),
+    (
+        &["check", "--schema", "schema", "schema"],
+        "error: no file is a document\n",
+    ),
+];
+
+#[test]
+fn words_stand_for_documents(rt: HostRuntime) {
+    for (texts, said) in NO_DOCUMENTS {
+        run_ends(&rt, texts, 2, "", said);
     }
 }
 
@@ -745,9 +960,11 @@ fn failed_reads_are_told_from_failed_allocations(rt: HostRuntime) {
 /// Words of runs that print something.
 const PRINTING: &[&[&str]] = &[
     &["syntax", "unclosed", "missing"],
-    &["check", "--schema", "schema", "unclosed", "missing"],
     &[
-        "check", "--format", "github", "--schema", "schema", "unclosed", "missing",
+        "check", "--each", "--schema", "schema", "unclosed", "missing",
+    ],
+    &[
+        "check", "--each", "--format", "github", "--schema", "schema", "unclosed", "missing",
     ],
     &["check", "--format", "json", "--schema", "schema", "valid"],
     &["--version"],

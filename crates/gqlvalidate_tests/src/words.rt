@@ -13,7 +13,7 @@ const READ: &[(&[&str], &str)] = &[
     (&["explain", "Syntax"], "Explain { rule: Some(\"Syntax\") }"),
     (
         &["check", "--schema", "s", "a", "--schema=t", "b"],
-        "Check { schema: [\"s\", \"t\"], documents: [\"a\", \"b\"], one_document: false, limits: Limits { depth: 500, reach: 64, work: 160000000 }, reporting: Reporting { format: Text, color: Auto, max_reports: 100 } }",
+        "Check { schema: [\"s\", \"t\"], documents: [\"a\", \"b\"], files_from: None, fragments: [], only: [], grouping: Project, limits: Limits { depth: 500, reach: 64, work: 160000000 }, reporting: Reporting { format: Text, color: Auto, max_reports: 100 } }",
     ),
     (
         &["schema", "--format", "json", "--max-reports", "7", "s"],
@@ -62,11 +62,27 @@ const READ: &[(&[&str], &str)] = &[
             "s",
             "a",
         ],
-        "Check { schema: [\"s\"], documents: [\"a\"], one_document: true, limits: Limits { depth: 7, reach: 5, work: 6 }, reporting: Reporting { format: Text, color: Always, max_reports: 100 } }",
+        "Check { schema: [\"s\"], documents: [\"a\"], files_from: None, fragments: [], only: [], grouping: OneDocument, limits: Limits { depth: 7, reach: 5, work: 6 }, reporting: Reporting { format: Text, color: Always, max_reports: 100 } }",
+    ),
+    (
+        &[
+            "check",
+            "--files-from=l",
+            "--fragments",
+            "f",
+            "--schema",
+            "s",
+            "--fragments=g",
+        ],
+        "Check { schema: [\"s\"], documents: [], files_from: Some(PathList { file: \"l\", ends: Lines }), fragments: [\"f\", \"g\"], only: [], grouping: Project, limits: Limits { depth: 500, reach: 64, work: 160000000 }, reporting: Reporting { format: Text, color: Auto, max_reports: 100 } }",
+    ),
+    (
+        &["check", "--each", "--schema", "s", "a"],
+        "Check { schema: [\"s\"], documents: [\"a\"], files_from: None, fragments: [], only: [], grouping: Each, limits: Limits { depth: 500, reach: 64, work: 160000000 }, reporting: Reporting { format: Text, color: Auto, max_reports: 100 } }",
     ),
     (
         &["serve", "--schema", "s"],
-        "Serve { schema: [\"s\"], limits: Limits { depth: 500, reach: 4, work: 160000000 }, max_line: 8388608, max_reports: 1000 }",
+        "Serve { schema: [\"s\"], fragments: [], limits: Limits { depth: 500, reach: 4, work: 160000000 }, max_line: 8388608, max_reports: 1000 }",
     ),
     (
         &[
@@ -78,11 +94,42 @@ const READ: &[(&[&str], &str)] = &[
             "--schema",
             "s",
         ],
-        "Serve { schema: [\"s\"], limits: Limits { depth: 3, reach: 2, work: 160000000 }, max_line: 9, max_reports: 8 }",
+        "Serve { schema: [\"s\"], fragments: [], limits: Limits { depth: 3, reach: 2, work: 160000000 }, max_line: 9, max_reports: 8 }",
     ),
     (
         &["serve", "--schema", "-"],
         "error: standard input, `-`, is named more than once\n",
+    ),
+    (
+        &["diff", "a", "b"],
+        "Diff { old: [\"a\"], new: [\"b\"], operations: [], lone_fields: false, fail_on: Breaking, format: Text }",
+    ),
+    (
+        &[
+            "diff",
+            "--old-schema",
+            "c",
+            "--new-schema=d",
+            "--operations",
+            "e",
+            "--operations",
+            "f",
+            "--lone-fields",
+            "--fail-on",
+            "dangerous",
+            "--format=markdown",
+            "a",
+            "b",
+        ],
+        "Diff { old: [\"a\", \"c\"], new: [\"b\", \"d\"], operations: [\"e\", \"f\"], lone_fields: true, fail_on: Dangerous, format: Markdown }",
+    ),
+    (
+        &["diff", "-", "--operations", "-", "b"],
+        "error: standard input, `-`, is named more than once\n",
+    ),
+    (
+        &["diff", "--fail-on", "always", "a", "b"],
+        "error: invalid value 'always' for '--fail-on <LEVEL>'\n  [possible values: breaking, dangerous, never]\n\nFor more information, try '--help'.\n",
     ),
     (&["--version"], "gqlvalidate 0.1.0\n"),
 ];

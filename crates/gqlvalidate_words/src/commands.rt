@@ -16,6 +16,16 @@ pub const COLOR: &str = "color";
 
 pub const ONE_DOCUMENT: &str = "one-document";
 
+pub const EACH: &str = "each";
+
+pub const FRAGMENTS: &str = "fragments";
+
+pub const FILES_FROM: &str = "files-from";
+
+pub const NULL: &str = "null";
+
+pub const ONLY: &str = "only";
+
 pub const MAX_DEPTH: &str = "max-depth";
 
 pub const MAX_REACH: &str = "max-reach";
@@ -28,8 +38,24 @@ pub const RULE: &str = "rule";
 
 pub const ANSWER: &str = "answer";
 
+pub const OLD: &str = "old";
+
+pub const NEW: &str = "new";
+
+pub const OLD_SCHEMA: &str = "old-schema";
+
+pub const NEW_SCHEMA: &str = "new-schema";
+
+pub const OPERATIONS: &str = "operations";
+
+pub const LONE_FIELDS: &str = "lone-fields";
+
+pub const FAIL_ON: &str = "fail-on";
+
 /// The names of the commands.
 pub const CHECK: &str = "check";
+
+pub const DIFF: &str = "diff";
 
 pub const PRINT_SCHEMA: &str = "print-schema";
 
@@ -55,6 +81,17 @@ pub const CHECKSTYLE: &str = "checkstyle";
 pub const GITLAB: &str = "gitlab";
 
 static FORMATS: [&str; 7] = [TEXT, JSON, GITHUB, SARIF, JUNIT, CHECKSTYLE, GITLAB];
+
+pub const MARKDOWN: &str = "markdown";
+
+static CHANGE_FORMATS: [&str; 4] = [TEXT, JSON, GITHUB, MARKDOWN];
+
+/// Which changes end a comparison with status 1; `never` is a name of this, too.
+pub const BREAKING: &str = "breaking";
+
+pub const DANGEROUS: &str = "dangerous";
+
+static LEVELS: [&str; 3] = [BREAKING, DANGEROUS, NEVER];
 
 /// When text is coloured.
 pub const AUTO: &str = "auto";
@@ -86,7 +123,8 @@ pub fn program<'a>(alloc: Global) -> Result<Command<'a>, Error> {
         .subcommand_required(true)
         .bin_name("gqlvalidate")?;
     let with_check = program.subcommand(check(alloc)?)?;
-    let with_print = with_check.subcommand(print_schema(alloc)?)?;
+    let with_diff = with_check.subcommand(diff(alloc)?)?;
+    let with_print = with_diff.subcommand(print_schema(alloc)?)?;
     let with_schema = with_print.subcommand(schema(alloc)?)?;
     let with_serve = with_schema.subcommand(serve(alloc)?)?;
     let with_syntax = with_serve.subcommand(syntax(alloc)?)?;
@@ -99,23 +137,49 @@ fn check<'a>(alloc: Global) -> Result<Command<'a>, Error> {
         .after_help(STATUSES);
     let command = command.arg(schema_files(alloc))?;
     let command = with_reporting(alloc, command)?;
+    let command = command.arg(lent_fragments(alloc))?;
+    let command = command.arg(each(alloc)?)?;
     let command = command.arg(one_document(alloc))?;
+    let command = command.arg(files_from(alloc))?;
+    let command = command.arg(null(alloc))?;
+    let command = command.arg(only(alloc)?)?;
     let command = command.arg(max_depth(alloc))?;
     let command = command.arg(max_reach(alloc, "64"))?;
     let command = command.arg(max_work(alloc))?;
-    Ok(command.arg(files(alloc, "DOCUMENT", "Executable documents"))?)
+    Ok(command.arg(documents(alloc)?)?)
+}
+
+fn diff<'a>(alloc: Global) -> Result<Command<'a>, Error> {
+    let command = Command::new(alloc, DIFF)
+        .about("Finds what changes from one schema to another, and whether documents stay valid")
+        .after_help(STATUSES);
+    let command = command.arg(change_format(alloc))?;
+    let command = command.arg(fail_on(alloc))?;
+    let command = command.arg(lone_fields(alloc))?;
+    let command = command.arg(further_file(
+        alloc,
+        OLD_SCHEMA,
+        "A further file of the old schema; repeat the option for each file",
+    ))?;
+    let command = command.arg(further_file(
+        alloc,
+        NEW_SCHEMA,
+        "A further file of the new schema; repeat the option for each file",
+    ))?;
+    let command = command.arg(further_file(
+        alloc,
+        OPERATIONS,
+        "A document to validate against both; repeat the option for each file",
+    ))?;
+    let command = command.arg(one_file(alloc, OLD, "OLD", "The old schema"))?;
+    Ok(command.arg(one_file(alloc, NEW, "NEW", "The new schema"))?)
 }
 
 fn print_schema<'a>(alloc: Global) -> Result<Command<'a>, Error> {
     let command = Command::new(alloc, PRINT_SCHEMA)
         .about("Prints the schema that an answer to an introspection query describes")
         .after_help(STATUSES);
-    let answer = Arg::new(alloc, ANSWER)
-        .value_name("FILE")
-        .help("The answer, as JSON")
-        .required(true)
-        .action(ArgAction::Set);
-    Ok(command.arg(answer)?)
+    Ok(command.arg(one_file(alloc, ANSWER, "FILE", "The answer, as JSON"))?)
 }
 
 fn schema<'a>(alloc: Global) -> Result<Command<'a>, Error> {
@@ -141,6 +205,7 @@ fn serve<'a>(alloc: Global) -> Result<Command<'a>, Error> {
     let command = command.arg(max_work(alloc))?;
     let command = command.arg(max_line(alloc))?;
     let command = command.arg(max_reports_of_an_answer(alloc))?;
+    let command = command.arg(lent_fragments(alloc))?;
     Ok(command.arg(schema_files(alloc))?)
 }
 
@@ -175,6 +240,84 @@ fn files<'a>(alloc: Global, name: &'a str, help: &'a str) -> Arg<'a> {
         .action(ArgAction::Append)
 }
 
+/// The documents: paths, unless a file has a list of them.
+fn documents<'a>(alloc: Global) -> Result<Arg<'a>, Error> {
+    let documents = Arg::new(alloc, FILES)
+        .value_name("PATH")
+        .help(
+            "Executable documents: files, folders, or quoted patterns such as 'src/**/*.graphql'; '!PATTERN' takes out",
+        )
+        .num_args(1..)
+        .action(ArgAction::Append);
+    Ok(documents.required_unless_present(FILES_FROM)?)
+}
+
+fn files_from<'a>(alloc: Global) -> Arg<'a> {
+    Arg::new(alloc, FILES_FROM)
+        .long(FILES_FROM)
+        .value_name("FILE")
+        .help("A file with further paths of documents, one on each line")
+        .action(ArgAction::Set)
+}
+
+fn null<'a>(alloc: Global) -> Arg<'a> {
+    Arg::new(alloc, NULL)
+        .short('0')
+        .long(NULL)
+        .help("The paths of --files-from end with a byte of value 0, as those of find -print0")
+        .action(ArgAction::SetTrue)
+}
+
+fn only<'a>(alloc: Global) -> Result<Arg<'a>, Error> {
+    let only = Arg::new(alloc, ONLY)
+        .long(ONLY)
+        .value_name("PATH")
+        .help(
+            "Show only the reports on these files, folders or quoted patterns of a whole run; may be repeated",
+        )
+        .action(ArgAction::Append);
+    Ok(only.conflicts_with(ONE_DOCUMENT)?.conflicts_with(EACH)?)
+}
+
+fn lent_fragments<'a>(alloc: Global) -> Arg<'a> {
+    Arg::new(alloc, FRAGMENTS)
+        .long(FRAGMENTS)
+        .value_name("PATH")
+        .help(
+            "Files, a folder or a quoted pattern whose fragments documents may spread, and which are not judged; may be repeated",
+        )
+        .action(ArgAction::Append)
+}
+
+fn each<'a>(alloc: Global) -> Result<Arg<'a>, Error> {
+    let each = Arg::new(alloc, EACH)
+        .long(EACH)
+        .help("Validate each document for itself, without the fragments of others")
+        .action(ArgAction::SetTrue);
+    Ok(
+        each.conflicts_with(ONE_DOCUMENT)?
+            .conflicts_with(FRAGMENTS)?,
+    )
+}
+
+/// A path that a command takes.
+fn one_file<'a>(alloc: Global, id: &'a str, name: &'a str, help: &'a str) -> Arg<'a> {
+    Arg::new(alloc, id)
+        .value_name(name)
+        .help(help)
+        .required(true)
+        .action(ArgAction::Set)
+}
+
+/// An option that adds a file.
+fn further_file<'a>(alloc: Global, name: &'a str, help: &'a str) -> Arg<'a> {
+    Arg::new(alloc, name)
+        .long(name)
+        .value_name("FILE")
+        .help(help)
+        .action(ArgAction::Append)
+}
+
 fn schema_files<'a>(alloc: Global) -> Arg<'a> {
     Arg::new(alloc, SCHEMA)
         .long(SCHEMA)
@@ -192,6 +335,33 @@ fn format<'a>(alloc: Global) -> Arg<'a> {
         .value_parser(FORMATS.as_slice())
         .default_value(TEXT)
         .action(ArgAction::Set)
+}
+
+fn change_format<'a>(alloc: Global) -> Arg<'a> {
+    Arg::new(alloc, FORMAT)
+        .long(FORMAT)
+        .value_name("FORMAT")
+        .help("Format of the changes")
+        .value_parser(CHANGE_FORMATS.as_slice())
+        .default_value(TEXT)
+        .action(ArgAction::Set)
+}
+
+fn fail_on<'a>(alloc: Global) -> Arg<'a> {
+    Arg::new(alloc, FAIL_ON)
+        .long(FAIL_ON)
+        .value_name("LEVEL")
+        .help("Which changes end the run with status 1; dangerous: breaking ones, too")
+        .value_parser(LEVELS.as_slice())
+        .default_value(BREAKING)
+        .action(ArgAction::Set)
+}
+
+fn lone_fields<'a>(alloc: Global) -> Arg<'a> {
+    Arg::new(alloc, LONE_FIELDS)
+        .long(LONE_FIELDS)
+        .help("Consider only documents that put no two fields under one response key")
+        .action(ArgAction::SetTrue)
 }
 
 fn color<'a>(alloc: Global) -> Arg<'a> {

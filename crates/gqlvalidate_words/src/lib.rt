@@ -6,4 +6,7 @@ pub mod reading;
 pub mod requests;
 
 pub use reading::parse;
-pub use requests::{Color, Format, Limits, Refusal, Reporting, Request};
+pub use requests::{
+    ChangeFormat, Color, FailOn, Format, Grouping, Limits, PathEnds, PathList, Refusal, Reporting,
+    Request,
+};

@@ -1,11 +1,15 @@
 //! From words to a request.
 
 use crate::commands::{
-    ALWAYS, ANSWER, CHECK, CHECKSTYLE, COLOR, EXPLAIN, FILES, FORMAT, GITHUB, GITLAB, JSON, JUNIT,
-    MAX_DEPTH, MAX_LINE, MAX_REACH, MAX_REPORTS, MAX_WORK, NEVER, ONE_DOCUMENT, PRINT_SCHEMA, RULE,
-    SARIF, SCHEMA, SERVE, SYNTAX, program,
+    ALWAYS, ANSWER, CHECK, CHECKSTYLE, COLOR, DANGEROUS, DIFF, EACH, EXPLAIN, FAIL_ON, FILES,
+    FILES_FROM, FORMAT, FRAGMENTS, GITHUB, GITLAB, JSON, JUNIT, LONE_FIELDS, MARKDOWN, MAX_DEPTH,
+    MAX_LINE, MAX_REACH, MAX_REPORTS, MAX_WORK, NEVER, NEW, NEW_SCHEMA, NULL, OLD, OLD_SCHEMA,
+    ONE_DOCUMENT, ONLY, OPERATIONS, PRINT_SCHEMA, RULE, SARIF, SCHEMA, SERVE, SYNTAX, program,
 };
-use crate::requests::{Color, Format, Limits, Refusal, Reporting, Request, STANDARD_INPUT};
+use crate::requests::{
+    ChangeFormat, Color, FailOn, Format, Grouping, Limits, PathEnds, PathList, Refusal, Reporting,
+    Request, STANDARD_INPUT,
+};
 use clap::error::ErrorKind;
 use clap::{ArgMatches, Error};
 use std::alloc::{AllocError, Global};
@@ -68,7 +72,10 @@ fn request_of<'a>(
         Ok(Request::Check {
             schema,
             documents: files,
-            one_document: given.get_flag(ONE_DOCUMENT),
+            files_from: path_list(given),
+            fragments: paths(alloc, given, FRAGMENTS)?,
+            only: paths(alloc, given, ONLY)?,
+            grouping: grouping(given),
             limits: limits(given),
             reporting: reporting(given),
         })
@@ -76,10 +83,13 @@ fn request_of<'a>(
         let schema = paths(alloc, given, SCHEMA)?;
         Ok(Request::Serve {
             schema,
+            fragments: paths(alloc, given, FRAGMENTS)?,
             limits: limits(given),
             max_line: given.get_one::<u64>(MAX_LINE).unwrap_or(u64::MAX),
             max_reports: given.get_one::<usize>(MAX_REPORTS).unwrap_or(usize::MAX),
         })
+    } else if command == DIFF {
+        diff(alloc, given)
     } else if command == PRINT_SCHEMA {
         Ok(Request::PrintSchema {
             answer: given.get_str(ANSWER).unwrap_or(STANDARD_INPUT),
@@ -98,6 +108,63 @@ fn request_of<'a>(
             schema: files,
             reporting: reporting(given),
         })
+    }
+}
+
+/// The list of further documents, if one is named.
+fn path_list<'a>(given: &ArgMatches<'a>) -> Option<PathList<'a>> {
+    let file = given.get_str(FILES_FROM)?;
+    let ends = if given.get_flag(NULL) {
+        PathEnds::Null
+    } else {
+        PathEnds::Lines
+    };
+    Some(PathList { file, ends })
+}
+
+/// Which documents are validated together.
+fn grouping(given: &ArgMatches<'_>) -> Grouping {
+    if given.get_flag(ONE_DOCUMENT) {
+        Grouping::OneDocument
+    } else if given.get_flag(EACH) {
+        Grouping::Each
+    } else {
+        Grouping::Project
+    }
+}
+
+/// What `diff` with these arguments asks for.
+fn diff<'a>(alloc: Global, given: &ArgMatches<'a>) -> Result<Request<'a>, AllocError> {
+    let mut old = paths(alloc, given, OLD)?;
+    add_paths(&mut old, given, OLD_SCHEMA)?;
+    let mut new = paths(alloc, given, NEW)?;
+    add_paths(&mut new, given, NEW_SCHEMA)?;
+    Ok(Request::Diff {
+        old,
+        new,
+        operations: paths(alloc, given, OPERATIONS)?,
+        lone_fields: given.get_flag(LONE_FIELDS),
+        fail_on: fail_on_of(given.get_str(FAIL_ON)),
+        format: change_format_of(given.get_str(FORMAT)),
+    })
+}
+
+/// The format of this name. No other is accepted but these, and text is the default.
+fn change_format_of(name: Option<&str>) -> ChangeFormat {
+    match name {
+        Some(name) if name == JSON => ChangeFormat::Json,
+        Some(name) if name == GITHUB => ChangeFormat::Github,
+        Some(name) if name == MARKDOWN => ChangeFormat::Markdown,
+        _ => ChangeFormat::Text,
+    }
+}
+
+/// Which changes end a run with status 1, by this name. No other is accepted but these, and `breaking` is the default.
+fn fail_on_of(name: Option<&str>) -> FailOn {
+    match name {
+        Some(name) if name == DANGEROUS => FailOn::Dangerous,
+        Some(name) if name == NEVER => FailOn::Never,
+        _ => FailOn::Breaking,
     }
 }
 
@@ -154,10 +221,20 @@ fn paths<'a>(
     argument: &str,
 ) -> Result<Vec<&'a str>, AllocError> {
     let mut paths = Vec::new(alloc);
+    add_paths(&mut paths, given, argument)?;
+    Ok(paths)
+}
+
+/// Adds the paths of an argument, in order.
+fn add_paths<'a>(
+    paths: &mut Vec<&'a str>,
+    given: &ArgMatches<'a>,
+    argument: &str,
+) -> Result<(), AllocError> {
     for path in given.get_strs(argument).unwrap_or(&[]) {
         paths.push(*path)?;
     }
-    Ok(paths)
+    Ok(())
 }
 
 /// How often a command takes standard input: by a path, and `serve` for its questions.
@@ -166,7 +243,19 @@ fn inputs(command: &str, given: &ArgMatches<'_>) -> usize {
     questions
         .saturating_add(inputs_of(given, SCHEMA))
         .saturating_add(inputs_of(given, FILES))
+        .saturating_add(inputs_of(given, FRAGMENTS))
+        .saturating_add(inputs_of(given, FILES_FROM))
+        .saturating_add(inputs_of_schemas(given))
+        .saturating_add(inputs_of(given, OPERATIONS))
         .saturating_add(inputs_of(given, ANSWER))
+}
+
+/// How many paths of the two schemas of a comparison name standard input.
+fn inputs_of_schemas(given: &ArgMatches<'_>) -> usize {
+    inputs_of(given, OLD)
+        .saturating_add(inputs_of(given, OLD_SCHEMA))
+        .saturating_add(inputs_of(given, NEW))
+        .saturating_add(inputs_of(given, NEW_SCHEMA))
 }
 
 /// How many paths of an argument name standard input.

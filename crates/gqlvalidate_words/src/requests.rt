@@ -27,6 +27,28 @@ pub enum Format {
     Gitlab,
 }
 
+/// How changes of a schema are written.
+#[derive(Clone, Copy, Debug, PartialEq, Eq)]
+pub enum ChangeFormat {
+    /// Lines for people.
+    Text,
+    /// One JSON object.
+    Json,
+    /// Workflow commands of GitHub Actions, which makes annotations of them.
+    Github,
+    /// A table, as comments of pull requests have it.
+    Markdown,
+}
+
+/// Which changes of a schema end the run with status 1.
+#[derive(Clone, Copy, Debug, PartialEq, Eq)]
+pub enum FailOn {
+    Breaking,
+    /// Dangerous ones, and breaking ones too.
+    Dangerous,
+    Never,
+}
+
 /// When text is coloured.
 #[derive(Clone, Copy, Debug, PartialEq, Eq)]
 pub enum Color {
@@ -87,6 +109,33 @@ pub struct Limits {
     pub work: usize,
 }
 
+/// Which documents are validated together.
+#[derive(Clone, Copy, Debug, PartialEq, Eq)]
+pub enum Grouping {
+    /// All of them: each operation with the fragments that it reaches in any of them.
+    Project,
+    /// All of them, as one document.
+    OneDocument,
+    /// Each for itself.
+    Each,
+}
+
+/// A file with paths.
+#[derive(Clone, Copy, Debug, PartialEq, Eq)]
+pub struct PathList<'a> {
+    pub file: &'a str,
+    pub ends: PathEnds,
+}
+
+/// How the paths of a list end.
+#[derive(Clone, Copy, Debug, PartialEq, Eq)]
+pub enum PathEnds {
+    /// With a line end.
+    Lines,
+    /// With a byte of value 0.
+    Null,
+}
+
 /// What a command line asks for. Paths are in the order of the command line.
 #[derive(Debug, Drop)]
 pub enum Request<'a> {
@@ -94,10 +143,26 @@ pub enum Request<'a> {
     Check {
         schema: Vec<&'a str>,
         documents: Vec<&'a str>,
-        /// The documents are one document together.
-        one_document: bool,
+        /// The list of further documents.
+        files_from: Option<PathList<'a>>,
+        /// The files whose fragments are lent.
+        fragments: Vec<&'a str>,
+        /// The files whose reports are shown; all, if there are none.
+        only: Vec<&'a str>,
+        grouping: Grouping,
         limits: Limits,
         reporting: Reporting,
+    },
+    /// To compare the schema of some files with that of others.
+    Diff {
+        old: Vec<&'a str>,
+        new: Vec<&'a str>,
+        /// Documents that are validated against both.
+        operations: Vec<&'a str>,
+        /// Only documents count that put no two fields under one response key.
+        lone_fields: bool,
+        fail_on: FailOn,
+        format: ChangeFormat,
     },
     /// To print the schema that this answer to an introspection query describes.
     PrintSchema {
@@ -111,6 +176,8 @@ pub enum Request<'a> {
     /// To answer lines of JSON on standard input, a document each, against the schema of these files.
     Serve {
         schema: Vec<&'a str>,
+        /// The files whose fragments are lent.
+        fragments: Vec<&'a str>,
         limits: Limits,
         /// So many bytes a line may have, without its end.
         max_line: u64,

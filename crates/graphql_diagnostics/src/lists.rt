@@ -6,20 +6,42 @@ use std::alloc::Global;
 use std::slice;
 
 /// One report, and its place.
-#[derive(Debug, Drop, PartialEq, Eq)]
+#[derive(Debug, PartialEq, Eq)]
 pub struct DiagnosticEntry {
     pub location: Option<SourceSpan>,
     pub details: Details,
 }
 
+// Written out, so that only this crate proves it: a derived one is proved again in each crate that drops reports.
+impl Drop for DiagnosticEntry {
+    fn drop(self) {
+        let DiagnosticEntry {
+            location: _,
+            details: _,
+        } = self;
+    }
+}
+
 /// Reports in the order in which they were pushed, and the seed by which a check that fills the list hashes names. A list may
 /// have a bound: then it keeps the first reports, one at least, and refuses the others.
-#[derive(Debug, Drop)]
+#[derive(Debug)]
 pub struct DiagnosticList {
     entries: Vec<DiagnosticEntry>,
     hash_seed: HashSeed,
     room: Option<ReportBound>,
     has_more: bool,
+}
+
+// Written out, as the one above.
+impl Drop for DiagnosticList {
+    fn drop(self) {
+        let DiagnosticList {
+            entries: _,
+            hash_seed: _,
+            room: _,
+            has_more: _,
+        } = self;
+    }
 }
 
 impl DiagnosticList {

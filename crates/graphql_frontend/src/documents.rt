@@ -166,7 +166,7 @@ fn joined(alloc: Global, documents: Vec<Document>) -> Result<Document, Validatio
 {
     let mut definitions = Items::new(alloc);
     for document in documents {
-        definitions.append(document.definitions)?;
+        definitions.append(document.into_definitions())?;
     }
     Ok(Document {
         definitions,

@@ -8,10 +8,34 @@ use sqlite_items::Items;
 /// A document: definitions of any kind, at least one.
 ///
 /// Specification: 2.2 Document.
-#[derive(Drop)]
 pub struct Document {
     pub definitions: Items<Definition>,
     pub span: SourceSpan,
+}
+
+impl Document {
+    ghost use Rattle.std.specs.Prelude.{◌≡◌};
+
+    /// The definitions.
+    pub fn into_definitions(self) -> Items<Definition>
+        ensures { result ≡ self.definitions }
+    {
+        let Document {
+            definitions,
+            span: _,
+        } = self;
+        definitions
+    }
+}
+
+// Written out, so that only this crate proves it: a derived one is proved again in each crate that drops documents.
+impl Drop for Document {
+    fn drop(self) {
+        let Document {
+            definitions: _,
+            span: _,
+        } = self;
+    }
 }
 
 /// A definition or an extension.

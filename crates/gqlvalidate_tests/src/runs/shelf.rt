@@ -6,7 +6,10 @@ use std::io;
 use std::io::{ErrorKind, Read, Seek, SeekFrom, Write};
 use std::rt::Files;
 
-/// A runtime whose files are these.
+/// The folder that nobody may read.
+const LOCKED: &str = "locked/";
+
+/// A runtime whose files are these. What is before a `/` of a path is a folder.
 #[derive(Clone, Copy)]
 pub struct Shelf {
     pub alloc: Global,
@@ -21,6 +24,13 @@ impl Alloc for Shelf {
     }
 }
 
+/// Whether the path is that of the file: parts that are empty or a dot change nothing.
+fn leads_to(path: &str, file: &str) -> bool {
+    path.split('/')
+        .filter(|part| !part.is_empty() && *part != ".")
+        .eq(file.split('/'))
+}
+
 fn unsupported<T>() -> io::Result<T> {
     Err(io::Error::from(ErrorKind::Unsupported))
 }
@@ -28,25 +38,49 @@ fn unsupported<T>() -> io::Result<T> {
 impl Files for Shelf {
     type File = Opened;
 
-    type Dir = Opened;
+    type Dir = Listed;
 
     fn open_file(&self, _how: &OpenOptions, path: &str) -> io::Result<Opened> {
-        match self.files.iter().find(|file| file.0 == path) {
+        match self.files.iter().find(|file| leads_to(path, file.0)) {
             Some(file) => Ok(Opened(file.1)),
             None => Err(io::Error::from(ErrorKind::NotFound)),
         }
     }
 
-    fn open_dir(&self, _path: &str) -> io::Result<Opened> {
-        unsupported()
+    fn open_dir(&self, path: &str) -> io::Result<Listed> {
+        if path == LOCKED {
+            return Err(io::Error::from(ErrorKind::PermissionDenied));
+        }
+        let folder = if path == "./" { "" } else { path };
+        let mut names = Vec::new(self.alloc);
+        for (file, _) in self.files {
+            if let Some(rest) = file.strip_prefix(folder) {
+                let name = match rest.split_once('/') {
+                    Some((name, _)) => name,
+                    None => rest,
+                };
+                add_name(&mut names, name)?;
+            }
+        }
+        Ok(Listed(names))
     }
 
-    fn metadata(&self, _path: &str) -> io::Result<Metadata> {
-        unsupported()
+    fn metadata(&self, path: &str) -> io::Result<Metadata> {
+        self.symlink_metadata(path)
     }
 
-    fn symlink_metadata(&self, _path: &str) -> io::Result<Metadata> {
-        unsupported()
+    fn symlink_metadata(&self, path: &str) -> io::Result<Metadata> {
+        for (file, bytes) in self.files {
+            match file.strip_prefix(path) {
+                Some("") => return Ok(Metadata::of_file(bytes.len() as u64)),
+                Some(rest) if rest.starts_with('/') => return Ok(Metadata::of_dir()),
+                _ => continue,
+            }
+        }
+        if path == "." {
+            return Ok(Metadata::of_dir());
+        }
+        Err(io::Error::from(ErrorKind::NotFound))
     }
 
     fn copy(&self, _from: &str, _to: &str) -> io::Result<u64> {
@@ -71,6 +105,31 @@ impl Files for Shelf {
 
     fn remove_dir_all<B: Allocator>(&self, _alloc: B, _path: &str) -> io::Result<()> {
         unsupported()
+    }
+}
+
+/// Adds a name, ended by a NUL, if it is not there yet.
+fn add_name(names: &mut Vec<u8>, name: &str) -> io::Result<()> {
+    for known in names.split(|byte| *byte == 0) {
+        if known == name.as_bytes() {
+            return Ok(());
+        }
+    }
+    names.extend_from_slice(name.as_bytes())?;
+    names.push(0)?;
+    Ok(())
+}
+
+/// The names of what is in a folder, each ended by a NUL, that were not read yet.
+#[derive(Drop)]
+pub struct Listed(Vec<u8>);
+
+impl Read for Listed {
+    fn read(&mut self, buf: &mut [u8]) -> io::Result<usize> {
+        let mut names = self.0.as_slice();
+        let count = names.read(buf)?;
+        self.0.clear();
+        Ok(count)
     }
 }
 

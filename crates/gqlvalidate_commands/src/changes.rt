@@ -1,0 +1,451 @@
+//! Two schemas, compared.
+
+ghost use Rattle.graphql_frontend.specs.Schemas.{IsUsable};
+
+use crate::operations::{Operations, check_operations};
+use gqlvalidate_paths::Expansion;
+use gqlvalidate_runs::accounts::{Account, Extent, Whole, print};
+use gqlvalidate_runs::bounds::OF_SCHEMA;
+use gqlvalidate_runs::faults::Fault;
+use gqlvalidate_runs::github::{Annotation, push_annotation};
+use gqlvalidate_runs::json_lines::print_line;
+use gqlvalidate_runs::named_texts::{CountedSubject, NamedText};
+use gqlvalidate_runs::presentations::Presentation;
+use gqlvalidate_runs::printable::Printable;
+use gqlvalidate_runs::schema_files::{FileKind, ReadFiles, named_text, read_files};
+use gqlvalidate_runs::schema_reports::reject;
+use gqlvalidate_runs::schema_texts::{BUILT_IN_TEXT, schema_subject, sources_of};
+use gqlvalidate_runs::statuses::Status;
+use gqlvalidate_runs::terminals::Terminal;
+use gqlvalidate_runs::word_paths::{expanded, schema_paths, views};
+use gqlvalidate_words::{ChangeFormat, Color, FailOn, Format, Reporting};
+use graphql_change_formats::{
+    ChangeTally, ComparedTexts, ShownChange, json_format, markdown_format, text_format, verdict_of,
+};
+use graphql_change_witnesses::confirmed_witness;
+use graphql_documents::documents::Schema;
+use graphql_frontend::{SchemaReading, abandon, read_schema};
+use graphql_parser::Bounds;
+use graphql_schema_comparison::{BreakingReason, Comparison, Level, SchemaChange, compare_schemas};
+use graphql_schema_ways::Ways;
+use json::Writer;
+use std::alloc::{AllocError, Global};
+use std::io::{Read, Write};
+use std::rt::Files;
+
+/// What is compared, and how it is told.
+#[derive(Clone, Copy)]
+pub struct Compared<'a> {
+    pub old: &'a [&'a str],
+    pub new: &'a [&'a str],
+    pub operations: &'a [&'a str],
+    pub lone_fields: bool,
+    pub fail_on: FailOn,
+    pub format: ChangeFormat,
+    /// How reports of a schema or a document are presented.
+    pub presentation: Presentation,
+}
+
+/// The files of a schema: their paths as they are shown, and their texts.
+#[derive(Drop)]
+struct SchemaFiles {
+    paths: Vec<String>,
+    texts: Vec<String>,
+}
+
+impl<'a> Compared<'a> {
+    /// How reports of documents are presented: not at all in formats that only name the documents.
+    pub fn presentation_of_documents(&self) -> Presentation {
+        let Presentation { reporting, style } = self.presentation;
+        let reporting = match self.format {
+            ChangeFormat::Text | ChangeFormat::Github => reporting,
+            ChangeFormat::Json | ChangeFormat::Markdown => {
+                Reporting::new(Format::Text, Color::Never, Some(0))
+            }
+        };
+        Presentation { reporting, style }
+    }
+}
+
+/// How reports of a schema are presented, if changes are in this format.
+pub fn presentation_of(format: ChangeFormat, terminal: Terminal) -> Presentation {
+    let format = match format {
+        ChangeFormat::Text | ChangeFormat::Markdown => Format::Text,
+        ChangeFormat::Github => Format::Github,
+        ChangeFormat::Json => Format::Json,
+    };
+    Presentation::new(Reporting::new(format, Color::Auto, None), terminal)
+}
+
+/// Compares the schemas of the files for which these words stand, and validates documents against both, if both schemas hold.
+pub fn compare<R: Files + AllocGlobal + Clone + Drop, I: Read, O: Write, F: Write>(
+    rt: &R,
+    words: Compared<'_>,
+    input: &mut I,
+    output: &mut O,
+    faults: &mut F,
+) -> Result<Status, Fault> {
+    let Expansion { files, unread } = expanded(rt, words.operations, faults)?;
+    let operations = views(rt.alloc(), &files)?;
+    let compared = Compared {
+        operations: &operations,
+        ..words
+    };
+    let status = compare_files(rt, compared, input, output, faults)?;
+    if unread.is_empty() {
+        Ok(status)
+    } else {
+        Ok(status.with(Status::Unreadable))
+    }
+}
+
+/// Compares two schemas, and validates these documents against both, if both schemas hold.
+fn compare_files<R: Files + AllocGlobal + Clone + Drop, I: Read, O: Write, F: Write>(
+    rt: &R,
+    compared: Compared<'_>,
+    input: &mut I,
+    output: &mut O,
+    faults: &mut F,
+) -> Result<Status, Fault> {
+    let old = files_of(rt, compared.old, compared.format, input, faults)?;
+    let new = files_of(rt, compared.new, compared.format, input, faults)?;
+    match (old, new) {
+        (Some(old), Some(new)) => {
+            let old = named_files(rt.alloc(), &old)?;
+            let new = named_files(rt.alloc(), &new)?;
+            compare_from(rt, &old, &new, compared, input, output, faults)
+        }
+        _ => Ok(Status::Unreadable),
+    }
+}
+
+/// The files of a schema for which these words stand, if all of them have a text. Standard error says what is wrong with the others.
+fn files_of<R: Files + AllocGlobal + Clone + Drop, I: Read, F: Write>(
+    rt: &R,
+    words: &[&str],
+    format: ChangeFormat,
+    input: &mut I,
+    faults: &mut F,
+) -> Result<Option<SchemaFiles>, Fault> {
+    let Some(files) = schema_paths(rt, words, faults)? else {
+        return Ok(None);
+    };
+    let paths = views(rt.alloc(), &files)?;
+    let ReadFiles { texts, .. } = read_files(rt, &paths, FileKind::Schema, input, faults)?;
+    let Some(texts) = texts else {
+        return Ok(None);
+    };
+    let paths = paths_as_shown(rt.alloc(), &paths, format)?;
+    Ok(Some(SchemaFiles { paths, texts }))
+}
+
+/// The paths as they are shown: JSON escapes what controls, and in the other formats a replacement character stands for it.
+fn paths_as_shown(
+    alloc: Global,
+    paths: &[&str],
+    format: ChangeFormat,
+) -> Result<Vec<String>, AllocError> {
+    let mut shown = Vec::new(alloc);
+    for path in paths {
+        shown.push(path_as_shown(alloc, path, format)?)?;
+    }
+    Ok(shown)
+}
+
+fn path_as_shown(alloc: Global, path: &str, format: ChangeFormat) -> Result<String, AllocError> {
+    match format {
+        ChangeFormat::Json => String::from_str(alloc, path),
+        _ => Printable(path).to_string(alloc),
+    }
+}
+
+/// The texts of a schema with their paths, behind the definitions that every schema has.
+fn named_files<'a>(
+    alloc: Global,
+    files: &'a SchemaFiles,
+) -> Result<Vec<NamedText<'a>>, AllocError> {
+    let mut named = Vec::new(alloc);
+    named.push(BUILT_IN_TEXT)?;
+    for (position, (path, text)) in files.paths.iter().zip(files.texts.iter()).enumerate() {
+        named.push(named_text(position, path.as_str(), text.as_str()))?;
+    }
+    Ok(named)
+}
+
+/// Compares the schemas of these texts, if the old one holds.
+fn compare_from<R: Files + AllocGlobal, I: Read, O: Write, F: Write>(
+    rt: &R,
+    old: &[NamedText<'_>],
+    new: &[NamedText<'_>],
+    compared: Compared<'_>,
+    input: &mut I,
+    output: &mut O,
+    faults: &mut F,
+) -> Result<Status, Fault> {
+    let sources = sources_of(rt.alloc(), old)?;
+    let subject = schema_subject(old, &sources);
+    match read_schema(rt.alloc(), &sources, OF_SCHEMA)? {
+        SchemaReading::Accepted(schema) => {
+            let texts = CountedSubject::new(rt.alloc(), subject)?;
+            let status = compare_to(rt, &schema, texts, new, compared, input, output, faults);
+            abandon(schema);
+            status
+        }
+        SchemaReading::Rejected(reports) => {
+            let presentation = compared.presentation;
+            reject(rt.alloc(), reports, subject, presentation, output, faults)
+        }
+        SchemaReading::LacksIntrospection => Err(Fault::LacksIntrospection),
+    }
+}
+
+/// Compares a schema to that of the new texts, if that holds.
+fn compare_to<R: Files + AllocGlobal, I: Read, O: Write, F: Write>(
+    rt: &R,
+    old: &Schema,
+    old_texts: CountedSubject<'_>,
+    new: &[NamedText<'_>],
+    compared: Compared<'_>,
+    input: &mut I,
+    output: &mut O,
+    faults: &mut F,
+) -> Result<Status, Fault>
+    requires { IsUsable old.now }
+{
+    let sources = sources_of(rt.alloc(), new)?;
+    let subject = schema_subject(new, &sources);
+    match read_schema(rt.alloc(), &sources, OF_SCHEMA)? {
+        SchemaReading::Accepted(schema) => {
+            let texts = ComparedTexts {
+                old: old_texts,
+                new: CountedSubject::new(rt.alloc(), subject)?,
+            };
+            let status = tell(rt, old, &schema, &texts, compared, input, output, faults);
+            abandon(schema);
+            status
+        }
+        SchemaReading::Rejected(reports) => {
+            let presentation = compared.presentation;
+            reject(rt.alloc(), reports, subject, presentation, output, faults)
+        }
+        SchemaReading::LacksIntrospection => Err(Fault::LacksIntrospection),
+    }
+}
+
+/// Tells what changes from one schema to another, and which documents break.
+fn tell<R: Files + AllocGlobal, I: Read, O: Write, F: Write>(
+    rt: &R,
+    old: &Schema,
+    new: &Schema,
+    texts: &ComparedTexts<'_>,
+    compared: Compared<'_>,
+    input: &mut I,
+    output: &mut O,
+    faults: &mut F,
+) -> Result<Status, Fault>
+    requires old { IsUsable old.now }
+    requires new { IsUsable new.now }
+{
+    let alloc = rt.alloc();
+    let comparison = compare_schemas(alloc, old, new)?;
+    let changes = shown_changes(alloc, old, new, &comparison, compared.lone_fields)?;
+    print_changes(alloc, &changes, texts, compared.format, output)?;
+    let mut account = Account::new(alloc, compared.presentation_of_documents())?;
+    let operations = check_operations(rt, old, new, compared, &mut account, input, output, faults)?;
+    print_end(
+        alloc,
+        &comparison,
+        &changes,
+        texts,
+        compared,
+        &operations,
+        output,
+    )?;
+    let extent = Extent {
+        whole: Whole::Documents(compared.operations.len()),
+        schema_files: compared.new.len(),
+    };
+    account.end(alloc, extent, output, faults)?;
+    Ok(status_of(ChangeTally::of(&changes), compared, &operations))
+}
+
+/// The changes with their levels, and with documents that show the breaking ones.
+fn shown_changes<'a>(
+    alloc: Global,
+    old: &Schema,
+    new: &Schema,
+    comparison: &'a Comparison,
+    lone_fields: bool,
+) -> Result<Vec<ShownChange<'a>>, Fault>
+    requires old { IsUsable old.now }
+    requires new { IsUsable new.now }
+{
+    let ways = Ways::new(alloc, old)?;
+    let mut shown = Vec::new(alloc);
+    for change in &comparison.changes {
+        let level = if lone_fields {
+            change.change.level_of_lone_fields()
+        } else {
+            change.level()
+        };
+        let witness = witness_of(alloc, &ways, old, new, change, level)?;
+        shown.push(ShownChange {
+            change,
+            level,
+            witness,
+        })?;
+    }
+    Ok(shown)
+}
+
+/// A document that shows a change that may break documents, if there is one.
+fn witness_of(
+    alloc: Global,
+    ways: &Ways<'_>,
+    old: &Schema,
+    new: &Schema,
+    change: &SchemaChange,
+    level: Level,
+) -> Result<Option<String>, Fault>
+    requires old { IsUsable old.now }
+    requires new { IsUsable new.now }
+{
+    match level {
+        Level::Breaking(BreakingReason::Documents | BreakingReason::Merging) => {
+            let change = &change.change;
+            Ok(confirmed_witness(alloc, ways, old, new, change, Bounds::DEFAULT)?)
+        }
+        _ => Ok(None),
+    }
+}
+
+/// Prints the changes, in the formats that have a line for each.
+fn print_changes<O: Write>(
+    alloc: Global,
+    changes: &[ShownChange<'_>],
+    texts: &ComparedTexts<'_>,
+    format: ChangeFormat,
+    output: &mut O,
+) -> Result<(), Fault> {
+    let mut text = String::new(alloc);
+    match format {
+        ChangeFormat::Text => text_format::push_changes(&mut text, changes, texts)?,
+        ChangeFormat::Github => push_annotations(&mut text, alloc, changes, texts)?,
+        ChangeFormat::Json | ChangeFormat::Markdown => {}
+    }
+    print(text, output)
+}
+
+fn push_annotations(
+    out: &mut String,
+    alloc: Global,
+    changes: &[ShownChange<'_>],
+    texts: &ComparedTexts<'_>,
+) -> Result<(), AllocError> {
+    for shown in changes {
+        push_change(out, alloc, shown, texts)?;
+    }
+    Ok(())
+}
+
+fn push_change(
+    out: &mut String,
+    alloc: Global,
+    shown: &ShownChange<'_>,
+    texts: &ComparedTexts<'_>,
+) -> Result<(), AllocError> {
+    let command = match shown.level {
+        Level::Breaking(_) => "error",
+        Level::Dangerous => "warning",
+        Level::Safe => "notice",
+    };
+    let mut message = shown.change.change.to_string(alloc)?;
+    if let Some(witness) = &shown.witness {
+        let witness = witness.as_str();
+        write!(&mut message, "; valid before and not after: {witness}")?;
+    }
+    let annotation = Annotation {
+        command,
+        title: shown.change.change.name(),
+        message: message.as_str(),
+        located: texts.place_of(shown.change),
+        path: texts.new.path,
+    };
+    push_annotation(out, annotation)?;
+    out.push('\n')?;
+    Ok(())
+}
+
+/// Prints what comes at the end: how many changes there are, what that means for documents, and which of them break.
+fn print_end<O: Write>(
+    alloc: Global,
+    comparison: &Comparison,
+    changes: &[ShownChange<'_>],
+    texts: &ComparedTexts<'_>,
+    compared: Compared<'_>,
+    operations: &Operations<'_>,
+    output: &mut O,
+) -> Result<(), Fault> {
+    let verdict = verdict_of(comparison, compared.lone_fields);
+    let mut text = String::new(alloc);
+    match compared.format {
+        ChangeFormat::Text => {
+            text_format::push_summary(&mut text, ChangeTally::of(changes), verdict)?;
+        }
+        ChangeFormat::Markdown => {
+            markdown_format::push_changes(&mut text, changes, texts, verdict)?;
+        }
+        ChangeFormat::Json => {
+            return print_json(alloc, comparison, changes, texts, operations, output);
+        }
+        ChangeFormat::Github => {
+            text.push_str("::notice title=Changes::")?;
+            text_format::push_summary(&mut text, ChangeTally::of(changes), verdict)?;
+            return print(text, output);
+        }
+    }
+    operations.push_summary(&mut text)?;
+    print(text, output)
+}
+
+fn print_json<O: Write>(
+    alloc: Global,
+    comparison: &Comparison,
+    changes: &[ShownChange<'_>],
+    texts: &ComparedTexts<'_>,
+    operations: &Operations<'_>,
+    output: &mut O,
+) -> Result<(), Fault> {
+    let mut json = Writer::new(Vec::new(alloc));
+    json_format::begin(&mut json, comparison)?;
+    json_format::add_changes(&mut json, alloc, changes, texts)?;
+    if operations.count > 0 {
+        json_format::add_operations(
+            &mut json,
+            operations.count,
+            operations.invalid_before,
+            &operations.broken,
+        )?;
+    }
+    json_format::end(&mut json)?;
+    print_line(alloc, json, output)
+}
+
+/// The status: of the documents, if there are any, and else of the changes. A document that could not be read is the gravest.
+fn status_of(tally: ChangeTally, compared: Compared<'_>, operations: &Operations<'_>) -> Status {
+    let fails = if operations.count > 0 {
+        compared.fail_on != FailOn::Never && !operations.broken.is_empty()
+    } else {
+        match compared.fail_on {
+            FailOn::Breaking => tally.breaking > 0,
+            FailOn::Dangerous => tally.breaking > 0 || tally.dangerous > 0,
+            FailOn::Never => false,
+        }
+    };
+    let status = if fails {
+        Status::Reported
+    } else {
+        Status::Accepted
+    };
+    status.with(operations.status)
+}

@@ -1,0 +1,176 @@
+//! The files of a run, and which of them are shown.
+
+use crate::check::{Paths, check};
+use gqlvalidate_paths::without;
+use gqlvalidate_runs::faults::Fault;
+use gqlvalidate_runs::presentations::Presentation;
+use gqlvalidate_runs::sources::text_or_said;
+use gqlvalidate_runs::statuses::Status;
+use gqlvalidate_runs::word_paths::{expanded, schema_paths, views};
+use gqlvalidate_words::{Grouping, PathEnds, PathList};
+use graphql_parser::Bounds;
+use std::alloc::{AllocError, Global};
+use std::io::{Read, Write};
+use std::rt::Files;
+
+/// The words of a run, and what its documents may take.
+#[derive(Clone, Copy)]
+pub struct Words<'a> {
+    pub schema: &'a [&'a str],
+    pub documents: &'a [&'a str],
+    /// The list of further words for documents.
+    pub files_from: Option<PathList<'a>>,
+    pub fragments: &'a [&'a str],
+    /// The files whose reports are shown; all, if there are none.
+    pub only: &'a [&'a str],
+    pub grouping: Grouping,
+    pub bounds: Bounds,
+}
+
+/// The files of a run.
+#[derive(Drop)]
+struct FilesOfRun {
+    schema: Vec<String>,
+    documents: Vec<String>,
+    fragments: Vec<String>,
+    /// The documents and the files of fragments whose reports are not shown.
+    hidden: Vec<String>,
+    /// Each folder of documents and of fragments was read.
+    is_all: bool,
+}
+
+/// Validates the schema and the documents for which these words stand.
+pub fn check_words<R: Files + AllocGlobal + Clone + Drop, I: Read, O: Write, F: Write>(
+    rt: &R,
+    words: Words<'_>,
+    presentation: Presentation,
+    input: &mut I,
+    output: &mut O,
+    faults: &mut F,
+) -> Result<Status, Fault> {
+    let Some(further) = further_words(rt, words.files_from, input, faults)? else {
+        return Ok(Status::Unreadable);
+    };
+    let Some(files) = files_of(rt, words, &further, faults)? else {
+        return Ok(Status::Unreadable);
+    };
+    let schema = views(rt.alloc(), &files.schema)?;
+    let documents = views(rt.alloc(), &files.documents)?;
+    let fragments = views(rt.alloc(), &files.fragments)?;
+    let hidden = views(rt.alloc(), &files.hidden)?;
+    let paths = Paths {
+        schema: &schema,
+        documents: &documents,
+        fragments: &fragments,
+        hidden: &hidden,
+        is_all: files.is_all,
+        grouping: words.grouping,
+        bounds: words.bounds,
+    };
+    let status = check(rt, paths, presentation, input, output, faults)?;
+    if files.is_all {
+        Ok(status)
+    } else {
+        Ok(status.with(Status::Unreadable))
+    }
+}
+
+/// The text with further words, which is empty if there are none, if it can be read.
+fn further_words<R: Files + AllocGlobal, I: Read, F: Write>(
+    rt: &R,
+    list: Option<PathList<'_>>,
+    input: &mut I,
+    faults: &mut F,
+) -> Result<Option<String>, Fault> {
+    match list {
+        Some(list) => text_or_said(rt, list.file, input, faults),
+        None => Ok(Some(String::new(rt.alloc()))),
+    }
+}
+
+/// The files for which the words stand, and the lines of this text. None, if a folder of the schema cannot be read. A file of the schema is no
+/// document too, and a document lends nothing besides.
+fn files_of<R: Files + AllocGlobal + Clone + Drop, F: Write>(
+    rt: &R,
+    words: Words<'_>,
+    further: &str,
+    faults: &mut F,
+) -> Result<Option<FilesOfRun>, Fault> {
+    let alloc = rt.alloc();
+    let Some(schema) = schema_paths(rt, words.schema, faults)? else {
+        return Ok(None);
+    };
+    let ends = words.files_from.map(|list| list.ends);
+    let all_words = with_further(alloc, words.documents, further, ends)?;
+    let documents = expanded(rt, &all_words, faults)?;
+    let fragments = expanded(rt, words.fragments, faults)?;
+    let is_all = documents.unread.is_empty() && fragments.unread.is_empty();
+    let documents = without(alloc, documents.files, &schema)?;
+    if documents.is_empty() && is_all {
+        return Err(Fault::NoDocument);
+    }
+    let lent = without(alloc, fragments.files, &schema)?;
+    let fragments = without(alloc, lent, &documents)?;
+    Ok(Some(FilesOfRun {
+        hidden: hidden(rt, words.only, &documents, &fragments, faults)?,
+        fragments,
+        schema,
+        documents,
+        is_all,
+    }))
+}
+
+/// The words, and then the paths of the text that are not empty. They end with line ends, unless they end with null bytes.
+fn with_further<'a>(
+    alloc: Global,
+    words: &[&'a str],
+    text: &'a str,
+    ends: Option<PathEnds>,
+) -> Result<Vec<&'a str>, AllocError> {
+    let mut all = Vec::from_slice(alloc, words)?;
+    match ends {
+        Some(PathEnds::Null) => add_ended(text, &mut all)?,
+        _ => add_lines(text, &mut all)?,
+    }
+    Ok(all)
+}
+
+/// Adds the lines of the text that are not empty.
+fn add_lines<'a>(text: &'a str, all: &mut Vec<&'a str>) -> Result<(), AllocError> {
+    for line in text.lines() {
+        if !line.is_empty() {
+            all.push(line)?;
+        }
+    }
+    Ok(())
+}
+
+/// Adds the parts of the text that end with null bytes and are not empty.
+fn add_ended<'a>(text: &'a str, all: &mut Vec<&'a str>) -> Result<(), AllocError> {
+    for path in text.split('\0') {
+        if !path.is_empty() {
+            all.push(path)?;
+        }
+    }
+    Ok(())
+}
+
+/// Of these files those for which no word stands. None, if there are no words.
+fn hidden<R: Files + AllocGlobal + Clone + Drop, F: Write>(
+    rt: &R,
+    only: &[&str],
+    documents: &[String],
+    fragments: &[String],
+    faults: &mut F,
+) -> Result<Vec<String>, Fault> {
+    let alloc = rt.alloc();
+    let mut all = Vec::new(alloc);
+    if only.is_empty() {
+        return Ok(all);
+    }
+    let shown = expanded(rt, only, faults)?;
+    for file in documents.iter().chain(fragments.iter()) {
+        all.push(String::from_str(alloc, file.as_str())?)?;
+    }
+    Ok(without(alloc, all, &shown.files)?)
+}

@@ -1,0 +1,71 @@
+//! The files that words of a command line stand for.
+
+use crate::faults::Fault;
+use gqlvalidate_formats::printable::Printable;
+use gqlvalidate_paths::{Expansion, PathError, expand};
+use std::alloc::{AllocError, Global};
+use std::io::Write;
+use std::rt::Files;
+
+/// The files of a schema for which these words stand. None if a folder cannot be read, which standard error says.
+pub fn schema_paths<R: Files + AllocGlobal + Clone + Drop, F: Write>(
+    rt: &R,
+    words: &[&str],
+    faults: &mut F,
+) -> Result<Option<Vec<String>>, Fault> {
+    let expansion = expanded(rt, words, faults)?;
+    if expansion.unread.is_empty() {
+        Ok(Some(expansion.files))
+    } else {
+        Ok(None)
+    }
+}
+
+/// What the words stand for. Which folders cannot be read is said on standard error, and so is what is wrong with a word.
+pub fn expanded<R: Files + AllocGlobal + Clone + Drop, F: Write>(
+    rt: &R,
+    words: &[&str],
+    faults: &mut F,
+) -> Result<Expansion, Fault> {
+    match expand(rt, words) {
+        Ok(expansion) => {
+            say_unread(&expansion, faults);
+            Ok(expansion)
+        }
+        Err(error) => Err(fault_of(&error, faults)),
+    }
+}
+
+fn say_unread<F: Write>(expansion: &Expansion, faults: &mut F) {
+    for folder in &expansion.unread {
+        let path = Printable(folder.path.as_str());
+        let error = &folder.error;
+        let _ = writeln!(faults, "{path}: error: {error}");
+    }
+}
+
+/// Says what is wrong with a word.
+fn fault_of<F: Write>(error: &PathError, faults: &mut F) -> Fault {
+    match error {
+        PathError::OutOfMemory => Fault::OutOfMemory,
+        PathError::BadPattern(word, why) => {
+            let word = Printable(word.as_str());
+            let _ = writeln!(faults, "{word}: error: {why}");
+            Fault::WordRefused
+        }
+        PathError::NoFile(word) => {
+            let word = Printable(word.as_str());
+            let _ = writeln!(faults, "{word}: error: no file has such a path");
+            Fault::WordRefused
+        }
+    }
+}
+
+/// The paths, borrowed.
+pub fn views(alloc: Global, paths: &[String]) -> Result<Vec<&str>, AllocError> {
+    let mut views = Vec::new(alloc);
+    for path in paths {
+        views.push(path.as_str())?;
+    }
+    Ok(views)
+}

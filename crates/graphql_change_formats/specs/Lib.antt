@@ -1,0 +1,2 @@
+pub mod ChangeJson
+pub mod ShownChanges

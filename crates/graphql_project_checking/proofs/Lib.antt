@@ -1,0 +1,9 @@
+mod BuildingLemmas
+mod FileLemmas
+mod OperationLemmas
+mod PartLemmas
+mod ProjectLemmas
+mod ReachingLemmas
+mod SilenceLemmas
+mod TextLemmas
+mod UseLemmas

@@ -1,0 +1,59 @@
+-- What one more fragment adds to what is reported of uses.
+use Rattle.std.proofs.Common.{◌≡◌, ◌∙◌, ℕ, ◌+◌, ◌<◌, Bool, true, false, List, [], ◌∷◌, ◌++◌, Some, None, length, get_or, take, map, ap, inl, inr, refl, subst, sym}
+use Rattle.std.specs.Prelude.{◌⊎◌, All, Contains}
+use Rattle.std.specs.Borrow.{Bor}
+use Rattle.std.specs.List.{list_any}
+use Rattle.std.proofs.lemmas.List.{map-append}
+use Rattle.std.proofs.lemmas.List.Elements.{All-append, All-cons, All-nil, Contains-append_cases, Contains-append_left, Contains-append_right}
+use Rattle.indexmap.specs.IndexSet.{insert_key}
+use Rattle.graphql_diagnostics.specs.declared.lists.DiagnosticEntry.{DiagnosticEntry}
+use Rattle.graphql_documents.proofs.ListLemmas.{none_stands, only_one, stands_first}
+use Rattle.graphql_documents.specs.Selections.{fragments_of}
+use Rattle.graphql_documents.specs.declared.documents.executables.ExecutableDocument.{ExecutableDocument}
+use Rattle.graphql_documents.specs.declared.documents.executables.Fragment.{Fragment}
+use Rattle.graphql_frontend.specs.declared.reports.Reports.{Reports}
+use Rattle.graphql_nodes.specs.Names.{NameText, same_name}
+use Rattle.graphql_nodes.specs.declared.nodes.Node.{Node}
+use Rattle.graphql_document_building.specs.Trees.{fragments_in}
+use Rattle.graphql_projects.specs.OperationTrees.{Pool, fragments_among}
+use Rattle.graphql_trees.specs.declared.documents.Definition.{Definition}
+use Rattle.graphql_trees.specs.declared.documents.Document.{Document}
+use Rattle.graphql_trees.specs.declared.executable.FragmentDefinition.{FragmentDefinition}
+use Rattle.graphql_variables.proofs.NameSetLemmas.{same_key}
+use Rattle.graphql_variables.specs.Uses.{IsNamedIn, names_of}
+use Rattle.graphql_project_checking.proofs.BuildingLemmas.{flat_more, fragments_more}
+use Rattle.graphql_project_checking.proofs.SilenceLemmas.{not_nil, silent_then}
+use Rattle.graphql_project_checking.specs.Silence.{ReportsUnused, SilentOnlyIf}
+
+abbrev pub IsUsed : List NameText → NameText × FragmentDefinition → Type 0
+IsUsed used p = IsNamedIn used p.0
+
+pub unused_none : (used : List NameText) (old : List DiagnosticEntry) → ReportsUnused used [] old old
+unused_none used old none = (none, All-nil (IsUsed used))
+
+pub unused_then : (used : List NameText) (xs ys : Pool) (old mid new : List DiagnosticEntry) → ReportsUnused used xs old mid → ReportsUnused used ys mid new →
+    ReportsUnused used (xs ++ ys) old new
+unused_then used xs ys old mid new first rest none =
+    let b = rest none in
+    let a = first b.0 in
+    (a.0, All-append (IsUsed used) xs ys a.1 b.1)
+
+pub unused_known : (used : List NameText) (p : NameText × FragmentDefinition) (old : List DiagnosticEntry) → IsNamedIn used p.0 → ReportsUnused used (p ∷ []) old old
+unused_known used p old known none = (none, All-cons (IsUsed used) p [] known (All-nil (IsUsed used)))
+
+pub unused_reported : (used : List NameText) (xs : Pool) (old new : List DiagnosticEntry) (e : DiagnosticEntry) → new ≡ old ++ e ∷ [] → ReportsUnused used xs old new
+unused_reported used xs old new e grown none = absurd (not_nil old e (sym grown ∙ none))
+
+pub unused_more : (used : List NameText) (ds : List Definition) (i : ℕ) (d : Definition) (old mid new : List DiagnosticEntry) → i < length ds → d ≡ get_or ds i d →
+    ReportsUnused used (fragments_in (take i ds)) old mid → ReportsUnused used (fragments_in (d ∷ [])) mid new → ReportsUnused used (fragments_in (take (i + 1) ds)) old new
+unused_more used ds i d old mid new within is first rest =
+    subst (λ l. ReportsUnused used l old new) (sym (fragments_more ds i d within is)) (unused_then used (fragments_in (take i ds)) (fragments_in (d ∷ [])) old mid new first rest)
+
+pub used_more : (used : List NameText) (documents : List Document) (i : ℕ) (document : Document) (old mid new : List Reports) → i < length documents →
+    document ≡ get_or documents i document → SilentOnlyIf old mid (All (λ p. IsNamedIn used p.0) (fragments_among (take i documents))) →
+    SilentOnlyIf mid new (All (λ p. IsNamedIn used p.0) (fragments_in document.definitions)) → SilentOnlyIf old new (All (λ p. IsNamedIn used p.0) (fragments_among (take (i + 1) documents)))
+used_more used documents i document old mid new within is first rest =
+    silent_then old mid new (All (IsUsed used) (fragments_among (take i documents))) (All (IsUsed used) (fragments_in document.definitions))
+    (All (IsUsed used) (fragments_among (take (i + 1) documents)))
+    (λ a b. subst (All (IsUsed used)) (sym (flat_more (λ (t : Document). fragments_in t.definitions) documents i document within is))
+    (All-append (IsUsed used) (fragments_among (take i documents)) (fragments_in document.definitions) a b)) first rest

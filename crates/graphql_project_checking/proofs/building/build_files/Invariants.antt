@@ -1,0 +1,7 @@
+use Rattle.std.proofs.Common.{take}
+use Rattle.graphql_project_checking.specs.Silence.{BuildAll, SilentOnlyIf}
+use Rattle.graphql_project_checking.proofs.building.build_files.Given as goal
+
+abbrev pub invariant-loop-document : goal.invariant-loop-document
+invariant-loop-document l =
+    SilentOnlyIf l.initial.found.items l.found.items (BuildAll l.building.schema.now (take l.document-index l.documents) l.files.items)

@@ -1,0 +1,19 @@
+use Rattle.std.proofs.Common.{◌≡◌, ◌∙◌, [], Some, subst}
+use Rattle.std.specs.Prelude.{All, IsOk}
+use Rattle.graphql_building_reports.specs.Checks.{reports_of}
+use Rattle.graphql_document_building.specs.BuildingRules.{DefinitionBuilds}
+use Rattle.graphql_project_checking.specs.Silence.{OthersBuild}
+use Rattle.graphql_project_checking.proofs.SilenceLemmas.{checked_holds, silent_so}
+use Rattle.graphql_project_checking.proofs.building.fragments_of_file.Goals as goal
+
+pub returns : goal.returns
+returns c =
+    let s = c.args.building.schema.now in
+    let checked = c.check_definitions-checked.result in
+    let reports = c.check_definitions-checked.new.reports in
+    record {
+      silence = silent_so c.args.found.now.items c.add_reports.new.found.items (IsOk checked × (reports_of reports ≡ [])) (OthersBuild s c.args.document)
+          (λ h. subst (All (DefinitionBuilds (Some s))) (c.as_slice.ensures ∙ c.in_ok-parts.ensures.others)
+          (checked_holds checked _ _ _ _ c.check_definitions-checked.ensures c.new_list-reports.ensures h.0 h.1)) c.in_ok-add_reports.ensures;
+      fragments = c.in_ok-parts.ensures.fragments;
+    }

@@ -1,0 +1,12 @@
+use Rattle.std.proofs.Common.{◌≡◌, ◌≢◌, ◌∙◌, [], rules, sym}
+use Rattle.graphql_reporting.specs.Lists.{reports_of}
+use Rattle.graphql_project_checking.specs.Silence.{SilentOnlyIf}
+use Rattle.graphql_project_checking.proofs.SilenceLemmas.{on_ok}
+use Rattle.graphql_project_checking.proofs.file_rules.add_first_values.Goals as goal
+
+pub returns : goal.returns
+returns c =
+    let some : reports_of c.args.list ≢ [] = search rules in
+    let new = c.add_values.new.found.items in
+    let H = c.into_reports.result.items ≡ [] in
+    on_ok (SilentOnlyIf c.args.found.now.items new H) (new ≢ []) (λ silent none. some (sym c.into_reports.ensures ∙ (silent none).1)) c.add_values.result c.add_values.ensures

@@ -1,0 +1,5 @@
+use Rattle.std.proofs.Common.{length}
+use Rattle.graphql_project_checking.proofs.parts.leave_out.Given as goal
+
+abbrev pub decreases-loop-definition : goal.decreases-loop-definition
+decreases-loop-definition l = length l.definitions

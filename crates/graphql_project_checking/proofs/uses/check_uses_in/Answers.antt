@@ -1,0 +1,21 @@
+use Rattle.std.proofs.Common.{◌≡◌, [], subst}
+use Rattle.std.specs.Prelude.{All, IsOk, OnOk}
+use Rattle.graphql_diagnostics.specs.Diagnostics.{entries}
+use Rattle.graphql_document_building.specs.Trees.{fragments_in}
+use Rattle.graphql_variables.specs.Uses.{names_of}
+use Rattle.graphql_project_checking.specs.Silence.{ReportsUnused, SilentOnlyIf}
+use Rattle.graphql_project_checking.proofs.SilenceLemmas.{at_ok, on_ok, silent_so}
+use Rattle.graphql_project_checking.proofs.UseLemmas.{IsUsed}
+use Rattle.graphql_project_checking.proofs.uses.check_uses_in.Goals as goal
+
+pub returns : goal.returns
+returns c =
+    let used = names_of c.args.used.now.keys in
+    let old = c.args.found.now.items in
+    let new = c.add_rules.new.found.items in
+    let checked = c.report_unused-checked.result in
+    let rules = c.report_unused-checked.new.rules in
+    let H = IsOk checked × (entries rules ≡ []) in
+    let K = All (IsUsed used) (fragments_in c.args.document.now.definitions) in
+    let reports = subst (λ l. OnOk checked (ReportsUnused used (fragments_in l) (entries c.with_bound-rules.result) (entries rules))) c.as_slice.ensures c.report_unused-checked.ensures in
+    on_ok (SilentOnlyIf old new H) (SilentOnlyIf old new K) (silent_so old new H K (λ h. (at_ok _ checked reports h.0 h.1).1)) c.add_rules.result c.add_rules.ensures

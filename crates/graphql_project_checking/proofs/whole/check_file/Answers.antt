@@ -1,0 +1,33 @@
+use Rattle.std.proofs.Common.{refl}
+use Rattle.std.specs.Prelude.{All}
+use Rattle.graphql_documents.specs.Executables.{operations_of}
+use Rattle.graphql_documents.specs.declared.documents.executables.ExecutableDocument.{ExecutableDocument}
+use Rattle.graphql_input_rules.specs.InputFields.{InputFieldsAreUnique}
+use Rattle.graphql_specification.specs.Defer.{LabelsHold}
+use Rattle.graphql_project_checking.specs.Silence.{FilePasses, OperationPasses, SilentOnlyIf}
+use Rattle.graphql_project_checking.proofs.SilenceLemmas.{on_ok, silent_then}
+use Rattle.graphql_project_checking.proofs.whole.check_file.Goals as goal
+
+pub returns : goal.returns
+returns c =
+    let s = c.args.context.schema.now in
+    let pool = c.args.context.pool.now in
+    let file = c.args.file in
+    let whole : ExecutableDocument = record { operations = file.operations; fragments = c.check_operations.new.fragments } in
+    let old = c.args.found.now.items in
+    let mid = c.check_operations.new.found.items in
+    let new = c.check_file_rules.new.found.items in
+    record {
+      passes = on_ok (SilentOnlyIf mid new (LabelsHold whole × InputFieldsAreUnique whole)) (SilentOnlyIf old new (FilePasses s pool file))
+          (silent_then old mid new (All (OperationPasses s pool) (operations_of file)) (LabelsHold whole × InputFieldsAreUnique whole) (FilePasses s pool file)
+          (λ operations rules. record {
+            operations = operations;
+            whole = whole;
+            same_operations = refl;
+            borrows = c.in_ok-check_operations.ensures.borrows;
+            unique = c.len-count.ensures.unique;
+            labels = rules.0;
+            input_fields = rules.1;
+          }) c.in_ok-check_operations.ensures.passes) c.check_file_rules.result c.check_file_rules.ensures;
+      used = on_ok _ _ (λ h. c.in_ok-check_operations.ensures.used) c.check_file_rules.result c.check_file_rules.ensures;
+    }

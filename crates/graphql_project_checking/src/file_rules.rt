@@ -1,0 +1,154 @@
+//! The rules that are asked of the definitions of a file together.
+
+ghost use Rattle.std.specs.Prelude.{◌≡◌, ◌≢◌, [], IsOk, OnOk};
+ghost use Rattle.graphql_diagnostics.specs.Diagnostics.{entries};
+ghost use Rattle.graphql_input_rules.specs.InputFields.{InputFieldsAreUnique};
+ghost use Rattle.graphql_project_checking.specs.Silence.{SilentOnlyIf};
+ghost use Rattle.graphql_specification.specs.Defer.{LabelsHold};
+
+use graphql_diagnostics::DiagnosticList;
+use graphql_documents::documents::ExecutableDocument;
+use graphql_frontend::first_reports::report_bound;
+use graphql_frontend::{Bounds, DocumentReports, Reports, ValidationError};
+use graphql_input_rules::{InputFieldRepetition, check_input_fields};
+use graphql_operations::validate_defer;
+use graphql_reporting::ReportList;
+use std::alloc::Global;
+
+/// Reports labels of `@defer` that repeat in a document or are variables, and input fields that object values give again.
+///
+/// Specification: the incremental delivery proposal, Directive Labels Are Unique; 5.6.3 Input Object Field Uniqueness.
+pub(crate) fn check_file_rules(
+    alloc: Global,
+    document: &ExecutableDocument,
+    bounds: Bounds,
+    found: &mut Vec<Reports>,
+) -> Result<(), ValidationError>
+    ensures { OnOk result (SilentOnlyIf found.old.items found.new.items (LabelsHold document.now × InputFieldsAreUnique document.now)) }
+{
+    check_labels(alloc, document, bounds, found)?;
+    check_values(alloc, document, bounds, found)
+}
+
+fn check_labels(
+    alloc: Global,
+    document: &ExecutableDocument,
+    bounds: Bounds,
+    found: &mut Vec<Reports>,
+) -> Result<(), ValidationError>
+    ensures { OnOk result (SilentOnlyIf found.old.items found.new.items (LabelsHold document.now)) }
+{
+    let mut rules = DiagnosticList::with_bound(alloc, document.hash_seed(), report_bound(bounds));
+    let checked = validate_defer(document, &mut rules);
+    add_rules(alloc, rules, checked, bounds, found)
+}
+
+/// Adds the reports of a check, if there are any: the first ones, if the check ended because the list keeps no more.
+pub(crate) fn add_rules(
+    alloc: Global,
+    rules: DiagnosticList,
+    checked: Result<(), ValidationError>,
+    bounds: Bounds,
+    found: &mut Vec<Reports>,
+) -> Result<(), ValidationError>
+    ensures { OnOk result (SilentOnlyIf found.old.items found.new.items (IsOk checked × (entries rules ≡ []))) }
+{
+    match checked {
+        Ok(()) => add_all_rules(alloc, rules, found),
+        Err(error) => add_first_rules(rules, error, bounds, found),
+    }
+}
+
+/// Adds the first reports, if a check ended with this error because the list keeps no more.
+fn add_first_rules(
+    rules: DiagnosticList,
+    error: ValidationError,
+    bounds: Bounds,
+    found: &mut Vec<Reports>,
+) -> Result<(), ValidationError>
+    ensures { OnOk result (found.new.items ≢ []) }
+{
+    if !is_full(&rules, bounds) {
+        return Err(error);
+    }
+    found.push(Reports::FirstDocumentRules(rules))?;
+    Ok(())
+}
+
+fn add_all_rules(
+    alloc: Global,
+    rules: DiagnosticList,
+    found: &mut Vec<Reports>,
+) -> Result<(), ValidationError>
+    ensures { OnOk result (SilentOnlyIf found.old.items found.new.items (entries rules ≡ [])) }
+{
+    if rules.is_empty() {
+        return Ok(());
+    }
+    found.push(Reports::DocumentRules(DocumentReports {
+        rules,
+        undefined_variables: Vec::new(alloc),
+        input_fields: Vec::new(alloc),
+        usages: Vec::new(alloc),
+        has_more: false,
+    }))?;
+    Ok(())
+}
+
+/// Whether a check ended because the list has a report and keeps no more.
+fn is_full(rules: &DiagnosticList, bounds: Bounds) -> bool {
+    rules.has_more() && !rules.is_empty() && rules.len() <= bounds.reports.max(1)
+}
+
+fn check_values(
+    alloc: Global,
+    document: &ExecutableDocument,
+    bounds: Bounds,
+    found: &mut Vec<Reports>,
+) -> Result<(), ValidationError>
+    ensures { OnOk result (SilentOnlyIf found.old.items found.new.items (InputFieldsAreUnique document.now)) }
+{
+    let mut list = ReportList::with_bound(alloc, report_bound(bounds));
+    match check_input_fields(&mut list, document) {
+        Ok(()) => add_values(alloc, document, list.into_reports(), false, found),
+        Err(error) => add_first_values(alloc, document, list, error, found),
+    }
+}
+
+/// Adds the first repetitions, if a check ended with this error because the list keeps no more.
+fn add_first_values(
+    alloc: Global,
+    document: &ExecutableDocument,
+    list: ReportList<InputFieldRepetition>,
+    error: ValidationError,
+    found: &mut Vec<Reports>,
+) -> Result<(), ValidationError>
+    ensures { OnOk result (found.new.items ≢ []) }
+{
+    if list.is_empty() || !list.has_more() {
+        return Err(error);
+    }
+    add_values(alloc, document, list.into_reports(), true, found)
+}
+
+fn add_values(
+    alloc: Global,
+    document: &ExecutableDocument,
+    input_fields: Vec<InputFieldRepetition>,
+    has_more: bool,
+    found: &mut Vec<Reports>,
+) -> Result<(), ValidationError>
+    ensures { OnOk result (SilentOnlyIf found.old.items found.new.items (input_fields.items ≡ [])) }
+{
+    if input_fields.is_empty() {
+        return Ok(());
+    }
+    found.push(Reports::DocumentRules(DocumentReports {
+        rules: DiagnosticList::with_hash_seed(alloc, document.hash_seed()),
+        undefined_variables: Vec::new(alloc),
+        input_fields,
+        usages: Vec::new(alloc),
+        has_more,
+    }))?;
+    Ok(())
+}

@@ -1,0 +1,75 @@
+//! The document of one operation, and what is reported of it.
+
+ghost use Rattle.std.specs.Prelude.{◌≡◌, None, Ok, OnOk};
+ghost use Rattle.graphql_project_checking.specs.Silence.{HoldsWith, SilentOnlyIf};
+ghost use Rattle.graphql_variables.specs.Uses.{names_of};
+
+use crate::contexts::Context;
+use graphql_documents::documents::{ExecutableDocument, Operation};
+use graphql_frontend::{Reports, ValidationError, validate_built};
+use graphql_hash_seeds::HashSeed;
+use graphql_nodes::{Name, Node, SourceSpan};
+use graphql_pools::document_of;
+use indexmap::IndexSet;
+use std::alloc::Global;
+
+/// Reports what is wrong with an operation that reaches the fragments of these names: the rules that it breaks in the document of it and of
+/// these fragments, or the limit that this passes.
+///
+/// Specification: 5 Validation.
+pub(crate) fn check_operation(
+    alloc: Global,
+    context: Context<'_>,
+    operation: &Node<Operation>,
+    names: &IndexSet<&Name, HashSeed>,
+    found: &mut Vec<Reports>,
+) -> Result<(), ValidationError>
+    ensures { OnOk result (SilentOnlyIf found.old.items found.new.items
+        (HoldsWith context.entry.schema.now context.entry.pool.now operation.now (names_of names.now.keys))) }
+{
+    match reports_of(alloc, context, operation, names)? {
+        None => Ok(()),
+        Some(reports) => {
+            found.push(reports)?;
+            Ok(())
+        }
+    }
+}
+
+/// What is reported of the document of an operation and of the fragments of these names. The document is dropped at one place alone: each
+/// more costs a proof.
+fn reports_of(
+    alloc: Global,
+    context: Context<'_>,
+    operation: &Node<Operation>,
+    names: &IndexSet<&Name, HashSeed>,
+) -> Result<Option<Reports>, ValidationError>
+    ensures { result ≡ Ok None → HoldsWith context.entry.schema.now context.entry.pool.now operation.now (names_of names.now.keys) }
+{
+    let document = document_of(alloc, context.pool, operation, names)?;
+    let bytes = bytes_of(operation, &document);
+    validate_built(
+        alloc,
+        Some(context.schema),
+        &document,
+        context.bounds,
+        bytes,
+    )
+}
+
+/// How many bytes the operation and the fragments of its document have.
+fn bytes_of(operation: &Node<Operation>, document: &ExecutableDocument) -> usize {
+    let mut bytes = bytes_at(operation.location);
+    for fragment in document.fragments.values() {
+        bytes = bytes.saturating_add(bytes_at(fragment.location));
+    }
+    bytes
+}
+
+/// How many bytes there are at a location; none where it is not known.
+fn bytes_at(location: Option<SourceSpan>) -> usize {
+    match location {
+        Some(span) => span.end.saturating_sub(span.start) as usize,
+        None => 0,
+    }
+}
