@@ -27,11 +27,17 @@ pub struct Subject<'a> {
 }
 
 /// What reports are about, with the lines of its texts counted.
-#[derive(Drop)]
 pub struct CountedSubject<'a> {
     /// The file of a report that has no place.
     pub path: Option<&'a str>,
     texts: Vec<CountedText<'a>>,
+}
+
+// Written out, so that only this crate proves it: a derived one is proved again in each crate that drops subjects.
+impl Drop for CountedSubject<'_> {
+    fn drop(self) {
+        let CountedSubject { path: _, texts: _ } = self;
+    }
 }
 
 #[derive(Drop)]

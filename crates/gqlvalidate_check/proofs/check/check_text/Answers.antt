@@ -1,6 +1,6 @@
 use Rattle.std.proofs.Common.{Some, subst}
 use Rattle.graphql_frontend.specs.Documents.{ValidatesDocument}
-use Rattle.gqlvalidate_commands.proofs.check.check_text.Goals as goal
+use Rattle.gqlvalidate_check.proofs.check.check_text.Goals as goal
 
 pub returns-in_ok-report_document-in-Some-clause-reported :
     goal.returns-in_ok-report_document-in-Some-clause-reported
