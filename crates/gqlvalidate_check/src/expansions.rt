@@ -39,7 +39,7 @@ struct FilesOfRun {
     is_all: bool,
 }
 
-/// Validates the schema and the documents for which these words stand.
+/// Validates the schema and the documents that these words name.
 pub fn check_words<R: Files + AllocGlobal + Clone + Drop, I: Read, O: Write, F: Write>(
     rt: &R,
     words: Words<'_>,
@@ -88,7 +88,7 @@ fn further_words<R: Files + AllocGlobal, I: Read, F: Write>(
     }
 }
 
-/// The files for which the words stand, and the lines of this text. None, if a folder of the schema cannot be read. A file of the schema is no
+/// The files that the words and the lines of this text name. None, if a folder of the schema cannot be read. A file of the schema is no
 /// document too, and a document lends nothing besides.
 fn files_of<R: Files + AllocGlobal + Clone + Drop, F: Write>(
     rt: &R,
@@ -155,7 +155,7 @@ fn add_ended<'a>(text: &'a str, all: &mut Vec<&'a str>) -> Result<(), AllocError
     Ok(())
 }
 
-/// Of these files those for which no word stands. None, if there are no words.
+/// Those of these files that no word names. None, if there are no words.
 fn hidden<R: Files + AllocGlobal + Clone + Drop, F: Write>(
     rt: &R,
     only: &[&str],

@@ -15,7 +15,7 @@ use std::alloc::{AllocError, Global};
 use std::io::{Read, Write};
 use std::rt::Files;
 
-/// Validates the schema of the files for which these words stand.
+/// Validates the schema of the files that these words name.
 pub fn check_schema<R: Files + AllocGlobal + Clone + Drop, I: Read, O: Write, F: Write>(
     rt: &R,
     words: &[&str],

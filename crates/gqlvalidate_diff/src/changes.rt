@@ -77,7 +77,7 @@ pub fn presentation_of(format: ChangeFormat, terminal: Terminal) -> Presentation
     Presentation::new(Reporting::new(format, Color::Auto, None), terminal)
 }
 
-/// Compares the schemas of the files for which these words stand, and validates documents against both, if both schemas hold.
+/// Compares the schemas of the files that these words name, and validates documents against both, if both schemas hold.
 pub fn compare<R: Files + AllocGlobal + Clone + Drop, I: Read, O: Write, F: Write>(
     rt: &R,
     words: Compared<'_>,
@@ -119,7 +119,7 @@ fn compare_files<R: Files + AllocGlobal + Clone + Drop, I: Read, O: Write, F: Wr
     }
 }
 
-/// The files of a schema for which these words stand, if all of them have a text. Standard error says what is wrong with the others.
+/// The files of a schema that these words name, if all of them have a text. Standard error says what is wrong with the others.
 fn files_of<R: Files + AllocGlobal + Clone + Drop, I: Read, F: Write>(
     rt: &R,
     words: &[&str],
@@ -139,7 +139,7 @@ fn files_of<R: Files + AllocGlobal + Clone + Drop, I: Read, F: Write>(
     Ok(Some(SchemaFiles { paths, texts }))
 }
 
-/// The paths as they are shown: JSON escapes what controls, and in the other formats a replacement character stands for it.
+/// The paths as they are shown: JSON escapes control characters, and the other formats replace them.
 fn paths_as_shown(
     alloc: Global,
     paths: &[&str],

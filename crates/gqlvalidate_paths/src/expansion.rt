@@ -1,4 +1,4 @@
-//! The files for which words stand.
+//! The files that words name.
 
 use crate::folders::{UnreadFolder, files_below};
 use crate::plain::{folder_of, is_pattern, is_within, plain};
@@ -8,10 +8,10 @@ use std::collections::BTreeSet;
 use std::fs;
 use std::rt::Files;
 
-/// The word that stands for standard input.
+/// The word that names standard input.
 const STANDARD_INPUT: &str = "-";
 
-/// What words stand for.
+/// The files that words name.
 #[derive(Drop)]
 pub struct Expansion {
     /// The paths of files, each file once: in the order of the words, and those of one word in the order of their bytes.
@@ -20,13 +20,13 @@ pub struct Expansion {
     pub unread: Vec<UnreadFolder>,
 }
 
-/// Why words do not stand for files.
+/// Why words name no files.
 #[derive(Debug, Drop)]
 pub enum PathError {
     OutOfMemory,
     /// The word is not well written as a pattern.
     BadPattern(String, PatternError),
-    /// No file is one for which the pattern stands.
+    /// The pattern matches no file.
     NoFile(String),
 }
 
@@ -42,11 +42,11 @@ impl<T: Drop> From<AllocFailed<T>> for PathError {
     }
 }
 
-/// The files for which these words stand. A word is the path of a file, or `-`; or the path of a folder, and stands for the files below it
-/// whose names end in `.graphql` or `.gql`; or a pattern, and stands for the files that have such a path. A word that begins with `!` takes
-/// out what the words before it stand for, if the rest stands for that or for a folder around it. Links in folders are not followed.
+/// The files that these words name. A word is the path of a file, or `-`; or the path of a folder, and names the files below it
+/// whose names end in `.graphql` or `.gql`; or a pattern, and names the files whose paths it matches. A word that begins with `!` takes
+/// out files that the words before it name, if the rest names them or a folder around them. Links in folders are not followed.
 ///
-/// The error says which pattern is not well written or stands for no file, or that an allocation failed.
+/// The error says which pattern is not well written or matches no file, or that an allocation failed.
 pub fn expand<R: Files + AllocGlobal + Clone + Drop>(
     rt: &R,
     words: &[&str],
@@ -85,7 +85,7 @@ fn plain_paths(alloc: Global, files: &[String]) -> Result<BTreeSet<String>, Allo
     Ok(paths)
 }
 
-/// The files that words until now stand for.
+/// The files that the words until now name.
 #[derive(Drop)]
 struct Selection {
     files: Vec<String>,
@@ -103,7 +103,7 @@ impl Selection {
         }
     }
 
-    /// Adds what a word stands for, or takes it out.
+    /// Adds the files that a word names, or takes them out.
     fn add<R: Files + AllocGlobal + Clone + Drop>(
         &mut self,
         rt: &R,
@@ -148,7 +148,7 @@ impl Selection {
         Ok(())
     }
 
-    /// Adds the files that have a path for which the pattern stands.
+    /// Adds the files whose paths the pattern matches.
     fn add_pattern<R: Files + AllocGlobal + Clone + Drop>(
         &mut self,
         rt: &R,
@@ -171,7 +171,7 @@ impl Selection {
         }
     }
 
-    /// Adds those of the files for which the pattern stands, and answers whether there is one.
+    /// Adds those of the files that the pattern matches, and answers whether there is one.
     fn add_matching(
         &mut self,
         alloc: Global,
@@ -188,7 +188,7 @@ impl Selection {
         Ok(stands_for_one)
     }
 
-    /// Takes out the files for which the rest of the word stands.
+    /// Takes out the files that the rest of the word names.
     fn take_out(&mut self, alloc: Global, word: &str, rest: &str) -> Result<(), PathError> {
         let text = plain(alloc, rest)?;
         let pattern = parsed(alloc, word, text.as_str())?;
@@ -217,7 +217,7 @@ fn parsed(alloc: Global, word: &str, text: &str) -> Result<Pattern, PathError> {
     }
 }
 
-/// Whether a folder stands for the file: its name is that of a document.
+/// Whether a folder that is named names the file: its name is that of a document.
 fn is_document(path: &str) -> bool {
     path.ends_with(".graphql") || path.ends_with(".gql")
 }

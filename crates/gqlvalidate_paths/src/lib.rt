@@ -1,4 +1,4 @@
-//! The files for which words of a command line stand: files, folders and patterns.
+//! The files that words of a command line name: files, folders and patterns.
 #![tactic(auto)]
 
 pub mod expansion;

@@ -63,7 +63,7 @@ pub(crate) fn is_pattern(word: &str) -> bool {
     word.contains(is_special)
 }
 
-/// The folder below which all paths are for which a plain pattern stands: its names before the first with a special character.
+/// The folder below which all paths are that a plain pattern matches: its names before the first with a special character.
 pub(crate) fn folder_of(alloc: Global, pattern: &str) -> Result<String, AllocError> {
     let mut folder = String::new(alloc);
     if pattern.starts_with('/') {

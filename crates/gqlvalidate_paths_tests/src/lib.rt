@@ -1,4 +1,4 @@
-//! Tests of the words of a command line: for which files they stand.
+//! Tests of the words of a command line: which files they name.
 #![tactic(auto)]
 
 #[cfg(test)]

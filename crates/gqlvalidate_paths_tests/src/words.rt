@@ -2,12 +2,12 @@ use gqlvalidate_paths::{PathError, expand, without};
 use std::alloc::Global;
 use std::process::Abort;
 
-/// Words, none of which is the path of a folder or a pattern, and the files for which they stand.
+/// Words, none of which is the path of a folder or a pattern, and the files that they name.
 const WORDS: &[(&[&str], &[&str])] = &[
     (&[], &[]),
     (&["b.graphql", "a.graphql"], &["b.graphql", "a.graphql"]),
     (&["-", "a.graphql"], &["-", "a.graphql"]),
-    // A file stands once: a `.` and a doubled slash change no path.
+    // A file is named once: a `.` and a doubled slash change no path.
     (
         &["x/a.graphql", "./x//a.graphql", "x/./a.graphql"],
         &["x/a.graphql"],
@@ -16,7 +16,7 @@ const WORDS: &[(&[&str], &[&str])] = &[
         &["/x/a.graphql", "x/a.graphql", "//x/a.graphql"],
         &["/x/a.graphql", "x/a.graphql"],
     ),
-    // A word with `!` takes out a file, what is in a folder, or what a pattern stands for, of the words before it.
+    // A word with `!` takes out a file, the files of a folder, or those that a pattern matches, of the words before it.
     (&["a.graphql", "b.graphql", "!./a.graphql"], &["b.graphql"]),
     (
         &["x/a.graphql", "x/y/b.graphql", "xy/c.graphql", "!x/"],

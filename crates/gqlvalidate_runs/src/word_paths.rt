@@ -1,4 +1,4 @@
-//! The files that words of a command line stand for.
+//! The files that words of a command line name.
 
 use crate::faults::Fault;
 use gqlvalidate_formats::printable::Printable;
@@ -7,7 +7,7 @@ use std::alloc::{AllocError, Global};
 use std::io::Write;
 use std::rt::Files;
 
-/// The files of a schema for which these words stand. None if a folder cannot be read, which standard error says.
+/// The files of a schema that these words name. None if a folder cannot be read, which standard error says.
 pub fn schema_paths<R: Files + AllocGlobal + Clone + Drop, F: Write>(
     rt: &R,
     words: &[&str],
@@ -21,7 +21,7 @@ pub fn schema_paths<R: Files + AllocGlobal + Clone + Drop, F: Write>(
     }
 }
 
-/// What the words stand for. Which folders cannot be read is said on standard error, and so is what is wrong with a word.
+/// The files that the words name. Standard error says which folders cannot be read, and what is wrong with a word.
 pub fn expanded<R: Files + AllocGlobal + Clone + Drop, F: Write>(
     rt: &R,
     words: &[&str],

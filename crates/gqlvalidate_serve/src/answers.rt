@@ -48,7 +48,7 @@ pub struct Allowance {
     pub lends: bool,
 }
 
-/// Reads the schema of the files for which these words stand, and answers each line of standard input by a line, until there are no more.
+/// Reads the schema of the files that these words name, and answers each line of standard input by a line, until there are no more.
 /// If the schema is reported, one line with its reports ends the run. Documents may spread the fragments of the files that are lent.
 pub fn serve<R: Files + AllocGlobal + Clone + Drop, I: Read, O: Write, F: Write>(
     rt: &R,
@@ -103,7 +103,7 @@ fn serve_schema<R: Files + AllocGlobal + Clone + Drop, I: Read, O: Write, F: Wri
     }
 }
 
-/// Reads the files that are lent, if words stand for some, and answers each line of standard input.
+/// Reads the files that are lent, if words name some, and answers each line of standard input.
 fn serve_beside<R: Files + AllocGlobal + Clone + Drop, I: Read, O: Write, F: Write>(
     rt: &R,
     schema: &Schema,

@@ -267,7 +267,7 @@ fn what_holds_is_accepted(rt: HostRuntime) {
 
 /// Words of runs over a project whose files, together, have nothing to report, and how many documents are checked.
 const PROJECT: &[(&[&str], &str)] = &[
-    // A folder stands for its documents; files of the schema are none.
+    // A folder names its documents; files of the schema are none.
     (
         &["check", "--schema", "project/schema", "project"],
         "5 documents",
@@ -405,7 +405,7 @@ fn other_files_are_checked_beside_a_folder_that_cannot_be_read(rt: HostRuntime) 
     );
 }
 
-/// Words that do not stand for documents, and what is said of them.
+/// Words that name no documents, and what is said of them.
 const NO_DOCUMENTS: &[(&[&str], &str)] = &[
     (
         &["check", "--schema", "schema", "[a"],
