@@ -3,6 +3,7 @@
 ghost use Rattle.std.specs.Prelude.{◌≡◌, ◌↔◌, ◌++◌, ◌∷◌, [], IfOk, IsTrue, None, Ok, OnOk, Some};
 ghost use Rattle.graphql_frontend.specs.Texts.{ParsesOneMore, ParsesTexts};
 ghost use Rattle.graphql_parser.specs.Parses.{ParsesDocument};
+ghost use Rattle.graphql_parser.specs.Refusals.{IsRefusal};
 ghost use Rattle.graphql_trees.specs.declared.documents.Document as document_tree;
 
 use graphql_hash_seeds::HashSeed;
@@ -92,7 +93,8 @@ fn parse_text(
     }
 }
 
-/// The error of a text that is no document, and `None` for one that is. The only error of the call is a failed allocation.
+/// The error of a text that is no document, with its place and reason, and `None` for one that is. The only error of the call is a
+/// failed allocation.
 ///
 /// Specification: 2.2 Document.
 pub fn syntax_error_of(
@@ -103,6 +105,7 @@ pub fn syntax_error_of(
     ensures accepted { result ≡ Ok None → (tree : document_tree.Document) × ParsesDocument bounds source.entry.file_id source.entry.text.now tree }
     ensures refused { (e : SyntaxError) → result ≡ Ok (Some e) →
         (tree : document_tree.Document) → ParsesDocument bounds source.entry.file_id source.entry.text.now tree → ⊥ }
+    ensures why { (e : SyntaxError) → result ≡ Ok (Some e) → IsRefusal bounds source.entry.file_id source.entry.text.now e }
 {
     match parse_document(alloc, source.file_id, source.text, bounds) {
         Ok(document) => {

@@ -12,7 +12,10 @@ use indexmap::IndexSet;
 /// The names of fragments that operations reach.
 pub type Used<'a> = IndexSet<&'a Name, HashSeed>;
 
-/// Notes that an operation reaches the fragments of these names.
+/// Notes the fragments of the pool that have these names, which an operation reaches. Earlier names stay. The only error is a failed
+/// allocation.
+///
+/// Specification: 5.5.1.4 Fragments Must Be Used.
 pub fn note_uses<'a>(
     pool: &'a ExecutableDocument,
     names: &IndexSet<&Name, HashSeed>,

@@ -113,7 +113,7 @@ module _ (pool : ExecutableDocument) where
 
   pub note_one : (o : Node Operation) (names : List NameText) (old new : List NameText) → ReachesNames (fragments_of pool) o.value.value.selection_set names →
       NotesNames pool names old new → NotesUses pool (o ∷ []) old new
-  note_one o names old new reached notes name there = by (notes name there) where
+  note_one o names old new reached notes name there = by (notes.only name there) where
     by : Contains old name ⊎ ((n : NameText) × (d : Node Fragment) × Contains names n × (fragments_of pool n ≡ Some d) × (name ≡ d.value.value.name)) →
         Contains old name ⊎ IsUsedName pool (o ∷ []) name
     by (inl was) = inl was

@@ -10,4 +10,4 @@ returns-in_ok-insert-in-Some c =
     (ap (λ (f : Fragment). f.name) c.deref.ensures) c.in_ok-insert-in-Some.ensures.keys
 
 pub returns-in-None : goal.returns-in-None
-returns-in-None c = notes_none c.args.pool.now c.args.name.now (names_of c.args.used.now.keys)
+returns-in-None c = notes_none c.args.pool.now c.args.name.now (names_of c.args.used.now.keys) (sym c.in-None.ensures.value)
