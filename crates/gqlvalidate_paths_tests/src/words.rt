@@ -46,7 +46,7 @@ fn owned(rt: &impl Abort, alloc: Global, texts: &[&str]) -> Vec<String> {
 }
 
 #[test]
-fn words_stand_for_files(rt: HostRuntime) {
+fn words_name_files(rt: HostRuntime) {
     for (words, files) in WORDS {
         match expand(&rt, words) {
             Ok(expansion) => {

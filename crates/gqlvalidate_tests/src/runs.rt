@@ -272,7 +272,7 @@ const PROJECT: &[(&[&str], &str)] = &[
         &["check", "--schema", "project/schema", "project"],
         "5 documents",
     ),
-    // So do patterns; the order of the words is of no account.
+    // Patterns name documents, too; the order of the words does not matter.
     (
         &[
             "check",
@@ -385,7 +385,7 @@ fn a_fault_of_a_fragment_is_in_its_file(rt: HostRuntime) {
     );
 }
 
-/// A folder that cannot be read does not end the run, and nothing is unused beside it.
+/// A folder that cannot be read does not end the run, and no fragment of the rest is reported as unused.
 #[test]
 fn other_files_are_checked_beside_a_folder_that_cannot_be_read(rt: HostRuntime) {
     let texts = [
@@ -426,7 +426,7 @@ const NO_DOCUMENTS: &[(&[&str], &str)] = &[
 ];
 
 #[test]
-fn words_stand_for_documents(rt: HostRuntime) {
+fn words_that_name_no_documents_are_refused(rt: HostRuntime) {
     for (texts, said) in NO_DOCUMENTS {
         run_ends(&rt, texts, 2, "", said);
     }
