@@ -1,12 +1,12 @@
 //! The files of a run, and which of them are shown.
 
 use crate::check::{Paths, check};
+use gqlvalidate_inputs::faults::Fault;
+use gqlvalidate_inputs::sources::text_or_said;
+use gqlvalidate_inputs::statuses::Status;
+use gqlvalidate_inputs::word_paths::{expanded, schema_paths, views};
 use gqlvalidate_paths::without;
-use gqlvalidate_runs::faults::Fault;
 use gqlvalidate_runs::presentations::Presentation;
-use gqlvalidate_runs::sources::text_or_said;
-use gqlvalidate_runs::statuses::Status;
-use gqlvalidate_runs::word_paths::{expanded, schema_paths, views};
 use gqlvalidate_words::{Grouping, PathEnds, PathList};
 use graphql_parser::Bounds;
 use std::alloc::{AllocError, Global};

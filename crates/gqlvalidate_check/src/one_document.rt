@@ -5,12 +5,12 @@ ghost use Rattle.graphql_frontend.specs.Documents.{ValidatesDocuments};
 ghost use Rattle.graphql_frontend.specs.Schemas.{IsUsable};
 
 use crate::check::Paths;
+use gqlvalidate_inputs::faults::Fault;
+use gqlvalidate_inputs::statuses::Status;
 use gqlvalidate_runs::accounts::Account;
-use gqlvalidate_runs::faults::Fault;
 use gqlvalidate_runs::named_texts::{NamedText, Subject};
 use gqlvalidate_runs::schema_files::{FileKind, ReadFiles, named_text, read_files};
 use gqlvalidate_runs::schema_texts::sources_of;
-use gqlvalidate_runs::statuses::Status;
 use graphql_documents::documents::Schema;
 use graphql_frontend::{Reports, SourceText, validate_documents};
 use graphql_parser::Bounds;

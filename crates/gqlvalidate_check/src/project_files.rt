@@ -3,13 +3,13 @@
 ghost use Rattle.graphql_frontend.specs.Schemas.{IsUsable};
 
 use crate::check::Paths;
+use gqlvalidate_inputs::faults::Fault;
+use gqlvalidate_inputs::sources::{shown_path, text_or_said};
+use gqlvalidate_inputs::statuses::Status;
 use gqlvalidate_runs::accounts::{Account, FilesOfProject};
-use gqlvalidate_runs::faults::Fault;
 use gqlvalidate_runs::named_texts::{NamedText, Subject};
 use gqlvalidate_runs::schema_files::named_text;
 use gqlvalidate_runs::schema_texts::sources_of;
-use gqlvalidate_runs::sources::{shown_path, text_or_said};
-use gqlvalidate_runs::statuses::Status;
 use graphql_documents::documents::Schema;
 use graphql_frontend::{Reports, SourceText};
 use graphql_parser::Bounds;

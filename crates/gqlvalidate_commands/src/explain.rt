@@ -1,9 +1,9 @@
 //! What a rule asks, as text.
 
+use gqlvalidate_inputs::faults::{Fault, fault_of_output};
+use gqlvalidate_inputs::printable::Printable;
+use gqlvalidate_inputs::statuses::Status;
 use gqlvalidate_rules::{Explanation, explanation_of, tables};
-use gqlvalidate_runs::faults::{Fault, fault_of_output};
-use gqlvalidate_runs::printable::Printable;
-use gqlvalidate_runs::statuses::Status;
 use std::io;
 use std::io::Write;
 

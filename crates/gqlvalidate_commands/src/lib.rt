@@ -5,5 +5,5 @@ pub mod command;
 mod explain;
 mod schemas;
 
-pub use gqlvalidate_runs::statuses::Status;
-pub use gqlvalidate_runs::terminals::Terminal;
+pub use gqlvalidate_inputs::statuses::Status;
+pub use gqlvalidate_inputs::terminals::Terminal;

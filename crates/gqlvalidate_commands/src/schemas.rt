@@ -1,15 +1,15 @@
 //! A schema that is validated for itself.
 
+use gqlvalidate_inputs::faults::Fault;
+use gqlvalidate_inputs::statuses::Status;
+use gqlvalidate_inputs::word_paths::{schema_paths, views};
 use gqlvalidate_runs::accounts::Account;
 use gqlvalidate_runs::bounds::OF_SCHEMA;
-use gqlvalidate_runs::faults::Fault;
 use gqlvalidate_runs::named_texts::NamedText;
 use gqlvalidate_runs::presentations::Presentation;
 use gqlvalidate_runs::schema_files::{FileKind, ReadFiles, named_schema, read_files};
 use gqlvalidate_runs::schema_reports::{end_unread, extent_of, reject};
 use gqlvalidate_runs::schema_texts::{schema_subject, sources_of};
-use gqlvalidate_runs::statuses::Status;
-use gqlvalidate_runs::word_paths::{schema_paths, views};
 use graphql_frontend::{SchemaReading, abandon, read_schema};
 use std::alloc::{AllocError, Global};
 use std::io::{Read, Write};

@@ -3,21 +3,21 @@
 ghost use Rattle.graphql_frontend.specs.Schemas.{IsUsable};
 
 use crate::operations::{Operations, check_operations};
+use gqlvalidate_inputs::faults::Fault;
+use gqlvalidate_inputs::printable::Printable;
+use gqlvalidate_inputs::statuses::Status;
+use gqlvalidate_inputs::terminals::Terminal;
+use gqlvalidate_inputs::word_paths::{expanded, schema_paths, views};
 use gqlvalidate_paths::Expansion;
 use gqlvalidate_runs::accounts::{Account, Extent, Whole, print};
 use gqlvalidate_runs::bounds::OF_SCHEMA;
-use gqlvalidate_runs::faults::Fault;
 use gqlvalidate_runs::github::{Annotation, push_annotation};
 use gqlvalidate_runs::json_lines::print_line;
 use gqlvalidate_runs::named_texts::{CountedSubject, NamedText};
 use gqlvalidate_runs::presentations::Presentation;
-use gqlvalidate_runs::printable::Printable;
 use gqlvalidate_runs::schema_files::{FileKind, ReadFiles, named_text, read_files};
 use gqlvalidate_runs::schema_reports::reject;
 use gqlvalidate_runs::schema_texts::{BUILT_IN_TEXT, schema_subject, sources_of};
-use gqlvalidate_runs::statuses::Status;
-use gqlvalidate_runs::terminals::Terminal;
-use gqlvalidate_runs::word_paths::{expanded, schema_paths, views};
 use gqlvalidate_words::{ChangeFormat, Color, FailOn, Format, Reporting};
 use graphql_change_formats::{
     ChangeTally, ComparedTexts, ShownChange, json_format, markdown_format, text_format, verdict_of,

@@ -1,6 +1,6 @@
 //! What is shown of a line of a text.
 
-use crate::printable::printable_character;
+use gqlvalidate_inputs::printable::printable_character;
 use std::alloc::{AllocError, Global};
 
 /// What stands for characters that are left out.

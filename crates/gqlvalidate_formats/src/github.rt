@@ -1,8 +1,7 @@
 //! Findings as workflow commands of GitHub Actions, a line a finding, which become annotations.
 
-use crate::printable::printable_character;
-use crate::runs::{UNREADABLE, UNREADABLE_RULE};
-use crate::texts::Texts;
+use gqlvalidate_inputs::printable::printable_character;
+use gqlvalidate_texts::{Texts, UNREADABLE, UNREADABLE_RULE};
 use graphql_findings::{Finding, FindingHelp, ShownReport};
 use graphql_notes::Note;
 use graphql_report_formats::named_texts::{Located, shown_name};

@@ -1,8 +1,6 @@
 //! Findings as one JSON object, version 1: `docs/report.schema.json` describes it.
 
-use crate::files::file_of;
-use crate::runs::Run;
-use crate::texts::Texts;
+use gqlvalidate_texts::{Run, Texts, file_of};
 use graphql_findings::{Finding, FindingHelp};
 use graphql_notes::Note;
 use graphql_places::Place;

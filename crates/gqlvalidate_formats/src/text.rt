@@ -1,9 +1,9 @@
 //! Findings for people: `path:line:column: error: message [Rule]`, and the line of source; then each note with its own, and what helps.
 
 use crate::excerpts::{Line, shown_beginning, shown_end};
-use crate::printable::Printable;
 use crate::styles::Style;
-use crate::texts::Texts;
+use gqlvalidate_inputs::printable::Printable;
+use gqlvalidate_texts::Texts;
 use graphql_findings::{Finding, FindingHelp, ShownReport};
 use graphql_notes::Note;
 use graphql_report_formats::named_texts::{Located, shown_name};

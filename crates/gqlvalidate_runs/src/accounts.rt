@@ -1,9 +1,10 @@
 //! What a run reports, and how many.
 
-use crate::faults::{Fault, fault_of_output};
 use crate::presentations::Presentation;
-use gqlvalidate_formats::named_texts::{CountedSubject, Subject};
-use gqlvalidate_formats::{Finding, Reports, Run, Sheet, Texts, findings_of};
+use crate::sheets::Sheet;
+use gqlvalidate_inputs::faults::{Fault, fault_of_output};
+use gqlvalidate_texts::named_texts::{CountedSubject, Subject};
+use gqlvalidate_texts::{Finding, Reports, Run, Texts, findings_of};
 use graphql_documents::documents::Schema;
 use graphql_parser::Bounds;
 use std::alloc::{AllocError, Global};

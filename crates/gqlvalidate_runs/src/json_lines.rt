@@ -1,7 +1,7 @@
 //! Lines of JSON.
 
-use crate::faults::{Fault, fault_of_output};
-use gqlvalidate_formats::printable::PrintableJson;
+use gqlvalidate_inputs::faults::{Fault, fault_of_output};
+use gqlvalidate_inputs::printable::PrintableJson;
 use json::Writer;
 use std::alloc::Global;
 use std::io::Write;

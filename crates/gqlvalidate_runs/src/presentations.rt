@@ -1,7 +1,7 @@
 //! How reports are presented.
 
-use crate::terminals::Terminal;
 use gqlvalidate_formats::Style;
+use gqlvalidate_inputs::terminals::Terminal;
 use gqlvalidate_words::{Color, Reporting};
 
 /// Which reports are written, in which format, and in which colours and columns.

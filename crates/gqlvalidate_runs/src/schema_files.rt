@@ -1,11 +1,11 @@
 //! The files of a schema.
 
-use crate::faults::Fault;
-use crate::introspections::schema_text_or_said;
-use crate::sources::{shown_path, text_or_said};
-use gqlvalidate_formats::SourceText;
-use gqlvalidate_formats::named_texts::NamedText;
-use gqlvalidate_formats::schema_texts::BUILT_IN_TEXT;
+use gqlvalidate_inputs::faults::Fault;
+use gqlvalidate_inputs::introspections::schema_text_or_said;
+use gqlvalidate_inputs::sources::{shown_path, text_or_said};
+use gqlvalidate_texts::SourceText;
+use gqlvalidate_texts::named_texts::NamedText;
+use gqlvalidate_texts::schema_texts::BUILT_IN_TEXT;
 use graphql_nodes::FileId;
 use std::alloc::{AllocError, Global};
 use std::io::{Read, Write};

@@ -4,18 +4,18 @@ ghost use Rattle.graphql_frontend.specs.Schemas.{IsUsable};
 
 use crate::lines::{ReadLine, read_line};
 use crate::questions::{Question, QuestionError};
+use gqlvalidate_inputs::faults::{Fault, fault_of_output};
+use gqlvalidate_inputs::sources::explain_input;
+use gqlvalidate_inputs::statuses::Status;
+use gqlvalidate_inputs::word_paths::{expanded, schema_paths, views};
 use gqlvalidate_paths::Expansion;
 use gqlvalidate_paths::plain::plain;
 use gqlvalidate_runs::bounds::OF_SCHEMA;
-use gqlvalidate_runs::faults::{Fault, fault_of_output};
 use gqlvalidate_runs::json_format::{add_reports, begin_errors};
 use gqlvalidate_runs::json_lines::print_line;
 use gqlvalidate_runs::named_texts::{CountedSubject, NamedText, Subject};
 use gqlvalidate_runs::schema_files::{FileKind, ReadFiles, named_schema, named_text, read_files};
 use gqlvalidate_runs::schema_texts::{schema_subject, sources_of};
-use gqlvalidate_runs::sources::explain_input;
-use gqlvalidate_runs::statuses::Status;
-use gqlvalidate_runs::word_paths::{expanded, schema_paths, views};
 use gqlvalidate_runs::{ShownReport, findings_of, shown_reports};
 use graphql_documents::documents::Schema;
 use graphql_frontend::{

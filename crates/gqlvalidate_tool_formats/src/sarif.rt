@@ -1,8 +1,7 @@
 //! Findings in the Static Analysis Results Interchange Format, version 2.1.0.
 
 use crate::helped::Helped;
-use crate::runs::{Run, UNREADABLE};
-use crate::texts::Texts;
+use gqlvalidate_texts::{Run, Texts, UNREADABLE};
 use graphql_findings::Finding;
 use graphql_notes::Note;
 use graphql_places::Place;

@@ -1,6 +1,6 @@
 //! Texts in XML.
 
-use crate::printable::printable_character;
+use gqlvalidate_inputs::printable::printable_character;
 use std::fmt;
 
 /// A text as the value of an attribute or the content of an element, with escapes.

@@ -1,10 +1,8 @@
 //! Findings as the XML of Checkstyle.
 
-use crate::files::file_of;
 use crate::helped::Helped;
-use crate::runs::{Run, UNREADABLE, UNREADABLE_RULE};
-use crate::texts::Texts;
 use crate::xml::Escaped;
+use gqlvalidate_texts::{Run, Texts, UNREADABLE, UNREADABLE_RULE, file_of};
 use graphql_findings::Finding;
 use std::alloc::{AllocError, Global};
 

@@ -1,5 +1,5 @@
 ghost use Rattle.std.specs.Prelude.{◌≡◌, ◌≤◌, ◌⊎◌};
-ghost use Rattle.gqlvalidate_runs.specs.Statuses.{number_of};
+ghost use Rattle.gqlvalidate_inputs.specs.Statuses.{number_of};
 
 /// How a run ended.
 #[derive(Clone, Copy, Debug, PartialEq, Eq)]

@@ -1,14 +1,12 @@
 //! The formats, each with what is written in it until now.
 
-use crate::gitlab::Issues;
-use crate::junit::Suite;
-use crate::printable::PrintableJson;
-use crate::runs::Run;
-use crate::styles::Style;
-use crate::texts::Texts;
-use crate::{checkstyle, github, json_findings, sarif, text};
+use gqlvalidate_formats::{Style, github, json_findings, text};
+use gqlvalidate_inputs::printable::PrintableJson;
+use gqlvalidate_texts::{Finding, Run, Texts};
+use gqlvalidate_tool_formats::gitlab::Issues;
+use gqlvalidate_tool_formats::junit::Suite;
+use gqlvalidate_tool_formats::{checkstyle, sarif};
 use gqlvalidate_words::Format;
-use graphql_findings::Finding;
 use json::Writer;
 use std::alloc::{AllocError, Global};
 

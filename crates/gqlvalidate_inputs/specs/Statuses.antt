@@ -1,7 +1,7 @@
 -- The statuses that the process ends with.
 use Rattle.std.specs.Prelude.{ℕ}
-use Rattle.gqlvalidate_runs.specs.declared.statuses.Status.{Status}
-use Rattle.gqlvalidate_runs.specs.declared.statuses.Status.TheVariants.{Accepted, Reported, BadArguments, OutOfMemory, OutputFailed, Unreadable}
+use Rattle.gqlvalidate_inputs.specs.declared.statuses.Status.{Status}
+use Rattle.gqlvalidate_inputs.specs.declared.statuses.Status.TheVariants.{Accepted, Reported, BadArguments, OutOfMemory, OutputFailed, Unreadable}
 
 -- the number of a status
 abbrev pub number_of : Status → ℕ

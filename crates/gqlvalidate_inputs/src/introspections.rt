@@ -1,9 +1,9 @@
 //! Schemas that are answers to introspection queries.
 
 use crate::faults::{Fault, fault_of_output};
+use crate::printable::Printable;
 use crate::sources::{shown_path, text_or_said};
 use crate::statuses::Status;
-use gqlvalidate_formats::printable::Printable;
 use graphql_introspection::{IntrospectionError, schema_text};
 use graphql_places::Place;
 use std::alloc::Global;

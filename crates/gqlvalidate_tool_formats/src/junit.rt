@@ -1,9 +1,7 @@
 //! Findings as the XML of JUnit: a test case a file, which fails once for each finding.
 
-use crate::files::{file_of, of_first_file};
-use crate::runs::{Run, UNREADABLE, UNREADABLE_RULE};
-use crate::texts::Texts;
 use crate::xml::Escaped;
+use gqlvalidate_texts::{Run, Texts, UNREADABLE, UNREADABLE_RULE, file_of, of_first_file};
 use graphql_findings::{Finding, FindingHelp};
 use graphql_notes::Note;
 use graphql_report_formats::named_texts::shown_name;

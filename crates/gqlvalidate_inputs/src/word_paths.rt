@@ -1,7 +1,7 @@
 //! The files that words of a command line name.
 
 use crate::faults::Fault;
-use gqlvalidate_formats::printable::Printable;
+use crate::printable::Printable;
 use gqlvalidate_paths::{Expansion, PathError, expand};
 use std::alloc::{AllocError, Global};
 use std::io::Write;

@@ -1,7 +1,7 @@
 //! The texts of files.
 
 use crate::faults::Fault;
-use gqlvalidate_formats::printable::Printable;
+use crate::printable::Printable;
 use gqlvalidate_words::requests::STANDARD_INPUT;
 use graphql_places::Place;
 use std::alloc::Global;

@@ -1,10 +1,8 @@
 //! Findings as the code quality report of GitLab.
 
-use crate::files::file_of;
 use crate::fingerprints::Fingerprints;
 use crate::helped::Helped;
-use crate::runs::{Run, UNREADABLE, UNREADABLE_RULE};
-use crate::texts::Texts;
+use gqlvalidate_texts::{Run, Texts, UNREADABLE, UNREADABLE_RULE, file_of};
 use graphql_findings::Finding;
 use json::Writer;
 use std::alloc::{AllocError, Global};
