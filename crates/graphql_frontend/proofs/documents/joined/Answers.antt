@@ -8,5 +8,6 @@ loop-document-preserved c =
     let old = c.loop-document.definitions in
     let more = c.in-Some.document.definitions in
     let rest = c.next.new.self.rest.items in
-    ap (λ l. l ++ definitions_of rest) c.in_ok-append.ensures ∙ append_assoc old more (definitions_of rest)
+    let grown = c.in_ok-append.ensures ∙ ap (λ l. old ++ l) c.into_definitions.ensures in
+    ap (λ l. l ++ definitions_of rest) grown ∙ append_assoc old more (definitions_of rest)
     ∙ ap (λ l. old ++ definitions_of l) (sym c.in-Some.ensures.steps.0) ∙ c.loop-document.invariant
