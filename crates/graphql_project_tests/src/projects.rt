@@ -277,8 +277,14 @@ fn push_lines(
     }
 }
 
-/// What is reported of the project of these texts: all of them, or some of which others could not be read.
-fn reported(rt: &impl Abort, alloc: Global, own: &[&str], lent: &[&str], is_all: bool) -> String {
+/// What is reported of the project of these texts: all of them, or some of a project of which others could not be read.
+fn reported<'a>(
+    rt: &impl Abort,
+    alloc: Global,
+    own: &[&'a str],
+    lent: &[&'a str],
+    is_all: bool,
+) -> String {
     let schema = [
         SourceText {
             file_id: FileId::BUILT_IN,
