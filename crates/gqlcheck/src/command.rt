@@ -1,6 +1,8 @@
-use crate::faults::{Fault, fault_of_output, fault_of_words};
+use crate::faults::{Fault, fault_of_words};
+use crate::refusals::{judge_all, judge_named};
 use crate::reports::report_example;
 use crate::statuses::Status;
+use crate::texts::compare_all;
 use graphql_examples::Example;
 use graphql_more_examples::{find, tables};
 use std::alloc::Global;
@@ -30,12 +32,26 @@ pub fn run<O: Write, F: Write>(
 
 fn answer<O: Write>(alloc: Global, words: &[String], output: &mut O) -> Result<Status, Fault> {
     let status = match words {
-        [word, id] if word.as_str() == "row" => answer_row(alloc, id.as_str(), output)?,
-        [word] if word.as_str() == "rows" => answer_rows(alloc, output)?,
+        [word, id] => answer_named(alloc, word.as_str(), id.as_str(), output)?,
+        [word] => answer_all(alloc, word.as_str(), output)?,
         _ => return Err(Fault::BadArguments),
     };
-    output.flush().map_err(fault_of_output)?;
+    output.flush()?;
     Ok(status)
+}
+
+/// Answers a word with the name of an example.
+fn answer_named<O: Write>(
+    alloc: Global,
+    word: &str,
+    id: &str,
+    output: &mut O,
+) -> Result<Status, Fault> {
+    match word {
+        "row" => answer_row(alloc, id, output),
+        "refusals" => judge_named(alloc, id).and(Ok(Status::Accepted)),
+        _ => Err(Fault::BadArguments),
+    }
 }
 
 fn answer_row<O: Write>(alloc: Global, id: &str, output: &mut O) -> Result<Status, Fault> {
@@ -47,11 +63,22 @@ fn answer_row<O: Write>(alloc: Global, id: &str, output: &mut O) -> Result<Statu
     }
 }
 
-fn answer_rows<O: Write>(alloc: Global, output: &mut O) -> Result<Status, Fault> {
+/// Answers a word that asks for all examples.
+fn answer_all<O: Write>(alloc: Global, word: &str, output: &mut O) -> Result<Status, Fault> {
+    match word {
+        "rows" => answer_rows(alloc, output)?,
+        "texts" => compare_all(alloc, output)?,
+        "refusals" => judge_all(alloc, output)?,
+        _ => return Err(Fault::BadArguments),
+    }
+    Ok(Status::Accepted)
+}
+
+fn answer_rows<O: Write>(alloc: Global, output: &mut O) -> Result<(), Fault> {
     for examples in tables() {
         report_examples(alloc, examples, output)?;
     }
-    Ok(Status::Accepted)
+    Ok(())
 }
 
 fn report_examples<O: Write>(
@@ -60,11 +87,8 @@ fn report_examples<O: Write>(
     output: &mut O,
 ) -> Result<(), Fault> {
     for example in examples {
-        writeln!(output, "row {}", example.id).map_err(fault_of_output)?;
+        writeln!(output, "row {}", example.id)?;
         report_example(alloc, example, output)?;
     }
     Ok(())
 }
-
-#[cfg(test)]
-mod tests;

@@ -1,11 +1,16 @@
-//! Validates worked examples, and prints what is reported of each.
+//! Validates the worked examples. `gqlcheck rows` prints what is reported of each, from typed data, and `gqlcheck row ID` of
+//! one. `gqlcheck texts` compares this with what their texts give. `gqlcheck refusals [ID]` judges what each validation, or
+//! one, leaves; it is run while allocations fail one after another.
 #![tactic(auto)]
 
 pub mod command;
+mod examples;
 mod faults;
 mod places;
+mod refusals;
 mod reports;
 pub mod statuses;
+mod texts;
 
 use command::run;
 use std::process::ExitCode;

@@ -3,7 +3,7 @@
 pub enum Status {
     /// Nothing was reported of the one example, or all examples ran.
     Accepted = 0,
-    /// Something was reported of the one example.
+    /// Something was reported of the one example, or an example left a wrong state.
     Reported = 1,
     BadArguments = 2,
     OutOfMemory = 3,

@@ -1,8 +1,14 @@
 //! Validates GraphQL schemas and documents from files, and prints what is wrong with them.
 #![tactic(auto)]
 
-use gqlvalidate_commands::Terminal;
-use gqlvalidate_commands::command::run;
+mod command;
+mod explain;
+mod schemas;
+#[cfg(test)]
+mod tests;
+
+use command::run;
+use gqlvalidate_inputs::terminals::Terminal;
 use std::env::VarError;
 use std::io::IsTerminal;
 use std::process::ExitCode;
@@ -33,14 +39,30 @@ fn given_words(rt: &(impl Env + AllocGlobal)) -> io::Result<Vec<String>> {
     Ok(words)
 }
 
-/// Whether text is coloured where the command line leaves it open: at a terminal, unless the environment has `NO_COLOR`.
+/// Whether text is coloured if the command line leaves it open: as `FORCE_COLOR` says, if the environment has it; else at a terminal that
+/// is not `dumb`, unless the environment has `NO_COLOR`.
 fn has_colors(rt: &(impl Env + AllocGlobal), output: &impl IsTerminal) -> bool {
-    output.is_terminal()
-        && match env::var(rt, "NO_COLOR") {
-            Ok(value) => value.is_empty(),
-            Err(VarError::NotPresent) => true,
-            Err(_) => false,
-        }
+    match env::var(rt, "FORCE_COLOR") {
+        Ok(value) if !value.is_empty() => value.as_str() != "0" && value.as_str() != "false",
+        _ => output.is_terminal() && !has_no_color(rt) && !is_dumb(rt),
+    }
+}
+
+/// Whether the environment has `NO_COLOR`, with any value but an empty one.
+fn has_no_color(rt: &(impl Env + AllocGlobal)) -> bool {
+    match env::var(rt, "NO_COLOR") {
+        Ok(value) => !value.is_empty(),
+        Err(VarError::NotPresent) => false,
+        Err(_) => true,
+    }
+}
+
+/// Whether the terminal has no colours.
+fn is_dumb(rt: &(impl Env + AllocGlobal)) -> bool {
+    match env::var(rt, "TERM") {
+        Ok(value) => value.as_str() == "dumb",
+        Err(_) => false,
+    }
 }
 
 /// How many columns lines have: as the environment says in `COLUMNS`, if it does.

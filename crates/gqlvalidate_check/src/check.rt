@@ -78,8 +78,12 @@ pub fn check<R: Files + AllocGlobal, I: Read, O: Write, F: Write>(
     let Some(texts) = texts else {
         return end_unread(rt.alloc(), unreadable, presentation, output, faults);
     };
+    drop(unreadable);
     let named = named_schema(rt.alloc(), paths.schema, &texts)?;
-    check_against(rt, &named, paths, presentation, input, output, faults)
+    let status = check_against(rt, &named, paths, presentation, input, output, faults);
+    drop(named);
+    drop(texts);
+    status
 }
 
 /// Validates the schema of these texts, and the documents against it, if it holds.

@@ -5,7 +5,7 @@ use gqlvalidate_inputs::faults::Fault;
 use gqlvalidate_inputs::sources::text_or_said;
 use gqlvalidate_inputs::statuses::Status;
 use gqlvalidate_inputs::word_paths::{expanded, schema_paths, views};
-use gqlvalidate_paths::without;
+use gqlvalidate_paths::{Expansion, without};
 use gqlvalidate_runs::presentations::Presentation;
 use gqlvalidate_words::{Grouping, PathEnds, PathList};
 use graphql_parser::Bounds;
@@ -39,6 +39,14 @@ struct FilesOfRun {
     is_all: bool,
 }
 
+/// Files that words name.
+#[derive(Drop)]
+struct FoundFiles {
+    files: Vec<String>,
+    /// Each folder was read.
+    is_all: bool,
+}
+
 /// Validates the schema and the documents that these words name.
 pub fn check_words<R: Files + AllocGlobal + Clone + Drop, I: Read, O: Write, F: Write>(
     rt: &R,
@@ -51,28 +59,63 @@ pub fn check_words<R: Files + AllocGlobal + Clone + Drop, I: Read, O: Write, F: 
     let Some(further) = further_words(rt, words.files_from, input, faults)? else {
         return Ok(Status::Unreadable);
     };
-    let Some(files) = files_of(rt, words, &further, faults)? else {
+    let files = files_of(rt, words, &further, faults);
+    drop(further);
+    let Some(files) = files? else {
         return Ok(Status::Unreadable);
     };
+    let status = check_run(rt, &files, words, presentation, input, output, faults);
+    drop(files);
+    status
+}
+
+/// Validates the schema and the documents of these files.
+fn check_run<R: Files + AllocGlobal, I: Read, O: Write, F: Write>(
+    rt: &R,
+    files: &FilesOfRun,
+    words: Words<'_>,
+    presentation: Presentation,
+    input: &mut I,
+    output: &mut O,
+    faults: &mut F,
+) -> Result<Status, Fault> {
     let schema = views(rt.alloc(), &files.schema)?;
     let documents = views(rt.alloc(), &files.documents)?;
-    let fragments = views(rt.alloc(), &files.fragments)?;
-    let hidden = views(rt.alloc(), &files.hidden)?;
     let paths = Paths {
         schema: &schema,
         documents: &documents,
-        fragments: &fragments,
-        hidden: &hidden,
+        fragments: &[],
+        hidden: &[],
         is_all: files.is_all,
         grouping: words.grouping,
         bounds: words.bounds,
     };
-    let status = check(rt, paths, presentation, input, output, faults)?;
+    let status = check_with_lent(rt, files, paths, presentation, input, output, faults)?;
     if files.is_all {
         Ok(status)
     } else {
         Ok(status.with(Status::Unreadable))
     }
+}
+
+/// Validates the schema and the documents of these paths, with the fragments that files of the run lend.
+fn check_with_lent<R: Files + AllocGlobal, I: Read, O: Write, F: Write>(
+    rt: &R,
+    files: &FilesOfRun,
+    paths: Paths<'_>,
+    presentation: Presentation,
+    input: &mut I,
+    output: &mut O,
+    faults: &mut F,
+) -> Result<Status, Fault> {
+    let fragments = views(rt.alloc(), &files.fragments)?;
+    let hidden = views(rt.alloc(), &files.hidden)?;
+    let paths = Paths {
+        fragments: &fragments,
+        hidden: &hidden,
+        ..paths
+    };
+    check(rt, paths, presentation, input, output, faults)
 }
 
 /// The text with further words, which is empty if there are none, if it can be read.
@@ -96,28 +139,44 @@ fn files_of<R: Files + AllocGlobal + Clone + Drop, F: Write>(
     further: &str,
     faults: &mut F,
 ) -> Result<Option<FilesOfRun>, Fault> {
-    let alloc = rt.alloc();
     let Some(schema) = schema_paths(rt, words.schema, faults)? else {
         return Ok(None);
     };
     let ends = words.files_from.map(|list| list.ends);
-    let all_words = with_further(alloc, words.documents, further, ends)?;
-    let documents = expanded(rt, &all_words, faults)?;
-    let fragments = expanded(rt, words.fragments, faults)?;
-    let is_all = documents.unread.is_empty() && fragments.unread.is_empty();
-    let documents = without(alloc, documents.files, &schema)?;
-    if documents.is_empty() && is_all {
+    let all_words = with_further(rt.alloc(), words.documents, further, ends)?;
+    let documents = found_files(rt, &all_words, &schema, faults);
+    drop(all_words);
+    let documents = documents?;
+    let lent = found_files(rt, words.fragments, &schema, faults)?;
+    let is_all = documents.is_all && lent.is_all;
+    if documents.files.is_empty() && is_all {
         return Err(Fault::NoDocument);
     }
-    let lent = without(alloc, fragments.files, &schema)?;
-    let fragments = without(alloc, lent, &documents)?;
+    let fragments = without(rt.alloc(), lent.files, &documents.files)?;
+    let hidden = hidden(rt, words.only, &documents.files, &fragments, faults)?;
     Ok(Some(FilesOfRun {
-        hidden: hidden(rt, words.only, &documents, &fragments, faults)?,
-        fragments,
         schema,
-        documents,
+        documents: documents.files,
+        fragments,
+        hidden,
         is_all,
     }))
+}
+
+/// The files that words name, without those of the schema.
+fn found_files<R: Files + AllocGlobal + Clone + Drop, F: Write>(
+    rt: &R,
+    words: &[&str],
+    schema: &[String],
+    faults: &mut F,
+) -> Result<FoundFiles, Fault> {
+    let Expansion { files, unread } = expanded(rt, words, faults)?;
+    let is_all = unread.is_empty();
+    drop(unread);
+    Ok(FoundFiles {
+        files: without(rt.alloc(), files, schema)?,
+        is_all,
+    })
 }
 
 /// The words, and then the paths of the text that are not empty. They end with line ends, unless they end with null bytes.

@@ -8,4 +8,8 @@ mod project_files;
 mod syntax;
 
 pub use expansions::{Words, check_words};
+// The program takes these from here: `rt` follows each path from a crate down to another.
+pub use gqlvalidate_runs::{
+    accounts, bounds, named_texts, presentations, schema_files, schema_reports, schema_texts,
+};
 pub use syntax::check_syntax;

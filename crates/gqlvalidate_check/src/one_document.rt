@@ -41,23 +41,33 @@ pub fn check_together<R: Files + AllocGlobal, I: Read, O: Write, F: Write>(
         account.add_all_unreadable(unreadable)?;
         return Ok(Status::Unreadable);
     };
-    let named = named_documents(rt.alloc(), paths, &texts)?;
-    let sources = sources_of(rt.alloc(), &named)?;
+    drop(unreadable);
+    let status = check_one(rt.alloc(), schema, paths, &texts, account, output);
+    drop(texts);
+    status
+}
+
+/// Validates the one document that these texts are together.
+fn check_one<O: Write>(
+    alloc: Global,
+    schema: &Schema,
+    paths: Paths<'_>,
+    texts: &[String],
+    account: &mut Account<'_>,
+    output: &mut O,
+) -> Result<Status, Fault>
+    requires { IsUsable schema.now }
+{
+    let named = named_documents(alloc, paths, texts)?;
+    let sources = sources_of(alloc, &named)?;
     let subject = subject_of(&named, &sources);
-    match reports_of(rt.alloc(), schema, &sources, paths.bounds)? {
+    match reports_of(alloc, schema, &sources, paths.bounds)? {
         None => {
             account.accept(subject.path)?;
             Ok(Status::Accepted)
         }
         Some(reports) => {
-            let reports = [reports];
-            account.reject(
-                rt.alloc(),
-                reports.as_slice(),
-                subject,
-                paths.bounds,
-                output,
-            )?;
+            account.reject(alloc, [reports].as_slice(), subject, paths.bounds, output)?;
             Ok(Status::Reported)
         }
     }

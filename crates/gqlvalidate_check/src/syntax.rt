@@ -26,16 +26,7 @@ pub fn check_syntax<R: Files + AllocGlobal, I: Read, O: Write, F: Write>(
     let mut account = Account::new(rt.alloc(), presentation)?;
     let mut status = Status::Accepted;
     for (position, path) in paths.iter().enumerate() {
-        let checked = match text_or_said(rt, path, input, faults)? {
-            Some(text) => {
-                let named = named_text(position, path, text.as_str());
-                check_text(rt.alloc(), named, &mut account, output)?
-            }
-            None => {
-                account.add_unreadable(rt.alloc(), shown_path(path))?;
-                Status::Unreadable
-            }
-        };
+        let checked = check_file(rt, position, path, &mut account, input, output, faults)?;
         status = status.with(checked);
     }
     let extent = Extent {
@@ -44,6 +35,24 @@ pub fn check_syntax<R: Files + AllocGlobal, I: Read, O: Write, F: Write>(
     };
     account.end(rt.alloc(), extent, output, faults)?;
     Ok(status)
+}
+
+/// Checks a file: one that cannot be read does not end the run.
+fn check_file<R: Files + AllocGlobal, I: Read, O: Write, F: Write>(
+    rt: &R,
+    position: usize,
+    path: &str,
+    account: &mut Account<'_>,
+    input: &mut I,
+    output: &mut O,
+    faults: &mut F,
+) -> Result<Status, Fault> {
+    let Some(text) = text_or_said(rt, path, input, faults)? else {
+        account.add_unreadable(rt.alloc(), shown_path(path))?;
+        return Ok(Status::Unreadable);
+    };
+    let named = named_text(position, path, text.as_str());
+    check_text(rt.alloc(), named, account, output)
 }
 
 /// Reports a text that is no document.

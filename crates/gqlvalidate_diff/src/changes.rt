@@ -2,7 +2,7 @@
 
 ghost use Rattle.graphql_frontend.specs.Schemas.{IsUsable};
 
-use crate::operations::{Operations, check_operations};
+use crate::operations::{ComparedSchemas, Operations, check_operations};
 use gqlvalidate_inputs::faults::Fault;
 use gqlvalidate_inputs::printable::Printable;
 use gqlvalidate_inputs::statuses::Status;
@@ -20,7 +20,8 @@ use gqlvalidate_runs::schema_reports::reject;
 use gqlvalidate_runs::schema_texts::{BUILT_IN_TEXT, schema_subject, sources_of};
 use gqlvalidate_words::{ChangeFormat, Color, FailOn, Format, Reporting};
 use graphql_change_formats::{
-    ChangeTally, ComparedTexts, ShownChange, json_format, markdown_format, text_format, verdict_of,
+    ChangeTally, ChangeVerdict, ComparedTexts, ShownChange, json_format, markdown_format,
+    text_format, verdict_of,
 };
 use graphql_change_witnesses::confirmed_witness;
 use graphql_documents::documents::Schema;
@@ -86,16 +87,20 @@ pub fn compare<R: Files + AllocGlobal + Clone + Drop, I: Read, O: Write, F: Writ
     faults: &mut F,
 ) -> Result<Status, Fault> {
     let Expansion { files, unread } = expanded(rt, words.operations, faults)?;
+    let is_all = unread.is_empty();
+    drop(unread);
     let operations = views(rt.alloc(), &files)?;
     let compared = Compared {
         operations: &operations,
         ..words
     };
-    let status = compare_files(rt, compared, input, output, faults)?;
-    if unread.is_empty() {
-        Ok(status)
+    let status = compare_files(rt, compared, input, output, faults);
+    drop(operations);
+    drop(files);
+    if is_all {
+        status
     } else {
-        Ok(status.with(Status::Unreadable))
+        Ok(status?.with(Status::Unreadable))
     }
 }
 
@@ -109,14 +114,28 @@ fn compare_files<R: Files + AllocGlobal + Clone + Drop, I: Read, O: Write, F: Wr
 ) -> Result<Status, Fault> {
     let old = files_of(rt, compared.old, compared.format, input, faults)?;
     let new = files_of(rt, compared.new, compared.format, input, faults)?;
-    match (old, new) {
-        (Some(old), Some(new)) => {
-            let old = named_files(rt.alloc(), &old)?;
-            let new = named_files(rt.alloc(), &new)?;
-            compare_from(rt, &old, &new, compared, input, output, faults)
-        }
+    let status = match (&old, &new) {
+        (Some(old), Some(new)) => compare_read(rt, old, new, compared, input, output, faults),
         _ => Ok(Status::Unreadable),
-    }
+    };
+    drop(new);
+    drop(old);
+    status
+}
+
+/// Compares the schemas of these files, and validates the documents against both, if both schemas hold.
+fn compare_read<R: Files + AllocGlobal, I: Read, O: Write, F: Write>(
+    rt: &R,
+    old: &SchemaFiles,
+    new: &SchemaFiles,
+    compared: Compared<'_>,
+    input: &mut I,
+    output: &mut O,
+    faults: &mut F,
+) -> Result<Status, Fault> {
+    let old = named_files(rt.alloc(), old)?;
+    let new = named_files(rt.alloc(), new)?;
+    compare_from(rt, &old, &new, compared, input, output, faults)
 }
 
 /// The files of a schema that these words name, if all of them have a text. Standard error says what is wrong with the others.
@@ -130,8 +149,22 @@ fn files_of<R: Files + AllocGlobal + Clone + Drop, I: Read, F: Write>(
     let Some(files) = schema_paths(rt, words, faults)? else {
         return Ok(None);
     };
-    let paths = views(rt.alloc(), &files)?;
-    let ReadFiles { texts, .. } = read_files(rt, &paths, FileKind::Schema, input, faults)?;
+    let read = read_schema_files(rt, &files, format, input, faults);
+    drop(files);
+    read
+}
+
+/// These files of a schema, if all of them have a text.
+fn read_schema_files<R: Files + AllocGlobal, I: Read, F: Write>(
+    rt: &R,
+    files: &[String],
+    format: ChangeFormat,
+    input: &mut I,
+    faults: &mut F,
+) -> Result<Option<SchemaFiles>, Fault> {
+    let paths = views(rt.alloc(), files)?;
+    let ReadFiles { texts, unreadable } = read_files(rt, &paths, FileKind::Schema, input, faults)?;
+    drop(unreadable);
     let Some(texts) = texts else {
         return Ok(None);
     };
@@ -248,51 +281,122 @@ fn tell<R: Files + AllocGlobal, I: Read, O: Write, F: Write>(
 {
     let alloc = rt.alloc();
     let comparison = compare_schemas(alloc, old, new)?;
-    let changes = shown_changes(alloc, old, new, &comparison, compared.lone_fields)?;
-    print_changes(alloc, &changes, texts, compared.format, output)?;
-    let mut account = Account::new(alloc, compared.presentation_of_documents())?;
-    let operations = check_operations(rt, old, new, compared, &mut account, input, output, faults)?;
-    print_end(
-        alloc,
+    let schemas = ComparedSchemas {
+        old,
+        new,
+        changes: &comparison.changes,
+    };
+    let status = tell_changes(
+        rt,
+        schemas,
         &comparison,
-        &changes,
+        texts,
+        compared,
+        input,
+        output,
+        faults,
+    );
+    drop(comparison);
+    status
+}
+
+/// Tells these changes, and which documents break.
+fn tell_changes<R: Files + AllocGlobal, I: Read, O: Write, F: Write>(
+    rt: &R,
+    schemas: ComparedSchemas<'_>,
+    comparison: &Comparison,
+    texts: &ComparedTexts<'_>,
+    compared: Compared<'_>,
+    input: &mut I,
+    output: &mut O,
+    faults: &mut F,
+) -> Result<Status, Fault>
+    requires old { IsUsable schemas.old.now }
+    requires new { IsUsable schemas.new.now }
+{
+    let alloc = rt.alloc();
+    let mut account = Account::new(alloc, compared.presentation_of_documents())?;
+    let operations = check_operations(rt, schemas, compared, &mut account, input, output, faults)?;
+    let status = print_all(
+        alloc,
+        schemas,
+        comparison,
         texts,
         compared,
         &operations,
         output,
-    )?;
+    );
+    drop(operations);
+    let status = status?;
     let extent = Extent {
         whole: Whole::Documents(compared.operations.len()),
         schema_files: compared.new.len(),
     };
     account.end(alloc, extent, output, faults)?;
-    Ok(status_of(ChangeTally::of(&changes), compared, &operations))
+    Ok(status)
 }
 
-/// The changes with their levels, and with documents that show the breaking ones.
+/// Prints the changes, and what they mean for documents.
+fn print_all<O: Write>(
+    alloc: Global,
+    schemas: ComparedSchemas<'_>,
+    comparison: &Comparison,
+    texts: &ComparedTexts<'_>,
+    compared: Compared<'_>,
+    operations: &Operations<'_>,
+    output: &mut O,
+) -> Result<Status, Fault>
+    requires old { IsUsable schemas.old.now }
+    requires new { IsUsable schemas.new.now }
+{
+    let changes = shown_changes(alloc, schemas, operations, compared.lone_fields)?;
+    print_changes(alloc, &changes, texts, compared.format, output)?;
+    print_end(
+        alloc, comparison, &changes, texts, compared, operations, output,
+    )?;
+    Ok(status_of(ChangeTally::of(&changes), compared, operations))
+}
+
+/// The changes with their levels, with documents that show the breaking ones, and with whether documents use what changes.
 fn shown_changes<'a>(
     alloc: Global,
-    old: &Schema,
-    new: &Schema,
-    comparison: &'a Comparison,
+    schemas: ComparedSchemas<'a>,
+    operations: &Operations<'_>,
     lone_fields: bool,
 ) -> Result<Vec<ShownChange<'a>>, Fault>
-    requires old { IsUsable old.now }
-    requires new { IsUsable new.now }
+    requires old { IsUsable schemas.old.now }
+    requires new { IsUsable schemas.new.now }
 {
-    let ways = Ways::new(alloc, old)?;
+    let ways = Ways::new(alloc, schemas.old)?;
+    let shown = shown_by(alloc, &ways, schemas, operations, lone_fields);
+    drop(ways);
+    shown
+}
+
+/// The changes as `shown_changes` gives them. The ways lead to each place of the old schema.
+fn shown_by<'a>(
+    alloc: Global,
+    ways: &Ways<'_>,
+    schemas: ComparedSchemas<'a>,
+    operations: &Operations<'_>,
+    lone_fields: bool,
+) -> Result<Vec<ShownChange<'a>>, Fault>
+    requires old { IsUsable schemas.old.now }
+    requires new { IsUsable schemas.new.now }
+{
     let mut shown = Vec::new(alloc);
-    for change in &comparison.changes {
+    for (position, change) in schemas.changes.iter().enumerate() {
         let level = if lone_fields {
             change.change.level_of_lone_fields()
         } else {
             change.level()
         };
-        let witness = witness_of(alloc, &ways, old, new, change, level)?;
+        let witness = witness_of(alloc, ways, schemas.old, schemas.new, change, level)?;
         shown.push(ShownChange {
             change,
             level,
             witness,
+            used: operations.use_of(position),
         })?;
     }
     Ok(shown)
@@ -319,7 +423,7 @@ fn witness_of(
     }
 }
 
-/// Prints the changes, in the formats that have a line for each.
+/// Prints the changes that are listed, in the formats that have a line for each.
 fn print_changes<O: Write>(
     alloc: Global,
     changes: &[ShownChange<'_>],
@@ -343,7 +447,9 @@ fn push_annotations(
     texts: &ComparedTexts<'_>,
 ) -> Result<(), AllocError> {
     for shown in changes {
-        push_change(out, alloc, shown, texts)?;
+        if shown.is_listed() {
+            push_change(out, alloc, shown, texts)?;
+        }
     }
     Ok(())
 }
@@ -386,26 +492,46 @@ fn print_end<O: Write>(
     operations: &Operations<'_>,
     output: &mut O,
 ) -> Result<(), Fault> {
+    if compared.format == ChangeFormat::Json {
+        return print_json(alloc, comparison, changes, texts, operations, output);
+    }
     let verdict = verdict_of(comparison, compared.lone_fields);
     let mut text = String::new(alloc);
-    match compared.format {
+    push_end(
+        &mut text,
+        changes,
+        texts,
+        compared.format,
+        verdict,
+        operations,
+    )?;
+    print(text, output)
+}
+
+/// Adds what comes at the end, in formats other than JSON.
+fn push_end(
+    out: &mut String,
+    changes: &[ShownChange<'_>],
+    texts: &ComparedTexts<'_>,
+    format: ChangeFormat,
+    verdict: ChangeVerdict,
+    operations: &Operations<'_>,
+) -> Result<(), AllocError> {
+    match format {
         ChangeFormat::Text => {
-            text_format::push_summary(&mut text, ChangeTally::of(changes), verdict)?;
+            text_format::push_summary(out, ChangeTally::of(changes), verdict)?;
+            operations.push_summary(out)
         }
         ChangeFormat::Markdown => {
-            markdown_format::push_changes(&mut text, changes, texts, verdict)?;
-        }
-        ChangeFormat::Json => {
-            return print_json(alloc, comparison, changes, texts, operations, output);
+            markdown_format::push_changes(out, changes, texts, verdict)?;
+            operations.push_summary(out)
         }
         ChangeFormat::Github => {
-            text.push_str("::notice title=Changes::")?;
-            text_format::push_summary(&mut text, ChangeTally::of(changes), verdict)?;
-            return print(text, output);
+            out.push_str("::notice title=Changes::")?;
+            text_format::push_summary(out, ChangeTally::of(changes), verdict)
         }
+        ChangeFormat::Json => Ok(()),
     }
-    operations.push_summary(&mut text)?;
-    print(text, output)
 }
 
 fn print_json<O: Write>(
@@ -417,18 +543,31 @@ fn print_json<O: Write>(
     output: &mut O,
 ) -> Result<(), Fault> {
     let mut json = Writer::new(Vec::new(alloc));
-    json_format::begin(&mut json, comparison)?;
-    json_format::add_changes(&mut json, alloc, changes, texts)?;
+    write_json(&mut json, alloc, comparison, changes, texts, operations)?;
+    print_line(alloc, json, output)
+}
+
+/// Writes the object of a comparison.
+fn write_json(
+    json: &mut Writer,
+    alloc: Global,
+    comparison: &Comparison,
+    changes: &[ShownChange<'_>],
+    texts: &ComparedTexts<'_>,
+    operations: &Operations<'_>,
+) -> Result<(), Fault> {
+    json_format::begin(json, comparison)?;
+    json_format::add_changes(json, alloc, changes, texts)?;
     if operations.count > 0 {
         json_format::add_operations(
-            &mut json,
+            json,
             operations.count,
             operations.invalid_before,
             &operations.broken,
         )?;
     }
-    json_format::end(&mut json)?;
-    print_line(alloc, json, output)
+    json_format::end(json)?;
+    Ok(())
 }
 
 /// The status: of the documents, if there are any, and else of the changes. A document that could not be read is the gravest.

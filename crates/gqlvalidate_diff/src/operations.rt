@@ -12,9 +12,11 @@ use gqlvalidate_inputs::statuses::Status;
 use gqlvalidate_runs::accounts::Account;
 use gqlvalidate_runs::named_texts::{NamedText, Subject};
 use gqlvalidate_runs::schema_files::named_text;
+use gqlvalidate_uses::mark_used;
 use graphql_documents::documents::Schema;
-use graphql_frontend::{Reports, SourceText, validate_document};
+use graphql_frontend::{Reports, SourceText, ValidationError, validate_document};
 use graphql_parser::Bounds;
+use graphql_schema_comparison::SchemaChange;
 use std::alloc::{AllocError, Global};
 use std::io::{Read, Write};
 use std::rt::Files;
@@ -30,9 +32,27 @@ pub struct Operations<'a> {
     pub broken: Vec<&'a str>,
     /// Whether all of them could be read.
     pub status: Status,
+    /// For each change, whether one of those that were valid before uses what changes.
+    pub used: Vec<bool>,
+}
+
+/// Two schemas, and what changes from one to the other.
+#[derive(Clone, Copy)]
+pub struct ComparedSchemas<'a> {
+    pub old: &'a Schema,
+    pub new: &'a Schema,
+    pub changes: &'a [SchemaChange],
 }
 
 impl Operations<'_> {
+    /// Whether a document uses what the change at this position is about, if there are any documents.
+    pub fn use_of(&self, position: usize) -> Option<bool> {
+        if self.count == 0 {
+            return None;
+        }
+        self.used.get(position).copied()
+    }
+
     /// Adds how many documents broke, if there are any documents.
     pub fn push_summary(&self, out: &mut String) -> Result<(), AllocError> {
         if self.count == 0 {
@@ -42,9 +62,12 @@ impl Operations<'_> {
         let broken = self.broken.len();
         let count = self.count;
         let invalid = self.invalid_before;
+        let used = self.used.iter().filter(|used| **used).count();
+        let changes = self.used.len();
+        let documents = if count == 1 { "document" } else { "documents" };
         writeln!(
             out,
-            "{count} documents: {broken} broken, {invalid} not valid before"
+            "{count} {documents}: {broken} broken, {invalid} not valid before; changes that they use: {used} of {changes}"
         )
     }
 
@@ -72,42 +95,101 @@ enum Outcome {
 /// were valid. One that cannot be read does not end the run.
 pub fn check_operations<'a, R: Files + AllocGlobal, I: Read, O: Write, F: Write>(
     rt: &R,
-    old: &Schema,
-    new: &Schema,
+    schemas: ComparedSchemas<'_>,
     compared: Compared<'a>,
     account: &mut Account<'_>,
     input: &mut I,
     output: &mut O,
     faults: &mut F,
 ) -> Result<Operations<'a>, Fault>
-    requires old { IsUsable old.now }
-    requires new { IsUsable new.now }
+    requires old { IsUsable schemas.old.now }
+    requires new { IsUsable schemas.new.now }
 {
     let mut operations = Operations {
         count: compared.operations.len(),
         invalid_before: 0,
         broken: Vec::new(rt.alloc()),
         status: Status::Accepted,
+        used: none_used(rt.alloc(), schemas.changes)?,
     };
     for path in compared.operations {
-        match text_or_said(rt, path, input, faults)? {
-            Some(text) => {
-                let document = named_text(0, path, text.as_str());
-                let outcome = outcome_of(rt.alloc(), old, new, document.source)?;
-                add_outcome(
-                    rt.alloc(),
-                    &mut operations,
-                    path,
-                    document,
-                    outcome,
-                    account,
-                    output,
-                )?;
-            }
-            None => operations.status = Status::Unreadable,
-        }
+        check_operation(
+            rt,
+            &mut operations,
+            path,
+            schemas,
+            account,
+            input,
+            output,
+            faults,
+        )?;
     }
     Ok(operations)
+}
+
+/// Validates a document against both schemas.
+fn check_operation<'a, R: Files + AllocGlobal, I: Read, O: Write, F: Write>(
+    rt: &R,
+    operations: &mut Operations<'a>,
+    path: &'a str,
+    schemas: ComparedSchemas<'_>,
+    account: &mut Account<'_>,
+    input: &mut I,
+    output: &mut O,
+    faults: &mut F,
+) -> Result<(), Fault>
+    requires old { IsUsable schemas.old.now }
+    requires new { IsUsable schemas.new.now }
+{
+    let Some(text) = text_or_said(rt, path, input, faults)? else {
+        operations.status = Status::Unreadable;
+        return Ok(());
+    };
+    let document = named_text(0, path, text.as_str());
+    let outcome = outcome_of(rt.alloc(), schemas.old, schemas.new, document.source)?;
+    mark_changes(rt.alloc(), operations, schemas, text.as_str(), &outcome)?;
+    add_outcome(
+        rt.alloc(),
+        operations,
+        path,
+        document,
+        outcome,
+        account,
+        output,
+    )
+}
+
+/// No document uses anything yet.
+fn none_used(alloc: Global, changes: &[SchemaChange]) -> Result<Vec<bool>, AllocError> {
+    let mut used = Vec::new(alloc);
+    for _ in changes {
+        used.push(false)?;
+    }
+    Ok(used)
+}
+
+/// Marks the changes of what a document uses, if it was valid before.
+fn mark_changes(
+    alloc: Global,
+    operations: &mut Operations<'_>,
+    schemas: ComparedSchemas<'_>,
+    text: &str,
+    outcome: &Outcome,
+) -> Result<(), ValidationError> {
+    match outcome {
+        Outcome::WasInvalid => Ok(()),
+        Outcome::StaysValid | Outcome::Breaks(_) => {
+            let used = operations.used.as_mut_slice();
+            mark_used(
+                alloc,
+                schemas.old,
+                text,
+                Bounds::DEFAULT,
+                schemas.changes,
+                used,
+            )
+        }
+    }
 }
 
 fn outcome_of(

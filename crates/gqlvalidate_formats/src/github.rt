@@ -1,10 +1,9 @@
 //! Findings as workflow commands of GitHub Actions, a line a finding, which become annotations.
 
 use gqlvalidate_inputs::printable::printable_character;
-use gqlvalidate_texts::{Texts, UNREADABLE, UNREADABLE_RULE};
-use graphql_findings::{Finding, FindingHelp, ShownReport};
+use gqlvalidate_texts::named_texts::{Located, shown_name};
+use gqlvalidate_texts::{Finding, FindingHelp, ShownReport, Texts, UNREADABLE, UNREADABLE_RULE};
 use graphql_notes::Note;
-use graphql_report_formats::named_texts::{Located, shown_name};
 use std::alloc::{AllocError, Global};
 use std::fmt;
 

@@ -1,10 +1,9 @@
 //! Findings as one JSON object, version 1: `docs/report.schema.json` describes it.
 
-use gqlvalidate_texts::{Run, Texts, file_of};
-use graphql_findings::{Finding, FindingHelp};
+use gqlvalidate_texts::named_texts::{Located, shown_name};
+use gqlvalidate_texts::{Finding, FindingHelp, Run, Texts, file_of};
 use graphql_notes::Note;
 use graphql_places::Place;
-use graphql_report_formats::named_texts::{Located, shown_name};
 use json::Writer;
 use std::alloc::{AllocError, Global};
 
@@ -41,6 +40,7 @@ pub fn end(json: &mut Writer, run: Run<'_>) -> Result<(), AllocError> {
     json.begin_object()?;
     add_number(json, "schemaFiles", run.schema_files)?;
     add_number(json, "documents", run.documents)?;
+    add_number(json, "emptyFiles", run.empty)?;
     json.end_object()?;
     json.key("unreadable")?;
     json.begin_array()?;

@@ -3,10 +3,9 @@
 use crate::excerpts::{Line, shown_beginning, shown_end};
 use crate::styles::Style;
 use gqlvalidate_inputs::printable::Printable;
-use gqlvalidate_texts::Texts;
-use graphql_findings::{Finding, FindingHelp, ShownReport};
+use gqlvalidate_texts::named_texts::{Located, shown_name};
+use gqlvalidate_texts::{Finding, FindingHelp, ShownReport, Texts};
 use graphql_notes::Note;
-use graphql_report_formats::named_texts::{Located, shown_name};
 use std::alloc::{AllocError, Global};
 use unicode_width::UnicodeWidthStr;
 
@@ -132,6 +131,20 @@ fn push_line(
 ) -> Result<(), AllocError> {
     let number = located.start.line.to_string(alloc)?;
     let line = shown_line(alloc, located, style.columns.saturating_sub(number.len()))?;
+    let pushed = push_shown_line(out, &line, number.as_str(), color, style);
+    drop(line);
+    drop(number);
+    pushed
+}
+
+/// Adds a line of this number, with its part underlined in this colour.
+fn push_shown_line(
+    out: &mut String,
+    line: &ShownLine,
+    number: &str,
+    color: &str,
+    style: Style,
+) -> Result<(), AllocError> {
     let Style { margin, end, .. } = style;
     let ShownLine {
         before,

@@ -2,9 +2,9 @@
 
 use crate::presentations::Presentation;
 use crate::sheets::Sheet;
+use gqlvalidate_formats::named_texts::{CountedSubject, Subject};
+use gqlvalidate_formats::{Finding, Reports, Run, Texts, findings_of};
 use gqlvalidate_inputs::faults::{Fault, fault_of_output};
-use gqlvalidate_texts::named_texts::{CountedSubject, Subject};
-use gqlvalidate_texts::{Finding, Reports, Run, Texts, findings_of};
 use graphql_documents::documents::Schema;
 use graphql_parser::Bounds;
 use std::alloc::{AllocError, Global};
@@ -52,6 +52,8 @@ pub struct Tally {
     pub files: usize,
     /// How many documents were checked.
     pub documents: usize,
+    /// How many files have no token, so that nothing of them was checked.
+    pub empty: usize,
 }
 
 /// What a run validates.
@@ -71,11 +73,11 @@ pub struct Extent {
 }
 
 impl Extent {
-    /// Whether what the run validates could be read: the schema, or one document at least of so many that were checked.
-    fn is_checked(self, documents: usize) -> bool {
+    /// Whether what the run validates could be read: the schema, or at least one file of the documents.
+    fn is_checked(self, tally: Tally) -> bool {
         match self.whole {
             Whole::Schema => self.schema_files > 0,
-            Whole::Documents(_) => documents > 0,
+            Whole::Documents(_) => tally.documents > 0 || tally.empty > 0,
         }
     }
 }
@@ -101,6 +103,7 @@ impl<'a> Account<'a> {
                 shown: 0,
                 files: 0,
                 documents: 0,
+                empty: 0,
             },
             definitions: None,
             schema: None,
@@ -140,6 +143,11 @@ impl<'a> Account<'a> {
         self.tally.documents = self.tally.documents.saturating_add(count);
     }
 
+    /// So many files have no token.
+    pub fn add_empty(&mut self, count: usize) {
+        self.tally.empty = self.tally.empty.saturating_add(count);
+    }
+
     /// Nothing is reported of this file.
     pub fn pass(&mut self, path: Option<&str>) -> Result<(), AllocError> {
         match path {
@@ -172,7 +180,6 @@ impl<'a> Account<'a> {
         bounds: Bounds,
         output: &mut O,
     ) -> Result<usize, Fault> {
-        let most = self.room();
         let mut findings = findings_of(
             alloc,
             self.definitions,
@@ -181,16 +188,29 @@ impl<'a> Account<'a> {
             bounds,
             usize::MAX,
         )?;
-        findings
-            .shown
-            .retain(|finding| is_in_none(finding, files.hidden));
-        let count = findings.shown.len();
-        let faulty = files_of(alloc, &findings.shown, subject)?;
-        let others = count.saturating_sub(most);
-        findings.shown.truncate(most);
-        self.tally.add(findings.shown.len(), others, faulty.len());
+        let count = self.report_shown(alloc, &mut findings.shown, subject, files, output);
+        drop(findings);
+        count
+    }
+
+    /// Reports these findings, unless they are in a file of those that are hidden. The answer is how many there are.
+    fn report_shown<O: Write>(
+        &mut self,
+        alloc: Global,
+        shown: &mut Vec<Finding<'_>>,
+        subject: Subject<'_>,
+        files: FilesOfProject<'_>,
+        output: &mut O,
+    ) -> Result<usize, Fault> {
+        let most = self.room();
+        shown.retain(|finding| is_in_none(finding, files.hidden));
+        let count = shown.len();
+        let faulty = files_of(alloc, shown, subject)?;
+        shown.truncate(most);
+        self.tally
+            .add(shown.len(), count.saturating_sub(most), faulty.len());
         if count > 0 {
-            self.print_findings(alloc, &findings.shown, subject, output)?;
+            self.print_findings(alloc, shown, subject, output)?;
         }
         self.pass_others(subject, &faulty, files)?;
         Ok(count)
@@ -291,10 +311,11 @@ impl<'a> Account<'a> {
             not_shown: tally.left_out(),
             schema_files: extent.schema_files,
             documents: tally.documents,
+            empty: tally.empty,
             unreadable: views.as_slice(),
         };
         print(sheet.end(alloc, run)?, output)?;
-        if tally.reports > 0 || extent.is_checked(tally.documents) {
+        if tally.reports > 0 || extent.is_checked(tally) {
             let whole = extent.whole;
             let summary = Summary { tally, whole };
             let _ = writeln!(faults, "{summary}");
@@ -373,10 +394,11 @@ impl fmt::Display for Summary {
             Whole::Schema => write!(f, "{reports} in the schema")?,
             Whole::Documents(count) => {
                 let files = self.tally.files;
-                let documents = Counted(count, "document");
+                let documents = Counted(count.saturating_sub(self.tally.empty), "document");
                 write!(f, "{reports} in {files} of {documents}")?;
             }
         }
+        self.write_empty(f)?;
         let left_out = self.tally.left_out();
         if left_out > 0 {
             write!(f, ", {left_out} not shown")?;
@@ -392,7 +414,20 @@ impl Summary {
             Whole::Schema => f.write_str("checked the schema: no reports"),
             Whole::Documents(_) => {
                 let documents = Counted(self.tally.documents, "document");
-                write!(f, "checked {documents}: no reports")
+                write!(f, "checked {documents}")?;
+                self.write_empty(f)?;
+                f.write_str(": no reports")
+            }
+        }
+    }
+
+    /// How many files were skipped, if any were.
+    fn write_empty<W: fmt::Write>(&self, f: &mut fmt::Formatter<W>) -> fmt::Result {
+        match self.tally.empty {
+            0 => Ok(()),
+            count => {
+                let files = Counted(count, "empty file");
+                write!(f, ", skipped {files}")
             }
         }
     }

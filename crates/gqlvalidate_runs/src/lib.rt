@@ -9,7 +9,6 @@ pub mod schema_files;
 pub mod schema_reports;
 pub mod sheets;
 
-pub use gqlvalidate_formats::github;
-pub use gqlvalidate_texts::{
-    ShownReport, findings_of, json_format, named_texts, schema_texts, shown_reports,
+pub use gqlvalidate_formats::{
+    ShownReport, findings_of, github, json_format, named_texts, schema_texts, shown_reports,
 };

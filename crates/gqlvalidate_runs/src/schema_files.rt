@@ -1,11 +1,11 @@
 //! The files of a schema.
 
+use gqlvalidate_formats::SourceText;
+use gqlvalidate_formats::named_texts::NamedText;
+use gqlvalidate_formats::schema_texts::BUILT_IN_TEXT;
 use gqlvalidate_inputs::faults::Fault;
 use gqlvalidate_inputs::introspections::schema_text_or_said;
 use gqlvalidate_inputs::sources::{shown_path, text_or_said};
-use gqlvalidate_texts::SourceText;
-use gqlvalidate_texts::named_texts::NamedText;
-use gqlvalidate_texts::schema_texts::BUILT_IN_TEXT;
 use graphql_nodes::FileId;
 use std::alloc::{AllocError, Global};
 use std::io::{Read, Write};
@@ -40,14 +40,7 @@ pub fn read_files<R: Files + AllocGlobal, I: Read, F: Write>(
     let mut texts = Vec::new(rt.alloc());
     let mut unreadable = Vec::new(rt.alloc());
     for path in paths {
-        let read = match kind {
-            FileKind::Schema => schema_text_or_said(rt, path, input, faults)?,
-            FileKind::Document => text_or_said(rt, path, input, faults)?,
-        };
-        match read {
-            Some(text) => texts.push(text)?,
-            None => unreadable.push(String::from_str(rt.alloc(), shown_path(path))?)?,
-        }
+        read_file(rt, path, kind, &mut texts, &mut unreadable, input, faults)?;
     }
     let texts = if unreadable.is_empty() {
         Some(texts)
@@ -55,6 +48,27 @@ pub fn read_files<R: Files + AllocGlobal, I: Read, F: Write>(
         None
     };
     Ok(ReadFiles { texts, unreadable })
+}
+
+/// Adds the text of a file, or the file to those that cannot be read.
+fn read_file<R: Files + AllocGlobal, I: Read, F: Write>(
+    rt: &R,
+    path: &str,
+    kind: FileKind,
+    texts: &mut Vec<String>,
+    unreadable: &mut Vec<String>,
+    input: &mut I,
+    faults: &mut F,
+) -> Result<(), Fault> {
+    let read = match kind {
+        FileKind::Schema => schema_text_or_said(rt, path, input, faults)?,
+        FileKind::Document => text_or_said(rt, path, input, faults)?,
+    };
+    match read {
+        Some(text) => texts.push(text)?,
+        None => unreadable.push(String::from_str(rt.alloc(), shown_path(path))?)?,
+    }
+    Ok(())
 }
 
 /// The texts with their paths, behind the definitions that every schema has.

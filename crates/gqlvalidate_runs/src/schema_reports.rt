@@ -3,10 +3,10 @@
 use crate::accounts::{Account, Extent, Whole};
 use crate::bounds::OF_SCHEMA;
 use crate::presentations::Presentation;
+use gqlvalidate_formats::Reports;
+use gqlvalidate_formats::named_texts::{NamedText, Subject};
 use gqlvalidate_inputs::faults::Fault;
 use gqlvalidate_inputs::statuses::Status;
-use gqlvalidate_texts::Reports;
-use gqlvalidate_texts::named_texts::{NamedText, Subject};
 use std::alloc::Global;
 use std::io::Write;
 

@@ -1,11 +1,11 @@
 //! The formats, each with what is written in it until now.
 
-use gqlvalidate_formats::{Style, github, json_findings, text};
+use gqlvalidate_formats::gitlab::Issues;
+use gqlvalidate_formats::junit::Suite;
+use gqlvalidate_formats::{
+    Finding, Run, Style, Texts, checkstyle, github, json_findings, sarif, text,
+};
 use gqlvalidate_inputs::printable::PrintableJson;
-use gqlvalidate_texts::{Finding, Run, Texts};
-use gqlvalidate_tool_formats::gitlab::Issues;
-use gqlvalidate_tool_formats::junit::Suite;
-use gqlvalidate_tool_formats::{checkstyle, sarif};
 use gqlvalidate_words::Format;
 use json::Writer;
 use std::alloc::{AllocError, Global};

@@ -62,8 +62,24 @@ pub fn serve<R: Files + AllocGlobal + Clone + Drop, I: Read, O: Write, F: Write>
     let Some(files) = schema_paths(rt, words, faults)? else {
         return Ok(Status::Unreadable);
     };
-    let paths = views(rt.alloc(), &files)?;
-    let ReadFiles { texts, .. } = read_files(rt, &paths, FileKind::Schema, input, faults)?;
+    let served = serve_files(rt, &files, fragments, allowance, input, output, faults);
+    drop(files);
+    served
+}
+
+/// Reads the schema of these files, and answers each line of standard input.
+fn serve_files<R: Files + AllocGlobal + Clone + Drop, I: Read, O: Write, F: Write>(
+    rt: &R,
+    files: &[String],
+    fragments: &[&str],
+    allowance: Allowance,
+    input: &mut I,
+    output: &mut O,
+    faults: &mut F,
+) -> Result<Status, Fault> {
+    let paths = views(rt.alloc(), files)?;
+    let ReadFiles { texts, unreadable } = read_files(rt, &paths, FileKind::Schema, input, faults)?;
+    drop(unreadable);
     let Some(texts) = texts else {
         return Ok(Status::Unreadable);
     };
@@ -116,18 +132,58 @@ fn serve_beside<R: Files + AllocGlobal + Clone + Drop, I: Read, O: Write, F: Wri
 ) -> Result<Status, Fault>
     requires { IsUsable schema.now }
 {
-    let alloc = rt.alloc();
     let Expansion { files, unread } = expanded(rt, fragments, faults)?;
-    let paths = views(alloc, &files)?;
-    let ReadFiles { texts, .. } = read_files(rt, &paths, FileKind::Document, input, faults)?;
+    let is_all = unread.is_empty();
+    drop(unread);
+    let lent = LentFiles {
+        files: &files,
+        is_all,
+    };
+    let served = serve_with(
+        rt, schema, of_schema, lent, allowance, input, output, faults,
+    );
+    drop(files);
+    served
+}
+
+/// The files that lend fragments.
+#[derive(Clone, Copy)]
+struct LentFiles<'a> {
+    files: &'a [String],
+    /// Each folder was read.
+    is_all: bool,
+}
+
+/// Reads the files that are lent, and answers each line of standard input, if none is missing.
+fn serve_with<R: Files + AllocGlobal, I: Read, O: Write, F: Write>(
+    rt: &R,
+    schema: &Schema,
+    of_schema: &[NamedText<'_>],
+    lent: LentFiles<'_>,
+    allowance: Allowance,
+    input: &mut I,
+    output: &mut O,
+    faults: &mut F,
+) -> Result<Status, Fault>
+    requires { IsUsable schema.now }
+{
+    let paths = views(rt.alloc(), lent.files)?;
+    let ReadFiles { texts, unreadable } = read_files(
+        rt,
+        &paths,
+        FileKind::Document,
+        input,
+        faults,
+    )?;
+    drop(unreadable);
     let Some(texts) = texts else {
         return Ok(Status::Unreadable);
     };
-    if !unread.is_empty() {
+    if !lent.is_all {
         return Ok(Status::Unreadable);
     }
-    let lent = named_beside(alloc, of_schema, &paths, &texts)?;
-    answer_lines(alloc, schema, &lent, allowance, input, output, faults)
+    let lent = named_beside(rt.alloc(), of_schema, &paths, &texts)?;
+    answer_lines(rt.alloc(), schema, &lent, allowance, input, output, faults)
 }
 
 /// The texts with their paths, numbered after those of the schema.
@@ -201,14 +257,33 @@ fn answer_each<I: Read, O: Write>(
     let mut lines = BufReader::new(alloc, input)?;
     let mut line = Vec::new(alloc);
     for _ in 0..u64::MAX {
-        match read_line(&mut lines, allowance.line, &mut line)? {
-            ReadLine::End => break,
-            ReadLine::Whole => answer(alloc, schema, lent, allowance, &line, output)?,
-            ReadLine::TooLong => say(TOO_LONG, output)?,
-            ReadLine::OutOfMemory => say(OUT_OF_MEMORY, output)?,
+        let read = read_line(&mut lines, allowance.line, &mut line)?;
+        if !answer_read(alloc, schema, lent, allowance, read, &line, output)? {
+            break;
         }
     }
     Ok(())
+}
+
+/// Answers a line that was read. The result is whether more lines can come.
+fn answer_read<O: Write>(
+    alloc: Global,
+    schema: &Schema,
+    lent: &[NamedText<'_>],
+    allowance: Allowance,
+    read: ReadLine,
+    line: &[u8],
+    output: &mut O,
+) -> Result<bool, Fault>
+    requires { IsUsable schema.now }
+{
+    match read {
+        ReadLine::End => return Ok(false),
+        ReadLine::Whole => answer(alloc, schema, lent, allowance, line, output)?,
+        ReadLine::TooLong => say(TOO_LONG, output)?,
+        ReadLine::OutOfMemory => say(OUT_OF_MEMORY, output)?,
+    }
+    Ok(true)
 }
 
 /// The answer to a line that is longer than a line may be.
@@ -254,26 +329,55 @@ fn answer_of(
 ) -> Result<Writer, Fault>
     requires { IsUsable schema.now }
 {
-    let mut scratch = Scratch::new(alloc);
     let mut json = Writer::new(Vec::new(alloc));
+    write_answer(alloc, schema, lent, allowance, line, &mut json)?;
+    Ok(json)
+}
+
+/// Writes the answer to a line.
+fn write_answer(
+    alloc: Global,
+    schema: &Schema,
+    lent: &[NamedText<'_>],
+    allowance: Allowance,
+    line: &[u8],
+    json: &mut Writer,
+) -> Result<(), Fault>
+    requires { IsUsable schema.now }
+{
+    let mut scratch = Scratch::new(alloc);
     json.begin_object()?;
     match Question::read(alloc, line, &mut scratch) {
-        Ok(question) => {
-            question.add_id(&mut json)?;
-            if allowance.lends {
-                answer_beside(alloc, schema, lent, allowance, &question, &mut json)?;
-            } else {
-                answer_alone(alloc, schema, allowance, question.document, &mut json)?;
-            }
-        }
+        Ok(question) => answer_question(alloc, schema, lent, allowance, &question, json)?,
         Err(QuestionError::OutOfMemory) => return Err(Fault::OutOfMemory),
-        Err(QuestionError::Unclear(why)) => {
-            json.key("fault")?;
-            json.string(why)?;
-        }
+        Err(QuestionError::Unclear(why)) => add_fault(why, json)?,
     }
-    json.end_object()?;
-    Ok(json)
+    Ok(json.end_object()?)
+}
+
+/// Says what is wrong with a question.
+fn add_fault(why: &str, json: &mut Writer) -> Result<(), AllocError> {
+    json.key("fault")?;
+    json.string(why)
+}
+
+/// Answers a question.
+fn answer_question(
+    alloc: Global,
+    schema: &Schema,
+    lent: &[NamedText<'_>],
+    allowance: Allowance,
+    question: &Question<'_>,
+    json: &mut Writer,
+) -> Result<(), Fault>
+    requires { IsUsable schema.now }
+{
+    question.add_id(json)?;
+    if allowance.lends {
+        answer_beside(alloc, schema, lent, allowance, question, json)
+    } else {
+        answer_alone(alloc, schema, allowance, question.document, json)
+    }
 }
 
 /// Answers what is reported of a document that has all fragments itself.
@@ -328,12 +432,27 @@ fn answer_beside(
         texts: &texts,
         sources: &sources,
     };
-    let counted = CountedSubject::new(alloc, subject)?;
-    let mut reports = distinct_reports(alloc, schema, &found, &sources, allowance.bounds)?;
+    let reports = distinct_reports(alloc, schema, &found, &sources, allowance.bounds);
+    drop(found);
+    let mut reports = reports?;
     let others = reports.len().saturating_sub(allowance.reports);
     reports.truncate(allowance.reports);
+    let written = write_errors(alloc, &reports, others, subject, json);
+    drop(reports);
+    written
+}
+
+/// Adds these reports, and the number of the others, if there are any.
+fn write_errors(
+    alloc: Global,
+    reports: &[ShownReport],
+    others: usize,
+    subject: Subject<'_>,
+    json: &mut Writer,
+) -> Result<(), Fault> {
+    let counted = CountedSubject::new(alloc, subject)?;
     begin_errors(json)?;
-    add_reports(json, &reports, &counted)?;
+    add_reports(json, reports, &counted)?;
     json.end_array()?;
     add_others(json, others)
 }
@@ -400,11 +519,10 @@ fn add_errors(
         ..
     } = allowance;
     let shown = shown_reports(alloc, reports, subject.sources, bounds, most)?;
-    let counted = CountedSubject::new(alloc, subject)?;
-    begin_errors(json)?;
-    add_reports(json, &shown, &counted)?;
-    json.end_array()?;
-    add_others(json, reports.len().saturating_sub(shown.len()))
+    let others = reports.len().saturating_sub(shown.len());
+    let written = write_errors(alloc, &shown, others, subject, json);
+    drop(shown);
+    written
 }
 
 /// Prints the reports of a schema as a line.

@@ -9,6 +9,8 @@ pub struct Run<'a> {
     pub schema_files: usize,
     /// How many documents were checked.
     pub documents: usize,
+    /// How many files have no token, and were skipped.
+    pub empty: usize,
     /// The files that could not be read.
     pub unreadable: &'a [&'a str],
 }

@@ -122,13 +122,23 @@ pub fn program<'a>(alloc: Global) -> Result<Command<'a>, Error> {
         .no_binary_name(true)
         .subcommand_required(true)
         .bin_name("gqlvalidate")?;
-    let with_check = program.subcommand(check(alloc)?)?;
-    let with_diff = with_check.subcommand(diff(alloc)?)?;
-    let with_print = with_diff.subcommand(print_schema(alloc)?)?;
-    let with_schema = with_print.subcommand(schema(alloc)?)?;
-    let with_serve = with_schema.subcommand(serve(alloc)?)?;
-    let with_syntax = with_serve.subcommand(syntax(alloc)?)?;
-    Ok(with_syntax.subcommand(explain(alloc)?)?)
+    let program = with_validation(alloc, program)?;
+    let program = with_schemas(alloc, program)?;
+    Ok(program.subcommand(explain(alloc)?)?)
+}
+
+/// Adds the commands `check` and `diff`.
+fn with_validation<'a>(alloc: Global, program: Command<'a>) -> Result<Command<'a>, Error> {
+    let program = program.subcommand(check(alloc)?)?;
+    Ok(program.subcommand(diff(alloc)?)?)
+}
+
+/// Adds the commands on schemas and on syntax, and `serve`.
+fn with_schemas<'a>(alloc: Global, program: Command<'a>) -> Result<Command<'a>, Error> {
+    let program = program.subcommand(print_schema(alloc)?)?;
+    let program = program.subcommand(schema(alloc)?)?;
+    let program = program.subcommand(serve(alloc)?)?;
+    Ok(program.subcommand(syntax(alloc)?)?)
 }
 
 fn check<'a>(alloc: Global) -> Result<Command<'a>, Error> {
@@ -137,15 +147,9 @@ fn check<'a>(alloc: Global) -> Result<Command<'a>, Error> {
         .after_help(STATUSES);
     let command = command.arg(schema_files(alloc))?;
     let command = with_reporting(alloc, command)?;
-    let command = command.arg(lent_fragments(alloc))?;
-    let command = command.arg(each(alloc)?)?;
-    let command = command.arg(one_document(alloc))?;
-    let command = command.arg(files_from(alloc))?;
-    let command = command.arg(null(alloc))?;
-    let command = command.arg(only(alloc)?)?;
-    let command = command.arg(max_depth(alloc))?;
-    let command = command.arg(max_reach(alloc, "64"))?;
-    let command = command.arg(max_work(alloc))?;
+    let command = with_grouping(alloc, command)?;
+    let command = with_lists(alloc, command)?;
+    let command = with_limits(alloc, command, "64")?;
     Ok(command.arg(documents(alloc)?)?)
 }
 
@@ -153,24 +157,8 @@ fn diff<'a>(alloc: Global) -> Result<Command<'a>, Error> {
     let command = Command::new(alloc, DIFF)
         .about("Finds what changes from one schema to another, and whether documents stay valid")
         .after_help(STATUSES);
-    let command = command.arg(change_format(alloc))?;
-    let command = command.arg(fail_on(alloc))?;
-    let command = command.arg(lone_fields(alloc))?;
-    let command = command.arg(further_file(
-        alloc,
-        OLD_SCHEMA,
-        "A further file of the old schema; repeat the option for each file",
-    ))?;
-    let command = command.arg(further_file(
-        alloc,
-        NEW_SCHEMA,
-        "A further file of the new schema; repeat the option for each file",
-    ))?;
-    let command = command.arg(further_file(
-        alloc,
-        OPERATIONS,
-        "A document to validate against both; repeat the option for each file",
-    ))?;
+    let command = with_levels(alloc, command)?;
+    let command = with_further_files(alloc, command)?;
     let command = command.arg(one_file(alloc, OLD, "OLD", "The old schema"))?;
     Ok(command.arg(one_file(alloc, NEW, "NEW", "The new schema"))?)
 }
@@ -200,9 +188,7 @@ fn serve<'a>(alloc: Global) -> Result<Command<'a>, Error> {
             "Validates documents from standard input, one in each line of JSON, against a schema that is read once",
         )
         .after_help(STATUSES);
-    let command = command.arg(max_depth(alloc))?;
-    let command = command.arg(max_reach(alloc, "4"))?;
-    let command = command.arg(max_work(alloc))?;
+    let command = with_limits(alloc, command, "4")?;
     let command = command.arg(max_line(alloc))?;
     let command = command.arg(max_reports_of_an_answer(alloc))?;
     let command = command.arg(lent_fragments(alloc))?;
@@ -228,6 +214,57 @@ fn with_reporting<'a>(alloc: Global, command: Command<'a>) -> Result<Command<'a>
     let command = command.arg(format(alloc))?;
     let command = command.arg(color(alloc))?;
     Ok(command.arg(max_reports(alloc))?)
+}
+
+/// Adds the options that choose which documents are validated together.
+fn with_grouping<'a>(alloc: Global, command: Command<'a>) -> Result<Command<'a>, Error> {
+    let command = command.arg(lent_fragments(alloc))?;
+    let command = command.arg(each(alloc)?)?;
+    Ok(command.arg(one_document(alloc))?)
+}
+
+/// Adds the options that name further documents, and those to show.
+fn with_lists<'a>(alloc: Global, command: Command<'a>) -> Result<Command<'a>, Error> {
+    let command = command.arg(files_from(alloc))?;
+    let command = command.arg(null(alloc))?;
+    Ok(command.arg(only(alloc)?)?)
+}
+
+/// Adds the options that bound a document.
+fn with_limits<'a>(
+    alloc: Global,
+    command: Command<'a>,
+    reach: &'a str,
+) -> Result<Command<'a>, Error> {
+    let command = command.arg(max_depth(alloc))?;
+    let command = command.arg(max_reach(alloc, reach))?;
+    Ok(command.arg(max_work(alloc))?)
+}
+
+/// Adds the options that choose the format of changes, and which changes end the run with status 1.
+fn with_levels<'a>(alloc: Global, command: Command<'a>) -> Result<Command<'a>, Error> {
+    let command = command.arg(change_format(alloc))?;
+    let command = command.arg(fail_on(alloc))?;
+    Ok(command.arg(lone_fields(alloc))?)
+}
+
+/// Adds the options that name further files of a comparison.
+fn with_further_files<'a>(alloc: Global, command: Command<'a>) -> Result<Command<'a>, Error> {
+    let command = command.arg(further_file(
+        alloc,
+        OLD_SCHEMA,
+        "A further file of the old schema; repeat the option for each file",
+    ))?;
+    let command = command.arg(further_file(
+        alloc,
+        NEW_SCHEMA,
+        "A further file of the new schema; repeat the option for each file",
+    ))?;
+    Ok(command.arg(further_file(
+        alloc,
+        OPERATIONS,
+        "A document to validate against both; repeat the option for each file",
+    ))?)
 }
 
 /// The paths that a command takes, one at least.

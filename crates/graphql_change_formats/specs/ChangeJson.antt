@@ -15,6 +15,11 @@ use Rattle.graphql_change_formats.specs.declared.shown_changes.ShownChange.{Show
 abbrev pub boolean_member : List ℕ → Bool → List Token
 boolean_member name value = key name ∷ boolean value ∷ []
 
+-- the same of one that may be missing
+abbrev pub optional_boolean : List ℕ → Option Bool → List Token
+optional_boolean name None = []
+optional_boolean name (Some value) = boolean_member name value
+
 -- the beginning of the object: its version, and whether the comparison keeps documents, and those with lone fields
 abbrev pub comparison_begin : Comparison → List Token
 comparison_begin c =
@@ -48,11 +53,11 @@ change_head shown name =
     begin_object ∷ (string_member (codes "change") name ++ (string_member (codes "level") (level_name shown.level) ++
     optional_member (codes "reason") (reason_name shown.level)))
 
--- and behind it: its places in the old and in the new schema, and the document that shows it
+-- and after it: its places in the old and in the new schema, the document that shows it, and whether documents use what changes
 abbrev pub change_end : ComparedTexts → ShownChange → List Token
 change_end texts shown =
     place_member (codes "old") (part_at (texts_of texts.old) shown.change.now.old) ++ (place_member (codes "new") (part_at (texts_of texts.new) shown.change.now.new) ++
-    (optional_member (codes "witness") (option_map string_bytes shown.witness) ++ (end_object ∷ [])))
+    (optional_member (codes "witness") (option_map string_bytes shown.witness) ++ (optional_boolean (codes "used") shown.used ++ (end_object ∷ []))))
 
 -- a change as an object, with these words for its name and its message
 abbrev pub change_object : ComparedTexts → ShownChange → List ℕ → List ℕ → List Token

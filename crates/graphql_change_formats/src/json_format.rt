@@ -4,7 +4,7 @@ ghost use Rattle.std.specs.Prelude.{codes, string_bytes};
 ghost use Rattle.std.specs.Option.{option_map};
 ghost use Rattle.graphql_report_formats.specs.JsonReports.{Appends, file, number_member, span};
 ghost use Rattle.graphql_report_formats.specs.NamedTexts.{part, path_of};
-ghost use Rattle.graphql_change_formats.specs.ChangeJson.{AppendsSome, AreChanges, IsArrayOfChanges, IsChange, boolean_member, broken_member, change_end, change_head, change_object, comparison_begin, comparison_end, count_members, operations_member, optional_member, path_strings, place_member, place_members, place_object, string_member};
+ghost use Rattle.graphql_change_formats.specs.ChangeJson.{AppendsSome, AreChanges, IsArrayOfChanges, IsChange, boolean_member, broken_member, change_end, change_head, change_object, comparison_begin, comparison_end, count_members, operations_member, optional_boolean, optional_member, path_strings, place_member, place_members, place_object, string_member};
 
 use crate::shown_changes::{ComparedTexts, ShownChange};
 use graphql_report_formats::named_texts::Located;
@@ -30,6 +30,20 @@ fn add_boolean(json: &mut Writer, name: &str, value: bool) -> Result<(), AllocEr
 {
     json.key(name)?;
     json.boolean(value)
+}
+
+/// Adds a truth value, if there is one.
+fn add_optional_boolean(
+    json: &mut Writer,
+    name: &str,
+    value: Option<bool>,
+) -> Result<(), AllocError>
+    ensures { Appends result json.old json.new (optional_boolean name.now value) }
+{
+    match value {
+        Some(value) => add_boolean(json, name, value),
+        None => Ok(()),
+    }
 }
 
 /// Adds the changes, in order.
@@ -113,6 +127,7 @@ fn add_end(
     add_place(json, "old", texts.old.locate(shown.change.old))?;
     add_place(json, "new", texts.new.locate(shown.change.new))?;
     add_witness(json, &shown.witness)?;
+    add_optional_boolean(json, "used", shown.used)?;
     json.end_object()
 }
 

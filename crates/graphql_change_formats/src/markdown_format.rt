@@ -6,14 +6,14 @@ use graphql_report_formats::named_texts::{Located, shown_name};
 use std::alloc::AllocError;
 use std::fmt;
 
-/// Adds the table of changes, in order, and below it how many there are of each level, and what that means for documents.
+/// Adds the table of the changes that are listed, in order, and below it how many there are of each level, and what that means for documents.
 pub fn push_changes(
     out: &mut String,
     changes: &[ShownChange<'_>],
     texts: &ComparedTexts<'_>,
     verdict: ChangeVerdict,
 ) -> Result<(), AllocError> {
-    if !changes.is_empty() {
+    if changes.iter().any(|shown| shown.is_listed()) {
         out.push_str(
             "| Level | Change | Place | Valid before and not after |\n|---|---|---|---|\n",
         )?;
@@ -31,7 +31,9 @@ fn push_rows(
     texts: &ComparedTexts<'_>,
 ) -> Result<(), AllocError> {
     for shown in changes {
-        push_row(out, shown, texts)?;
+        if shown.is_listed() {
+            push_row(out, shown, texts)?;
+        }
     }
     Ok(())
 }

@@ -1,6 +1,6 @@
 //! Changes as they are shown, and the texts that they are about.
 
-ghost use Rattle.std.specs.Prelude.{◌≡◌, Some, count_by};
+ghost use Rattle.std.specs.Prelude.{◌≡◌, Some, count_by, true, unwrap_or};
 ghost use Rattle.std.specs.Option.{option_map};
 ghost use Rattle.graphql_report_formats.specs.NamedTexts.{part, path_of};
 ghost use Rattle.graphql_change_formats.specs.ShownChanges.{is_breaking, is_dangerous, is_other, level_name, reason_name, shown_place};
@@ -17,6 +17,8 @@ pub struct ShownChange<'a> {
     pub level: Level,
     /// It is valid against the old schema and no longer against the new one.
     pub witness: Option<String>,
+    /// Whether a document that was valid uses what changes, if it was asked of documents.
+    pub used: Option<bool>,
 }
 
 /// The texts of the old and of the new schema.
@@ -54,6 +56,13 @@ fn earlier(change: &SchemaChange) -> Option<SourceSpan> {
 }
 
 impl ShownChange<'_> {
+    /// Whether a list for people has the change: all changes, or those of what documents use, if it was asked of these.
+    pub fn is_listed(&self) -> bool
+        ensures { result ≡ unwrap_or self.now.used true }
+    {
+        self.used.unwrap_or(true)
+    }
+
     /// What the output calls the level. A change that is neither breaking nor dangerous is another one: only a whole comparison
     /// says that documents stay valid.
     pub fn level_name(&self) -> &'static str

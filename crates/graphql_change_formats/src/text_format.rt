@@ -5,14 +5,16 @@ use crate::verdicts::ChangeVerdict;
 use graphql_report_formats::named_texts::{Located, shown_name};
 use std::alloc::AllocError;
 
-/// Adds the lines of changes, in order.
+/// Adds the lines of the changes that are listed, in order.
 pub fn push_changes(
     out: &mut String,
     changes: &[ShownChange<'_>],
     texts: &ComparedTexts<'_>,
 ) -> Result<(), AllocError> {
     for shown in changes {
-        push_change(out, shown, texts)?;
+        if shown.is_listed() {
+            push_change(out, shown, texts)?;
+        }
     }
     Ok(())
 }

@@ -88,6 +88,7 @@ fn shown_changes(
             change,
             level: change.level(),
             witness: confirmed_witness(alloc, &ways, old, new, &change.change, Bounds::DEFAULT)?,
+            used: None,
         })?;
     }
     Ok(written(alloc, &comparison, &shown, texts, form)?)

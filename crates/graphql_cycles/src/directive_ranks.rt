@@ -213,18 +213,17 @@ impl<'schema> Ranking<'schema> {
 
     /// Enters the definition of a name, or finds that it has none.
     fn enter(&mut self, name: PartName<'schema>) -> Result<(), ValidationError> {
-        let references = self.references_of(name)?;
         let place = self.unranked.len();
-        let below = self.references.len();
         add_level(&mut self.places, name, place)?;
         self.unranked.push(name)?;
-        self.references.extend_from_slice(&references)?;
         self.entered.push(Entered {
             place,
             first: place,
             rank: 0,
-            below,
+            below: self.references.len(),
         })?;
+        let references = self.references_of(name)?;
+        self.references.extend_from_slice(&references)?;
         Ok(())
     }
 

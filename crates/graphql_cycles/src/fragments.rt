@@ -55,7 +55,10 @@ pub fn validate_fragment_cycles(
         document,
         root,
     };
-    match search.search_set(&fragment.value.selection_set, &mut path, &mut seen) {
+    let searched = search.search_set(&fragment.value.selection_set, &mut path, &mut seen);
+    drop(seen);
+    drop(path);
+    match searched {
         Ok(()) => Ok(()),
         Err(CycleError::Recursed(trace)) => report_cycle(diagnostics, fragment, trace),
         Err(CycleError::Limit) => report_nesting(diagnostics, fragment),

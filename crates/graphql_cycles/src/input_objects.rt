@@ -43,7 +43,10 @@ pub fn validate_input_object_cycles(
         schema,
         root,
     };
-    match search.search_fields(input_object, &mut path, &mut seen) {
+    let searched = search.search_fields(input_object, &mut path, &mut seen);
+    drop(seen);
+    drop(path);
+    match searched {
         Ok(()) => Ok(()),
         Err(CycleError::Recursed(trace)) => report_cycle(diagnostics, input_object, trace),
         Err(CycleError::Limit) => report_nesting(diagnostics, input_object),

@@ -137,7 +137,7 @@ module _ (sources : List SourceText) (bounds : Bounds) where
   any_mapped own xs h = (h.0, shown_of h.1, omega (arith, h.2, length-map xs shown_of), get_or-map shown_of xs h.0 h.1 (shown_of h.1) h.2 ∙ ap shown_of h.3, h.4)
 
   pub shown_of_distinct : (schema : Option Schema) (reports : List Report) (most : ℕ) (found kept : List Found) (result : Findings) → AllZip (IsFoundAs sources bounds) reports found → AreDistinctOf found kept →
-      AllZip (IsFindingOf schema sources) (take most kept) result.shown.items → result.others ≡ length kept - most → AreShown schema sources bounds reports most result
+      AllZip (IsFindingOf schema sources bounds) (take most kept) result.shown.items → result.others ≡ length kept - most → AreShown schema sources bounds reports most result
   shown_of_distinct schema reports most found kept result all d noted counted = record {
     all = map shown_of kept;
     each = All-map (IsOneOf sources bounds reports) shown_of kept (All-weaker (Contains found) (λ f. IsOneOf sources bounds reports (shown_of f)) one kept d.each);
@@ -145,7 +145,7 @@ module _ (sources : List SourceText) (bounds : Bounds) where
         (λ r h. (h.0.report, h.2.is_shown, any_mapped h.0.report kept (All-contains (IsAmong kept) found h.0 d.every h.1))) reports
         (partner (λ f r. IsFoundAs sources bounds r f) found reports (turned (IsFoundAs sources bounds) reports found all));
     ordered = mapped_sorted kept d.ordered;
-    shown = rw (take-map shown_of most kept) (zip_mapped shown_of (IsFinding schema sources) (take most kept) result.shown.items noted);
+    shown = rw (take-map shown_of most kept) (zip_mapped shown_of (IsFinding schema sources bounds) (take most kept) result.shown.items noted);
     others = rw (length-map kept shown_of) counted;
   } where
     one : (f : Found) → Contains found f → IsOneOf sources bounds reports (shown_of f)

@@ -5,7 +5,7 @@ use Rattle.std.specs.List.Sorted.{IsStrictlySortedBy}
 use Rattle.std.specs.declared.cmp.Ordering.{Ordering}
 use Rattle.graphql_documents.specs.declared.documents.schemas.Schema.{Schema}
 use Rattle.graphql_findings.specs.Helps.{HelpsWith}
-use Rattle.graphql_findings.specs.Notes.{labels_of}
+use Rattle.graphql_findings.specs.Notes.{AreNotesOf}
 use Rattle.graphql_findings.specs.Order.{IsSameReport, report_cmp}
 use Rattle.graphql_findings.specs.Singles.{report_of}
 use Rattle.graphql_findings.specs.declared.findings.Finding.{Finding}
@@ -14,7 +14,6 @@ use Rattle.graphql_findings.specs.declared.order.Found.{Found}
 use Rattle.graphql_findings.specs.declared.singles.Single.{Single}
 use Rattle.graphql_frontend.specs.declared.reports.Reports.{Reports}
 use Rattle.graphql_frontend.specs.declared.texts.SourceText.{SourceText}
-use Rattle.graphql_notes.specs.Labels.{AreNotes}
 use Rattle.graphql_parser.specs.declared.bounds.Bounds.{Bounds}
 use Rattle.graphql_shown_reports.specs.Shown.{Report, Shows, listed}
 use Rattle.graphql_shown_reports.specs.declared.shown.ShownReport.{ShownReport}
@@ -41,9 +40,9 @@ abbrev pub shown_cmp : Shown → Shown → Ordering
 shown_cmp a b = report_cmp a.shown b.shown
 
 -- a finding is a report as it is shown, with notes at the other places of the report; if it has help, that helps with the report
-pub record IsFinding (schema : Option Schema) (sources : List SourceText) (s : Shown) (finding : Finding) : Type 0 where
+pub record IsFinding (schema : Option Schema) (sources : List SourceText) (bounds : Bounds) (s : Shown) (finding : Finding) : Type 0 where
   pub is_shown : finding.report ≡ s.shown
-  pub has_notes : AreNotes s.shown.location (labels_of s.report) finding.notes.items
+  pub has_notes : AreNotesOf sources bounds s.shown.location s.report finding.notes.items
   pub helps : IfSome finding.help (HelpsWith s.report schema sources)
 
 -- Of these reports the distinct ones are found: each of them is one of the reports, and each report is one of them, or the same as one of them. They are
@@ -53,7 +52,7 @@ pub record AreShown (schema : Option Schema) (sources : List SourceText) (bounds
   pub each : All (IsOneOf sources bounds reports) all
   pub every : All (IsAmongShown sources bounds all) reports
   pub ordered : IsStrictlySortedBy shown_cmp all
-  pub shown : AllZip (IsFinding schema sources) (take most all) found.shown.items
+  pub shown : AllZip (IsFinding schema sources bounds) (take most all) found.shown.items
   pub others : found.others ≡ length all - most
 
 -- what was found shows a report
@@ -77,5 +76,5 @@ abbrev pub shown_of : Found → Shown
 shown_of found = record { report = report_of found.single; shown = found.report }
 
 -- the finding of a report that was found
-abbrev pub IsFindingOf : Option Schema → List SourceText → Found → Finding → Type 0
-IsFindingOf schema sources found finding = IsFinding schema sources (shown_of found) finding
+abbrev pub IsFindingOf : Option Schema → List SourceText → Bounds → Found → Finding → Type 0
+IsFindingOf schema sources bounds found finding = IsFinding schema sources bounds (shown_of found) finding

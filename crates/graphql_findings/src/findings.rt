@@ -54,7 +54,7 @@ pub fn findings_of<'a>(
     keep_distinct(&mut found)?;
     let others = found.len().saturating_sub(most);
     found.truncate(most);
-    let shown = with_notes(alloc, schema, sources, found)?;
+    let shown = with_notes(alloc, schema, sources, bounds, found)?;
     Ok(Findings { shown, others })
 }
 
@@ -116,13 +116,14 @@ fn with_notes<'a>(
     alloc: Global,
     schema: Option<&Schema>,
     sources: &[SourceText<'_>],
+    bounds: Bounds,
     found: Vec<Found<'a>>,
 ) -> Result<Vec<Finding<'a>>, ValidationError>
-    ensures { IfOk result (λ findings. AllZip (IsFindingOf (option_copied schema.entry) sources.now) found.entry.items findings.items) }
+    ensures { IfOk result (λ findings. AllZip (IsFindingOf (option_copied schema.entry) sources.now bounds) found.entry.items findings.items) }
 {
     let mut findings = Vec::new(alloc);
     for one in found {
-        findings.push(finding_of(alloc, schema, sources, one)?)?;
+        findings.push(finding_of(alloc, schema, sources, bounds, one)?)?;
     }
     Ok(findings)
 }
@@ -132,12 +133,13 @@ fn finding_of<'a>(
     alloc: Global,
     schema: Option<&Schema>,
     sources: &[SourceText<'_>],
+    bounds: Bounds,
     found: Found<'a>,
 ) -> Result<Finding<'a>, ValidationError>
-    ensures { IfOk result (IsFindingOf (option_copied schema.entry) sources.now found.entry) }
+    ensures { IfOk result (IsFindingOf (option_copied schema.entry) sources.now bounds found.entry) }
 {
     let Found { report, single } = found;
-    let notes = notes_of(alloc, report.location, single)?;
+    let notes = notes_of(alloc, sources, bounds, report.location, single)?;
     let help = help_of(alloc, schema, sources, single)?;
     Ok(Finding {
         report,

@@ -6,10 +6,8 @@ use graphql_frontend::{
 use graphql_hash_seeds::HashSeed;
 use graphql_nodes::FileId;
 use graphql_parser::Bounds;
-use std::alloc::Global;
 use std::fmt::Write;
 use std::hash::BuildHasher;
-use std::process::Abort;
 
 const SCHEMA: &str = "type Query { a: Int q: Query }";
 
@@ -154,38 +152,6 @@ fn the_first_reports_are_kept(rt: HostRuntime) {
             *expected,
             "{schema} {document} {reports} {bytes}"
         );
-    }
-}
-
-/// A query of so many keys, each of which spreads one fragment of twice as many sets: all sets of the fragment come together with
-/// that of each key.
-fn keys_of_one_fragment(rt: &impl Abort, alloc: Global, keys: u32) -> String {
-    let mut text = String::new(alloc);
-    text.push_str("query Q {").expect(rt, "memory for a text");
-    for k in 0..keys {
-        write!(&mut text, " k{k}: q {{ ...F }}").expect(rt, "memory for a text");
-    }
-    let sets = "... { a } ".repeat(alloc, (keys as usize).saturating_mul(2));
-    let sets = sets.expect(rt, "memory for sets");
-    write!(&mut text, " }} fragment F on Query {{ {sets} }}").expect(rt, "memory for a text");
-    text
-}
-
-/// How much work may be done, and what is reported.
-const WORK: &[(usize, &str)] = &[(160_000_000, ""), (10, "1:0 TakesTooMuch\n")];
-
-#[test]
-fn fields_are_compared_within_a_bound_of_work(rt: HostRuntime) {
-    let alloc = rt.alloc();
-    let text = keys_of_one_fragment(&rt, alloc, 400);
-    for (work, expected) in WORK {
-        let sources = sources(&rt, alloc, text.as_str(), "");
-        let within = Bounds {
-            work: *work,
-            ..Bounds::DEFAULT
-        };
-        let found = reported(&rt, alloc, SCHEMA, &sources, within);
-        assert_eq!(rt; found.as_str(), *expected, "{work}");
     }
 }
 

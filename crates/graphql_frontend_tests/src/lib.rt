@@ -1,4 +1,4 @@
-//! Tests of the way from texts to a verdict: what each stage reports, and where.
+//! Tests of the way from texts to a verdict: what each stage reports, and where. `scripts/check-texts` has more texts.
 #![tactic(auto)]
 
 #[cfg(test)]
@@ -6,24 +6,14 @@ mod bounds;
 #[cfg(test)]
 mod documents;
 #[cfg(test)]
-mod explanations;
-#[cfg(test)]
 mod introspection;
-#[cfg(test)]
-mod limits;
-#[cfg(test)]
-mod nesting;
 #[cfg(test)]
 mod reach;
 #[cfg(test)]
-mod rules;
+mod reports;
 #[cfg(test)]
 mod sequences;
 #[cfg(test)]
 mod standalone;
-#[cfg(test)]
-mod subscriptions;
-#[cfg(test)]
-mod undefined_variables;
 #[cfg(test)]
 mod verdicts;

@@ -1,11 +1,9 @@
-use crate::documents::{lines, reported, sources};
+use crate::documents::lines;
 use graphql_frontend::{SourceText, validate_standalone_document};
 use graphql_nodes::FileId;
 use graphql_parser::Bounds;
 use std::alloc::Global;
 use std::process::Abort;
-
-const SCHEMA: &str = "type Query { a: Query s: Int }";
 
 /// Two operations of 16 bytes, in a text of 33.
 const OPERATIONS: &str = "query A { ...F } query B { ...F }";
@@ -71,16 +69,5 @@ fn operations_reach_within_a_bound(rt: HostRuntime) {
             }
             None => assert_eq!(rt; "", *expected, "{reach} {bytes} {nested}"),
         }
-    }
-}
-
-#[test]
-fn the_bytes_of_all_texts_of_a_document_count(rt: HostRuntime) {
-    let alloc = rt.alloc();
-    for (reach, bytes, nested, expected) in REACHES {
-        let fragment = with_fragment(&rt, alloc, "", *bytes, *nested);
-        let sources = sources(&rt, alloc, OPERATIONS, fragment.as_str());
-        let found = reported(&rt, alloc, SCHEMA, &sources, bounds(*reach));
-        assert_eq!(rt; found.as_str(), *expected, "{reach} {bytes} {nested}");
     }
 }

@@ -23,6 +23,12 @@ const STANDALONE: &[(&str, &str)] = &[
     ("{ a } fragment F on B { c }", "1:6 UnusedFragment\n"),
     ("{ a @skip(if: true) }", "1:4 UndefinedDirective\n"),
     ("{ a(b: {x: 1, x: 2}) }", "1:14 UniqueInputField 8\n"),
+    ("{ a(b: $u) }", "1:7 UndefinedVariable\n"),
+    (
+        "{ a(b: {c: [$u]}) ...F } fragment F on E { g(h: $w) }",
+        "1:12 UndefinedVariable\n1:48 UndefinedVariable\n",
+    ),
+    ("query($u: Int) { a(b: {c: [$u]}) }", ""),
 ];
 
 #[test]

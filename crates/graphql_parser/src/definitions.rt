@@ -67,8 +67,8 @@ fn definitions_behind<'a>(
         if !here.has_more(More::UntilEnd) {
             return Ok((packed(found), here));
         }
-        let (item, behind) = definition(alloc, here, depth)?;
         make_room(&mut found)?;
+        let (item, behind) = definition(alloc, here, depth)?;
         found.push(item)?;
         here = behind;
     }
@@ -84,9 +84,9 @@ fn definitions<'a>(
     ensures { Reads (λ found. (found.0, input found.1)) result
         (some_of (more_test UntilEnd) (definition_at depth) (input cursor.entry)) }
 {
-    let (first, behind) = definition(alloc, cursor, depth)?;
     let mut found = Vec::new(alloc);
     make_room(&mut found)?;
+    let (first, behind) = definition(alloc, cursor, depth)?;
     found.push(first)?;
     definitions_behind(alloc, behind, found, depth)
 }

@@ -4,7 +4,11 @@
 #[cfg(test)]
 mod bounds;
 #[cfg(test)]
+mod bounds_of_documents;
+#[cfg(test)]
 mod executables;
+#[cfg(test)]
+mod helps;
 #[cfg(test)]
 mod names;
 #[cfg(test)]

@@ -1,2 +1,3 @@
+mod FirstLemmas
 mod PoolLemmas
 mod UseLemmas

@@ -1,6 +1,6 @@
 -- Fragments of several documents, each under its name, and the document of one operation with some of them. Specification: 2.2 Document, 2.8
 -- Fragments.
-use Rattle.std.specs.Prelude.{◌≡◌, List, [], ◌∷◌, ◌++◌, Option, None, Some, IsSome, All, Contains, flat_map, map}
+use Rattle.std.specs.Prelude.{◌≡◌, ⊤, List, [], ◌∷◌, ◌++◌, Option, None, Some, IsSome, All, Contains, flat_map, map}
 use Rattle.std.specs.List.{AllZip}
 use Rattle.std.specs.Map.{lookup}
 use Rattle.indexmap.specs.IndexMap.{IsUnique}
@@ -34,6 +34,16 @@ pub data AddsIfNew (name : NameText) (d : Node Fragment) (old new : List Entry) 
 abbrev pub Gathers : List Entry → List Entry → List Entry → Type 0
 Gathers given old new =
     AreDistinct (map (λ (e : Entry). e.0) (old ++ given)) → (added : List Entry) × (new ≡ old ++ added) × AllZip SameEntry given added
+
+-- there is one node, or none in either place
+abbrev pub IsSameFound : Option (Node Fragment) → Option (Node Fragment) → Type 0
+IsSameFound None None = ⊤
+IsSameFound (Some d) (Some e) = SameNode d e
+IsSameFound _ _ = ⊥
+
+-- under each name the new list has the fragment that the old one had, or else the first of these
+abbrev pub HasFirst : List Entry → List Entry → List Entry → Type 0
+HasFirst given old new = (name : NameText) → IsSameFound (lookup (same_name name) (old ++ given)) (lookup (same_name name) new)
 
 -- the fragment is the one that one of these names finds in the pool, under its own name
 abbrev pub IsBorrowed : ExecutableDocument → List NameText → Entry → Type 0

@@ -4,7 +4,7 @@ ghost use Rattle.std.specs.Prelude.{◌≡◌, ◌∷◌, ◌++◌, [], IfOk, No
 ghost use Rattle.indexmap.specs.IndexMap.{get, hasher_of};
 ghost use Rattle.graphql_nodes.specs.Names.{same_name};
 ghost use Rattle.graphql_variables.specs.Uses.{names_of};
-ghost use Rattle.graphql_pools.specs.Pools.{AddsIfNew, Borrows, Gathers, entries_among};
+ghost use Rattle.graphql_pools.specs.Pools.{AddsIfNew, Borrows, Gathers, HasFirst, entries_among};
 
 use graphql_documents::documents::{ExecutableDocument, Fragment, OperationMap};
 use graphql_hash_seeds::HashSeed;
@@ -22,7 +22,8 @@ pub fn pool_of(
     own: &[ExecutableDocument],
     lent: &[ExecutableDocument],
 ) -> Result<ExecutableDocument, ValidationError>
-    ensures { IfOk result (λ pool. Gathers (entries_among own.now ++ entries_among lent.now) [] pool.fragments.entries) }
+    ensures gathers { IfOk result (λ pool. Gathers (entries_among own.now ++ entries_among lent.now) [] pool.fragments.entries) }
+    ensures first { IfOk result (λ pool. HasFirst (entries_among own.now ++ entries_among lent.now) [] pool.fragments.entries) }
 {
     let mut fragments = IndexMap::with_hasher(alloc, hash_seed);
     add_fragments_of_files(alloc, own, &mut fragments)?;
@@ -42,7 +43,8 @@ fn add_fragments_of_files(
     files: &[ExecutableDocument],
     fragments: &mut IndexMap<Name, Node<Fragment>, HashSeed>,
 ) -> Result<(), ValidationError>
-    ensures { OnOk result (Gathers (entries_among files.now) fragments.old.entries fragments.new.entries) }
+    ensures gathers { OnOk result (Gathers (entries_among files.now) fragments.old.entries fragments.new.entries) }
+    ensures first { OnOk result (HasFirst (entries_among files.now) fragments.old.entries fragments.new.entries) }
 {
     for file in files {
         add_fragments(alloc, file, fragments)?;
@@ -56,7 +58,8 @@ fn add_fragments(
     file: &ExecutableDocument,
     fragments: &mut IndexMap<Name, Node<Fragment>, HashSeed>,
 ) -> Result<(), ValidationError>
-    ensures { OnOk result (Gathers file.now.fragments.entries fragments.old.entries fragments.new.entries) }
+    ensures gathers { OnOk result (Gathers file.now.fragments.entries fragments.old.entries fragments.new.entries) }
+    ensures first { OnOk result (HasFirst file.now.fragments.entries fragments.old.entries fragments.new.entries) }
 {
     for (name, fragment) in &file.fragments {
         add_if_new(alloc, name, fragment, fragments)?;

@@ -1,6 +1,6 @@
 -- What one more document, or one more definition, adds to what is built.
 use Rattle.std.proofs.Common.{◌≡◌, ◌∙◌, ℕ, ◌+◌, ◌<◌, List, [], ◌∷◌, ◌++◌, Option, None, Some, length, get_or, take, map, ap, refl, subst, sym}
-use Rattle.std.specs.Prelude.{All, filter_map, flat_map, option_to_list}
+use Rattle.std.specs.Prelude.{flat_map, option_to_list}
 use Rattle.std.specs.List.{AllZip}
 use Rattle.std.proofs.lemmas.Grind.{flat_map-append}
 use Rattle.std.proofs.lemmas.List.{append_assoc, append-nil, map-append}

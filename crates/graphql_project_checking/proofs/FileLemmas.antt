@@ -1,5 +1,5 @@
 -- From the typed form of a file whose operations pass, and of the fragments that they borrow, to what is asked of the file. Specification: 5 Validation.
-use Rattle.std.proofs.Common.{◌≡◌, ◌∙◌, ℕ, zero, suc, ◌+◌, ◌<◌, Bool, true, false, List, [], ◌∷◌, ◌++◌, Option, None, Some, arith, length, get_or, map, ap, inl, inr, refl, sym, subst}
+use Rattle.std.proofs.Common.{◌≡◌, ◌∙◌, zero, suc, Bool, true, false, List, [], ◌∷◌, ◌++◌, Option, Some, arith, map, ap, inl, inr, refl, sym, subst}
 use Rattle.std.specs.Prelude.{◌≢◌, ◌⊎◌, All, AllPairs, Any, Contains, if◌then◌else◌, option_to_list}
 use Rattle.std.specs.List.{AllZip}
 use Rattle.std.specs.Map.{keys_of, lookup}
@@ -13,7 +13,6 @@ use Rattle.graphql_documents.specs.Executables.{operations_of}
 use Rattle.graphql_documents.specs.Selections.{fragments_of}
 use Rattle.graphql_documents.specs.declared.documents.executables.ExecutableDocument.{ExecutableDocument}
 use Rattle.graphql_documents.specs.declared.documents.executables.Fragment.{Fragment}
-use Rattle.graphql_documents.specs.declared.documents.executables.Operation.{Operation}
 use Rattle.graphql_documents.specs.declared.documents.executables.OperationMap.{OperationMap}
 use Rattle.graphql_documents.specs.declared.documents.schemas.Schema.{Schema}
 use Rattle.graphql_trees.specs.declared.documents.Definition.TheVariants as definition
@@ -27,12 +26,12 @@ use Rattle.graphql_document_building.specs.Trees.{anonymous_operations_in, as_an
 use Rattle.graphql_frontend.specs.Schemas.{IsUsable}
 use Rattle.graphql_pools.specs.Pools.{Entry}
 use Rattle.graphql_projects.specs.OperationTrees.{Pool, ReachesFragment, fragment_named}
-use Rattle.graphql_projects.specs.Projects.{FileHolds, IsDocumentOfFile, OperationIsValid}
+use Rattle.graphql_projects.specs.Projects.{FileHolds, OperationIsValid}
 use Rattle.graphql_projects.proofs.OperationDocumentLemmas.{own, own_fragments}
 use Rattle.graphql_projects.proofs.SaidDefinitionLemmas.{found_entry, one_found, operation_is_said, operation_says}
 use Rattle.graphql_projects.proofs.SaidReachLemmas.{SaysIfAny, fragment_said, tree_spread_is_reached, zip_first, zip_second}
 use Rattle.graphql_project_checking.proofs.OperationLemmas.{HasOwnNames, distinct_pairs, document_is_of_tree, found_by_own, found_some, fragment_in_tree, fragment_said_of_same}
-use Rattle.graphql_project_checking.specs.Silence.{BorrowsForAll, FilePasses, IsReachedByOne, OperationPasses}
+use Rattle.graphql_project_checking.specs.Silence.{FilePasses, IsReachedByOne, OperationPasses}
 
 -- ==== different names
 
@@ -82,11 +81,11 @@ distinct_is_found (q ∷ pool) p distinct (suc k, within, is) =
 
 -- ==== a definition behind others
 
-no_operations : (fs : List FragmentDefinition) → anonymous_operations_in (map definition.Fragment fs) ≡ []
+pub no_operations : (fs : List FragmentDefinition) → anonymous_operations_in (map definition.Fragment fs) ≡ []
 no_operations [] = refl
 no_operations (f ∷ fs) = no_operations fs
 
-no_names : (fs : List FragmentDefinition) → named_operations_in (map definition.Fragment fs) ≡ []
+pub no_names : (fs : List FragmentDefinition) → named_operations_in (map definition.Fragment fs) ≡ []
 no_names [] = refl
 no_names (f ∷ fs) = no_names fs
 
@@ -96,7 +95,7 @@ zip_append R [] xs (v ∷ vs) ys first rest = absurd first
 zip_append R (u ∷ us) xs [] ys first rest = absurd first
 zip_append R (u ∷ us) xs (v ∷ vs) ys first rest = (first.0, zip_append R us xs vs ys first.1 rest)
 
-same_operations_say : (schema : Option Schema) (tree whole_tree : Document) (file whole : ExecutableDocument) → DocumentSays schema tree file →
+pub same_operations_say : (schema : Option Schema) (tree whole_tree : Document) (file whole : ExecutableDocument) → DocumentSays schema tree file →
     whole.operations ≡ file.operations → anonymous_operations_in whole_tree.definitions ≡ anonymous_operations_in tree.definitions →
     named_operations_in whole_tree.definitions ≡ named_operations_in tree.definitions →
     AllZip (SaysUnderName (FragmentSays schema)) (fragments_in whole_tree.definitions) whole.fragments.entries → DocumentSays schema whole_tree whole

@@ -1,9 +1,16 @@
 mod BuildingLemmas
+mod ErrorLemmas
 mod FileLemmas
+mod KnownLemmas
+mod LentLemmas
 mod OperationLemmas
 mod PartLemmas
+mod PartTruthLemmas
 mod ProjectLemmas
 mod ReachingLemmas
 mod SilenceLemmas
 mod TextLemmas
+mod TreeLemmas
+mod TruthLemmas
 mod UseLemmas
+mod UseTruthLemmas

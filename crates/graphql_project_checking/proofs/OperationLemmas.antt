@@ -1,6 +1,6 @@
 -- From the document of an operation that was put together of nodes, the tree that it says: the operation with exactly the fragments that it reaches.
 -- Specification: 2.2 Document, 2.8 Fragments.
-use Rattle.std.proofs.Common.{◌≡◌, ◌∙◌, ℕ, zero, suc, ◌+◌, ◌<◌, Bool, true, false, List, [], ◌∷◌, Option, None, Some, arith, length, get_or, map, ap, refl, sym, subst}
+use Rattle.std.proofs.Common.{◌≡◌, ◌∙◌, ℕ, zero, suc, ◌<◌, true, List, [], ◌∷◌, Option, None, Some, arith, length, get_or, map, ap, refl, sym, subst}
 use Rattle.std.specs.Prelude.{All, AllPairs, Contains, IsSome, is_some, option_to_list}
 use Rattle.std.specs.List.{AllZip, IsDistinct}
 use Rattle.std.specs.Map.{keys_of, lookup}
@@ -26,7 +26,7 @@ use Rattle.graphql_document_building.specs.Selections.{SelectionsSay}
 use Rattle.graphql_document_building.specs.Trees.{anonymous_operations_in, fragments_in, named_operations_in}
 use Rattle.graphql_leaf_building.specs.Definitions.{VariablesSay}
 use Rattle.graphql_leaf_building.specs.Directives.{DirectivesSay}
-use Rattle.graphql_pools.specs.Pools.{Borrows, Entry, HoldsAlone, IsAlone, IsBorrowed, IsOperationDocument}
+use Rattle.graphql_pools.specs.Pools.{Borrows, Entry, IsAlone, IsBorrowed, IsOperationDocument}
 use Rattle.graphql_projects.specs.OperationTrees.{IsTreeOf, Pool, ReachesFragment, SpreadsIn, fragment_named}
 use Rattle.graphql_projects.proofs.OperationDocumentLemmas.{document_of, document_says, own}
 use Rattle.graphql_projects.proofs.SaidDefinitionLemmas.{found_entry, one_found}

@@ -1,25 +1,21 @@
 -- From what holds of each file, to what holds of all files together. Specification: 5 Validation.
-use Rattle.std.proofs.Common.{◌≡◌, ◌∙◌, ℕ, zero, suc, ◌+◌, ◌<◌, Bool, true, false, List, [], ◌∷◌, ◌++◌, Option, None, Some, arith, length, get_or, map, ap, inl, inr, refl, sym, subst}
+use Rattle.std.proofs.Common.{◌≡◌, ◌∙◌, zero, suc, ◌+◌, Bool, true, false, List, [], ◌∷◌, ◌++◌, Some, arith, length, map, ap, inl, inr, refl, sym, subst}
 use Rattle.std.specs.Prelude.{◌⊎◌, All, AllPairs, Any, Contains, filter, flat_map, not}
 use Rattle.std.specs.List.{AllZip}
-use Rattle.std.proofs.lemmas.List.{append_assoc, append-nil, get_or-append-add, get_or_append_left, length-append, map-append}
-use Rattle.std.proofs.lemmas.List.Elements.{All-append, All-cons, All-contains, All-weaker, Contains-append_cases, Contains-append_left, Contains-append_right}
-use Rattle.graphql_nodes.specs.Names.{AreDistinct, DifferentNames, NameText, SameName, same_name}
-use Rattle.graphql_nodes.specs.declared.nodes.Node.{Node}
+use Rattle.std.proofs.lemmas.List.{append_assoc, get_or-append-add, get_or_append_left, length-append, map-append}
+use Rattle.std.proofs.lemmas.List.Elements.{All-append, All-contains, All-weaker, Contains-append_cases, Contains-append_left}
+use Rattle.graphql_nodes.specs.Names.{AreDistinct, DifferentNames, NameText, SameName}
 use Rattle.graphql_documents.proofs.ListLemmas.{each_standing, kept_by_filter, none_stands, stands_flat}
 use Rattle.graphql_documents.specs.Executables.{operations_of}
 use Rattle.graphql_documents.specs.Selections.{fragments_of}
 use Rattle.graphql_documents.specs.declared.documents.executables.ExecutableDocument.{ExecutableDocument}
-use Rattle.graphql_documents.specs.declared.documents.executables.Fragment.{Fragment}
-use Rattle.graphql_documents.specs.declared.documents.executables.Operation.{Operation}
 use Rattle.graphql_documents.specs.declared.documents.schemas.Schema.{Schema}
 use Rattle.graphql_trees.specs.declared.documents.Definition.TheVariants as definition
 use Rattle.graphql_trees.specs.declared.documents.Definition.{Definition}
 use Rattle.graphql_trees.specs.declared.documents.Document.{Document}
 use Rattle.graphql_trees.specs.declared.executable.FragmentDefinition.{FragmentDefinition}
-use Rattle.graphql_trees.specs.declared.executable.OperationDefinition.{OperationDefinition}
 use Rattle.graphql_document_building.specs.BuildingRules.{DefinitionBuilds, DocumentBuilds}
-use Rattle.graphql_document_building.specs.Documents.{DocumentSays, FragmentSays, OperationSays, SaysUnderName}
+use Rattle.graphql_document_building.specs.Documents.{DocumentSays, FragmentSays, SaysUnderName}
 use Rattle.graphql_document_building.specs.Trees.{fragments_in, operations_in}
 use Rattle.graphql_frontend.specs.Schemas.{IsUsable}
 use Rattle.graphql_frontend.specs.declared.texts.SourceText.{SourceText}
@@ -79,7 +75,7 @@ among_own_names trees p c = let t = made_flat (λ (t : Document). fragments_in t
 
 -- ==== files that are lent
 
-alone_fragments : (ds : List Definition) → fragments_in (filter is_fragment ds) ≡ fragments_in ds
+pub alone_fragments : (ds : List Definition) → fragments_in (filter is_fragment ds) ≡ fragments_in ds
 alone_fragments [] = refl
 alone_fragments (definition.Fragment x ∷ ds) = ap (λ l. (x.name, x) ∷ l) (alone_fragments ds)
 alone_fragments (_ ∷ ds) = alone_fragments ds
@@ -120,7 +116,7 @@ module _ (s : Schema) where
   abbrev Says : NameText × FragmentDefinition → Entry → Type 0
   Says = SaysUnderName (FragmentSays (Some s))
 
-  flat_says : (trees : List Document) (files : List ExecutableDocument) → AllZip (DocumentSays (Some s)) trees files → AllZip Says (fragments_among trees) (entries_among files)
+  pub flat_says : (trees : List Document) (files : List ExecutableDocument) → AllZip (DocumentSays (Some s)) trees files → AllZip Says (fragments_among trees) (entries_among files)
   flat_says [] [] zip = tt
   flat_says [] (f ∷ fs) zip = absurd zip
   flat_says (t ∷ ts) [] zip = absurd zip

@@ -1,12 +1,12 @@
 -- What the operations of files reach, one operation after another, and one file after another.
-use Rattle.std.proofs.Common.{◌≡◌, ◌∙◌, ℕ, ◌+◌, ◌<◌, Bool, true, false, cond, List, [], ◌∷◌, ◌++◌, Option, Some, None, length, get_or, take, ap, inl, inr, refl, subst, sym}
-use Rattle.std.specs.Prelude.{◌⊎◌, All, Contains, IsSome, flat_map, is_some}
+use Rattle.std.proofs.Common.{◌≡◌, ◌∙◌, ℕ, ◌+◌, ◌<◌, Bool, true, false, cond, List, [], ◌∷◌, ◌++◌, Option, Some, length, get_or, take, ap, inl, inr, refl, subst, sym}
+use Rattle.std.specs.Prelude.{◌⊎◌, All, Contains, IsSome, flat_map}
 use Rattle.std.specs.Borrow.{Bor}
 use Rattle.std.specs.Map.{lookup}
 use Rattle.std.proofs.lemmas.List.{append_assoc, append-nil}
 use Rattle.std.proofs.lemmas.List.Elements.{All-append, All-cons, All-contains, All-nil, Contains-append_cases, Contains-append_left, Contains-append_right}
 use Rattle.std.proofs.lemmas.List.Folds.{Any-from_list_any}
-use Rattle.graphql_documents.proofs.ListLemmas.{each_standing, none_stands, only_one, stands_first}
+use Rattle.graphql_documents.proofs.ListLemmas.{none_stands, only_one, stands_first}
 use Rattle.graphql_documents.proofs.SelectionLemmas.{one_fragment_found}
 use Rattle.graphql_documents.specs.Executables.{operations_of}
 use Rattle.graphql_documents.specs.Selections.{fragments_of}
@@ -24,7 +24,7 @@ use Rattle.graphql_reach.specs.Reached.{IsReachedFrom, IsSpreadFrom, ReachesName
 use Rattle.graphql_project_checking.proofs.OperationLemmas.{is_there}
 use Rattle.graphql_project_checking.proofs.SilenceLemmas.{silent_then}
 use Rattle.graphql_pools.specs.Uses.{NotesNames}
-use Rattle.graphql_project_checking.specs.Silence.{BorrowsForAll, FilePasses, HoldsWith, IsReachedByOne, IsUsedName, NotesUses, OperationPasses, SilentOnlyIf}
+use Rattle.graphql_project_checking.specs.Silence.{BorrowsForAll, FilePasses, IsReachedByOne, IsUsedName, NotesUses, OperationPasses, SilentOnlyIf}
 
 -- ==== what is found stays
 
@@ -155,7 +155,7 @@ module _ (pool : ExecutableDocument) where
         silent_then old mid new (All (FilePasses s pool) done) (FilePasses s pool x) (All (FilePasses s pool) (done ++ x ∷ []))
         (λ a b. All-append (FilePasses s pool) done (x ∷ []) a (All-cons (FilePasses s pool) x [] b (All-nil (FilePasses s pool)))) first rest
 
-  flat_last : (done : List ExecutableDocument) (x : ExecutableDocument) → flat_map operations_of (done ++ x ∷ []) ≡ flat_map operations_of done ++ operations_of x
+  pub flat_last : (done : List ExecutableDocument) (x : ExecutableDocument) → flat_map operations_of (done ++ x ∷ []) ≡ flat_map operations_of done ++ operations_of x
   flat_last [] x = append-nil (operations_of x)
   flat_last (d ∷ done) x = ap (λ l. operations_of d ++ l) (flat_last done x) ∙ sym (append_assoc (operations_of d) (flat_map operations_of done) (operations_of x))
 

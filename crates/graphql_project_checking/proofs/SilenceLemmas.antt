@@ -1,5 +1,5 @@
 -- What follows where nothing is reported.
-use Rattle.std.proofs.Common.{rules, ◌≡◌, ◌∙◌, List, [], ◌∷◌, ◌++◌, Ok, Err, Result, refl, sym, subst}
+use Rattle.std.proofs.Common.{rules, ◌≡◌, ◌∙◌, List, [], ◌∷◌, ◌++◌, Ok, Err, Result, sym, subst}
 use Rattle.std.specs.Prelude.{◌==◌, All, Bool, Vec, true, IfOk, IsOk, MatchResult, OnOk}
 use Rattle.std.specs.Vec.{vec_len}
 use Rattle.std.specs.declared.alloc.Global.{Global}

@@ -1,26 +1,16 @@
 -- What one more fragment adds to what is reported of uses.
-use Rattle.std.proofs.Common.{◌≡◌, ◌∙◌, ℕ, ◌+◌, ◌<◌, Bool, true, false, List, [], ◌∷◌, ◌++◌, Some, None, length, get_or, take, map, ap, inl, inr, refl, subst, sym}
-use Rattle.std.specs.Prelude.{◌⊎◌, All, Contains}
-use Rattle.std.specs.Borrow.{Bor}
-use Rattle.std.specs.List.{list_any}
-use Rattle.std.proofs.lemmas.List.{map-append}
-use Rattle.std.proofs.lemmas.List.Elements.{All-append, All-cons, All-nil, Contains-append_cases, Contains-append_left, Contains-append_right}
-use Rattle.indexmap.specs.IndexSet.{insert_key}
+use Rattle.std.proofs.Common.{◌≡◌, ◌∙◌, ℕ, ◌+◌, ◌<◌, List, [], ◌∷◌, ◌++◌, length, get_or, take, subst, sym}
+use Rattle.std.specs.Prelude.{All}
+use Rattle.std.proofs.lemmas.List.Elements.{All-append, All-cons, All-nil}
 use Rattle.graphql_diagnostics.specs.declared.lists.DiagnosticEntry.{DiagnosticEntry}
-use Rattle.graphql_documents.proofs.ListLemmas.{none_stands, only_one, stands_first}
-use Rattle.graphql_documents.specs.Selections.{fragments_of}
-use Rattle.graphql_documents.specs.declared.documents.executables.ExecutableDocument.{ExecutableDocument}
-use Rattle.graphql_documents.specs.declared.documents.executables.Fragment.{Fragment}
 use Rattle.graphql_frontend.specs.declared.reports.Reports.{Reports}
-use Rattle.graphql_nodes.specs.Names.{NameText, same_name}
-use Rattle.graphql_nodes.specs.declared.nodes.Node.{Node}
+use Rattle.graphql_nodes.specs.Names.{NameText}
 use Rattle.graphql_document_building.specs.Trees.{fragments_in}
 use Rattle.graphql_projects.specs.OperationTrees.{Pool, fragments_among}
 use Rattle.graphql_trees.specs.declared.documents.Definition.{Definition}
 use Rattle.graphql_trees.specs.declared.documents.Document.{Document}
 use Rattle.graphql_trees.specs.declared.executable.FragmentDefinition.{FragmentDefinition}
-use Rattle.graphql_variables.proofs.NameSetLemmas.{same_key}
-use Rattle.graphql_variables.specs.Uses.{IsNamedIn, names_of}
+use Rattle.graphql_variables.specs.Uses.{IsNamedIn}
 use Rattle.graphql_project_checking.proofs.BuildingLemmas.{flat_more, fragments_more}
 use Rattle.graphql_project_checking.proofs.SilenceLemmas.{not_nil, silent_then}
 use Rattle.graphql_project_checking.specs.Silence.{ReportsUnused, SilentOnlyIf}

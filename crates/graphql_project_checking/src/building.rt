@@ -1,11 +1,14 @@
 //! Whether the definitions of files can be built, and the typed documents that they make.
 
-ghost use Rattle.std.specs.Prelude.{◌≡◌, ◌≢◌, ◌++◌, [], All, IfOk, IsOk, OnOk, map, option_to_list};
+ghost use Rattle.std.specs.Prelude.{◌≡◌, ◌≢◌, ◌++◌, [], All, Contains, IfOk, IsOk, IsTrue, OnOk, Some, map, option_to_list};
 ghost use Rattle.std.specs.List.{AllZip};
 ghost use Rattle.graphql_building_reports.specs.Checks.{reports_of};
+ghost use Rattle.graphql_diagnostics.specs.Reports.{KeepsReports};
 ghost use Rattle.graphql_document_building.specs.Trees.{fragments_in};
+ghost use Rattle.graphql_document_checking.specs.DocumentReports.{DocumentBuildingReport};
 ghost use Rattle.graphql_nodes.specs.Names.{AreDistinct};
 ghost use Rattle.graphql_project_checking.specs.Silence.{BuildAll, BuildAsLent, BuildsTo, HasFragmentsOf, OthersBuild, SilentOnlyIf};
+ghost use Rattle.graphql_project_checking.specs.Truth.{AreOfBuilding, AreOfOneDocument, IsFragmentNameReport};
 ghost use Rattle.graphql_projects.specs.OperationTrees.{fragments_among};
 ghost use Rattle.graphql_repetitions.specs.References.{nows};
 
@@ -41,7 +44,8 @@ pub(crate) fn check_fragment_names(
     lent: &[Document],
     found: &mut Vec<Reports>,
 ) -> Result<(), ValidationError>
-    ensures { OnOk result (SilentOnlyIf found.old.items found.new.items (AreDistinct (map (λ p. p.0) (fragments_among (own.now ++ lent.now))))) }
+    ensures silence { OnOk result (SilentOnlyIf found.old.items found.new.items (AreDistinct (map (λ p. p.0) (fragments_among (own.now ++ lent.now))))) }
+    ensures truth { OnOk result (KeepsReports (AreOfBuilding (IsFragmentNameReport (own.now ++ lent.now))) found.old.items found.new.items) }
 {
     let mut names = Vec::new(alloc);
     push_fragment_names(own, &mut names)?;
@@ -87,7 +91,8 @@ pub(crate) fn build_files(
     documents: &[Document],
     found: &mut Vec<Reports>,
 ) -> Result<Vec<ExecutableDocument>, ValidationError>
-    ensures { IfOk result (λ files. SilentOnlyIf found.old.items found.new.items (BuildAll building.entry.schema.now documents.now files.items)) }
+    ensures silence { IfOk result (λ files. SilentOnlyIf found.old.items found.new.items (BuildAll building.entry.schema.now documents.now files.items)) }
+    ensures truth { OnOk result (KeepsReports (AreOfOneDocument building.entry.schema.now documents.now) found.old.items found.new.items) }
 {
     let mut files = Vec::new(alloc);
     for document in documents {
@@ -120,7 +125,8 @@ fn build_file(
     document: &Document,
     found: &mut Vec<Reports>,
 ) -> Result<Option<ExecutableDocument>, ValidationError>
-    ensures { IfOk result (λ file. SilentOnlyIf found.old.items found.new.items (BuildsTo building.entry.schema.now document.now file)) }
+    ensures silence { IfOk result (λ file. SilentOnlyIf found.old.items found.new.items (BuildsTo building.entry.schema.now document.now file)) }
+    ensures truth { OnOk result (KeepsReports (AreOfBuilding (DocumentBuildingReport (Some building.entry.schema.now) document.now)) found.old.items found.new.items) }
 {
     let mut reports = new_list(alloc, building);
     match check_document(&mut reports, building.schema, document) {
@@ -156,7 +162,9 @@ pub(crate) fn build_lent_files(
     documents: Vec<Document>,
     found: &mut Vec<Reports>,
 ) -> Result<Lent, ValidationError>
-    ensures { IfOk result (λ lent. SilentOnlyIf found.old.items found.new.items (BuildAsLent building.entry.schema.now documents.items lent)) }
+    ensures silence { IfOk result (λ lent. SilentOnlyIf found.old.items found.new.items (BuildAsLent building.entry.schema.now documents.items lent)) }
+    ensures truth { OnOk result (KeepsReports (AreOfOneDocument building.entry.schema.now documents.items) found.old.items found.new.items) }
+    ensures fragments { IfOk result (λ lent. AllZip HasFragmentsOf documents.items lent.documents.items) }
 {
     let fragments = fragments_of_files(alloc, building, documents, found)?;
     let files = build_files(alloc, building, &fragments, found)?;
@@ -174,6 +182,7 @@ fn fragments_of_files(
     found: &mut Vec<Reports>,
 ) -> Result<Vec<Document>, ValidationError>
     ensures silence { OnOk result (SilentOnlyIf found.old.items found.new.items (All (OthersBuild building.entry.schema.now) documents.items)) }
+    ensures truth { OnOk result (KeepsReports (AreOfOneDocument building.entry.schema.now documents.items) found.old.items found.new.items) }
     ensures fragments { IfOk result (λ fragments. AllZip HasFragmentsOf documents.items fragments.items) }
 {
     let mut fragments = Vec::new(alloc);
@@ -191,6 +200,7 @@ fn fragments_of_file(
     found: &mut Vec<Reports>,
 ) -> Result<Document, ValidationError>
     ensures silence { OnOk result (SilentOnlyIf found.old.items found.new.items (OthersBuild building.entry.schema.now document)) }
+    ensures truth { OnOk result (KeepsReports (AreOfBuilding (DocumentBuildingReport (Some building.entry.schema.now) document)) found.old.items found.new.items) }
     ensures fragments { IfOk result (HasFragmentsOf document) }
 {
     let parts = parts_of(alloc, document)?;
@@ -213,7 +223,8 @@ fn add_reports(
     bounds: Bounds,
     found: &mut Vec<Reports>,
 ) -> Result<(), ValidationError>
-    ensures { OnOk result (SilentOnlyIf found.old.items found.new.items (IsOk checked × (reports_of reports ≡ []))) }
+    ensures silence { OnOk result (SilentOnlyIf found.old.items found.new.items (IsOk checked × (reports_of reports ≡ []))) }
+    ensures truth { OnOk result (KeepsReports (AreOfBuilding (Contains (reports_of reports))) found.old.items found.new.items) }
 {
     match checked {
         Ok(()) => add_all(reports, found),
@@ -228,7 +239,8 @@ fn add_first(
     bounds: Bounds,
     found: &mut Vec<Reports>,
 ) -> Result<(), ValidationError>
-    ensures { OnOk result (found.new.items ≢ []) }
+    ensures some { OnOk result (found.new.items ≢ []) }
+    ensures truth { OnOk result (KeepsReports (AreOfBuilding (Contains (reports_of reports))) found.old.items found.new.items) }
 {
     if !is_full(&reports, bounds) {
         return Err(error);
@@ -238,7 +250,8 @@ fn add_first(
 }
 
 fn add_all(reports: BuildingReportList, found: &mut Vec<Reports>) -> Result<(), ValidationError>
-    ensures { OnOk result (SilentOnlyIf found.old.items found.new.items (reports_of reports ≡ [])) }
+    ensures silence { OnOk result (SilentOnlyIf found.old.items found.new.items (reports_of reports ≡ [])) }
+    ensures truth { OnOk result (KeepsReports (AreOfBuilding (Contains (reports_of reports))) found.old.items found.new.items) }
 {
     if reports.is_empty() {
         return Ok(());
@@ -248,6 +261,8 @@ fn add_all(reports: BuildingReportList, found: &mut Vec<Reports>) -> Result<(), 
 }
 
 /// Whether a check ended because the list has a report and keeps no more.
-fn is_full(reports: &BuildingReportList, bounds: Bounds) -> bool {
+fn is_full(reports: &BuildingReportList, bounds: Bounds) -> bool
+    ensures { IsTrue result → reports_of reports.now ≢ [] }
+{
     reports.has_more() && !reports.is_empty() && reports.iter().len() <= bounds.reports.max(1)
 }

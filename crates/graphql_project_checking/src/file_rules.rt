@@ -1,9 +1,12 @@
 //! The rules that are asked of the definitions of a file together.
 
-ghost use Rattle.std.specs.Prelude.{◌≡◌, ◌≢◌, [], IsOk, OnOk};
+ghost use Rattle.std.specs.Prelude.{◌≡◌, ◌≢◌, [], Contains, IsOk, IsTrue, OnOk};
 ghost use Rattle.graphql_diagnostics.specs.Diagnostics.{entries};
-ghost use Rattle.graphql_input_rules.specs.InputFields.{InputFieldsAreUnique};
+ghost use Rattle.graphql_diagnostics.specs.Reports.{KeepsReports};
+ghost use Rattle.graphql_input_rules.specs.InputFields.{InputFieldReport, InputFieldsAreUnique};
 ghost use Rattle.graphql_project_checking.specs.Silence.{SilentOnlyIf};
+ghost use Rattle.graphql_project_checking.specs.Truth.{AreOfDefinitions, AreOfInputFields, AreOfRules, IsDeferEntry};
+ghost use Rattle.graphql_reporting.specs.Lists.{reports_of};
 ghost use Rattle.graphql_specification.specs.Defer.{LabelsHold};
 
 use graphql_diagnostics::DiagnosticList;
@@ -24,7 +27,8 @@ pub(crate) fn check_file_rules(
     bounds: Bounds,
     found: &mut Vec<Reports>,
 ) -> Result<(), ValidationError>
-    ensures { OnOk result (SilentOnlyIf found.old.items found.new.items (LabelsHold document.now × InputFieldsAreUnique document.now)) }
+    ensures silence { OnOk result (SilentOnlyIf found.old.items found.new.items (LabelsHold document.now × InputFieldsAreUnique document.now)) }
+    ensures truth { OnOk result (KeepsReports (AreOfDefinitions document.now) found.old.items found.new.items) }
 {
     check_labels(alloc, document, bounds, found)?;
     check_values(alloc, document, bounds, found)
@@ -36,7 +40,8 @@ fn check_labels(
     bounds: Bounds,
     found: &mut Vec<Reports>,
 ) -> Result<(), ValidationError>
-    ensures { OnOk result (SilentOnlyIf found.old.items found.new.items (LabelsHold document.now)) }
+    ensures silence { OnOk result (SilentOnlyIf found.old.items found.new.items (LabelsHold document.now)) }
+    ensures truth { OnOk result (KeepsReports (AreOfRules (IsDeferEntry document.now)) found.old.items found.new.items) }
 {
     let mut rules = DiagnosticList::with_bound(alloc, document.hash_seed(), report_bound(bounds));
     let checked = validate_defer(document, &mut rules);
@@ -51,7 +56,8 @@ pub(crate) fn add_rules(
     bounds: Bounds,
     found: &mut Vec<Reports>,
 ) -> Result<(), ValidationError>
-    ensures { OnOk result (SilentOnlyIf found.old.items found.new.items (IsOk checked × (entries rules ≡ []))) }
+    ensures silence { OnOk result (SilentOnlyIf found.old.items found.new.items (IsOk checked × (entries rules ≡ []))) }
+    ensures truth { OnOk result (KeepsReports (AreOfRules (Contains (entries rules))) found.old.items found.new.items) }
 {
     match checked {
         Ok(()) => add_all_rules(alloc, rules, found),
@@ -66,7 +72,8 @@ fn add_first_rules(
     bounds: Bounds,
     found: &mut Vec<Reports>,
 ) -> Result<(), ValidationError>
-    ensures { OnOk result (found.new.items ≢ []) }
+    ensures some { OnOk result (found.new.items ≢ []) }
+    ensures truth { OnOk result (KeepsReports (AreOfRules (Contains (entries rules))) found.old.items found.new.items) }
 {
     if !is_full(&rules, bounds) {
         return Err(error);
@@ -80,7 +87,8 @@ fn add_all_rules(
     rules: DiagnosticList,
     found: &mut Vec<Reports>,
 ) -> Result<(), ValidationError>
-    ensures { OnOk result (SilentOnlyIf found.old.items found.new.items (entries rules ≡ [])) }
+    ensures silence { OnOk result (SilentOnlyIf found.old.items found.new.items (entries rules ≡ [])) }
+    ensures truth { OnOk result (KeepsReports (AreOfRules (Contains (entries rules))) found.old.items found.new.items) }
 {
     if rules.is_empty() {
         return Ok(());
@@ -96,7 +104,9 @@ fn add_all_rules(
 }
 
 /// Whether a check ended because the list has a report and keeps no more.
-fn is_full(rules: &DiagnosticList, bounds: Bounds) -> bool {
+fn is_full(rules: &DiagnosticList, bounds: Bounds) -> bool
+    ensures { IsTrue result → entries rules.now ≢ [] }
+{
     rules.has_more() && !rules.is_empty() && rules.len() <= bounds.reports.max(1)
 }
 
@@ -106,7 +116,8 @@ fn check_values(
     bounds: Bounds,
     found: &mut Vec<Reports>,
 ) -> Result<(), ValidationError>
-    ensures { OnOk result (SilentOnlyIf found.old.items found.new.items (InputFieldsAreUnique document.now)) }
+    ensures silence { OnOk result (SilentOnlyIf found.old.items found.new.items (InputFieldsAreUnique document.now)) }
+    ensures truth { OnOk result (KeepsReports (AreOfInputFields (InputFieldReport document.now)) found.old.items found.new.items) }
 {
     let mut list = ReportList::with_bound(alloc, report_bound(bounds));
     match check_input_fields(&mut list, document) {
@@ -123,7 +134,8 @@ fn add_first_values(
     error: ValidationError,
     found: &mut Vec<Reports>,
 ) -> Result<(), ValidationError>
-    ensures { OnOk result (found.new.items ≢ []) }
+    ensures some { OnOk result (found.new.items ≢ []) }
+    ensures truth { OnOk result (KeepsReports (AreOfInputFields (Contains (reports_of list))) found.old.items found.new.items) }
 {
     if list.is_empty() || !list.has_more() {
         return Err(error);
@@ -138,7 +150,8 @@ fn add_values(
     has_more: bool,
     found: &mut Vec<Reports>,
 ) -> Result<(), ValidationError>
-    ensures { OnOk result (SilentOnlyIf found.old.items found.new.items (input_fields.items ≡ [])) }
+    ensures silence { OnOk result (SilentOnlyIf found.old.items found.new.items (input_fields.items ≡ [])) }
+    ensures truth { OnOk result (KeepsReports (AreOfInputFields (Contains input_fields.items)) found.old.items found.new.items) }
 {
     if input_fields.is_empty() {
         return Ok(());

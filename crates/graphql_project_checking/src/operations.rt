@@ -1,7 +1,9 @@
 //! The document of one operation, and what is reported of it.
 
-ghost use Rattle.std.specs.Prelude.{◌≡◌, None, Ok, OnOk};
+ghost use Rattle.std.specs.Prelude.{◌≡◌, None, Ok, OnOk, Some};
+ghost use Rattle.graphql_diagnostics.specs.Reports.{KeepsReports};
 ghost use Rattle.graphql_project_checking.specs.Silence.{HoldsWith, SilentOnlyIf};
+ghost use Rattle.graphql_project_checking.specs.Truth.{AreOfDocumentWith};
 ghost use Rattle.graphql_variables.specs.Uses.{names_of};
 
 use crate::contexts::Context;
@@ -24,8 +26,10 @@ pub(crate) fn check_operation(
     names: &IndexSet<&Name, HashSeed>,
     found: &mut Vec<Reports>,
 ) -> Result<(), ValidationError>
-    ensures { OnOk result (SilentOnlyIf found.old.items found.new.items
+    ensures silence { OnOk result (SilentOnlyIf found.old.items found.new.items
         (HoldsWith context.entry.schema.now context.entry.pool.now operation.now (names_of names.now.keys))) }
+    ensures truth { OnOk result (KeepsReports (AreOfDocumentWith context.entry.bounds context.entry.schema.now context.entry.pool.now operation.now (names_of names.now.keys))
+        found.old.items found.new.items) }
 {
     match reports_of(alloc, context, operation, names)? {
         None => Ok(()),
@@ -44,7 +48,9 @@ fn reports_of(
     operation: &Node<Operation>,
     names: &IndexSet<&Name, HashSeed>,
 ) -> Result<Option<Reports>, ValidationError>
-    ensures { result ≡ Ok None → HoldsWith context.entry.schema.now context.entry.pool.now operation.now (names_of names.now.keys) }
+    ensures silence { result ≡ Ok None → HoldsWith context.entry.schema.now context.entry.pool.now operation.now (names_of names.now.keys) }
+    ensures truth { (reports : Reports) → result ≡ Ok (Some reports) →
+        AreOfDocumentWith context.entry.bounds context.entry.schema.now context.entry.pool.now operation.now (names_of names.now.keys) reports }
 {
     let document = document_of(alloc, context.pool, operation, names)?;
     let bytes = bytes_of(operation, &document);

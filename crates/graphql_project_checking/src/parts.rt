@@ -1,7 +1,9 @@
 //! Documents with some of the definitions of others.
 
-ghost use Rattle.std.specs.Prelude.{◌≡◌, ◌++◌, IfOk, OnOk, filter, reverse};
+ghost use Rattle.std.specs.Prelude.{◌≡◌, ◌++◌, ◌↔◌, IfOk, IsTrue, OnOk, Some, filter, reverse};
+ghost use Rattle.graphql_document_building.specs.BuildingRules.{DefinitionBuilds};
 ghost use Rattle.graphql_project_checking.specs.Silence.{HasFragmentsOf, is_fragment, others_in};
+ghost use Rattle.graphql_project_checking.specs.Truth.{KeepsThatBuild};
 
 use graphql_building_reports::BuildingReportList;
 use graphql_document_checking::check_definitions;
@@ -84,7 +86,9 @@ pub(crate) fn those_that_build(
     schema: &Schema,
     document: Document,
     left_out: &mut Vec<Definition>,
-) -> Result<Document, ValidationError> {
+) -> Result<Document, ValidationError>
+    ensures { IfOk result (λ part. KeepsThatBuild schema.now document.definitions part.definitions) }
+{
     let span = document.span;
     let definitions = document.into_definitions();
     let kept = built_from_end(alloc, schema, definitions, left_out)?;
@@ -98,7 +102,9 @@ fn built_from_end(
     schema: &Schema,
     mut definitions: Items<Definition>,
     left_out: &mut Vec<Definition>,
-) -> Result<Items<Definition>, ValidationError> {
+) -> Result<Items<Definition>, ValidationError>
+    ensures { IfOk result (λ kept. KeepsThatBuild schema.now definitions (reverse kept)) }
+{
     let mut kept = Items::new(alloc);
     while let Some(definition) = definitions.pop() {
         if builds(alloc, schema, &definition)? {
@@ -111,11 +117,9 @@ fn built_from_end(
 }
 
 /// Whether the definition can be built against the schema.
-fn builds(
-    alloc: Global,
-    schema: &Schema,
-    definition: &Definition,
-) -> Result<bool, ValidationError> {
+fn builds(alloc: Global, schema: &Schema, definition: &Definition) -> Result<bool, ValidationError>
+    ensures { IfOk result (λ it. IsTrue it ↔ DefinitionBuilds (Some schema.now) definition.now) }
+{
     let mut reports = BuildingReportList::new(alloc);
     check_definitions(&mut reports, Some(schema), slice::from_ref(definition))?;
     Ok(reports.is_empty())

@@ -3,6 +3,7 @@
 ghost use Rattle.std.specs.Prelude.{◌≡◌, ◌↔◌, [], IfOk, IsTrue, OnOk};
 ghost use Rattle.graphql_frontend.specs.Schemas.{IsUsable};
 ghost use Rattle.graphql_project_checking.specs.Silence.{SilentOnlyIf};
+ghost use Rattle.graphql_project_checking.specs.Truth.{AddsTrue, AreAllTrue};
 ghost use Rattle.graphql_projects.specs.Projects.{ProjectHolds};
 
 use crate::building::{Building, build_files, build_lent_files, check_fragment_names};
@@ -36,6 +37,7 @@ pub fn check_project(
 ) -> Result<Vec<Reports>, ValidationError>
     requires { IsUsable schema.now }
     ensures silence { IfOk result (λ found. found.items ≡ [] → ProjectHolds bounds schema.now sources.now lent.now) }
+    ensures truth { IfOk result (λ found. AreAllTrue bounds schema.now sources.now lent.now found.items) }
 {
     let mut found = Vec::new(alloc);
     check_texts(alloc, schema, sources, lent, bounds, true, &mut found)?;
@@ -54,6 +56,7 @@ pub fn check_part_of_project(
     bounds: Bounds,
 ) -> Result<Vec<Reports>, ValidationError>
     requires { IsUsable schema.now }
+    ensures truth { IfOk result (λ found. AreAllTrue bounds schema.now sources.now lent.now found.items) }
 {
     let mut found = Vec::new(alloc);
     check_texts(alloc, schema, sources, lent, bounds, false, &mut found)?;
@@ -70,7 +73,8 @@ fn check_texts(
     found: &mut Vec<Reports>,
 ) -> Result<(), ValidationError>
     requires { IsUsable schema.now }
-    ensures { IsTrue is_all → OnOk result (SilentOnlyIf found.old.items found.new.items (ProjectHolds bounds schema.now sources.now lent.now)) }
+    ensures silence { IsTrue is_all → OnOk result (SilentOnlyIf found.old.items found.new.items (ProjectHolds bounds schema.now sources.now lent.now)) }
+    ensures truth { OnOk result (AddsTrue bounds schema.now sources.now lent.now found.old.items found.new.items) }
 {
     let building = Building {
         schema,

@@ -1,6 +1,9 @@
 //! Files of which some have definitions that cannot be built, or are no documents.
 
-ghost use Rattle.std.specs.Prelude.{◌≡◌, [], OnOk};
+ghost use Rattle.std.specs.Prelude.{◌≡◌, [], Contains, IfOk, OnOk};
+ghost use Rattle.graphql_diagnostics.specs.Reports.{KeepsReports};
+ghost use Rattle.graphql_frontend.specs.Schemas.{IsUsable};
+ghost use Rattle.graphql_project_checking.specs.Truth.{AddsOfParts, SayParts, SaysPart};
 
 use crate::building::Building;
 use crate::contexts::Context;
@@ -38,7 +41,9 @@ pub(crate) fn check_rest(
     may_be_others: bool,
     found: &mut Vec<Reports>,
 ) -> Result<(), ValidationError>
-    ensures { OnOk result (found.new.items ≡ [] → found.old.items ≡ []) }
+    ensures silence { OnOk result (found.new.items ≡ [] → found.old.items ≡ []) }
+    ensures truth { IsUsable building.entry.schema.now →
+        OnOk result (AddsOfParts building.entry.bounds building.entry.schema.now own.items lent.items found.old.items found.new.items) }
 {
     let mut left_out = Vec::new(alloc);
     let files = build_parts(alloc, building, own, &mut left_out)?;
@@ -65,7 +70,9 @@ fn build_parts(
     building: Building<'_>,
     documents: Vec<Document>,
     left_out: &mut Vec<Definition>,
-) -> Result<Vec<ExecutableDocument>, ValidationError> {
+) -> Result<Vec<ExecutableDocument>, ValidationError>
+    ensures { IfOk result (λ files. SayParts building.entry.schema.now documents.items files.items) }
+{
     let mut built = Vec::new(alloc);
     for document in documents {
         if let Some(typed) = build_part(alloc, building, document, left_out)? {
@@ -80,7 +87,9 @@ fn build_part(
     building: Building<'_>,
     document: Document,
     left_out: &mut Vec<Definition>,
-) -> Result<Option<ExecutableDocument>, ValidationError> {
+) -> Result<Option<ExecutableDocument>, ValidationError>
+    ensures { IfOk result (SaysPart building.entry.schema.now document) }
+{
     let part = those_that_build(alloc, building.schema, document, left_out)?;
     let mut reports = BuildingReportList::with_hash_seed(alloc, building.hash_seed);
     check_document(&mut reports, building.schema, &part)?;
@@ -115,7 +124,8 @@ fn add_known(
     unknown: &Unknown,
     found: &mut Vec<Reports>,
 ) -> Result<(), ValidationError>
-    ensures { OnOk result (found.new.items ≡ [] → found.old.items ≡ []) }
+    ensures silence { OnOk result (found.new.items ≡ [] → found.old.items ≡ []) }
+    ensures truth { OnOk result (KeepsReports (Contains all.items) found.old.items found.new.items) }
 {
     for reports in all {
         if may_follow(&reports, unknown) {

@@ -1,8 +1,10 @@
 //! Texts, and the documents that they are.
 
-ghost use Rattle.std.specs.Prelude.{◌≡◌, IfOk, IsTrue, OnOk, []};
+ghost use Rattle.std.specs.Prelude.{◌≡◌, ◌≢◌, IfOk, IsTrue, OnOk, []};
+ghost use Rattle.graphql_diagnostics.specs.Reports.{KeepsReports};
 ghost use Rattle.graphql_projects.specs.Projects.{ReadFiles};
 ghost use Rattle.graphql_project_checking.specs.Silence.{AddsIfToken, LeavesOutEmpty, SilentOnlyIf};
+ghost use Rattle.graphql_project_checking.specs.Truth.{AreErrorsOf, HasErrors, ParsedFiles};
 ghost use Rattle.graphql_tokens.specs.Lexical.{AreTokens};
 
 use graphql_frontend::texts::parse_texts;
@@ -21,7 +23,9 @@ pub(crate) fn read_texts(
     bounds: Bounds,
     found: &mut Vec<Reports>,
 ) -> Result<Vec<Document>, ValidationError>
-    ensures { IfOk result (λ documents. SilentOnlyIf found.old.items found.new.items (ReadFiles bounds sources.now documents.items)) }
+    ensures silence { IfOk result (λ documents. SilentOnlyIf found.old.items found.new.items (ReadFiles bounds sources.now documents.items)) }
+    ensures parsed { IfOk result (λ documents. ParsedFiles bounds sources.now documents.items) }
+    ensures truth { OnOk result (KeepsReports (AreErrorsOf bounds sources.now) found.old.items found.new.items) }
 {
     let sources = with_tokens(alloc, sources)?;
     let parsed = parse_texts(alloc, &sources, bounds)?;
@@ -31,7 +35,8 @@ pub(crate) fn read_texts(
 
 /// Adds the errors of texts, if there are any.
 fn add_errors(errors: Vec<SyntaxReport>, found: &mut Vec<Reports>) -> Result<(), ValidationError>
-    ensures { OnOk result (SilentOnlyIf found.old.items found.new.items (errors.items ≡ [])) }
+    ensures silence { OnOk result (SilentOnlyIf found.old.items found.new.items (errors.items ≡ [])) }
+    ensures truth { OnOk result (KeepsReports (HasErrors errors.items) found.old.items found.new.items) }
 {
     if errors.is_empty() {
         return Ok(());

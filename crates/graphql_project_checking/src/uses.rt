@@ -2,8 +2,10 @@
 
 ghost use Rattle.std.specs.Prelude.{◌∷◌, [], All, OnOk};
 ghost use Rattle.graphql_diagnostics.specs.Diagnostics.{entries};
+ghost use Rattle.graphql_diagnostics.specs.Reports.{KeepsReports};
 ghost use Rattle.graphql_document_building.specs.Trees.{fragments_in};
 ghost use Rattle.graphql_project_checking.specs.Silence.{ReportsUnused, SilentOnlyIf};
+ghost use Rattle.graphql_project_checking.specs.Truth.{AreOfRules, IsUnnamedEntry};
 ghost use Rattle.graphql_projects.specs.OperationTrees.{fragments_among};
 ghost use Rattle.graphql_variables.specs.Uses.{IsNamedIn, names_of};
 
@@ -26,8 +28,10 @@ pub(crate) fn check_uses(
     used: &Used<'_>,
     found: &mut Vec<Reports>,
 ) -> Result<(), ValidationError>
-    ensures { OnOk result (SilentOnlyIf found.old.items found.new.items
+    ensures silence { OnOk result (SilentOnlyIf found.old.items found.new.items
         (All (λ p. IsNamedIn (names_of used.now.keys) p.0) (fragments_among documents.now))) }
+    ensures truth { OnOk result (KeepsReports (AreOfRules (IsUnnamedEntry (names_of used.now.keys) (fragments_among documents.now)))
+        found.old.items found.new.items) }
 {
     for document in documents {
         check_uses_in(alloc, building, document, used, found)?;
@@ -42,8 +46,10 @@ fn check_uses_in(
     used: &Used<'_>,
     found: &mut Vec<Reports>,
 ) -> Result<(), ValidationError>
-    ensures { OnOk result (SilentOnlyIf found.old.items found.new.items
+    ensures silence { OnOk result (SilentOnlyIf found.old.items found.new.items
         (All (λ p. IsNamedIn (names_of used.now.keys) p.0) (fragments_in document.now.definitions))) }
+    ensures truth { OnOk result (KeepsReports (AreOfRules (IsUnnamedEntry (names_of used.now.keys) (fragments_in document.now.definitions)))
+        found.old.items found.new.items) }
 {
     let bound = report_bound(building.bounds);
     let mut rules = DiagnosticList::with_bound(alloc, building.hash_seed, bound);
@@ -56,7 +62,8 @@ fn report_unused(
     used: &Used<'_>,
     rules: &mut DiagnosticList,
 ) -> Result<(), ValidationError>
-    ensures { OnOk result (ReportsUnused (names_of used.now.keys) (fragments_in definitions.now) (entries rules.old) (entries rules.new)) }
+    ensures silence { OnOk result (ReportsUnused (names_of used.now.keys) (fragments_in definitions.now) (entries rules.old) (entries rules.new)) }
+    ensures truth { KeepsReports (IsUnnamedEntry (names_of used.now.keys) (fragments_in definitions.now)) (entries rules.old) (entries rules.new) }
 {
     for definition in definitions {
         let Definition::Fragment(fragment) = definition else {
@@ -72,7 +79,8 @@ fn check_use(
     used: &Used<'_>,
     rules: &mut DiagnosticList,
 ) -> Result<(), ValidationError>
-    ensures { OnOk result (ReportsUnused (names_of used.now.keys) ((fragment.now.name, fragment.now) ∷ []) (entries rules.old) (entries rules.new)) }
+    ensures silence { OnOk result (ReportsUnused (names_of used.now.keys) ((fragment.now.name, fragment.now) ∷ []) (entries rules.old) (entries rules.new)) }
+    ensures truth { KeepsReports (IsUnnamedEntry (names_of used.now.keys) ((fragment.now.name, fragment.now) ∷ [])) (entries rules.old) (entries rules.new) }
 {
     if used.contains(&&fragment.name) {
         return Ok(());

@@ -1,10 +1,12 @@
 //! Files of which each can be built.
 
 ghost use Rattle.std.specs.Prelude.{◌≡◌, ◌∷◌, ◌++◌, [], All, IfOk, List, OnOk, flat_map, map};
+ghost use Rattle.graphql_diagnostics.specs.Reports.{KeepsReports};
 ghost use Rattle.graphql_documents.specs.Executables.{operations_of};
 ghost use Rattle.graphql_frontend.specs.Schemas.{IsUsable};
 ghost use Rattle.graphql_nodes.specs.Names.{AreDistinct};
 ghost use Rattle.graphql_project_checking.specs.Silence.{BorrowsForAll, BuildAll, FilePasses, FilesHold, NotesUses, OperationPasses, SilentOnlyIf, operations_in_map};
+ghost use Rattle.graphql_project_checking.specs.Truth.{AreOfFile, AreOfOneFile, AreOfOneOperation, AreOfOperation, AreOfWhole, NotesAll};
 ghost use Rattle.graphql_projects.specs.OperationTrees.{fragments_among};
 ghost use Rattle.graphql_reach.specs.Reach.{nodes_at};
 ghost use Rattle.graphql_trees.specs.declared.documents.Document as tree;
@@ -35,9 +37,13 @@ pub(crate) fn check_whole(
     lenders: &[ExecutableDocument],
     found: &mut Vec<Reports>,
 ) -> Result<(), ValidationError>
-    ensures { (lent : List tree.Document) → IsUsable building.entry.schema.now → BuildAll building.entry.schema.now own.now files.items →
+    ensures silence { (lent : List tree.Document) → IsUsable building.entry.schema.now → BuildAll building.entry.schema.now own.now files.items →
         BuildAll building.entry.schema.now lent lenders.now → AreDistinct (map (λ p. p.0) (fragments_among (own.now ++ lent))) →
         OnOk result (SilentOnlyIf found.old.items found.new.items (FilesHold building.entry.schema.now own.now lent)) }
+    ensures truth { (lent : List tree.Document) → IsUsable building.entry.schema.now → BuildAll building.entry.schema.now own.now files.items →
+        BuildAll building.entry.schema.now lent lenders.now →
+        OnOk result (KeepsReports (AreOfWhole building.entry.bounds building.entry.schema.now (fragments_among (own.now ++ lent)) own.now)
+        found.old.items found.new.items) }
 {
     let pool = pool_of(alloc, building.hash_seed, &files, lenders)?;
     let context = Context {
@@ -59,7 +65,9 @@ pub(crate) fn check_each<'a>(
     found: &mut Vec<Reports>,
 ) -> Result<(), ValidationError>
     ensures passes { OnOk result (SilentOnlyIf found.old.items found.new.items (All (FilePasses context.entry.schema.now context.entry.pool.now) files.items)) }
+    ensures truth { OnOk result (KeepsReports (AreOfOneFile context.entry.bounds context.entry.schema.now context.entry.pool.now files.items) found.old.items found.new.items) }
     ensures used { OnOk result (NotesUses context.entry.pool.now (flat_map operations_of files.items) (names_of used.old.keys) (names_of used.new.keys)) }
+    ensures noted { OnOk result (NotesAll context.entry.pool.now (flat_map operations_of files.items) (names_of used.old.keys) (names_of used.new.keys)) }
 {
     for file in files {
         check_file(alloc, context, file, used, found)?;
@@ -75,7 +83,9 @@ fn check_file<'a>(
     found: &mut Vec<Reports>,
 ) -> Result<(), ValidationError>
     ensures passes { OnOk result (SilentOnlyIf found.old.items found.new.items (FilePasses context.entry.schema.now context.entry.pool.now file)) }
+    ensures truth { OnOk result (KeepsReports (AreOfFile context.entry.bounds context.entry.schema.now context.entry.pool.now file) found.old.items found.new.items) }
     ensures used { OnOk result (NotesUses context.entry.pool.now (operations_of file) (names_of used.old.keys) (names_of used.new.keys)) }
+    ensures noted { OnOk result (NotesAll context.entry.pool.now (operations_of file) (names_of used.old.keys) (names_of used.new.keys)) }
 {
     check_operations(
         alloc,
@@ -113,8 +123,11 @@ fn check_operations<'a>(
 ) -> Result<(), ValidationError>
     ensures passes { OnOk result (SilentOnlyIf found.old.items found.new.items
         (All (OperationPasses context.entry.schema.now context.entry.pool.now) (operations_in_map operations.now))) }
+    ensures truth { OnOk result (KeepsReports (AreOfOneOperation context.entry.bounds context.entry.schema.now context.entry.pool.now (operations_in_map operations.now))
+        found.old.items found.new.items) }
     ensures borrows { OnOk result (BorrowsForAll context.entry.pool.now (operations_in_map operations.now) fragments.old.entries fragments.new.entries) }
     ensures used { OnOk result (NotesUses context.entry.pool.now (operations_in_map operations.now) (names_of used.old.keys) (names_of used.new.keys)) }
+    ensures noted { OnOk result (NotesAll context.entry.pool.now (operations_in_map operations.now) (names_of used.old.keys) (names_of used.new.keys)) }
 {
     let operations = all_operations(alloc, operations)?;
     for operation in &operations {
@@ -134,8 +147,11 @@ fn check_reaching<'a>(
 ) -> Result<(), ValidationError>
     ensures passes { OnOk result (SilentOnlyIf found.old.items found.new.items
         (OperationPasses context.entry.schema.now context.entry.pool.now operation.now)) }
+    ensures truth { OnOk result (KeepsReports (AreOfOperation context.entry.bounds context.entry.schema.now context.entry.pool.now operation.now)
+        found.old.items found.new.items) }
     ensures borrows { OnOk result (BorrowsForAll context.entry.pool.now (operation.now ∷ []) fragments.old.entries fragments.new.entries) }
     ensures used { OnOk result (NotesUses context.entry.pool.now (operation.now ∷ []) (names_of used.old.keys) (names_of used.new.keys)) }
+    ensures noted { OnOk result (NotesAll context.entry.pool.now (operation.now ∷ []) (names_of used.old.keys) (names_of used.new.keys)) }
 {
     let names = reached_fragments(alloc, context.pool, &operation.value.selection_set)?;
     note_uses(context.pool, &names, used)?;

@@ -191,3 +191,19 @@ one_file_is_valid bounds schema source has_token p =
       record { definitions = h.build; anonymous_operation = h.file.alone; operation_names = h.file.operation_names; fragment_names = h.fragment_names },
       every_rule_holds schema tree.0 h,
     )
+
+-- and the document of the file is one that its text says
+pub one_file_is_a_document : (bounds : Bounds) (schema : Schema) (source : SourceText) → ¬ AreTokens source.text.now [] → ProjectHolds bounds schema (source ∷ []) [] →
+    (tree : Document) × (document : ExecutableDocument) × IsDocumentOf bounds source tree × DocumentBuilds (Some schema) tree ×
+    DocumentSays (Some schema) tree document × EveryRuleHolds (Some schema) document
+one_file_is_a_document bounds schema source has_token p =
+    let tree = one_tree p.are source refl has_token in
+    let h = one_file bounds schema source p tree.0 tree.1 in
+    let says = file_says schema tree.0 h in (
+      tree.0,
+      h.file.document,
+      tree.2,
+      record { definitions = h.build; anonymous_operation = h.file.alone; operation_names = h.file.operation_names; fragment_names = h.fragment_names },
+      says,
+      every_rule_holds schema tree.0 h h.file.document says,
+    )

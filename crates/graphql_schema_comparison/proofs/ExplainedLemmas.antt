@@ -1,5 +1,5 @@
 -- What it says that no change, or some change, of a list breaks documents.
-use Rattle.std.proofs.Common.{◌≡◌, Bool, true, false, not, List, refl, All, Contains}
+use Rattle.std.proofs.Common.{◌≡◌, Bool, true, false, not, List, refl, All}
 use Rattle.std.specs.Prelude.{◌↔◌, Any, IsFalse, IsTrue}
 use Rattle.graphql_documents.proofs.ListLemmas.{each_standing}
 use Rattle.graphql_schema_comparison.specs.Breaks.{Breaks, IsHarmless, breaks, breaks_selections}

@@ -1,30 +1,28 @@
 -- What is kept of the fields of a composite type.
-use Rattle.std.proofs.Common.{◌≡◌, ◌∙◌, ◌⊎◌, inl, inr, Bool, true, false, cond, Some, None, Ok, Err, refl, sym, ap, subst, All}
-use Rattle.std.specs.Prelude.{IsTrue, IsFalse, IsSomeAnd, Option, Result, codes, if◌then◌else◌}
+use Rattle.std.proofs.Common.{◌≡◌, ◌∙◌, ◌⊎◌, inl, inr, Bool, true, false, Some, None, Ok, Err, refl, sym, ap, subst}
+use Rattle.std.specs.Prelude.{IsTrue, IsSomeAnd, Option, Result, codes, if◌then◌else◌}
 use Rattle.std.specs.Map.{lookup}
 use Rattle.std.specs.Option.{option_map, option_map_or}
 use Rattle.std.specs.Str.{bytes_eq}
-use Rattle.std.proofs.lemmas.Option.{same_Some}
 use Rattle.graphql_nodes.specs.Names.{NameText, SameName, same_name}
-use Rattle.graphql_nodes.proofs.NameLemmas.{from_same_text, same_name_back, same_name_then}
+use Rattle.graphql_nodes.proofs.NameLemmas.{same_name_back, same_name_then}
 use Rattle.graphql_nodes.specs.declared.operation_types.OperationType.TheVariants as operation
 use Rattle.graphql_documents.specs.Schemas.{NamesKind, fields_of, first_of, is_composite, is_output_type, is_query_root, meta_field, own_field, type_definition, type_field}
-use Rattle.graphql_documents.specs.TypeReferences.{inner_named_type}
 use Rattle.graphql_documents.specs.declared.documents.components.Component.{Component}
 use Rattle.graphql_documents.specs.declared.documents.components.ComponentName.{ComponentName}
 use Rattle.graphql_documents.specs.declared.documents.definitions.FieldDefinition.{FieldDefinition}
 use Rattle.graphql_documents.specs.declared.documents.schemas.ExtendedType.{ExtendedType}
-use Rattle.graphql_documents.specs.declared.documents.schemas.ExtendedType.TheVariants.{Scalar, Object, Interface, Union, Enum, InputObject}
+use Rattle.graphql_documents.specs.declared.documents.schemas.ExtendedType.TheVariants.{Object, Interface, Union}
 use Rattle.graphql_documents.specs.Built.{StandsUnderOwnNames}
 use Rattle.graphql_documents.specs.declared.documents.schemas.FieldLookupError.{FieldLookupError}
-use Rattle.graphql_documents.specs.declared.documents.schemas.FieldLookupError.TheVariants.{NoSuchField, NoSuchType}
+use Rattle.graphql_documents.specs.declared.documents.schemas.FieldLookupError.TheVariants.{NoSuchField}
 use Rattle.graphql_documents.specs.declared.documents.schemas.Schema.{Schema}
 use Rattle.graphql_specification.specs.Fragments.{NamesComposite}
 use Rattle.graphql_document_building.specs.Documents.{HasOutputFields}
-use Rattle.graphql_document_building.specs.Trees.{is_leaf_type, names_leaf_type, root_name, type_below}
-use Rattle.graphql_schema_changes.specs.Keeps.{KeepsField, KeepsFields, KeepsRoots, KeepsShapes}
-use Rattle.graphql_schema_comparison.specs.Comparisons.{KeepsAll, KeepsContents, KeepsFieldNamed, KeepsFieldType, KeepsPlace, KeepsSelections, KeepsType, KeepsUses, kind_of}
-use Rattle.graphql_schema_comparison.specs.Shapes.{Knows, KnowsEntry, KnowsField, KnowsType, ShapeTable, form_in}
+use Rattle.graphql_document_building.specs.Trees.{names_leaf_type, type_below}
+use Rattle.graphql_schema_changes.specs.Keeps.{KeepsFields, KeepsRoots, KeepsShapes}
+use Rattle.graphql_schema_comparison.specs.Comparisons.{KeepsAll, KeepsContents, KeepsFieldNamed, KeepsFieldType, KeepsPlace, KeepsSelections, KeepsType, KeepsUses}
+use Rattle.graphql_schema_comparison.specs.Shapes.{Knows, KnowsEntry, KnowsType, ShapeTable, form_in}
 use Rattle.graphql_schema_comparison.proofs.FindsLemmas.{looked_up}
 use Rattle.graphql_schema_comparison.proofs.KindLemmas.{leaf_alike, still_composite}
 use Rattle.graphql_schema_comparison.proofs.NamedLemmas.{one_field, one_field_name, one_type}

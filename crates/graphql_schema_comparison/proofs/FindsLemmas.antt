@@ -1,11 +1,12 @@
 -- How the parts of a comparison compose.
-use Rattle.std.proofs.Common.{◌≡◌, ℕ, suc, ◌+◌, ◌<◌, ◌≤◌, List, [], ◌∷◌, ◌++◌, length, get_or, take, Bool, true, false, cond, Option, Some, None, find, refl, sym, subst, All, arith, ◌∙◌, ap}
-use Rattle.std.specs.Prelude.{Any, IsTrue, IsFalse, Result, Ok}
+use Rattle.std.proofs.Common.{◌≡◌, ℕ, suc, ◌+◌, ◌<◌, ◌≤◌, List, [], ◌∷◌, ◌++◌, length, get_or, take, Bool, true, false, cond, Some, find, refl, sym, subst, All, arith, ◌∙◌, ap}
+use Rattle.std.specs.Prelude.{Any, Result, Ok}
 use Rattle.std.specs.Map.{lookup}
 use Rattle.std.proofs.lemmas.List.{append-nil, take_all}
 use Rattle.std.proofs.lemmas.List.Elements.{All-append, All-cons, All-head, All-more, All-nil, All-tail}
 use Rattle.std.proofs.lemmas.Option.{same_Some}
-use Rattle.graphql_schema_comparison.specs.Breaks.{Adds, Finds}
+use Rattle.graphql_documents.specs.declared.documents.schemas.Schema.{Schema}
+use Rattle.graphql_schema_comparison.specs.Found.{Adds, Finds}
 use Rattle.graphql_schema_comparison.specs.declared.change_list.ChangeList.{ChangeList}
 
 -- what is found in a list is one of it of which this holds
@@ -49,60 +50,63 @@ looked_up_alike p q alike (y ∷ ys) = ap (λ b. cond b (Some y.1) (lookup p ys)
 
 -- ==== what is found between two lists of changes
 
-module _ {a : ChangeList} where
+module _ {old new : Schema} {a : ChangeList} where
   -- nothing is added
-  pub keeps_here : {P : Bool → Type 0} → ((merging : Bool) → P merging) → Finds a a P
-  keeps_here p = record { keeps = λ merging harmless. (harmless, p merging) }
+  pub keeps_here : {P : Bool → Type 0} → ((merging : Bool) → P merging) → Finds old new a a P
+  keeps_here p = record { keeps = λ merging harmless. (harmless, p merging); each = λ all. all }
 
-module _ {a b : ChangeList} where
-  pub found_words : {P Q : Bool → Type 0} → ((merging : Bool) → P merging → Q merging) → Finds a b P → Finds a b Q
-  found_words w f = record { keeps = λ merging harmless. let both = f.keeps merging harmless in (both.0, w merging both.1) }
+module _ {old new : Schema} {a b : ChangeList} where
+  pub found_words : {P Q : Bool → Type 0} → ((merging : Bool) → P merging → Q merging) → Finds old new a b P → Finds old new a b Q
+  found_words w f = record { keeps = λ merging harmless. let both = f.keeps merging harmless in (both.0, w merging both.1); each = f.each }
 
-module _ {a b c : ChangeList} where
-  pub found_both : {P Q : Bool → Type 0} → Finds a b P → Finds b c Q → Finds a c (λ merging. P merging × Q merging)
-  found_both f g = record { keeps = λ merging harmless. let last = g.keeps merging harmless in let first = f.keeps merging last.0 in (first.0, (first.1, last.1)) }
+module _ {old new : Schema} {a b c : ChangeList} where
+  pub found_both : {P Q : Bool → Type 0} → Finds old new a b P → Finds old new b c Q → Finds old new a c (λ merging. P merging × Q merging)
+  found_both f g = record {
+    keeps = λ merging harmless. let last = g.keeps merging harmless in let first = f.keeps merging last.0 in (first.0, (first.1, last.1));
+    each = λ all. g.each (f.each all);
+  }
 
-module _ {a b c : ChangeList} {X : Type 0} (P : Bool → X → Type 0) where
+module _ {old new : Schema} {a b c : ChangeList} {X : Type 0} (P : Bool → X → Type 0) where
   -- one more of a list, by its place
   pub found_more : (xs : List X) (i : ℕ) (x : X) → i < length xs → x ≡ get_or xs i x →
-      Finds a b (λ merging. All (P merging) (take i xs)) → Finds b c (λ merging. P merging x) → Finds a c (λ merging. All (P merging) (take (i + 1) xs))
+      Finds old new a b (λ merging. All (P merging) (take i xs)) → Finds old new b c (λ merging. P merging x) → Finds old new a c (λ merging. All (P merging) (take (i + 1) xs))
   found_more xs i x within item f g =
       found_words (λ merging two. All-more (P merging) xs i x within two.0 (subst (P merging) item two.1)) (found_both f g)
 
   -- one more behind those that were gone through
   pub found_behind : (done : List X) (x : X) →
-      Finds a b (λ merging. All (P merging) done) → Finds b c (λ merging. P merging x) → Finds a c (λ merging. All (P merging) (done ++ x ∷ []))
+      Finds old new a b (λ merging. All (P merging) done) → Finds old new b c (λ merging. P merging x) → Finds old new a c (λ merging. All (P merging) (done ++ x ∷ []))
   found_behind done x f g =
       found_words (λ merging two. All-append (P merging) done (x ∷ []) two.0 (All-cons (P merging) x [] two.1 (All-nil (P merging)))) (found_both f g)
 
-module _ {a b : ChangeList} {X : Type 0} (P : Bool → X → Type 0) where
+module _ {old new : Schema} {a b : ChangeList} {X : Type 0} (P : Bool → X → Type 0) where
   -- all of a list
-  pub found_all_of : (xs : List X) (i : ℕ) → length xs ≤ i → Finds a b (λ merging. All (P merging) (take i xs)) → Finds a b (λ merging. All (P merging) xs)
+  pub found_all_of : (xs : List X) (i : ℕ) → length xs ≤ i → Finds old new a b (λ merging. All (P merging) (take i xs)) → Finds old new a b (λ merging. All (P merging) xs)
   found_all_of xs i past f = found_words (λ merging all. subst (All (P merging)) (take_all i xs past) all) f
 
   -- all that were gone through, where none is left
-  pub found_whole : (all done left : List X) → all ≡ done ++ left → left ≡ [] → Finds a b (λ merging. All (P merging) done) → Finds a b (λ merging. All (P merging) all)
+  pub found_whole : (all done left : List X) → all ≡ done ++ left → left ≡ [] → Finds old new a b (λ merging. All (P merging) done) → Finds old new a b (λ merging. All (P merging) all)
   found_whole all done left whole none f =
       found_words (λ merging kept. subst (All (P merging)) (sym (whole ∙ ap (λ l. done ++ l) none ∙ append-nil done)) kept) f
 
 -- none of a list yet
-pub found_none : {a : ChangeList} {X : Type 0} (P : Bool → X → Type 0) → Finds a a (λ merging. All (P merging) [])
+pub found_none : {old new : Schema} {a : ChangeList} {X : Type 0} (P : Bool → X → Type 0) → Finds old new a a (λ merging. All (P merging) [])
 found_none P = keeps_here (λ merging. All-nil (P merging))
 
 -- nothing was compared
-pub adds_none : {a : ChangeList} → Adds a a
+pub adds_none : {old new : Schema} {a : ChangeList} → Adds old new a a
 adds_none = keeps_here (λ merging. tt)
 
-pub adds_then : {a b c : ChangeList} → Adds a b → Adds b c → Adds a c
+pub adds_then : {old new : Schema} {a b c : ChangeList} → Adds old new a b → Adds old new b c → Adds old new a c
 adds_then f g = found_words (λ merging both. tt) (found_both f g)
 
 -- whatever was found
-pub adds_found : {a b : ChangeList} {P : Bool → Type 0} → Finds a b P → Adds a b
+pub adds_found : {old new : Schema} {a b : ChangeList} {P : Bool → Type 0} → Finds old new a b P → Adds old new a b
 adds_found f = found_words (λ merging p. tt) f
 
 -- a copy of an element, by its place
-pub found_more_copy : {a b c : ChangeList} {X : Type 0} (P : Bool → X → Type 0) (xs : List X) (i : ℕ) (d : X) → i < length xs →
-    Finds a b (λ merging. All (P merging) (take i xs)) → Finds b c (λ merging. P merging (get_or xs i d)) → Finds a c (λ merging. All (P merging) (take (i + 1) xs))
+pub found_more_copy : {old new : Schema} {a b c : ChangeList} {X : Type 0} (P : Bool → X → Type 0) (xs : List X) (i : ℕ) (d : X) → i < length xs →
+    Finds old new a b (λ merging. All (P merging) (take i xs)) → Finds old new b c (λ merging. P merging (get_or xs i d)) → Finds old new a c (λ merging. All (P merging) (take (i + 1) xs))
 found_more_copy P xs i d within f g = found_words (λ merging two. All-more (P merging) xs i d within two.0 two.1) (found_both f g)
 
 -- one answer is one value

@@ -1,5 +1,5 @@
 -- If all that was compared is kept, documents stay valid.
-use Rattle.std.proofs.Common.{◌≡◌, ◌∙◌, Bool, true, false, not, List, Option, Some, None, ap, refl, sym, subst, All, Contains}
+use Rattle.std.proofs.Common.{◌≡◌, ◌∙◌, Bool, true, false, not, List, Option, Some, None, refl, subst}
 use Rattle.std.specs.Prelude.{IsTrue, IsSomeAnd, Any, if◌then◌else◌}
 use Rattle.std.proofs.lemmas.List.Elements.{All-contains}
 use Rattle.graphql_nodes.specs.Names.{NameText, SameName, same_name}
@@ -9,16 +9,14 @@ use Rattle.graphql_nodes.specs.declared.directive_locations.DirectiveLocation.Th
 use Rattle.graphql_nodes.specs.declared.nodes.Node.{Node}
 use Rattle.graphql_documents.specs.Built.{StandsUnderOwnNames}
 use Rattle.graphql_documents.specs.Directives.{directive_definition}
-use Rattle.graphql_documents.specs.Schemas.{NamesKind, is_built_in, is_input_type, is_object_type, own_name, type_definition}
+use Rattle.graphql_documents.specs.Schemas.{NamesKind, is_built_in, is_input_type, own_name, type_definition}
 use Rattle.graphql_documents.specs.declared.documents.definitions.DirectiveDefinition.{DirectiveDefinition}
 use Rattle.graphql_documents.specs.declared.documents.schemas.ExtendedType.{ExtendedType}
 use Rattle.graphql_documents.specs.declared.documents.schemas.ExtendedType.TheVariants.{Scalar, Object, Interface, Union, Enum, InputObject}
 use Rattle.graphql_documents.specs.declared.documents.schemas.ScalarType.{ScalarType}
 use Rattle.graphql_documents.specs.declared.documents.schemas.Schema.{Schema}
-use Rattle.graphql_specification.specs.Fragments.{NamesComposite}
-use Rattle.graphql_specification.specs.Values.{is_custom_scalar}
 use Rattle.graphql_document_building.specs.Documents.{HasOutputFields}
-use Rattle.graphql_schema_changes.specs.Keeps.{IsExecutable, KeepsDirective, KeepsDirectives, KeepsDocumentsValid, KeepsInput, KeepsLoneFieldsValid, KeepsMerging, KeepsObject, KeepsSubscriptionRoot, KeepsValues, keeps_enum_values, keeps_input_fields, same_built_in_scalar, to_custom_scalar}
+use Rattle.graphql_schema_changes.specs.Keeps.{IsExecutable, KeepsDirective, KeepsDirectives, KeepsDocumentsValid, KeepsInput, KeepsLoneFieldsValid, KeepsObject, KeepsSubscriptionRoot, KeepsValues, keeps_enum_values, keeps_input_fields, same_built_in_scalar, to_custom_scalar}
 use Rattle.graphql_schema_parts.specs.Locations.{is_in_documents}
 use Rattle.graphql_schema_comparison.specs.Breaks.{can_become}
 use Rattle.graphql_schema_comparison.specs.Comparisons.{KeepsAll, KeepsApplications, KeepsContents, KeepsDirectiveNamed, KeepsLocation, kind_of}
@@ -27,7 +25,7 @@ use Rattle.graphql_schema_comparison.specs.declared.changes.TypeKind.{TypeKind}
 use Rattle.graphql_schema_comparison.specs.declared.changes.TypeKind.TheVariants as kind
 use Rattle.graphql_schema_comparison.proofs.FieldLemmas.{fields_kept, place_stays, shapes_kept, type_stays}
 use Rattle.graphql_schema_comparison.proofs.FindsLemmas.{looked_up}
-use Rattle.graphql_schema_comparison.proofs.KindLemmas.{still_composite, still_object}
+use Rattle.graphql_schema_comparison.proofs.KindLemmas.{still_object}
 use Rattle.graphql_schema_comparison.proofs.NamedLemmas.{applies_as, one_directive, one_type, own_name_is}
 use Rattle.graphql_schema_comparison.proofs.PossibleLemmas.{conditions_kept}
 

@@ -1,12 +1,16 @@
 -- What the kind of a type says when a type of another kind is in its place. Specification: 3.4 Types.
-use Rattle.std.proofs.Common.{◌≡◌, ◌∙◌, Bool, true, false, not, cond, refl, sym, ap, subst}
+use Rattle.std.proofs.Common.{◌≡◌, ◌∙◌, Bool, true, false, refl, sym}
 use Rattle.std.specs.Prelude.{IsTrue, if◌then◌else◌}
-use Rattle.graphql_documents.specs.Schemas.{is_built_in, is_composite, is_input_type, is_object_type, is_output_type}
+use Rattle.graphql_documents.specs.Schemas.{is_built_in, is_composite, is_object_type, is_output_type}
 use Rattle.graphql_documents.specs.declared.documents.schemas.ExtendedType.{ExtendedType}
 use Rattle.graphql_documents.specs.declared.documents.schemas.ExtendedType.TheVariants.{Scalar, Object, Interface, Union, Enum, InputObject}
 use Rattle.graphql_document_building.specs.Trees.{is_leaf_type}
 use Rattle.graphql_schema_comparison.specs.Breaks.{can_become}
-use Rattle.graphql_schema_comparison.specs.Comparisons.{kind_of}
+use Rattle.graphql_schema_comparison.specs.Comparisons.{KeepsContents, KeepsPlace, kind_of}
+use Rattle.graphql_schema_comparison.specs.Shapes.{ShapeTable}
+use Rattle.graphql_nodes.specs.Names.{NameText}
+use Rattle.graphql_documents.specs.declared.documents.schemas.Schema.{Schema}
+use Rattle.graphql_schema_comparison.specs.contracts.changes.TypeKindPartialEq.TheImpl as kind_impl
 use Rattle.graphql_schema_comparison.specs.declared.changes.TypeKind.{TypeKind}
 use Rattle.graphql_schema_comparison.specs.declared.changes.TypeKind.TheVariants as kind
 
@@ -294,3 +298,22 @@ leaf_alike (Object a) b can is = still_no_leaf (Object a) b can refl
 leaf_alike (Interface a) b can is = still_no_leaf (Interface a) b can refl
 leaf_alike (Union a) b can is = still_no_leaf (Union a) b can refl
 leaf_alike (InputObject a) b can is = absurd (let no : ⊥ = cc in no)
+
+-- what could be selected on a composite type still can, if its place is kept
+pub contents_of_composite : (table : ShapeTable) (old new : Schema) (merging : Bool) (name : NameText) (a b : ExtendedType) → IsTrue (is_composite a) →
+    KeepsPlace table old new merging name a → KeepsContents table old new merging name a b
+contents_of_composite table old new merging name (Object d) b is place = λ was is. place
+contents_of_composite table old new merging name (Interface d) b is place = λ was is. place
+contents_of_composite table old new merging name (Union d) b is place = λ was is. place
+contents_of_composite table old new merging name (Scalar d) b is place = absurd (let no : ⊥ = cc in no)
+contents_of_composite table old new merging name (Enum d) b is place = absurd (let no : ⊥ = cc in no)
+contents_of_composite table old new merging name (InputObject d) b is place = absurd (let no : ⊥ = cc in no)
+
+pub kind_itself : (k : TypeKind) → kind_impl.ghosts.eq k k ≡ true
+kind_itself kind.BuiltInScalar = refl
+kind_itself kind.CustomScalar = refl
+kind_itself kind.Object = refl
+kind_itself kind.Interface = refl
+kind_itself kind.Union = refl
+kind_itself kind.Enum = refl
+kind_itself kind.InputObject = refl

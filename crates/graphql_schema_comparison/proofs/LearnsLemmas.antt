@@ -1,5 +1,5 @@
 -- What a table of shapes knows, field by field.
-use Rattle.std.proofs.Common.{◌≡◌, ◌∙◌, ◌++◌, ◌∷◌, ◌⊎◌, [], inl, inr, Bool, true, false, cond, List, Some, None, Ok, ap, refl, sym, subst, All}
+use Rattle.std.proofs.Common.{◌≡◌, ◌∙◌, ◌++◌, ◌∷◌, ◌⊎◌, [], inl, inr, Bool, true, false, cond, List, Some, None, ap, refl, sym, subst, All}
 use Rattle.std.specs.Prelude.{IfSome, IsNone, IsSome, IsSomeAnd, IsTrue, Option}
 use Rattle.std.proofs.lemmas.List.{append-nil}
 use Rattle.std.proofs.lemmas.List.Elements.{All-append, All-cons, All-nil, All-weaker}
@@ -9,7 +9,10 @@ use Rattle.graphql_documents.specs.declared.documents.components.Component.{Comp
 use Rattle.graphql_documents.specs.declared.documents.definitions.FieldDefinition.{FieldDefinition}
 use Rattle.graphql_documents.specs.declared.documents.schemas.ExtendedType.{ExtendedType}
 use Rattle.graphql_documents.specs.declared.documents.schemas.Schema.{Schema}
-use Rattle.graphql_schema_comparison.specs.Shapes.{Form, Knows, KnowsEntry, KnowsField, KnowsNoOther, KnowsType, Learns, ShapeTable, form_of, meeting_at}
+use Rattle.graphql_documents.specs.declared.documents.type_references.Type.{«Type»}
+use Rattle.graphql_schema_comparison.specs.Changes.{PartsFrom}
+use Rattle.graphql_schema_comparison.specs.Shapes.{AreMeetings, Form, HasOtherForm, IsMeeting, form_in, Knows, KnowsEntry, KnowsField, KnowsNoOther, KnowsType, Learns, ShapeTable, form_of, meeting_at}
+use Rattle.graphql_schema_comparison.specs.declared.meetings.FieldPlace.{FieldPlace}
 use Rattle.graphql_schema_comparison.specs.declared.meetings.Meeting.{Meeting}
 use Rattle.graphql_schema_comparison.specs.declared.shapes.Shape.{Shape}
 use Rattle.graphql_schema_comparison.proofs.ShapeLemmas.{equal_by_form, equal_forms, equal_shapes, meeting_alike}
@@ -34,14 +37,25 @@ module _ (m n : ShapeTable) (key : Shape) (w : Meeting) (updates : (q : Shape) �
         (kept form (subst (λ (o : Option Meeting). IsSomeAnd o (Good form)) (sym (meeting_alike m key q (equal_forms key q same))) good))
     by false other = subst (λ (o : Option Meeting). IsSomeAnd o (Good form)) (sym (left q other)) good
 
-  pub learned_at : (form : Form) → ((form : Form) → IsSomeAnd (meeting_at m key) (Good form) → Good form w) → Good form w → Learns m n (λ table. Knows table (form_of key) form)
-  learned_at form kept good = record {
+  still_meetings : (old new : Schema) → IsMeeting old new (form_of key) w → AreMeetings old new m → AreMeetings old new n
+  still_meetings old new meets all q = by (equal_shapes key q) refl where
+    by : (b : Bool) → equal_shapes key q ≡ b → IfSome (meeting_at n q) (IsMeeting old new (form_of q))
+    by true same =
+        subst (λ (o : Option Meeting). IfSome o (IsMeeting old new (form_of q))) (sym (put q same))
+        (subst (λ form. IsMeeting old new form w) (equal_forms key q same) meets)
+    by false other = subst (λ (o : Option Meeting). IfSome o (IsMeeting old new (form_of q))) (sym (left q other)) (all q)
+
+  pub learned_at : (form : Form) → ((form : Form) → IsSomeAnd (meeting_at m key) (Good form) → Good form w) → Good form w →
+      (old new : Schema) → (AreMeetings old new m → IsMeeting old new (form_of key) w) →
+      Learns old new m n (λ table. Knows table (form_of key) form)
+  learned_at form kept good old new meets = record {
     more = λ old new knows. record { key = knows.key; form = knows.form; met = λ q e. stays_good kept new q (knows.met q e) };
     known = record {
       key = key;
       form = refl;
       met = λ q e. subst (λ (o : Option Meeting). IsSomeAnd o (Good form)) (sym (put q (equal_by_form key q (sym e)))) good;
     };
+    each = λ all. still_meetings old new (meets all) all;
   }
 
 -- ==== several
@@ -49,23 +63,24 @@ module _ (m n : ShapeTable) (key : Shape) (w : Meeting) (updates : (q : Shape) �
 abbrev pub KnowsMore : ShapeTable → ShapeTable → Type 0
 KnowsMore a b = (old new : Form) → Knows a old new → Knows b old new
 
-pub learned_here : {a : ShapeTable} {P : ShapeTable → Type 0} → P a → Learns a a P
-learned_here p = record { more = λ old new knows. knows; known = p }
+pub learned_here : {old new : Schema} {a : ShapeTable} {P : ShapeTable → Type 0} → P a → Learns old new a a P
+learned_here p = record { more = λ old new knows. knows; known = p; each = λ all. all }
 
-pub learned_words : {a b : ShapeTable} {P Q : ShapeTable → Type 0} → (P b → Q b) → Learns a b P → Learns a b Q
-learned_words w l = record { more = l.more; known = w l.known }
+pub learned_words : {old new : Schema} {a b : ShapeTable} {P Q : ShapeTable → Type 0} → (P b → Q b) → Learns old new a b P → Learns old new a b Q
+learned_words w l = record { more = l.more; known = w l.known; each = l.each }
 
 -- one more of those that were gone through
-pub learned_behind : {a b c : ShapeTable} {X : Type 0} (P : ShapeTable → X → Type 0) → (KnowsMore b c → (x : X) → P b x → P c x) → (done : List X) (x : X) →
-    Learns a b (λ table. All (P table) done) → Learns b c (λ table. P table x) → Learns a c (λ table. All (P table) (done ++ x ∷ []))
-learned_behind {a} {b} {c} P grows done x f g = record {
+pub learned_behind : {old new : Schema} {a b c : ShapeTable} {X : Type 0} (P : ShapeTable → X → Type 0) → (KnowsMore b c → (x : X) → P b x → P c x) → (done : List X) (x : X) →
+    Learns old new a b (λ table. All (P table) done) → Learns old new b c (λ table. P table x) → Learns old new a c (λ table. All (P table) (done ++ x ∷ []))
+learned_behind {old} {new} {a} {b} {c} P grows done x f g = record {
   more = λ old new knows. g.more old new (f.more old new knows);
+  each = λ all. g.each (f.each all);
   known = All-append (P c) done (x ∷ []) (All-weaker (P b) (P c) (grows g.more) done f.known) (All-cons (P c) x [] g.known (All-nil (P c)));
 }
 
-pub learned_whole : {a b : ShapeTable} {X : Type 0} (P : ShapeTable → X → Type 0) (all done left : List X) → all ≡ done ++ left → left ≡ [] →
-    Learns a b (λ table. All (P table) done) → Learns a b (λ table. All (P table) all)
-learned_whole {a} {b} P all done left whole none f =
+pub learned_whole : {old new : Schema} {a b : ShapeTable} {X : Type 0} (P : ShapeTable → X → Type 0) (all done left : List X) → all ≡ done ++ left → left ≡ [] →
+    Learns old new a b (λ table. All (P table) done) → Learns old new a b (λ table. All (P table) all)
+learned_whole {old} {new} {a} {b} P all done left whole none f =
     learned_words (λ kept. subst (All (P b)) (sym (whole ∙ ap (λ l. done ++ l) none ∙ append-nil done)) kept) f
 
 -- ==== types
@@ -94,14 +109,15 @@ module _ (old new : Schema) where
   }
 
   pub type_learned : {a b c d e : ShapeTable} (ty : NameText) (definition : ExtendedType) →
-      Learns a b (λ table. All (λ (entry : NameText × Component FieldDefinition). KnowsEntry table old new ty entry.0 entry.1) (fields_of definition)) →
-      Learns b c (λ table. KnowsField table old new ty old.meta_fields.typename.node.value.value.name) →
-      Learns c d (λ table. KnowsField table old new ty old.meta_fields.schema.node.value.value.name) →
-      Learns d e (λ table. KnowsField table old new ty old.meta_fields.type_by_name.node.value.value.name) →
-      Learns a e (λ table. IsTrue (is_composite definition) → KnowsType table old new ty definition)
+      Learns old new a b (λ table. All (λ (entry : NameText × Component FieldDefinition). KnowsEntry table old new ty entry.0 entry.1) (fields_of definition)) →
+      Learns old new b c (λ table. KnowsField table old new ty old.meta_fields.typename.node.value.value.name) →
+      Learns old new c d (λ table. KnowsField table old new ty old.meta_fields.schema.node.value.value.name) →
+      Learns old new d e (λ table. KnowsField table old new ty old.meta_fields.type_by_name.node.value.value.name) →
+      Learns old new a e (λ table. IsTrue (is_composite definition) → KnowsType table old new ty definition)
   type_learned ty definition own typename schema_field by_name =
       record {
         more = λ o n k. by_name.more o n (schema_field.more o n (typename.more o n (own.more o n k)));
+        each = λ all. by_name.each (schema_field.each (typename.each (own.each all)));
         known = λ composite. record {
           own = own_more (λ o n k. by_name.more o n (schema_field.more o n (typename.more o n k))) ty definition own.known;
           typename = field_more (λ o n k. by_name.more o n (schema_field.more o n k)) ty _ typename.known;
@@ -126,3 +142,9 @@ pub one_met : (table : ShapeTable) (shape : Shape) (before after : Form) (meetin
     (form_of meeting.shape ≡ after) × IsNone meeting.other → KnowsNoOther table before after
 one_met table shape before after meeting is at alone key e =
     subst (λ (o : Option Meeting). IfSome o (λ meeting. (form_of meeting.shape ≡ after) × IsNone meeting.other)) (sym (meeting_alike table key shape (e ∙ sym is) ∙ at)) alone
+
+-- a field whose old type has the form of this one, and whose new type has not
+pub parts_from : (old new : Schema) (from to : «Type») (before after : Form) (place : FieldPlace) → before ≡ form_in old from → after ≡ form_in new to →
+    HasOtherForm old new before after place → PartsFrom old new from to (record { ty = place.ty.now; attribute = place.field.now })
+parts_from old new from to before after place was is has =
+    (has.0.0, has.2.0, has.0.1, has.2.1, has.0.2 ∙ was, λ same. has.3 (sym has.2.2 ∙ same ∙ sym is))

@@ -10,3 +10,6 @@ pub mod KeptLemmas
 pub mod ExplainedLemmas
 pub mod TypeCopyLemmas
 pub mod ApplyLemmas
+mod TruthLemmas
+mod InputLemmas
+mod ListedLemmas

@@ -1,15 +1,14 @@
 -- What is found under a name is found under each name that is the same; and what a schema defines stands under its own name.
-use Rattle.std.proofs.Common.{◌≡◌, ◌∙◌, List, ℕ, Option, None, Ok, Err, Some, ap, ap₂, refl, sym, subst, All}
+use Rattle.std.proofs.Common.{◌≡◌, ◌∙◌, List, ℕ, Option, None, Ok, Err, Some, ap, ap₂, refl, subst}
 use Rattle.std.specs.Prelude.{Any, IsTrue}
 use Rattle.std.specs.Option.{option_map_or}
 use Rattle.std.specs.Str.{bytes_eq}
-use Rattle.std.proofs.lemmas.Option.{same_Some}
 use Rattle.indexmap.specs.IndexMap.{get_by}
 use Rattle.graphql_nodes.specs.Names.{NameText, SameName, same_name}
 use Rattle.graphql_nodes.proofs.NameLemmas.{same_name_back, same_name_then, same_text}
 use Rattle.graphql_documents.specs.Built.{StandsUnderOwnNames, TypeStandsUnderItsName}
 use Rattle.graphql_documents.specs.Directives.{directive_definition}
-use Rattle.graphql_documents.specs.Schemas.{Implements, IsListed, IsSubtype, IsSubtypeOf, NamesKind, first_of, is_composite, meta_field, own_field, own_name, type_definition, type_field}
+use Rattle.graphql_documents.specs.Schemas.{Implements, IsListed, IsSubtype, IsSubtypeOf, first_of, meta_field, own_field, own_name, type_definition, type_field}
 use Rattle.graphql_documents.specs.declared.documents.components.Component.{Component}
 use Rattle.graphql_documents.specs.declared.documents.components.ComponentName.{ComponentName}
 use Rattle.graphql_documents.specs.declared.documents.definitions.FieldDefinition.{FieldDefinition}

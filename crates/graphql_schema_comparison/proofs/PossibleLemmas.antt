@@ -6,18 +6,17 @@ use Rattle.std.proofs.lemmas.List.Elements.{All-contains, All-contains_itself, A
 use Rattle.graphql_nodes.specs.Names.{NameText, SameName, same_name}
 use Rattle.graphql_nodes.proofs.NameLemmas.{same_name_back, same_name_then}
 use Rattle.graphql_documents.specs.Built.{StandsUnderOwnNames, TypeStandsUnderItsName}
-use Rattle.graphql_documents.specs.Schemas.{Implements, IsImplementedBy, IsListed, IsPossibleType, IsSubtype, IsSubtypeOf, NamesKind, interfaces_of, is_composite, is_object_type, own_name, type_definition}
+use Rattle.graphql_documents.specs.Schemas.{IsListed, IsPossibleType, IsSubtype, IsSubtypeOf, NamesKind, interfaces_of, is_object_type, type_definition}
 use Rattle.graphql_documents.specs.declared.documents.components.ComponentName.{ComponentName}
 use Rattle.graphql_documents.specs.declared.documents.schemas.ExtendedType.{ExtendedType}
 use Rattle.graphql_documents.specs.declared.documents.schemas.ExtendedType.TheVariants.{Scalar, Object, Interface, Union, Enum, InputObject}
 use Rattle.graphql_documents.specs.declared.documents.schemas.Schema.{Schema}
 use Rattle.graphql_documents.specs.declared.documents.schemas.ObjectType.{ObjectType}
 use Rattle.graphql_nodes.specs.declared.nodes.Node.{Node}
-use Rattle.graphql_specification.specs.Fragments.{HaveCommonObject, IsPossibleAt, NamesComposite}
+use Rattle.graphql_specification.specs.Fragments.{HaveCommonObject, NamesComposite}
 use Rattle.graphql_schema_changes.specs.Keeps.{KeepsConditions}
-use Rattle.graphql_schema_comparison.specs.Breaks.{can_become}
-use Rattle.graphql_schema_comparison.specs.Comparisons.{IsObjectOf, KeepsAll, KeepsPlace, KeepsType, kind_of, members_of}
-use Rattle.graphql_schema_comparison.proofs.FieldLemmas.{TypeStays, place_stays, type_stays}
+use Rattle.graphql_schema_comparison.specs.Comparisons.{IsObjectOf, KeepsAll, KeepsType}
+use Rattle.graphql_schema_comparison.proofs.FieldLemmas.{place_stays, type_stays}
 use Rattle.graphql_schema_comparison.proofs.FindsLemmas.{looked_up}
 use Rattle.graphql_schema_comparison.proofs.KindLemmas.{still_composite, still_object}
 use Rattle.graphql_schema_comparison.proofs.NamedLemmas.{listed_as, one_type, own_name_is, subtype_at}

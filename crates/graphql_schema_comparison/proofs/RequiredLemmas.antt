@@ -1,7 +1,6 @@
 -- An argument or an input field that takes what it took was required if it is required.
-use Rattle.std.proofs.Common.{◌≡◌, ◌∙◌, ◌&&◌, Bool, true, false, List, ℕ, Option, Some, None, find, ap, refl, sym, subst, All}
+use Rattle.std.proofs.Common.{◌≡◌, ◌∙◌, ◌&&◌, Bool, true, false, List, ℕ, Option, Some, None, find, ap, refl, subst, All}
 use Rattle.std.specs.Prelude.{Any, IsSome, IsSomeAnd, IsTrue, is_none}
-use Rattle.std.specs.Map.{lookup}
 use Rattle.std.specs.Str.{bytes_eq}
 use Rattle.indexmap.specs.IndexMap.{get, get_by}
 use Rattle.graphql_nodes.specs.Names.{NameText, SameName, same_name}
@@ -16,7 +15,7 @@ use Rattle.graphql_documents.specs.declared.documents.schemas.InputObjectType.{I
 use Rattle.graphql_documents.specs.declared.documents.type_references.Type.{«Type»}
 use Rattle.graphql_documents.specs.declared.documents.type_references.Type.TheVariants.{Named, NonNullNamed, List', NonNullList'}
 use Rattle.graphql_schema_changes.specs.Keeps.{KeepsInputValue}
-use Rattle.graphql_schema_comparison.specs.Comparisons.{FieldWasRequired, InputField, KeepsArgument, KeepsInputField, WasRequired}
+use Rattle.graphql_schema_comparison.specs.Comparisons.{InputField, KeepsArgument, KeepsInputField}
 use Rattle.graphql_schema_comparison.proofs.FindsLemmas.{found_all, found_any, looked_up, looked_up_any}
 
 parts_of : (p q : Bool) → (p && q) ≡ true → (p ≡ true) × (q ≡ true)

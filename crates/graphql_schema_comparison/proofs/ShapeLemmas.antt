@@ -11,7 +11,7 @@ use Rattle.graphql_documents.specs.Built.{StandsUnderOwnNames}
 use Rattle.graphql_documents.specs.Schemas.{NamesKind, is_composite, is_output_type, type_definition}
 use Rattle.graphql_documents.specs.TypeReferences.{inner_named_type, same_type}
 use Rattle.graphql_documents.specs.declared.documents.schemas.ExtendedType.{ExtendedType}
-use Rattle.graphql_documents.specs.declared.documents.schemas.ExtendedType.TheVariants.{Scalar, Object, Interface, Union, Enum, InputObject}
+use Rattle.graphql_documents.specs.declared.documents.schemas.ExtendedType.TheVariants.{Scalar, Object, Interface, Union, Enum}
 use Rattle.graphql_documents.specs.declared.documents.schemas.Schema.{Schema}
 use Rattle.graphql_documents.specs.declared.documents.type_references.Type.{«Type»}
 use Rattle.graphql_documents.specs.declared.documents.type_references.Type.TheVariants.{Named, NonNullNamed, List', NonNullList'}

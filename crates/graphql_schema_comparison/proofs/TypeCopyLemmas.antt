@@ -1,5 +1,5 @@
 -- What copies of types can be used for.
-use Rattle.std.proofs.Common.{◌≡◌, ◌∙◌, ◌&&◌, Bool, true, false, not, ap, ap₂, refl, sym}
+use Rattle.std.proofs.Common.{◌≡◌, ◌∙◌, ◌&&◌, Bool, true, false, not, ap₂, refl, sym}
 use Rattle.graphql_nodes.specs.Names.{same_name}
 use Rattle.graphql_documents.specs.TypeReferences.{IsTypeCopy, TypeText, as_written, is_assignable, list_text, name_text, non_null_list_text, non_null_name_text, same_type}
 use Rattle.graphql_documents.specs.declared.documents.type_references.Type.{«Type»}

@@ -1,8 +1,7 @@
 -- Which changes break documents that were valid. Specification: 5 Validation.
-use Rattle.std.specs.Prelude.{◌&&◌, Bool, true, false, List, All, Any, IsFalse, IsTrue, not}
+use Rattle.std.specs.Prelude.{◌&&◌, Bool, true, false, IsFalse, IsTrue, not}
 use Rattle.graphql_documents.specs.TypeReferences.{is_assignable}
 use Rattle.graphql_schema_parts.specs.Locations.{is_in_documents}
-use Rattle.graphql_schema_comparison.specs.declared.change_list.ChangeList.{ChangeList}
 use Rattle.graphql_schema_comparison.specs.declared.changes.Change.{Change}
 use Rattle.graphql_schema_comparison.specs.declared.changes.Change.TheVariants as change
 use Rattle.graphql_schema_comparison.specs.declared.changes.Gain.{Gain}
@@ -102,11 +101,3 @@ Breaks merging found = IsTrue (breaks merging found.change)
 
 abbrev pub IsHarmless : Bool → SchemaChange → Type 0
 IsHarmless merging found = IsFalse (breaks merging found.change)
-
--- if no change of the later list breaks documents, none of the earlier one does, and what was compared in between is kept
-pub record Finds (before after : ChangeList) (Keeps : Bool → Type 0) : Type 0 where
-  pub keeps : (merging : Bool) → All (IsHarmless merging) after.changes.items → All (IsHarmless merging) before.changes.items × Keeps merging
-
--- nothing is compared that could break documents
-abbrev pub Adds : ChangeList → ChangeList → Type 0
-Adds before after = Finds before after (λ merging. Unit {0})

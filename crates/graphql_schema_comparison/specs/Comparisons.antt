@@ -1,6 +1,7 @@
 -- What the parts of a comparison of two schemas ask. Specification: 5 Validation.
-use Rattle.std.specs.Prelude.{◌≡◌, ◌⊎◌, if◌then◌else◌, Bool, true, false, List, [], Option, Some, Ok, All, Any, Contains, IsFalse, IsSome, IsSomeAnd, IsTrue}
-use Rattle.indexmap.specs.IndexMap.{get}
+use Rattle.std.specs.Prelude.{◌≡◌, ◌⊎◌, if◌then◌else◌, Bool, true, List, [], Some, Ok, All, Any, Contains, IsFalse, IsSome, IsSomeAnd, IsTrue}
+use Rattle.indexmap.specs.IndexMap.{IndexMap, get}
+use Rattle.graphql_hash_seeds.specs.declared.seeds.HashSeed.{HashSeed}
 use Rattle.graphql_nodes.specs.Names.{NameText, SameName, same_name}
 use Rattle.graphql_nodes.specs.declared.nodes.Node.{Node}
 use Rattle.graphql_nodes.specs.declared.directive_locations.DirectiveLocation.{DirectiveLocation}
@@ -103,6 +104,11 @@ KeepsFieldType table old new merging from to =
 pub record KeepsUses (table : ShapeTable) (old new : Schema) (merging : Bool) (before after : FieldDefinition) : Type 0 where
   pub arguments : KeepsArguments before.arguments.items after.arguments.items
   pub ty : KeepsFieldType table old new merging before.ty after.ty
+
+-- what these are looked up as, the schema finds as fields of the type
+abbrev pub AreFieldsOf : Schema → NameText → IndexMap NameText (Component FieldDefinition) HashSeed → Type 0
+AreFieldsOf schema parent fields =
+    (name : NameText) (field : Component FieldDefinition) → get same_name fields name ≡ Some field → type_field schema parent name ≡ Ok field
 
 -- the type has the field of this name, which can be selected as the old one. Specification: 5.3 Fields
 abbrev pub KeepsFieldNamed : ShapeTable → Schema → Schema → Bool → NameText → NameText → Component FieldDefinition → Type 0

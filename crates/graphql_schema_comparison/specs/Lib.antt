@@ -1,3 +1,6 @@
 pub mod Breaks
+pub mod Changes
 pub mod Comparisons
+pub mod Found
+pub mod Owners
 pub mod Shapes

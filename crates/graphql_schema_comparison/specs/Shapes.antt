@@ -1,5 +1,5 @@
 -- The shapes of types of fields, and the table of those that fields have. Specification: 5.3.2 Field Selection Merging, SameResponseShape.
-use Rattle.std.specs.Prelude.{◌≡◌, ◌⊎◌, if◌then◌else◌, ℕ, List, Option, Ok, All, IsNone, IsSome, IsSomeAnd, IfSome}
+use Rattle.std.specs.Prelude.{◌≡◌, ◌≢◌, ◌⊎◌, if◌then◌else◌, ℕ, List, Option, Ok, All, IsNone, IsSome, IsSomeAnd, IfSome}
 use Rattle.std.specs.HashMap.{HashMap, get}
 use Rattle.graphql_nodes.specs.Names.{NameText}
 use Rattle.graphql_hash_seeds.specs.declared.seeds.HashSeed.{HashSeed}
@@ -12,8 +12,8 @@ use Rattle.graphql_documents.specs.declared.documents.type_references.Type.{«Ty
 use Rattle.graphql_documents.specs.declared.documents.type_references.Type.TheVariants.{Named, NonNullNamed, List', NonNullList'}
 use Rattle.graphql_specification.specs.Fragments.{NamesComposite}
 use Rattle.graphql_document_building.specs.Trees.{names_leaf_type}
+use Rattle.graphql_schema_comparison.specs.declared.meetings.FieldPlace.{FieldPlace}
 use Rattle.graphql_schema_comparison.specs.declared.meetings.Meeting.{Meeting}
-use Rattle.graphql_schema_comparison.specs.declared.meetings.Meetings.{Meetings}
 use Rattle.graphql_schema_comparison.specs.declared.shapes.Shape.{Shape}
 use Rattle.graphql_schema_comparison.specs.declared.shapes.Shape.TheVariants as shape
 use Rattle.graphql_schema_comparison.specs.contracts.shapes.ShapePartialEq.TheImpl as shape_impl
@@ -75,10 +75,30 @@ pub record KnowsType (table : ShapeTable) (old new : Schema) (parent : NameText)
   pub schema_field : KnowsField table old new parent old.meta_fields.schema.node.value.value.name
   pub type_by_name : KnowsField table old new parent old.meta_fields.type_by_name.node.value.value.name
 
--- the later table knows what the earlier one did, and something more
-pub record Learns (before after : ShapeTable) (Known : ShapeTable → Type 0) : Type 0 where
+-- the schema has a field at this place, of a type of this form
+abbrev pub HasForm : Schema → FieldPlace → Form → Type 0
+HasForm schema place form =
+    (d : Component FieldDefinition) × (type_field schema place.ty.now place.field.now ≡ Ok d) × (form_in schema d.node.value.value.ty ≡ form)
+
+-- the old type of the field has the first form, and its new type another one than the second
+abbrev pub HasOtherForm : Schema → Schema → Form → Form → FieldPlace → Type 0
+HasOtherForm old new before form place = HasForm old place before × (after : Form) × HasForm new place after × (after ≢ form)
+
+-- the fields of the meeting have old types of this form, and new types as it says
+pub record IsMeeting (old new : Schema) (before : Form) (meeting : Meeting) : Type 0 where
+  pub was : HasForm old meeting.first before
+  pub is : HasForm new meeting.first (form_of meeting.shape)
+  pub other : IfSome meeting.other (HasOtherForm old new before (form_of meeting.shape))
+
+-- so have those of each meeting of the table
+abbrev pub AreMeetings : Schema → Schema → ShapeTable → Type 0
+AreMeetings old new table = (key : Shape) → IfSome (meeting_at table key) (IsMeeting old new (form_of key))
+
+-- the later table knows what the earlier one did, and something more; and its meetings are meetings, if those of the earlier one were
+pub record Learns (old new : Schema) (before after : ShapeTable) (Known : ShapeTable → Type 0) : Type 0 where
   pub more : (old new : Form) → Knows before old new → Knows after old new
   pub known : Known after
+  pub each : AreMeetings old new before → AreMeetings old new after
 
 -- all fields that the table knows whose old types have the first form have the second one in the new schema
 abbrev pub KnowsNoOther : ShapeTable → Form → Form → Type 0

@@ -1,7 +1,9 @@
 //! The changes that are found.
 
 ghost use Rattle.std.specs.Prelude.{IsFalse, OnOk};
-ghost use Rattle.graphql_schema_comparison.specs.Breaks.{Finds, breaks};
+ghost use Rattle.graphql_schema_comparison.specs.Breaks.{breaks};
+ghost use Rattle.graphql_schema_comparison.specs.Changes.{IsChange};
+ghost use Rattle.graphql_schema_comparison.specs.Found.{Finds};
 
 use crate::changes::{Change, SchemaChange};
 use graphql_documents::documents::Schema;
@@ -36,9 +38,15 @@ impl ChangeList {
         *self.changes.allocator()
     }
 
-    /// Adds a change at the end.
-    pub fn push(&mut self, change: Change, places: Places) -> Result<(), ValidationError>
-        ensures { OnOk result (Finds self.old self.new (λ merging. IsFalse (breaks merging change))) }
+    /// Adds a change of the two schemas at the end.
+    pub fn push(
+        &mut self,
+        pair: SchemaPair<'_>,
+        change: Change,
+        places: Places,
+    ) -> Result<(), ValidationError>
+        requires { IsChange pair.old.now pair.new.now change }
+        ensures { OnOk result (Finds pair.entry.old.now pair.entry.new.now self.old self.new (λ merging. IsFalse (breaks merging change))) }
     {
         let Places { old, new } = places;
         self.changes.push(SchemaChange { change, old, new })?;

@@ -12,7 +12,7 @@ use graphql_documents::documents::{ExtendedType, Type};
 use graphql_nodes::{DirectiveLocation, NamedType, OperationType, SourceSpan};
 
 /// One difference of two schemas, and where it is in their texts.
-#[derive(Debug, Drop, PartialEq, Eq)]
+#[derive(Drop)]
 pub struct SchemaChange {
     pub change: Change,
     /// The place in the old schema; of what was added, that of the definition around it.
@@ -36,7 +36,7 @@ pub enum TypeKind {
 }
 
 /// An argument of a field or directive, or a field of an input object.
-#[derive(Debug, Drop, PartialEq, Eq)]
+#[derive(Drop)]
 pub enum InputCoordinate {
     Argument(FieldArgumentCoordinate),
     InputField(TypeAttributeCoordinate),
@@ -47,7 +47,7 @@ pub enum InputCoordinate {
 }
 
 /// What the new type of a field means for documents and responses.
-#[derive(Debug, Drop, PartialEq, Eq)]
+#[derive(Drop)]
 pub enum TypeEffect {
     /// What is selected below the field is another type, or nothing any longer, or for the first time.
     OtherSelections,
@@ -72,7 +72,7 @@ pub enum Gain {
 }
 
 /// A difference of two schemas.
-#[derive(Debug, Drop, PartialEq, Eq)]
+#[derive(Drop)]
 pub enum Change {
     RootAdded {
         operation: OperationType,

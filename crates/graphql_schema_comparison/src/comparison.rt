@@ -6,6 +6,7 @@ ghost use Rattle.graphql_documents.specs.Built.{StandsUnderOwnNames};
 ghost use Rattle.graphql_document_building.specs.Documents.{HasOutputFields};
 ghost use Rattle.graphql_schema_changes.specs.Keeps.{KeepsDocumentsValid, KeepsLoneFieldsValid, KeepsRoots};
 ghost use Rattle.graphql_schema_comparison.specs.Breaks.{Breaks, IsHarmless};
+ghost use Rattle.graphql_schema_comparison.specs.Changes.{IsTrueOf};
 ghost use Rattle.graphql_schema_comparison.specs.Comparisons.{KeepsAll};
 
 use crate::change_list::{ChangeList, SchemaPair};
@@ -19,7 +20,6 @@ use graphql_nodes::{SourceSpan, ValidationError};
 use std::alloc::Global;
 
 /// What changes from one schema to another.
-#[derive(Debug)]
 pub struct Comparison {
     /// By their places in the new schema, and then what was removed, by its places in the old one.
     pub changes: Vec<SchemaChange>,
@@ -44,7 +44,7 @@ impl Drop for Comparison {
 ///
 /// If `keeps_documents` is true, documents stay valid, for schemas that were read: their types are listed under their own names, and
 /// their fields have output types. If `keeps_lone_fields` is true, so do those in which no two fields come together in a response.
-/// If one is false, a change says why.
+/// If one is false, a change says why. What each change says is so of the two schemas.
 pub fn compare_schemas(
     alloc: Global,
     old: &Schema,
@@ -58,6 +58,7 @@ pub fn compare_schemas(
     ensures fewer { IfOk result (λ found. IsTrue found.keeps_documents → IsTrue found.keeps_lone_fields) }
     ensures lone_fields_explained { IfOk result (λ found. IsFalse found.keeps_lone_fields ↔ Any (Breaks false) found.changes.items) }
     ensures explained { IfOk result (λ found. IsFalse found.keeps_documents ↔ Any (Breaks true) found.changes.items) }
+    ensures each { IfOk result (λ found. All (IsTrueOf old.now new.now) found.changes.items) }
 {
     let pair = SchemaPair { old, new };
     let changes = find_changes(alloc, pair)?;
@@ -72,7 +73,8 @@ pub fn compare_schemas(
 
 /// The changes in order.
 fn find_changes(alloc: Global, pair: SchemaPair<'_>) -> Result<Vec<SchemaChange>, ValidationError>
-    ensures { IfOk result (λ changes. (merging : Bool) → All (IsHarmless merging) changes.items → KeepsAll pair.entry.old.now pair.entry.new.now merging) }
+    ensures keeps { IfOk result (λ changes. (merging : Bool) → All (IsHarmless merging) changes.items → KeepsAll pair.entry.old.now pair.entry.new.now merging) }
+    ensures each { IfOk result (λ changes. All (IsTrueOf pair.entry.old.now pair.entry.new.now) changes.items) }
 {
     let hash_seed = *pair.new.types.hasher();
     let meetings = Meetings::new(alloc, hash_seed, pair)?;

@@ -1,9 +1,15 @@
 //! The interfaces that types list, and the members of unions.
 
-ghost use Rattle.std.specs.Prelude.{◌≡◌, ◌↔◌, All, IsFalse, IsTrue, OnOk};
-ghost use Rattle.graphql_documents.specs.Schemas.{IsSubtype, is_object_type};
+ghost use Rattle.std.specs.Prelude.{◌≡◌, ◌↔◌, All, IsFalse, IsTrue, OnOk, Some};
+ghost use Rattle.graphql_nodes.specs.Names.{NameText};
+ghost use Rattle.graphql_nodes.specs.declared.operation_types.OperationType.TheVariants as operation;
+ghost use Rattle.graphql_documents.specs.Schemas.{Implements, IsSubtype, NamesKind, is_object_type, type_definition};
+ghost use Rattle.graphql_document_building.specs.Trees.{root_name};
 ghost use Rattle.graphql_specification.specs.CollectFields.{AppliesTo};
-ghost use Rattle.graphql_schema_comparison.specs.Breaks.{Adds, Finds, breaks_subscriptions};
+ghost use Rattle.graphql_schema_comparison.specs.Breaks.{breaks_subscriptions};
+ghost use Rattle.graphql_schema_comparison.specs.Changes.{GainsRoot, HasMember, IsChange, IsGain};
+ghost use Rattle.graphql_schema_comparison.specs.declared.changes.Change.TheVariants as change;
+ghost use Rattle.graphql_schema_comparison.specs.Found.{Adds, Finds};
 ghost use Rattle.graphql_schema_comparison.specs.Comparisons.{IsObjectOf, KeepsInterfaces, KeepsSubscriptionRootFrom, members_of};
 
 use crate::change_list::{ChangeList, Places, SchemaPair};
@@ -22,7 +28,9 @@ pub(crate) fn compare_interfaces(
     old: &ExtendedType,
     new: &ExtendedType,
 ) -> Result<(), ValidationError>
-    ensures { OnOk result (Finds changes.old changes.new (λ merging. KeepsInterfaces pair.entry.new.now ty.now old.now)) }
+    requires was { type_definition pair.old.now ty.now ≡ Some old.now }
+    requires is { type_definition pair.new.now ty.now ≡ Some new.now }
+    ensures { OnOk result (Finds pair.entry.old.now pair.entry.new.now changes.old changes.new (λ merging. KeepsInterfaces pair.entry.new.now ty.now old.now)) }
 {
     compare_old_interfaces(changes, pair, ty, around, old, new)?;
     find_added_interfaces(changes, pair, ty, around, old, new)?;
@@ -37,7 +45,9 @@ fn compare_old_interfaces(
     old: &ExtendedType,
     new: &ExtendedType,
 ) -> Result<(), ValidationError>
-    ensures { OnOk result (Finds changes.old changes.new (λ merging. KeepsInterfaces pair.entry.new.now ty.now old.now)) }
+    requires was { type_definition pair.old.now ty.now ≡ Some old.now }
+    requires is { type_definition pair.new.now ty.now ≡ Some new.now }
+    ensures { OnOk result (Finds pair.entry.old.now pair.entry.new.now changes.old changes.new (λ merging. KeepsInterfaces pair.entry.new.now ty.now old.now)) }
 {
     let is_object = is_object_type(old);
     for listed in old.implements_interfaces() {
@@ -62,13 +72,16 @@ fn compare_old_interface(
     listed: &ComponentName,
     new: &ExtendedType,
 ) -> Result<(), ValidationError>
-    ensures { OnOk result (Finds changes.old changes.new (λ merging. IsTrue is_object → IsSubtype pair.entry.new.now listed.now.name ty.now)) }
+    requires was { Implements pair.old.now ty.now listed.now.name }
+    requires object { IsTrue is_object → NamesKind pair.old.now is_object_type ty.now }
+    requires is { type_definition pair.new.now ty.now ≡ Some new.now }
+    ensures { OnOk result (Finds pair.entry.old.now pair.entry.new.now changes.old changes.new (λ merging. IsTrue is_object → IsSubtype pair.entry.new.now listed.now.name ty.now)) }
 {
     if pair.new.is_subtype(&listed.name, ty) {
-        compare_listing(changes, ty, around, listed, new)?;
+        compare_listing(changes, pair, ty, around, listed, new)?;
         Ok(())
     } else {
-        push_removed_interface(changes, ty, around, listed, is_object)?;
+        push_removed_interface(changes, pair, ty, around, listed, is_object)?;
         Ok(())
     }
 }
@@ -76,28 +89,35 @@ fn compare_old_interface(
 /// Finds whether the type no longer lists the interface, and is one of those of a union of its name.
 fn compare_listing(
     changes: &mut ChangeList,
+    pair: SchemaPair<'_>,
     ty: &NamedType,
     around: Places,
     listed: &ComponentName,
     new: &ExtendedType,
 ) -> Result<(), ValidationError>
-    ensures { OnOk result (Adds changes.old changes.new) }
+    requires was { Implements pair.old.now ty.now listed.now.name }
+    requires is { type_definition pair.new.now ty.now ≡ Some new.now }
+    ensures { OnOk result (Adds pair.entry.old.now pair.entry.new.now changes.old changes.new) }
 {
     if new.lists_interface(&listed.name) {
         return Ok(());
     }
-    push_removed_interface(changes, ty, around, listed, false)?;
+    push_removed_interface(changes, pair, ty, around, listed, false)?;
     Ok(())
 }
 
 fn push_removed_interface(
     changes: &mut ChangeList,
+    pair: SchemaPair<'_>,
     ty: &NamedType,
     around: Places,
     listed: &ComponentName,
     is_lost: bool,
 ) -> Result<(), ValidationError>
-    ensures { OnOk result (Finds changes.old changes.new (λ merging. IsFalse is_lost)) }
+    requires was { Implements pair.old.now ty.now listed.now.name }
+    requires no_longer { ¬ (Implements pair.new.now ty.now listed.now.name × IsSubtype pair.new.now listed.now.name ty.now) }
+    requires lost { IsTrue is_lost → NamesKind pair.old.now is_object_type ty.now × ¬ IsSubtype pair.new.now listed.now.name ty.now }
+    ensures { OnOk result (Finds pair.entry.old.now pair.entry.new.now changes.old changes.new (λ merging. IsFalse is_lost)) }
 {
     let alloc = changes.allocator();
     let ty = ty.clone_in(alloc)?;
@@ -107,6 +127,7 @@ fn push_removed_interface(
         new: around.new,
     };
     changes.push(
+        pair,
         Change::InterfaceRemoved {
             ty,
             interface,
@@ -125,7 +146,9 @@ fn find_added_interfaces(
     old: &ExtendedType,
     new: &ExtendedType,
 ) -> Result<(), ValidationError>
-    ensures { OnOk result (Adds changes.old changes.new) }
+    requires was { type_definition pair.old.now ty.now ≡ Some old.now }
+    requires is { type_definition pair.new.now ty.now ≡ Some new.now }
+    ensures { OnOk result (Adds pair.entry.old.now pair.entry.new.now changes.old changes.new) }
 {
     for listed in new.implements_interfaces() {
         find_added_interface(changes, pair, ty, around, old, listed)?;
@@ -141,7 +164,9 @@ fn find_added_interface(
     old: &ExtendedType,
     listed: &ComponentName,
 ) -> Result<(), ValidationError>
-    ensures { OnOk result (Adds changes.old changes.new) }
+    requires was { type_definition pair.old.now ty.now ≡ Some old.now }
+    requires is { Implements pair.new.now ty.now listed.now.name }
+    ensures { OnOk result (Adds pair.entry.old.now pair.entry.new.now changes.old changes.new) }
 {
     if old.lists_interface(&listed.name) || is_gained_root(pair, &listed.name, ty) {
         return Ok(());
@@ -151,23 +176,26 @@ fn find_added_interface(
         new: listed.name.location(),
     };
     let gain = gain_of(pair, &listed.name, ty);
-    push_added_interface(changes, ty, places, &listed.name, gain)?;
+    push_added_interface(changes, pair, ty, places, &listed.name, gain)?;
     Ok(())
 }
 
 fn push_added_interface(
     changes: &mut ChangeList,
+    pair: SchemaPair<'_>,
     ty: &NamedType,
     places: Places,
     interface: &NamedType,
     gain: Gain,
 ) -> Result<(), ValidationError>
-    ensures { OnOk result (Finds changes.old changes.new (λ merging. IsFalse (breaks_subscriptions gain))) }
+    requires { IsChange pair.old.now pair.new.now (change.InterfaceAdded ty.now interface.now gain) }
+    ensures { OnOk result (Finds pair.entry.old.now pair.entry.new.now changes.old changes.new (λ merging. IsFalse (breaks_subscriptions gain))) }
 {
     let alloc = changes.allocator();
     let ty = ty.clone_in(alloc)?;
     let interface = interface.clone_in(alloc)?;
     changes.push(
+        pair,
         Change::InterfaceAdded {
             ty,
             interface,
@@ -189,7 +217,9 @@ pub(crate) fn compare_members(
     old: &ExtendedType,
     new: &ExtendedType,
 ) -> Result<(), ValidationError>
-    ensures { OnOk result (Finds changes.old changes.new (λ merging. All (λ member. IsObjectOf pair.entry.new.now ty.now member.name) (members_of old.now))) }
+    requires was { type_definition pair.old.now ty.now ≡ Some old.now }
+    requires is { type_definition pair.new.now ty.now ≡ Some new.now }
+    ensures { OnOk result (Finds pair.entry.old.now pair.entry.new.now changes.old changes.new (λ merging. All (λ member. IsObjectOf pair.entry.new.now ty.now member.name) (members_of old.now))) }
 {
     compare_old_members(changes, pair, ty, around, old)?;
     find_added_members(changes, pair, ty, around, new)?;
@@ -203,7 +233,8 @@ fn compare_old_members(
     around: Places,
     old: &ExtendedType,
 ) -> Result<(), ValidationError>
-    ensures { OnOk result (Finds changes.old changes.new (λ merging. All (λ member. IsObjectOf pair.entry.new.now ty.now member.name) (members_of old.now))) }
+    requires { type_definition pair.old.now ty.now ≡ Some old.now }
+    ensures { OnOk result (Finds pair.entry.old.now pair.entry.new.now changes.old changes.new (λ merging. All (λ member. IsObjectOf pair.entry.new.now ty.now member.name) (members_of old.now))) }
 {
     for member in members_of(old) {
         compare_old_member(changes, pair, ty, around, member)?;
@@ -218,7 +249,8 @@ fn compare_old_member(
     around: Places,
     member: &ComponentName,
 ) -> Result<(), ValidationError>
-    ensures { OnOk result (Finds changes.old changes.new (λ merging. IsObjectOf pair.entry.new.now ty.now member.now.name)) }
+    requires { HasMember pair.old.now ty.now member.now.name }
+    ensures { OnOk result (Finds pair.entry.old.now pair.entry.new.now changes.old changes.new (λ merging. IsObjectOf pair.entry.new.now ty.now member.now.name)) }
 {
     if is_object_of(pair.new, ty, &member.name) {
         return Ok(());
@@ -230,7 +262,7 @@ fn compare_old_member(
         new: around.new,
     };
     let member = member.name.clone_in(alloc)?;
-    changes.push(Change::MemberRemoved { union, member }, places)?;
+    changes.push(pair, Change::MemberRemoved { union, member }, places)?;
     Ok(())
 }
 
@@ -238,7 +270,7 @@ fn compare_old_member(
 ///
 /// Specification: 5.5.2.3 Fragment Spread Is Possible, GetPossibleTypes.
 fn is_object_of(schema: &Schema, ty: &NamedType, object: &NamedType) -> bool
-    ensures { IsTrue result → IsObjectOf schema.now ty.now object.now }
+    ensures { IsTrue result ↔ IsObjectOf schema.now ty.now object.now }
 {
     match schema.types.get(object) {
         Some(ExtendedType::Object(_)) => schema.is_subtype(ty, object),
@@ -253,7 +285,8 @@ fn find_added_members(
     around: Places,
     new: &ExtendedType,
 ) -> Result<(), ValidationError>
-    ensures { OnOk result (Adds changes.old changes.new) }
+    requires { type_definition pair.new.now ty.now ≡ Some new.now }
+    ensures { OnOk result (Adds pair.entry.old.now pair.entry.new.now changes.old changes.new) }
 {
     for member in members_of(new) {
         find_added_member(changes, pair, ty, around, member)?;
@@ -268,7 +301,8 @@ fn find_added_member(
     around: Places,
     member: &ComponentName,
 ) -> Result<(), ValidationError>
-    ensures { OnOk result (Adds changes.old changes.new) }
+    requires { HasMember pair.new.now ty.now member.now.name }
+    ensures { OnOk result (Adds pair.entry.old.now pair.entry.new.now changes.old changes.new) }
 {
     if pair.old.is_subtype(ty, &member.name) || is_gained_root(pair, ty, &member.name) {
         return Ok(());
@@ -278,23 +312,26 @@ fn find_added_member(
         new: member.name.location(),
     };
     let gain = gain_of(pair, ty, &member.name);
-    push_added_member(changes, ty, places, &member.name, gain)?;
+    push_added_member(changes, pair, ty, places, &member.name, gain)?;
     Ok(())
 }
 
 fn push_added_member(
     changes: &mut ChangeList,
+    pair: SchemaPair<'_>,
     ty: &NamedType,
     places: Places,
     member: &NamedType,
     gain: Gain,
 ) -> Result<(), ValidationError>
-    ensures { OnOk result (Finds changes.old changes.new (λ merging. IsFalse (breaks_subscriptions gain))) }
+    requires { IsChange pair.old.now pair.new.now (change.MemberAdded ty.now member.now gain) }
+    ensures { OnOk result (Finds pair.entry.old.now pair.entry.new.now changes.old changes.new (λ merging. IsFalse (breaks_subscriptions gain))) }
 {
     let alloc = changes.allocator();
     let union = ty.clone_in(alloc)?;
     let member = member.clone_in(alloc)?;
     changes.push(
+        pair,
         Change::MemberAdded {
             union,
             member,
@@ -306,13 +343,23 @@ fn push_added_member(
 }
 
 /// What it means for responses that a type becomes one of those of an interface or a union.
-fn gain_of(pair: SchemaPair<'_>, wide: &NamedType, ty: &NamedType) -> Gain {
-    if matches!(pair.new.types.get(ty), Some(ExtendedType::Object(_)))
-        && !applies_to(pair.old, ty, wide)
-    {
+fn gain_of(pair: SchemaPair<'_>, wide: &NamedType, ty: &NamedType) -> Gain
+    ensures { IsGain pair.entry.old.now pair.entry.new.now wide.now ty.now result }
+{
+    if names_object_type(pair.new, ty) && !applies_to(pair.old, ty, wide) {
         Gain::Object
     } else {
         Gain::Nothing
+    }
+}
+
+/// Whether the name is that of an object type.
+fn names_object_type(schema: &Schema, name: &NamedType) -> bool
+    ensures { IsTrue result ↔ NamesKind schema.now is_object_type name.now }
+{
+    match schema.types.get(name) {
+        Some(ExtendedType::Object(_)) => true,
+        _ => false,
     }
 }
 
@@ -343,7 +390,7 @@ pub(crate) fn compare_subscription_root(
     around: Places,
     new: &ExtendedType,
 ) -> Result<(), ValidationError>
-    ensures { OnOk result (Finds changes.old changes.new (λ merging. KeepsSubscriptionRootFrom pair.entry.old.now pair.entry.new.now ty.now)) }
+    ensures { OnOk result (Finds pair.entry.old.now pair.entry.new.now changes.old changes.new (λ merging. KeepsSubscriptionRootFrom pair.entry.old.now pair.entry.new.now ty.now)) }
 {
     let Some(root) = pair.old.root_operation(OperationType::Subscription) else {
         return Ok(());
@@ -357,12 +404,12 @@ pub(crate) fn compare_subscription_root(
                 old: around.old,
                 new: place_in(members_of(new), root),
             };
-            push_added_member(changes, ty, places, root, Gain::SubscriptionRoot)?;
+            push_added_member(changes, pair, ty, places, root, Gain::SubscriptionRoot)?;
             Ok(())
         }
         _ => {
             let places = places_in_root(pair, root, ty);
-            push_added_interface(changes, root, places, ty, Gain::SubscriptionRoot)?;
+            push_added_interface(changes, pair, root, places, ty, Gain::SubscriptionRoot)?;
             Ok(())
         }
     }
@@ -392,7 +439,8 @@ fn place_in(listed: &[ComponentName], name: &NamedType) -> Option<SourceSpan> {
 ///
 /// Specification: 5.2.3.1 Single Root Field.
 fn keeps_subscription_root(pair: SchemaPair<'_>, ty: &NamedType) -> bool
-    ensures { IsTrue result → KeepsSubscriptionRootFrom pair.entry.old.now pair.entry.new.now ty.now }
+    ensures keeps { IsTrue result → KeepsSubscriptionRootFrom pair.entry.old.now pair.entry.new.now ty.now }
+    ensures loses { IsFalse result → (root : NameText) → root_name pair.entry.old.now operation.Subscription ≡ Some root → GainsRoot pair.entry.old.now pair.entry.new.now ty.now root }
 {
     match pair.old.root_operation(OperationType::Subscription) {
         Some(root) => !applies_to(pair.new, root, ty) || applies_to(pair.old, root, ty),

@@ -1,10 +1,13 @@
 //! The fields of objects, interfaces and unions.
 
-ghost use Rattle.std.specs.Prelude.{◌≡◌, All, Bool, IfOk, IsFalse, IsTrue, OnOk};
-ghost use Rattle.graphql_documents.specs.Schemas.{fields_of};
+ghost use Rattle.std.specs.Prelude.{◌≡◌, ◌↔◌, All, Bool, IfOk, IsFalse, IsTrue, Ok, OnOk, Some};
+ghost use Rattle.graphql_documents.specs.Schemas.{fields_of, type_definition, type_field};
 ghost use Rattle.graphql_document_building.specs.Trees.{names_leaf_type};
-ghost use Rattle.graphql_schema_comparison.specs.Breaks.{Adds, Finds, breaks_selections};
-ghost use Rattle.graphql_schema_comparison.specs.Comparisons.{KeepsFieldIfAny, KeepsFieldNamed, KeepsFieldType, KeepsFieldsOf, KeepsSelections, KeepsUses};
+ghost use Rattle.graphql_schema_comparison.specs.Breaks.{breaks_selections};
+ghost use Rattle.graphql_schema_comparison.specs.Changes.{HasEffect};
+ghost use Rattle.graphql_schema_comparison.specs.Found.{Adds, Finds};
+ghost use Rattle.graphql_schema_comparison.specs.Shapes.{AreMeetings};
+ghost use Rattle.graphql_schema_comparison.specs.Comparisons.{AreFieldsOf, KeepsFieldIfAny, KeepsFieldNamed, KeepsFieldType, KeepsFieldsOf, KeepsSelections, KeepsUses};
 
 use crate::arguments::compare_arguments;
 use crate::change_list::{ChangeList, Places, SchemaPair};
@@ -30,7 +33,10 @@ pub(crate) fn compare_fields(
     old: &ExtendedType,
     new: &ExtendedType,
 ) -> Result<(), ValidationError>
-    ensures { OnOk result (Finds changes.old changes.new (λ merging.
+    requires was { type_definition pair.old.now ty.now ≡ Some old.now }
+    requires is { type_definition pair.new.now ty.now ≡ Some new.now }
+    requires meetings_are { AreMeetings pair.old.now pair.new.now meetings.now.by_shape }
+    ensures { OnOk result (Finds pair.entry.old.now pair.entry.new.now changes.old changes.new (λ merging.
         KeepsFieldsOf meetings.now.by_shape pair.entry.old.now pair.entry.new.now merging ty.now old.now)) }
 {
     compare_own_fields(changes, pair, meetings, ty, around, old)?;
@@ -51,7 +57,9 @@ fn compare_own_fields(
     around: Places,
     old: &ExtendedType,
 ) -> Result<(), ValidationError>
-    ensures { OnOk result (Finds changes.old changes.new (λ merging.
+    requires was { type_definition pair.old.now ty.now ≡ Some old.now }
+    requires meetings_are { AreMeetings pair.old.now pair.new.now meetings.now.by_shape }
+    ensures { OnOk result (Finds pair.entry.old.now pair.entry.new.now changes.old changes.new (λ merging.
         All (λ entry. KeepsFieldNamed meetings.now.by_shape pair.entry.old.now pair.entry.new.now merging ty.now entry.0 entry.1) (fields_of old.now))) }
 {
     match fields_of(old) {
@@ -71,7 +79,9 @@ fn compare_listed_fields(
     around: Places,
     fields: &FieldMap,
 ) -> Result<(), ValidationError>
-    ensures { OnOk result (Finds changes.old changes.new (λ merging.
+    requires was { AreFieldsOf pair.old.now ty.now fields.now }
+    requires meetings_are { AreMeetings pair.old.now pair.new.now meetings.now.by_shape }
+    ensures { OnOk result (Finds pair.entry.old.now pair.entry.new.now changes.old changes.new (λ merging.
         All (λ entry. KeepsFieldNamed meetings.now.by_shape pair.entry.old.now pair.entry.new.now merging ty.now entry.0 entry.1) fields.now.entries)) }
 {
     for (name, field) in fields {
@@ -89,7 +99,9 @@ fn compare_own_field(
     name: &Name,
     field: &Component<FieldDefinition>,
 ) -> Result<(), ValidationError>
-    ensures { OnOk result (Finds changes.old changes.new (λ merging.
+    requires was { type_field pair.old.now ty.now name.now ≡ Ok field.now }
+    requires meetings_are { AreMeetings pair.old.now pair.new.now meetings.now.by_shape }
+    ensures { OnOk result (Finds pair.entry.old.now pair.entry.new.now changes.old changes.new (λ merging.
         KeepsFieldNamed meetings.now.by_shape pair.entry.old.now pair.entry.new.now merging ty.now name.now field.now)) }
 {
     match pair.new.type_field(ty, name) {
@@ -103,7 +115,7 @@ fn compare_own_field(
                 old: place_of_field(field),
                 new: around.new,
             };
-            changes.push(Change::FieldRemoved(coordinate), places)?;
+            changes.push(pair, Change::FieldRemoved(coordinate), places)?;
             Ok(())
         }
     }
@@ -117,7 +129,8 @@ fn find_added_fields(
     around: Places,
     new: &ExtendedType,
 ) -> Result<(), ValidationError>
-    ensures { OnOk result (Adds changes.old changes.new) }
+    requires { type_definition pair.new.now ty.now ≡ Some new.now }
+    ensures { OnOk result (Adds pair.entry.old.now pair.entry.new.now changes.old changes.new) }
 {
     match fields_of(new) {
         Some(fields) => {
@@ -135,7 +148,8 @@ fn find_added_among(
     around: Places,
     fields: &FieldMap,
 ) -> Result<(), ValidationError>
-    ensures { OnOk result (Adds changes.old changes.new) }
+    requires { AreFieldsOf pair.new.now ty.now fields.now }
+    ensures { OnOk result (Adds pair.entry.old.now pair.entry.new.now changes.old changes.new) }
 {
     for (name, field) in fields {
         find_added_field(changes, pair, ty, around, name, field)?;
@@ -151,7 +165,8 @@ fn find_added_field(
     name: &Name,
     field: &Component<FieldDefinition>,
 ) -> Result<(), ValidationError>
-    ensures { OnOk result (Adds changes.old changes.new) }
+    requires { type_field pair.new.now ty.now name.now ≡ Ok field.now }
+    ensures { OnOk result (Adds pair.entry.old.now pair.entry.new.now changes.old changes.new) }
 {
     if pair.old.type_field(ty, name).is_ok() {
         return Ok(());
@@ -161,7 +176,7 @@ fn find_added_field(
         old: around.old,
         new: place_of_field(field),
     };
-    changes.push(Change::FieldAdded(coordinate), places)?;
+    changes.push(pair, Change::FieldAdded(coordinate), places)?;
     Ok(())
 }
 
@@ -176,7 +191,8 @@ fn compare_meta_field(
     ty: &NamedType,
     field: &Component<FieldDefinition>,
 ) -> Result<(), ValidationError>
-    ensures { OnOk result (Finds changes.old changes.new (λ merging.
+    requires { AreMeetings pair.old.now pair.new.now meetings.now.by_shape }
+    ensures { OnOk result (Finds pair.entry.old.now pair.entry.new.now changes.old changes.new (λ merging.
         KeepsFieldIfAny meetings.now.by_shape pair.entry.old.now pair.entry.new.now merging ty.now field.now.node.value.value.name)) }
 {
     let name = &field.node.value.name;
@@ -200,17 +216,21 @@ fn compare_two_fields(
     old: &Component<FieldDefinition>,
     new: &Component<FieldDefinition>,
 ) -> Result<(), ValidationError>
-    ensures { OnOk result (Finds changes.old changes.new (λ merging.
+    requires was { type_field pair.old.now ty.now name.now ≡ Ok old.now }
+    requires is { type_field pair.new.now ty.now name.now ≡ Ok new.now }
+    requires meetings_are { AreMeetings pair.old.now pair.new.now meetings.now.by_shape }
+    ensures { OnOk result (Finds pair.entry.old.now pair.entry.new.now changes.old changes.new (λ merging.
         KeepsUses meetings.now.by_shape pair.entry.old.now pair.entry.new.now merging old.now.node.value.value new.now.node.value.value)) }
 {
     let places = Places {
         old: place_of_field(old),
         new: place_of_field(new),
     };
-    compare_field_types(changes, pair, meetings, ty, places, old, new)?;
+    compare_field_types(changes, pair, meetings, ty, name, places, old, new)?;
     let owner = Owner::Field { ty, field: name };
     compare_arguments(
         changes,
+        pair,
         owner,
         places,
         &old.node.value.arguments,
@@ -225,11 +245,15 @@ fn compare_field_types(
     pair: SchemaPair<'_>,
     meetings: &Meetings<'_>,
     ty: &NamedType,
+    name: &Name,
     places: Places,
     old: &Component<FieldDefinition>,
     new: &Component<FieldDefinition>,
 ) -> Result<(), ValidationError>
-    ensures { OnOk result (Finds changes.old changes.new (λ merging.
+    requires was { type_field pair.old.now ty.now name.now ≡ Ok old.now }
+    requires is { type_field pair.new.now ty.now name.now ≡ Ok new.now }
+    requires meetings_are { AreMeetings pair.old.now pair.new.now meetings.now.by_shape }
+    ensures { OnOk result (Finds pair.entry.old.now pair.entry.new.now changes.old changes.new (λ merging.
         KeepsFieldType meetings.now.by_shape pair.entry.old.now pair.entry.new.now merging old.now.node.value.value.ty new.now.node.value.value.ty)) }
 {
     let from = &old.node.value.ty;
@@ -238,11 +262,12 @@ fn compare_field_types(
         return Ok(());
     }
     let alloc = changes.allocator();
-    let field = TypeAttributeCoordinate::new(alloc, ty, &old.node.value.name)?;
+    let field = TypeAttributeCoordinate::new(alloc, ty, name)?;
     let effect = effect_of(alloc, pair, meetings, from, to)?;
     let from = from.clone()?;
     let to = to.clone()?;
     changes.push(
+        pair,
         Change::FieldTypeChanged {
             field,
             from,
@@ -262,8 +287,10 @@ fn effect_of(
     from: &Type,
     to: &Type,
 ) -> Result<TypeEffect, ValidationError>
-    ensures { IfOk result (λ effect. (merging : Bool) → IsFalse (breaks_selections merging effect) →
+    requires { AreMeetings pair.old.now pair.new.now meetings.now.by_shape }
+    ensures keeps { IfOk result (λ effect. (merging : Bool) → IsFalse (breaks_selections merging effect) →
         KeepsFieldType meetings.now.by_shape pair.entry.old.now pair.entry.new.now merging from.now to.now) }
+    ensures means { IfOk result (HasEffect pair.entry.old.now pair.entry.new.now from.now to.now) }
 {
     if !keeps_selections(pair, from, to) {
         return Ok(TypeEffect::OtherSelections);
@@ -279,7 +306,7 @@ fn effect_of(
 ///
 /// Specification: 5.3.3 Leaf Field Selections.
 fn keeps_selections(pair: SchemaPair<'_>, from: &Type, to: &Type) -> bool
-    ensures { IsTrue result → KeepsSelections pair.entry.old.now pair.entry.new.now from.now to.now }
+    ensures { IsTrue result ↔ KeepsSelections pair.entry.old.now pair.entry.new.now from.now to.now }
 {
     let old_name = from.inner_named_type();
     let new_name = to.inner_named_type();

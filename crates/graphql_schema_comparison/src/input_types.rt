@@ -1,11 +1,15 @@
 //! Enums and input objects.
 
-ghost use Rattle.std.specs.Prelude.{All, IsTrue, OnOk};
+ghost use Rattle.std.specs.Prelude.{All, Contains, IsFalse, IsSome, IsTrue, OnOk};
+ghost use Rattle.indexmap.specs.IndexMap.{get};
+ghost use Rattle.graphql_nodes.specs.Names.{same_name};
 ghost use Rattle.graphql_schema_changes.specs.Keeps.{KeepsInputFields};
-ghost use Rattle.graphql_schema_comparison.specs.Breaks.{Adds, Finds};
+ghost use Rattle.graphql_schema_comparison.specs.Found.{Adds, Finds};
+ghost use Rattle.graphql_schema_comparison.specs.Changes.{HasInput, IsEnumNamed};
 ghost use Rattle.graphql_schema_comparison.specs.Comparisons.{FieldWasRequired, KeepsInputField, KeepsEnumValue};
+ghost use Rattle.graphql_schema_comparison.specs.Owners.{HasInputFields, IsNewField, field_coordinate};
 
-use crate::change_list::{ChangeList, Places};
+use crate::change_list::{ChangeList, Places, SchemaPair};
 use crate::changes::Change;
 use crate::inputs::{Owner, compare_inputs, push_added_input, push_removed_input};
 use graphql_coordinates::TypeAttributeCoordinate;
@@ -19,42 +23,53 @@ use graphql_nodes::{Name, NamedType, SourceSpan, ValidationError};
 /// Specification: 3.9 Enums.
 pub(crate) fn compare_enums(
     changes: &mut ChangeList,
+    pair: SchemaPair<'_>,
     ty: &NamedType,
     around: Places,
     old: &EnumType,
     new: &EnumType,
 ) -> Result<(), ValidationError>
-    ensures { OnOk result (Finds changes.old changes.new (λ merging. All (λ entry. KeepsEnumValue new.now entry.0) old.now.values.entries)) }
+    requires was { IsEnumNamed pair.old.now ty.now old.now }
+    requires is { IsEnumNamed pair.new.now ty.now new.now }
+    ensures { OnOk result (Finds pair.entry.old.now pair.entry.new.now changes.old changes.new (λ merging. All (λ entry. KeepsEnumValue new.now entry.0) old.now.values.entries)) }
 {
-    compare_values(changes, ty, around, old, new)?;
-    find_added_values(changes, ty, around, old, new)?;
+    compare_values(changes, pair, ty, around, old, new)?;
+    find_added_values(changes, pair, ty, around, old, new)?;
     Ok(())
 }
 
 fn compare_values(
     changes: &mut ChangeList,
+    pair: SchemaPair<'_>,
     ty: &NamedType,
     around: Places,
     old: &EnumType,
     new: &EnumType,
 ) -> Result<(), ValidationError>
-    ensures { OnOk result (Finds changes.old changes.new (λ merging. All (λ entry. KeepsEnumValue new.now entry.0) old.now.values.entries)) }
+    requires was { IsEnumNamed pair.old.now ty.now old.now }
+    requires is { IsEnumNamed pair.new.now ty.now new.now }
+    ensures { OnOk result (Finds pair.entry.old.now pair.entry.new.now changes.old changes.new (λ merging. All (λ entry. KeepsEnumValue new.now entry.0) old.now.values.entries)) }
 {
     for (name, value) in &old.values {
-        compare_value(changes, ty, around, name, value, new)?;
+        compare_value(changes, pair, ty, around, name, value, old, new)?;
     }
     Ok(())
 }
 
 fn compare_value(
     changes: &mut ChangeList,
+    pair: SchemaPair<'_>,
     ty: &NamedType,
     around: Places,
     name: &Name,
     value: &Component<EnumValueDefinition>,
+    old: &EnumType,
     new: &EnumType,
 ) -> Result<(), ValidationError>
-    ensures { OnOk result (Finds changes.old changes.new (λ merging. KeepsEnumValue new.now name.now)) }
+    requires was { IsEnumNamed pair.old.now ty.now old.now }
+    requires is { IsEnumNamed pair.new.now ty.now new.now }
+    requires there { IsSome (get same_name old.now.values name.now) }
+    ensures { OnOk result (Finds pair.entry.old.now pair.entry.new.now changes.old changes.new (λ merging. KeepsEnumValue new.now name.now)) }
 {
     if new.values.contains_key(name) {
         return Ok(());
@@ -64,34 +79,42 @@ fn compare_value(
         old: place_of_value(value),
         new: around.new,
     };
-    changes.push(Change::EnumValueRemoved(coordinate), places)?;
+    changes.push(pair, Change::EnumValueRemoved(coordinate), places)?;
     Ok(())
 }
 
 fn find_added_values(
     changes: &mut ChangeList,
+    pair: SchemaPair<'_>,
     ty: &NamedType,
     around: Places,
     old: &EnumType,
     new: &EnumType,
 ) -> Result<(), ValidationError>
-    ensures { OnOk result (Adds changes.old changes.new) }
+    requires was { IsEnumNamed pair.old.now ty.now old.now }
+    requires is { IsEnumNamed pair.new.now ty.now new.now }
+    ensures { OnOk result (Adds pair.entry.old.now pair.entry.new.now changes.old changes.new) }
 {
     for (name, value) in &new.values {
-        find_added_value(changes, ty, around, old, name, value)?;
+        find_added_value(changes, pair, ty, around, old, name, value, new)?;
     }
     Ok(())
 }
 
 fn find_added_value(
     changes: &mut ChangeList,
+    pair: SchemaPair<'_>,
     ty: &NamedType,
     around: Places,
     old: &EnumType,
     name: &Name,
     value: &Component<EnumValueDefinition>,
+    new: &EnumType,
 ) -> Result<(), ValidationError>
-    ensures { OnOk result (Adds changes.old changes.new) }
+    requires was { IsEnumNamed pair.old.now ty.now old.now }
+    requires is { IsEnumNamed pair.new.now ty.now new.now }
+    requires there { IsSome (get same_name new.now.values name.now) }
+    ensures { OnOk result (Adds pair.entry.old.now pair.entry.new.now changes.old changes.new) }
 {
     if old.values.contains_key(name) {
         return Ok(());
@@ -101,7 +124,7 @@ fn find_added_value(
         old: around.old,
         new: place_of_value(value),
     };
-    changes.push(Change::EnumValueAdded(coordinate), places)?;
+    changes.push(pair, Change::EnumValueAdded(coordinate), places)?;
     Ok(())
 }
 
@@ -115,52 +138,61 @@ fn place_of_value(value: &Component<EnumValueDefinition>) -> Option<SourceSpan> 
 /// Specification: 3.10 Input Objects.
 pub(crate) fn compare_input_objects(
     changes: &mut ChangeList,
+    pair: SchemaPair<'_>,
     ty: &NamedType,
     around: Places,
     old: &InputObjectType,
     new: &InputObjectType,
 ) -> Result<(), ValidationError>
-    ensures { OnOk result (Finds changes.old changes.new (λ merging. KeepsInputFields old.now new.now)) }
+    requires was { HasInputFields pair.old.now ty.now old.now }
+    requires is { HasInputFields pair.new.now ty.now new.now }
+    ensures { OnOk result (Finds pair.entry.old.now pair.entry.new.now changes.old changes.new (λ merging. KeepsInputFields old.now new.now)) }
 {
-    compare_old_fields(changes, ty, around, old, new)?;
-    compare_new_fields(changes, ty, around, old, new)?;
+    compare_old_fields(changes, pair, ty, around, old, new)?;
+    compare_new_fields(changes, pair, ty, around, old, new)?;
     Ok(())
 }
 
 /// Whether each old field is there and takes what it took.
 fn compare_old_fields(
     changes: &mut ChangeList,
+    pair: SchemaPair<'_>,
     ty: &NamedType,
     around: Places,
     old: &InputObjectType,
     new: &InputObjectType,
 ) -> Result<(), ValidationError>
-    ensures { OnOk result (Finds changes.old changes.new (λ merging. All (KeepsInputField new.now) old.now.fields.entries)) }
+    requires was { HasInputFields pair.old.now ty.now old.now }
+    requires is { HasInputFields pair.new.now ty.now new.now }
+    ensures { OnOk result (Finds pair.entry.old.now pair.entry.new.now changes.old changes.new (λ merging. All (KeepsInputField new.now) old.now.fields.entries)) }
 {
     for (name, field) in &old.fields {
-        compare_old_field(changes, ty, around, name, field, new)?;
+        compare_old_field(changes, pair, ty, around, name, field, new)?;
     }
     Ok(())
 }
 
 fn compare_old_field(
     changes: &mut ChangeList,
+    pair: SchemaPair<'_>,
     ty: &NamedType,
     around: Places,
     name: &Name,
     field: &Component<InputValueDefinition>,
     new: &InputObjectType,
 ) -> Result<(), ValidationError>
-    ensures { OnOk result (Finds changes.old changes.new (λ merging. KeepsInputField new.now (name.now, field.now))) }
+    requires was { HasInput pair.old.now (field_coordinate ty.now name.now) field.now.node.value.value }
+    requires is { HasInputFields pair.new.now ty.now new.now }
+    ensures { OnOk result (Finds pair.entry.old.now pair.entry.new.now changes.old changes.new (λ merging. KeepsInputField new.now (name.now, field.now))) }
 {
     let owner = Owner::InputObject(ty);
     match new.fields.get(name) {
         Some(new) => {
-            compare_inputs(changes, owner, &field.node, &new.node)?;
+            compare_inputs(changes, pair, owner, name, &field.node, &new.node)?;
             Ok(())
         }
         None => {
-            push_removed_input(changes, owner, around, &field.node)?;
+            push_removed_input(changes, pair, owner, name, around, &field.node)?;
             Ok(())
         }
     }
@@ -170,21 +202,25 @@ fn compare_old_field(
 /// old field takes what it took.
 fn compare_new_fields(
     changes: &mut ChangeList,
+    pair: SchemaPair<'_>,
     ty: &NamedType,
     around: Places,
     old: &InputObjectType,
     new: &InputObjectType,
 ) -> Result<(), ValidationError>
-    ensures { OnOk result (Finds changes.old changes.new (λ merging. All (KeepsInputField new.now) old.now.fields.entries → All (FieldWasRequired old.now) new.now.fields.entries)) }
+    requires was { HasInputFields pair.old.now ty.now old.now }
+    requires is { HasInputFields pair.new.now ty.now new.now }
+    ensures { OnOk result (Finds pair.entry.old.now pair.entry.new.now changes.old changes.new (λ merging. All (KeepsInputField new.now) old.now.fields.entries → All (FieldWasRequired old.now) new.now.fields.entries)) }
 {
     for (name, field) in &new.fields {
-        compare_new_field(changes, ty, around, old, new, name, field)?;
+        compare_new_field(changes, pair, ty, around, old, new, name, field)?;
     }
     Ok(())
 }
 
 fn compare_new_field(
     changes: &mut ChangeList,
+    pair: SchemaPair<'_>,
     ty: &NamedType,
     around: Places,
     old: &InputObjectType,
@@ -192,12 +228,22 @@ fn compare_new_field(
     name: &Name,
     field: &Component<InputValueDefinition>,
 ) -> Result<(), ValidationError>
-    ensures { OnOk result (Finds changes.old changes.new (λ merging. All (KeepsInputField new.now) old.now.fields.entries → FieldWasRequired old.now (name.now, field.now))) }
+    requires was { HasInputFields pair.old.now ty.now old.now }
+    requires is { HasInputFields pair.new.now ty.now new.now }
+    requires contained { Contains new.now.fields.entries (name.now, field.now) }
+    ensures { OnOk result (Finds pair.entry.old.now pair.entry.new.now changes.old changes.new (λ merging. All (KeepsInputField new.now) old.now.fields.entries → FieldWasRequired old.now (name.now, field.now))) }
 {
     if was_field_required(old, new, name, field) {
         return Ok(());
     }
-    push_added_input(changes, Owner::InputObject(ty), around, &field.node)?;
+    push_added_input(
+        changes,
+        pair,
+        Owner::InputObject(ty),
+        name,
+        around,
+        &field.node,
+    )?;
     Ok(())
 }
 
@@ -208,7 +254,9 @@ fn was_field_required(
     name: &Name,
     field: &Component<InputValueDefinition>,
 ) -> bool
-    ensures { IsTrue result → All (KeepsInputField new.now) old.now.fields.entries → FieldWasRequired old.now (name.now, field.now) }
+    requires { Contains new.now.fields.entries (name.now, field.now) }
+    ensures was { IsTrue result → All (KeepsInputField new.now) old.now.fields.entries → FieldWasRequired old.now (name.now, field.now) }
+    ensures was_not { IsFalse result → IsNewField old.now new.now name.now field.now.node.value.value }
 {
     let Some(old) = old.fields.get(name) else {
         return false;

@@ -1,8 +1,11 @@
 //! Fields that can come under one response key, by the shapes of their types.
 
-ghost use Rattle.std.specs.Prelude.{◌≡◌, ◌⊎◌, All, IfOk, IsNone, IsSome, IsTrue, OnOk};
-ghost use Rattle.graphql_documents.specs.Schemas.{fields_of, is_composite};
-ghost use Rattle.graphql_schema_comparison.specs.Shapes.{Knows, KnowsAllFields, KnowsEntry, KnowsField, KnowsNoOther, KnowsType, Learns, form_in, form_of};
+ghost use Rattle.std.specs.Prelude.{◌≡◌, ◌⊎◌, All, IfOk, IfSome, IsNone, IsSome, IsTrue, Ok, OnOk, Some};
+ghost use Rattle.graphql_documents.specs.Schemas.{fields_of, is_composite, type_definition, type_field};
+ghost use Rattle.graphql_documents.specs.declared.documents.schemas.Schema.{Schema};
+ghost use Rattle.graphql_schema_comparison.specs.Changes.{PartsFrom};
+ghost use Rattle.graphql_schema_comparison.specs.Comparisons.{AreFieldsOf};
+ghost use Rattle.graphql_schema_comparison.specs.Shapes.{AreMeetings, Form, HasForm, HasOtherForm, IsMeeting, Knows, KnowsAllFields, KnowsEntry, KnowsField, KnowsNoOther, KnowsType, Learns, form_in, form_of};
 
 use crate::change_list::SchemaPair;
 use crate::shapes::{Shape, shape_of};
@@ -41,8 +44,9 @@ impl<'a> Meetings<'a> {
         hash_seed: HashSeed,
         pair: SchemaPair<'a>,
     ) -> Result<Meetings<'a>, ValidationError>
-        ensures { IfOk result (λ meetings. All (λ entry. IsTrue (is_composite entry.1) →
+        ensures knows { IfOk result (λ meetings. All (λ entry. IsTrue (is_composite entry.1) →
             KnowsType meetings.by_shape pair.entry.old.now pair.entry.new.now entry.0 entry.1) pair.entry.old.now.types.entries) }
+        ensures each { IfOk result (λ meetings. AreMeetings pair.entry.old.now pair.entry.new.now meetings.by_shape) }
     {
         let mut meetings = Meetings {
             by_shape: HashMap::with_hasher(alloc, hash_seed),
@@ -60,7 +64,8 @@ impl<'a> Meetings<'a> {
         ty: &'a NamedType,
         definition: &'a ExtendedType,
     ) -> Result<(), ValidationError>
-        ensures { OnOk result (Learns self.old.by_shape self.new.by_shape (λ table. IsTrue (is_composite definition.now) →
+        requires { type_definition pair.old.now ty.now ≡ Some definition.now }
+        ensures { OnOk result (Learns pair.entry.old.now pair.entry.new.now self.old.by_shape self.new.by_shape (λ table. IsTrue (is_composite definition.now) →
             KnowsType table pair.entry.old.now pair.entry.new.now ty.now definition.now)) }
     {
         if !definition.is_composite() {
@@ -81,7 +86,8 @@ impl<'a> Meetings<'a> {
         ty: &'a NamedType,
         definition: &'a ExtendedType,
     ) -> Result<(), ValidationError>
-        ensures { OnOk result (Learns self.old.by_shape self.new.by_shape (λ table.
+        requires { type_definition pair.old.now ty.now ≡ Some definition.now }
+        ensures { OnOk result (Learns pair.entry.old.now pair.entry.new.now self.old.by_shape self.new.by_shape (λ table.
             All (λ entry. KnowsEntry table pair.entry.old.now pair.entry.new.now ty.now entry.0 entry.1) (fields_of definition.now))) }
     {
         match fields_of(definition) {
@@ -100,7 +106,8 @@ impl<'a> Meetings<'a> {
         ty: &'a NamedType,
         fields: &'a FieldMap,
     ) -> Result<(), ValidationError>
-        ensures { OnOk result (Learns self.old.by_shape self.new.by_shape (λ table.
+        requires { AreFieldsOf pair.old.now ty.now fields.now }
+        ensures { OnOk result (Learns pair.entry.old.now pair.entry.new.now self.old.by_shape self.new.by_shape (λ table.
             All (λ entry. KnowsEntry table pair.entry.old.now pair.entry.new.now ty.now entry.0 entry.1) fields.now.entries)) }
     {
         for (name, field) in fields {
@@ -116,7 +123,7 @@ impl<'a> Meetings<'a> {
         ty: &'a NamedType,
         field: &'a Component<FieldDefinition>,
     ) -> Result<(), ValidationError>
-        ensures { OnOk result (Learns self.old.by_shape self.new.by_shape (λ table.
+        ensures { OnOk result (Learns pair.entry.old.now pair.entry.new.now self.old.by_shape self.new.by_shape (λ table.
             KnowsField table pair.entry.old.now pair.entry.new.now ty.now field.now.node.value.value.name)) }
     {
         let name = &field.node.value.name;
@@ -136,7 +143,8 @@ impl<'a> Meetings<'a> {
         place: FieldPlace<'a>,
         field: &Component<FieldDefinition>,
     ) -> Result<(), ValidationError>
-        ensures { OnOk result (Learns self.old.by_shape self.new.by_shape (λ table.
+        requires { type_field pair.old.now place.ty.now place.field.now ≡ Ok field.now }
+        ensures { OnOk result (Learns pair.entry.old.now pair.entry.new.now self.old.by_shape self.new.by_shape (λ table.
             KnowsEntry table pair.entry.old.now pair.entry.new.now place.entry.ty.now place.entry.field.now field.now)) }
     {
         let Ok(new) = pair.new.type_field(place.ty, place.field) else {
@@ -144,21 +152,26 @@ impl<'a> Meetings<'a> {
         };
         let old_shape = shape_of(alloc, pair.old, &field.node.value.ty)?;
         let new_shape = shape_of(alloc, pair.new, &new.node.value.ty)?;
-        self.add_shapes(place, old_shape, new_shape)?;
+        self.add_shapes(pair, place, old_shape, new_shape)?;
         Ok(())
     }
 
     fn add_shapes(
         &mut self,
+        pair: SchemaPair<'a>,
         place: FieldPlace<'a>,
         old_shape: Shape,
         new_shape: Shape,
     ) -> Result<(), ValidationError>
-        ensures { OnOk result (Learns self.old.by_shape self.new.by_shape (λ table. Knows table (form_of old_shape) (form_of new_shape))) }
+        requires was { HasForm pair.old.now place (form_of old_shape) }
+        requires is { HasForm pair.new.now place (form_of new_shape) }
+        ensures { OnOk result (Learns pair.entry.old.now pair.entry.new.now self.old.by_shape self.new.by_shape (λ table. Knows table (form_of old_shape) (form_of new_shape))) }
     {
         match self.by_shape.get_mut(&old_shape) {
             Some(meeting) => {
                 meeting.meet(place, &new_shape);
+                drop(old_shape);
+                drop(new_shape);
                 Ok(())
             }
             None => {
@@ -167,7 +180,7 @@ impl<'a> Meetings<'a> {
                     shape: new_shape,
                     other: None,
                 };
-                self.by_shape.insert(old_shape, meeting)?;
+                drop(self.by_shape.insert(old_shape, meeting)?);
                 Ok(())
             }
         }
@@ -181,14 +194,20 @@ impl<'a> Meetings<'a> {
         from: &Type,
         to: &Type,
     ) -> Result<Option<TypeAttributeCoordinate>, ValidationError>
-        ensures { IfOk result (λ met. IsNone met → KnowsNoOther self.now.by_shape (form_in pair.entry.old.now from.now) (form_in pair.entry.new.now to.now)) }
+        requires { AreMeetings pair.old.now pair.new.now self.now.by_shape }
+        ensures none { IfOk result (λ met. IsNone met → KnowsNoOther self.now.by_shape (form_in pair.entry.old.now from.now) (form_in pair.entry.new.now to.now)) }
+        ensures some { IfOk result (λ met. IfSome met (PartsFrom pair.entry.old.now pair.entry.new.now from.now to.now)) }
     {
         let old_shape = shape_of(alloc, pair.old, from)?;
-        let new_shape = shape_of(alloc, pair.new, to)?;
-        let Some(meeting) = self.by_shape.get(&old_shape) else {
+        let found = self.by_shape.get(&old_shape);
+        drop(old_shape);
+        let Some(meeting) = found else {
             return Ok(None);
         };
-        match meeting.differing(&new_shape) {
+        let new_shape = shape_of(alloc, pair.new, to)?;
+        let differing = meeting.differing(&new_shape);
+        drop(new_shape);
+        match differing {
             Some(place) => {
                 let coordinate = place.coordinate(alloc)?;
                 Ok(Some(coordinate))
@@ -204,6 +223,8 @@ impl<'a> Meeting<'a> {
         ensures same { self.new.shape ≡ self.old.shape }
         ensures noted { (form_of self.new.shape ≡ form_of shape.now) ⊎ IsSome self.new.other }
         ensures others { IsSome self.old.other → IsSome self.new.other }
+        ensures each { (old new : Schema) (before : Form) → IsMeeting old new before self.old →
+            HasForm old place.entry before → HasForm new place.entry (form_of shape.now) → IsMeeting old new before self.new }
     {
         if self.shape == *shape {
             return;
@@ -215,7 +236,8 @@ impl<'a> Meeting<'a> {
 
     /// A field whose new type has not this shape.
     fn differing(&self, shape: &Shape) -> Option<FieldPlace<'a>>
-        ensures { IsNone result → (form_of self.now.shape ≡ form_of shape.now) × IsNone self.now.other }
+        ensures none { IsNone result → (form_of self.now.shape ≡ form_of shape.now) × IsNone self.now.other }
+        ensures some { (old new : Schema) (before : Form) → IsMeeting old new before self.now → IfSome result (HasOtherForm old new before (form_of shape.now)) }
     {
         if self.shape == *shape {
             self.other
@@ -226,7 +248,9 @@ impl<'a> Meeting<'a> {
 }
 
 impl FieldPlace<'_> {
-    fn coordinate(self, alloc: Global) -> Result<TypeAttributeCoordinate, ValidationError> {
+    fn coordinate(self, alloc: Global) -> Result<TypeAttributeCoordinate, ValidationError>
+        ensures { IfOk result (λ c. c ≡ record { ty = self.entry.ty.now; attribute = self.entry.field.now }) }
+    {
         TypeAttributeCoordinate::new(alloc, self.ty, self.field)
     }
 }

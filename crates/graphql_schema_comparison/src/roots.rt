@@ -1,9 +1,10 @@
 //! Root operation types.
 
-ghost use Rattle.std.specs.Prelude.{OnOk};
+ghost use Rattle.std.specs.Prelude.{◌≡◌, OnOk, Some};
 ghost use Rattle.graphql_nodes.specs.Names.{SameName};
+ghost use Rattle.graphql_document_building.specs.Trees.{root_name};
 ghost use Rattle.graphql_schema_changes.specs.Keeps.{KeepsRoots};
-ghost use Rattle.graphql_schema_comparison.specs.Breaks.{Finds};
+ghost use Rattle.graphql_schema_comparison.specs.Found.{Finds};
 ghost use Rattle.graphql_schema_comparison.specs.Comparisons.{KeepsRoot};
 
 use crate::change_list::{ChangeList, Places, SchemaPair};
@@ -17,7 +18,7 @@ pub(crate) fn compare_roots(
     changes: &mut ChangeList,
     pair: SchemaPair<'_>,
 ) -> Result<(), ValidationError>
-    ensures { OnOk result (Finds changes.old changes.new (λ merging. KeepsRoots pair.entry.old.now pair.entry.new.now)) }
+    ensures { OnOk result (Finds pair.entry.old.now pair.entry.new.now changes.old changes.new (λ merging. KeepsRoots pair.entry.old.now pair.entry.new.now)) }
 {
     compare_root(changes, pair, OperationType::Query)?;
     compare_root(changes, pair, OperationType::Mutation)?;
@@ -30,7 +31,7 @@ fn compare_root(
     pair: SchemaPair<'_>,
     operation: OperationType,
 ) -> Result<(), ValidationError>
-    ensures { OnOk result (Finds changes.old changes.new (λ merging. KeepsRoot pair.entry.old.now pair.entry.new.now operation)) }
+    ensures { OnOk result (Finds pair.entry.old.now pair.entry.new.now changes.old changes.new (λ merging. KeepsRoot pair.entry.old.now pair.entry.new.now operation)) }
 {
     let old = pair.old.root_operation(operation);
     let new = pair.new.root_operation(operation);
@@ -41,12 +42,12 @@ fn compare_root(
         }
         (Some(old), None) => {
             let places = places_of(pair, old.location(), None);
-            changes.push(Change::RootRemoved { operation }, places)?;
+            changes.push(pair, Change::RootRemoved { operation }, places)?;
             Ok(())
         }
         (None, Some(new)) => {
             let places = places_of(pair, None, new.location());
-            changes.push(Change::RootAdded { operation }, places)?;
+            changes.push(pair, Change::RootAdded { operation }, places)?;
             Ok(())
         }
         (None, None) => Ok(()),
@@ -61,7 +62,9 @@ fn compare_names(
     old: &NamedType,
     new: &NamedType,
 ) -> Result<(), ValidationError>
-    ensures { OnOk result (Finds changes.old changes.new (λ merging. SameName old.now new.now)) }
+    requires was { root_name pair.old.now operation ≡ Some old.now }
+    requires is { root_name pair.new.now operation ≡ Some new.now }
+    ensures { OnOk result (Finds pair.entry.old.now pair.entry.new.now changes.old changes.new (λ merging. SameName old.now new.now)) }
 {
     if old == new {
         return Ok(());
@@ -71,6 +74,7 @@ fn compare_names(
     let from = old.clone_in(alloc)?;
     let to = new.clone_in(alloc)?;
     changes.push(
+        pair,
         Change::RootChanged {
             operation,
             from,

@@ -13,7 +13,7 @@ use std::alloc::Global;
 /// or enum, or that it is composite.
 ///
 /// Specification: 5.3.2 Field Selection Merging, SameResponseShape.
-#[derive(Debug, Drop, PartialEq, Eq, Hash)]
+#[derive(Drop, PartialEq, Eq, Hash)]
 pub(crate) enum Shape {
     Leaf(Name),
     NonNullLeaf(Name),

@@ -1,7 +1,10 @@
 //! Types, two of one name at a time.
 
-ghost use Rattle.std.specs.Prelude.{All, IsTrue, OnOk};
-ghost use Rattle.graphql_schema_comparison.specs.Breaks.{Adds, Finds, can_become};
+ghost use Rattle.std.specs.Prelude.{◌≡◌, All, IfOk, IsSome, IsTrue, OnOk, Some};
+ghost use Rattle.graphql_documents.specs.Schemas.{type_definition};
+ghost use Rattle.graphql_schema_comparison.specs.Breaks.{can_become};
+ghost use Rattle.graphql_schema_comparison.specs.Found.{Adds, Finds};
+ghost use Rattle.graphql_schema_comparison.specs.Shapes.{AreMeetings};
 ghost use Rattle.graphql_schema_comparison.specs.Comparisons.{KeepsContents, KeepsPlace, KeepsType, kind_of};
 
 use crate::change_list::{ChangeList, Places, SchemaPair};
@@ -24,7 +27,8 @@ pub(crate) fn compare_types(
     pair: SchemaPair<'_>,
     meetings: &Meetings<'_>,
 ) -> Result<(), ValidationError>
-    ensures { OnOk result (Finds changes.old changes.new (λ merging.
+    requires { AreMeetings pair.old.now pair.new.now meetings.now.by_shape }
+    ensures { OnOk result (Finds pair.entry.old.now pair.entry.new.now changes.old changes.new (λ merging.
         All (λ entry. KeepsType meetings.now.by_shape pair.entry.old.now pair.entry.new.now merging entry.0 entry.1) pair.entry.old.now.types.entries)) }
 {
     compare_old_types(changes, pair, meetings)?;
@@ -37,7 +41,8 @@ fn compare_old_types(
     pair: SchemaPair<'_>,
     meetings: &Meetings<'_>,
 ) -> Result<(), ValidationError>
-    ensures { OnOk result (Finds changes.old changes.new (λ merging.
+    requires { AreMeetings pair.old.now pair.new.now meetings.now.by_shape }
+    ensures { OnOk result (Finds pair.entry.old.now pair.entry.new.now changes.old changes.new (λ merging.
         All (λ entry. KeepsType meetings.now.by_shape pair.entry.old.now pair.entry.new.now merging entry.0 entry.1) pair.entry.old.now.types.entries)) }
 {
     for (name, definition) in &pair.old.types {
@@ -53,7 +58,9 @@ fn compare_old_type(
     name: &NamedType,
     old: &ExtendedType,
 ) -> Result<(), ValidationError>
-    ensures { OnOk result (Finds changes.old changes.new (λ merging. KeepsType meetings.now.by_shape pair.entry.old.now pair.entry.new.now merging name.now old.now)) }
+    requires was { type_definition pair.old.now name.now ≡ Some old.now }
+    requires meetings_are { AreMeetings pair.old.now pair.new.now meetings.now.by_shape }
+    ensures { OnOk result (Finds pair.entry.old.now pair.entry.new.now changes.old changes.new (λ merging. KeepsType meetings.now.by_shape pair.entry.old.now pair.entry.new.now merging name.now old.now)) }
 {
     let Some(new) = pair.new.types.get(name) else {
         let ty = type_coordinate(changes.allocator(), name)?;
@@ -61,22 +68,22 @@ fn compare_old_type(
             old: name.location(),
             new: None,
         };
-        changes.push(Change::TypeRemoved(ty), places)?;
+        changes.push(pair, Change::TypeRemoved(ty), places)?;
         return Ok(());
     };
     let places = Places {
         old: name.location(),
         new: place_of_name(pair, name),
     };
-    compare_kinds(changes, name, places, old, new)?;
+    compare_kinds(changes, pair, name, places, old, new)?;
     compare_contents(changes, pair, meetings, name, places, old, new)?;
     Ok(())
 }
 
 fn find_added_types(changes: &mut ChangeList, pair: SchemaPair<'_>) -> Result<(), ValidationError>
-    ensures { OnOk result (Adds changes.old changes.new) }
+    ensures { OnOk result (Adds pair.entry.old.now pair.entry.new.now changes.old changes.new) }
 {
-    for (name, _) in &pair.new.types {
+    for (name, _definition) in &pair.new.types {
         find_added_type(changes, pair, name)?;
     }
     Ok(())
@@ -87,7 +94,8 @@ fn find_added_type(
     pair: SchemaPair<'_>,
     name: &NamedType,
 ) -> Result<(), ValidationError>
-    ensures { OnOk result (Adds changes.old changes.new) }
+    requires { IsSome (type_definition pair.new.now name.now) }
+    ensures { OnOk result (Adds pair.entry.old.now pair.entry.new.now changes.old changes.new) }
 {
     if pair.old.types.contains_key(name) {
         return Ok(());
@@ -97,19 +105,22 @@ fn find_added_type(
         old: None,
         new: name.location(),
     };
-    changes.push(Change::TypeAdded(ty), places)?;
+    changes.push(pair, Change::TypeAdded(ty), places)?;
     Ok(())
 }
 
 /// Finds whether a type of the new kind can be in the place of one of the old kind.
 fn compare_kinds(
     changes: &mut ChangeList,
+    pair: SchemaPair<'_>,
     name: &NamedType,
     places: Places,
     old: &ExtendedType,
     new: &ExtendedType,
 ) -> Result<(), ValidationError>
-    ensures { OnOk result (Finds changes.old changes.new (λ merging. IsTrue (can_become (kind_of old.now) (kind_of new.now)))) }
+    requires was { type_definition pair.old.now name.now ≡ Some old.now }
+    requires is { type_definition pair.new.now name.now ≡ Some new.now }
+    ensures { OnOk result (Finds pair.entry.old.now pair.entry.new.now changes.old changes.new (λ merging. IsTrue (can_become (kind_of old.now) (kind_of new.now)))) }
 {
     let from = TypeKind::of(old);
     let to = TypeKind::of(new);
@@ -117,7 +128,7 @@ fn compare_kinds(
         return Ok(());
     }
     let ty = type_coordinate(changes.allocator(), name)?;
-    changes.push(Change::KindChanged { ty, from, to }, places)?;
+    changes.push(pair, Change::KindChanged { ty, from, to }, places)?;
     Ok(())
 }
 
@@ -130,16 +141,19 @@ fn compare_contents(
     old: &ExtendedType,
     new: &ExtendedType,
 ) -> Result<(), ValidationError>
-    ensures { OnOk result (Finds changes.old changes.new (λ merging.
+    requires was { type_definition pair.old.now name.now ≡ Some old.now }
+    requires is { type_definition pair.new.now name.now ≡ Some new.now }
+    requires meetings_are { AreMeetings pair.old.now pair.new.now meetings.now.by_shape }
+    ensures { OnOk result (Finds pair.entry.old.now pair.entry.new.now changes.old changes.new (λ merging.
         KeepsContents meetings.now.by_shape pair.entry.old.now pair.entry.new.now merging name.now old.now new.now)) }
 {
     match (old, new) {
         (ExtendedType::Enum(old), ExtendedType::Enum(new)) => {
-            compare_enums(changes, name, places, &old.value, &new.value)?;
+            compare_enums(changes, pair, name, places, &old.value, &new.value)?;
             Ok(())
         }
         (ExtendedType::InputObject(old), ExtendedType::InputObject(new)) => {
-            compare_input_objects(changes, name, places, &old.value, &new.value)?;
+            compare_input_objects(changes, pair, name, places, &old.value, &new.value)?;
             Ok(())
         }
         _ if old.is_composite() && new.is_composite() => {
@@ -159,7 +173,10 @@ fn compare_composites(
     old: &ExtendedType,
     new: &ExtendedType,
 ) -> Result<(), ValidationError>
-    ensures { OnOk result (Finds changes.old changes.new (λ merging.
+    requires was { type_definition pair.old.now name.now ≡ Some old.now }
+    requires is { type_definition pair.new.now name.now ≡ Some new.now }
+    requires meetings_are { AreMeetings pair.old.now pair.new.now meetings.now.by_shape }
+    ensures { OnOk result (Finds pair.entry.old.now pair.entry.new.now changes.old changes.new (λ merging.
         KeepsPlace meetings.now.by_shape pair.entry.old.now pair.entry.new.now merging name.now old.now)) }
 {
     compare_fields(changes, pair, meetings, name, places, old, new)?;
@@ -175,7 +192,9 @@ fn place_of_name(pair: SchemaPair<'_>, name: &NamedType) -> Option<SourceSpan> {
     key.location()
 }
 
-fn type_coordinate(alloc: Global, name: &NamedType) -> Result<TypeCoordinate, ValidationError> {
+fn type_coordinate(alloc: Global, name: &NamedType) -> Result<TypeCoordinate, ValidationError>
+    ensures { IfOk result (λ c. c.ty ≡ name.now) }
+{
     let ty = name.clone_in(alloc)?;
     Ok(TypeCoordinate { ty })
 }

@@ -1,5 +1,7 @@
 -- Brackets that are open. Specification: 2.1.8 Punctuators.
 use Rattle.std.specs.Prelude.{◌≡◌, ℕ, Bool, true, false, List, [], ◌∷◌, filter, length, nat_lt, IsTrue, IsFalse, Option, None, Some, if◌then◌else◌}
+use Rattle.graphql_nodes.specs.declared.spans.FileId.{FileId}
+use Rattle.graphql_nodes.specs.declared.spans.SourceSpan.{SourceSpan}
 use Rattle.graphql_parser.specs.declared.bounds.Bounds.{Bounds}
 use Rattle.graphql_parser.specs.declared.errors.SyntaxError.{SyntaxError}
 use Rattle.graphql_parser.specs.declared.errors.SyntaxError.TheVariants as errors
@@ -65,3 +67,12 @@ IsInnermostOpen bounds text (errors.Unexpected None expected) found = IsOpenBefo
 IsInnermostOpen bounds text (errors.Unexpected (Some token) expected) found =
     (IsTrue (closes token.kind) → IsOpenAt bounds text token found) × (IsFalse (closes token.kind) → found ≡ None)
 IsInnermostOpen bounds text other found = found ≡ None
+
+-- the place of a token in a file, if there is one
+abbrev pub place_in : FileId → Option Token → Option SourceSpan
+place_in file None = None
+place_in file (Some token) = Some (record { file_id = file; start = token.start; end = token.end })
+
+-- the place of the innermost bracket that is open
+abbrev pub IsPlaceOfOpen : Bounds → FileId → List ℕ → SyntaxError → Option SourceSpan → Type 0
+IsPlaceOfOpen bounds file text error place = (bracket : Option Token) × IsInnermostOpen bounds text error bracket × (place ≡ place_in file bracket)

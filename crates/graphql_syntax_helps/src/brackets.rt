@@ -1,11 +1,42 @@
 //! Brackets that are not closed.
 
 ghost use Rattle.std.specs.Prelude.{◌≡◌, [], IfOk, OnOk, filter, nat_lt, reverse};
-ghost use Rattle.graphql_syntax_helps.specs.Brackets.{IsInnermostOpen, IsOpenBefore, closes, is_closed_by, open_after, open_with, opens, unless_closed};
+ghost use Rattle.graphql_syntax_helps.specs.Brackets.{IsInnermostOpen, IsOpenBefore, IsPlaceOfOpen, closes, is_closed_by, open_after, open_with, opens, place_in, unless_closed};
 
+use graphql_nodes::{FileId, SourceSpan};
 use graphql_parser::{Bounds, SyntaxError};
 use graphql_tokens::{Token, TokenKind, scan};
 use std::alloc::{AllocError, Global};
+
+/// The place of the bracket that `unclosed_bracket` finds, in the file with this text.
+///
+/// Specification: 2.1.8 Punctuators.
+pub fn unclosed_place(
+    alloc: Global,
+    file_id: FileId,
+    text: &str,
+    error: SyntaxError,
+    bounds: Bounds,
+) -> Result<Option<SourceSpan>, AllocError>
+    ensures { IfOk result (IsPlaceOfOpen bounds file_id text.now error) }
+{
+    let bracket = unclosed_bracket(alloc, text, error, bounds)?;
+    Ok(place_in(file_id, bracket))
+}
+
+/// The place of the token, if there is one, in this file.
+fn place_in(file_id: FileId, token: Option<Token>) -> Option<SourceSpan>
+    ensures { result ≡ place_in file_id token }
+{
+    match token {
+        Some(token) => Some(SourceSpan {
+            file_id,
+            start: token.start,
+            end: token.end,
+        }),
+        None => None,
+    }
+}
 
 /// The innermost bracket, brace or parenthesis that is open where the text ends too early, or where a bracket of another kind
 /// is closed. None, if the error is another one, or if none is open. The only error is a failed allocation, which a text of 4 GiB or

@@ -7,6 +7,6 @@ pub mod helps;
 pub mod slips;
 mod strings;
 
-pub use brackets::unclosed_bracket;
+pub use brackets::{unclosed_bracket, unclosed_place};
 pub use helps::SyntaxHelp;
 pub use slips::help_of_syntax;

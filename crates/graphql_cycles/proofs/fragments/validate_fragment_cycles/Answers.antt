@@ -22,7 +22,7 @@ returns-in-Ok c = λ schema.
     let document = c.args.document.now in
     let d = c.args.fragment.now in
     let old = c.with_hasher-seen.result.keys in
-    let new = c.search_set.new.seen.keys in
+    let new = c.search_set-searched.new.seen.keys in
     let closes : ClosesOver document d.value.value.name (SpreadsBy d) old new =
     subst (λ (f : Fragment). ClosesOver document f.name (SpreadsBy d) old new) c.deref.ensures
     (subst (λ (f : Fragment). ClosesOver document c.deref.result.now.name (SpreadIn f.selection_set) old new) c.deref-2.ensures c.in-Ok.ensures.searches) in

@@ -18,7 +18,7 @@ returns-in-Ok c =
     let d = c.args.input_object.now in
     let old = c.with_hasher-seen.result.keys in
     within IsLimitEntry (holds _ _ _ (closed_no_way_back {IsBack = RequiresBack} d (nothing_seen old c.with_hasher-seen.ensures.empty)
-    (closes_from_root c.args.schema.now d c.deref.result.now c.deref.ensures old c.search_fields.new.seen.keys c.in-Ok.ensures.searches)))
+    (closes_from_root c.args.schema.now d c.deref.result.now c.deref.ensures old c.search_fields-searched.new.seen.keys c.in-Ok.ensures.searches)))
 
 pub returns-in-Err-Recursed : goal.returns-in-Err-Recursed
 returns-in-Err-Recursed c =

@@ -7,5 +7,5 @@ use Rattle.graphql_findings.proofs.findings.with_notes.Goals as goal
 
 pub loop-one-preserved : goal.loop-one-preserved
 loop-one-preserved c =
-    subst (AllZip (IsFindingOf (option_copied c.args.schema) c.args.sources.now) (c.loop-one.yielded ++ c.in-Some.one ∷ [])) (sym c.in_ok-push.ensures.items)
-    (all_zipped_more (IsFindingOf (option_copied c.args.schema) c.args.sources.now) c.loop-one.yielded c.loop-one.findings.items c.in-Some.one c.in_ok-finding_of.field-0 c.loop-one.invariant c.in_ok-finding_of.ensures)
+    subst (AllZip (IsFindingOf (option_copied c.args.schema) c.args.sources.now c.args.bounds) (c.loop-one.yielded ++ c.in-Some.one ∷ [])) (sym c.in_ok-push.ensures.items)
+    (all_zipped_more (IsFindingOf (option_copied c.args.schema) c.args.sources.now c.args.bounds) c.loop-one.yielded c.loop-one.findings.items c.in-Some.one c.in_ok-finding_of.field-0 c.loop-one.invariant c.in_ok-finding_of.ensures)

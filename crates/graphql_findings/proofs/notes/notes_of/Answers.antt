@@ -1,5 +1,8 @@
 use Rattle.graphql_findings.proofs.notes.notes_of.Goals as goal
 
+pub returns-in-Syntax : goal.returns-in-Syntax
+returns-in-Syntax c = rw c.in-Syntax.is c.notes_of_error.ensures
+
 pub returns-in-Building : goal.returns-in-Building
 returns-in-Building c = rw c.in-Building.is c.notes_of_building.ensures
 

@@ -1,4 +1,4 @@
-use Rattle.std.proofs.Common.{◌+◌, ap, map, subst, sym, take, take_all, ◌∙◌, ◌++◌}
+use Rattle.std.proofs.Common.{◌+◌, ap, map, sym, take, take_all, ◌∙◌, ◌++◌}
 use Rattle.std.proofs.lemmas.List.{append-nil}
 use Rattle.graphql_document_building.specs.Trees.{fragments_in}
 use Rattle.graphql_projects.specs.OperationTrees.{fragments_among}

@@ -1,7 +1,11 @@
-use Rattle.graphql_input_rules.specs.InputFields.{InputFieldsAreUnique}
+use Rattle.std.proofs.Common.{inl, inr}
+use Rattle.graphql_diagnostics.specs.Reports.{KeepsReports}
+use Rattle.graphql_input_rules.specs.InputFields.{InputFieldReport, InputFieldsAreUnique}
 use Rattle.graphql_specification.specs.Defer.{LabelsHold}
 use Rattle.graphql_project_checking.specs.Silence.{SilentOnlyIf}
+use Rattle.graphql_project_checking.specs.Truth.{AreOfDefinitions, AreOfInputFields, AreOfRules, IsDeferEntry}
 use Rattle.graphql_project_checking.proofs.SilenceLemmas.{on_ok, silent_then}
+use Rattle.graphql_project_checking.proofs.TruthLemmas.{adds_so, adds_then}
 use Rattle.graphql_project_checking.proofs.file_rules.check_file_rules.Goals as goal
 
 pub returns : goal.returns
@@ -10,6 +14,12 @@ returns c =
     let old = c.args.found.now.items in
     let mid = c.check_labels.new.found.items in
     let new = c.check_values.new.found.items in
-    on_ok (SilentOnlyIf mid new (InputFieldsAreUnique d)) (SilentOnlyIf old new (LabelsHold d × InputFieldsAreUnique d))
-    (silent_then old mid new (LabelsHold d) (InputFieldsAreUnique d) (LabelsHold d × InputFieldsAreUnique d) (λ a b. (a, b)) c.in_ok-check_labels.ensures)
-    c.check_values.result c.check_values.ensures
+    record {
+      silence = on_ok (SilentOnlyIf mid new (InputFieldsAreUnique d)) (SilentOnlyIf old new (LabelsHold d × InputFieldsAreUnique d))
+          (silent_then old mid new (LabelsHold d) (InputFieldsAreUnique d) (LabelsHold d × InputFieldsAreUnique d) (λ a b. (a, b)) c.in_ok-check_labels.ensures.silence)
+          c.check_values.result c.check_values.ensures.silence;
+      truth = on_ok (KeepsReports (AreOfInputFields (InputFieldReport d)) mid new) (KeepsReports (AreOfDefinitions d) old new)
+          (λ adds. adds_then (AreOfDefinitions d) old mid new
+          (adds_so (AreOfRules (IsDeferEntry d)) (AreOfDefinitions d) old mid (λ r are. inl are) c.in_ok-check_labels.ensures.truth)
+          (adds_so (AreOfInputFields (InputFieldReport d)) (AreOfDefinitions d) mid new (λ r are. inr are) adds)) c.check_values.result c.check_values.ensures.truth;
+    }

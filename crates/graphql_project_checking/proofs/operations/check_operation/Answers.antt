@@ -1,15 +1,30 @@
 use Rattle.std.proofs.Common.{◌∙◌, Ok, ap}
 use Rattle.graphql_variables.specs.Uses.{names_of}
 use Rattle.graphql_project_checking.specs.Silence.{HoldsWith}
+use Rattle.graphql_project_checking.specs.Truth.{AreOfDocumentWith}
 use Rattle.graphql_project_checking.proofs.SilenceLemmas.{is_not_silent, stays_silent}
+use Rattle.graphql_project_checking.proofs.TruthLemmas.{adds_nothing, adds_one}
 use Rattle.graphql_project_checking.proofs.operations.check_operation.Goals as goal
 
 pub returns-in-None : goal.returns-in-None
 returns-in-None c =
-    stays_silent c.args.found.now.items (HoldsWith c.args.context.schema.now c.args.context.pool.now c.args.operation.now (names_of c.args.names.now.keys))
-    (c.reports_of.ensures (c.in_ok-reports_of.was ∙ ap Ok c.in-None.is))
+    let s = c.args.context.schema.now in
+    let pool = c.args.context.pool.now in
+    let o = c.args.operation.now in
+    let names = names_of c.args.names.now.keys in
+    record {
+      silence = stays_silent c.args.found.now.items (HoldsWith s pool o names) (c.reports_of.ensures.silence (c.in_ok-reports_of.was ∙ ap Ok c.in-None.is));
+      truth = adds_nothing (AreOfDocumentWith c.args.context.bounds s pool o names) c.args.found.now.items;
+    }
 
 pub returns-in_ok-push-in-Some : goal.returns-in_ok-push-in-Some
 returns-in_ok-push-in-Some c =
-    is_not_silent c.args.found.now.items c.push.new.self.items _ (HoldsWith c.args.context.schema.now c.args.context.pool.now c.args.operation.now (names_of c.args.names.now.keys))
-    c.in_ok-push-in-Some.ensures.items
+    let s = c.args.context.schema.now in
+    let pool = c.args.context.pool.now in
+    let o = c.args.operation.now in
+    let names = names_of c.args.names.now.keys in
+    record {
+      silence = is_not_silent c.args.found.now.items c.push.new.self.items _ (HoldsWith s pool o names) c.in_ok-push-in-Some.ensures.items;
+      truth = adds_one (AreOfDocumentWith c.args.context.bounds s pool o names) c.args.found.now.items c.push.new.self.items _ c.in_ok-push-in-Some.ensures.items
+          (c.reports_of.ensures.truth c.in-Some.reports (c.in_ok-reports_of.was ∙ ap Ok c.in-Some.is));
+    }

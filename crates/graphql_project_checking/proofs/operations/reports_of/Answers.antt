@@ -4,8 +4,14 @@ use Rattle.graphql_frontend.specs.Documents.{JudgesDocument}
 use Rattle.graphql_project_checking.proofs.operations.reports_of.Goals as goal
 
 pub returns : goal.returns
-returns c = λ none. (
-  c.in_ok-document.document,
-  c.in_ok-document.ensures,
-  (subst (λ r. IfOk r (JudgesDocument c.args.context.bounds c.bytes_of-bytes.result (Some c.args.context.schema.now) c.in_ok-document.document)) none c.validate_built.ensures).2,
-)
+returns c =
+    let Judges = JudgesDocument c.args.context.bounds c.bytes_of-bytes.result (Some c.args.context.schema.now) c.in_ok-document.document in
+    record {
+      silence = λ none. (c.in_ok-document.document, c.in_ok-document.ensures, (subst (λ r. IfOk r Judges) none c.validate_built.ensures).2);
+      truth = λ reports is. record {
+        document = c.in_ok-document.document;
+        bytes = c.bytes_of-bytes.result;
+        is = c.in_ok-document.ensures;
+        judged = subst (λ r. IfOk r Judges) is c.validate_built.ensures;
+      };
+    }

@@ -1,4 +1,4 @@
-use Rattle.std.proofs.Common.{◌≡◌, ◌∙◌, ◌∷◌, ◌++◌, [], Bool, false, true, ap, refl, sym}
+use Rattle.std.proofs.Common.{◌≡◌, ◌∙◌, ◌++◌, Bool, false, true, ap, refl, sym}
 use Rattle.std.specs.Prelude.{filter, not, reverse}
 use Rattle.std.proofs.lemmas.List.{append-nil}
 use Rattle.graphql_trees.specs.declared.documents.Definition.{Definition}

@@ -1,4 +1,4 @@
-use Rattle.std.proofs.Common.{◌≡◌, ◌∙◌, ◌++◌, [], ap, sym}
+use Rattle.std.proofs.Common.{◌∙◌, ◌++◌, ap}
 use Rattle.std.specs.Prelude.{filter, reverse}
 use Rattle.std.proofs.lemmas.List.{reverse-reverse}
 use Rattle.graphql_project_checking.specs.Silence.{is_fragment, others_in}

@@ -1,5 +1,12 @@
-use Rattle.std.proofs.Common.{◌≡◌, refl}
+use Rattle.std.proofs.Common.{refl}
+use Rattle.graphql_project_checking.specs.Truth.{AreTrueOf}
+use Rattle.graphql_project_checking.proofs.TruthLemmas.{all_added}
 use Rattle.graphql_project_checking.proofs.projects.check_project.Goals as goal
 
 pub returns : goal.returns
-returns c = record { silence = λ none. (c.in_ok-check_texts.ensures refl none).1 }
+returns c =
+    let adds = c.in_ok-check_texts.ensures.truth in
+    record {
+      silence = λ none. (c.in_ok-check_texts.ensures.silence refl none).1;
+      truth = (adds.0, all_added (AreTrueOf c.args.bounds c.args.schema.now c.args.sources.now c.args.lent.now adds.0) c.new-found.result.items c.check_texts.new.found.items adds.1 c.new-found.ensures.items);
+    }

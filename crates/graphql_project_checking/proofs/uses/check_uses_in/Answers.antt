@@ -1,10 +1,13 @@
 use Rattle.std.proofs.Common.{◌≡◌, [], subst}
-use Rattle.std.specs.Prelude.{All, IsOk, OnOk}
+use Rattle.std.specs.Prelude.{All, Contains, IsOk, OnOk}
 use Rattle.graphql_diagnostics.specs.Diagnostics.{entries}
+use Rattle.graphql_diagnostics.specs.Reports.{KeepsReports}
 use Rattle.graphql_document_building.specs.Trees.{fragments_in}
 use Rattle.graphql_variables.specs.Uses.{names_of}
 use Rattle.graphql_project_checking.specs.Silence.{ReportsUnused, SilentOnlyIf}
+use Rattle.graphql_project_checking.specs.Truth.{AreOfRules, IsUnnamedEntry}
 use Rattle.graphql_project_checking.proofs.SilenceLemmas.{at_ok, on_ok, silent_so}
+use Rattle.graphql_project_checking.proofs.TruthLemmas.{all_added, of_rule_list}
 use Rattle.graphql_project_checking.proofs.UseLemmas.{IsUsed}
 use Rattle.graphql_project_checking.proofs.uses.check_uses_in.Goals as goal
 
@@ -14,8 +17,16 @@ returns c =
     let old = c.args.found.now.items in
     let new = c.add_rules.new.found.items in
     let checked = c.report_unused-checked.result in
-    let rules = c.report_unused-checked.new.rules in
-    let H = IsOk checked × (entries rules ≡ []) in
-    let K = All (IsUsed used) (fragments_in c.args.document.now.definitions) in
-    let reports = subst (λ l. OnOk checked (ReportsUnused used (fragments_in l) (entries c.with_bound-rules.result) (entries rules))) c.as_slice.ensures c.report_unused-checked.ensures in
-    on_ok (SilentOnlyIf old new H) (SilentOnlyIf old new K) (silent_so old new H K (λ h. (at_ok _ checked reports h.0 h.1).1)) c.add_rules.result c.add_rules.ensures
+    let first = entries c.with_bound-rules.result in
+    let list = entries c.report_unused-checked.new.rules in
+    let H = IsOk checked × (list ≡ []) in
+    let fragments = fragments_in c.args.document.now.definitions in
+    let K = All (IsUsed used) fragments in
+    let True = IsUnnamedEntry used fragments in
+    let reports = subst (λ l. OnOk checked (ReportsUnused used (fragments_in l) first list)) c.as_slice.ensures c.report_unused-checked.ensures.silence in
+    let adds = subst (λ l. KeepsReports (IsUnnamedEntry used (fragments_in l)) first list) c.as_slice.ensures c.report_unused-checked.ensures.truth in
+    record {
+      silence = on_ok (SilentOnlyIf old new H) (SilentOnlyIf old new K) (silent_so old new H K (λ h. (at_ok _ checked reports h.0 h.1).1)) c.add_rules.result c.add_rules.ensures.silence;
+      truth = on_ok (KeepsReports (AreOfRules (Contains list)) old new) (KeepsReports (AreOfRules True) old new)
+          (of_rule_list old new True list (all_added True first list adds c.with_bound-rules.ensures.empty)) c.add_rules.result c.add_rules.ensures.truth;
+    }

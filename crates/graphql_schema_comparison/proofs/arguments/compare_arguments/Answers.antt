@@ -1,5 +1,6 @@
 use Rattle.std.proofs.Common.{All, subst, sym}
 use Rattle.graphql_schema_comparison.specs.Comparisons.{KeepsArgument, WasRequired}
+use Rattle.graphql_schema_comparison.specs.Owners.{HasArguments}
 use Rattle.graphql_schema_comparison.proofs.FindsLemmas.{found_both, found_words}
 use Rattle.graphql_schema_comparison.proofs.arguments.compare_arguments.Goals as goal
 
@@ -10,3 +11,11 @@ returns c =
       required = subst (λ l. All (WasRequired l) c.args.new.now) c.in_ok-old_by_name.ensures (h.1 given (subst (λ l. All (KeepsArgument c.in_ok-new_by_name.new_by_name) l) (sym c.in_ok-old_by_name.ensures) (h.0 given)));
     })
     (found_both c.in_ok-compare_old_arguments.ensures c.in_ok-compare_new_arguments.ensures)
+
+pub compare_old_arguments-requires-clause-is : goal.compare_old_arguments-requires-clause-is
+compare_old_arguments-requires-clause-is c =
+    subst (λ l. HasArguments c.args.pair.new.now c.args.owner l) (sym c.in_ok-new_by_name.ensures) c.requires.is
+
+pub compare_new_arguments-requires-clause-was : goal.compare_new_arguments-requires-clause-was
+compare_new_arguments-requires-clause-was c =
+    subst (λ l. HasArguments c.args.pair.old.now c.args.owner l) (sym c.in_ok-old_by_name.ensures) c.requires.was

@@ -18,12 +18,13 @@ returns c =
     let all_is : IsTrue all ↔ Any (Breaks true) list =
     subst (λ (l : List SchemaChange). IsTrue all ↔ Any (Breaks true) l) c.deref-2.ensures.value c.break_documents-breaks_documents.ensures in
     record {
-      roots = λ keeps. (c.in_ok-changes.ensures false (all_harmless false list lone lone_is keeps)).roots;
+      roots = λ keeps. (c.in_ok-changes.ensures.keeps false (all_harmless false list lone lone_is keeps)).roots;
       lone_fields = λ keeps old_names new_names outputs new_outputs.
-          lone_fields_kept old new false (c.in_ok-changes.ensures false (all_harmless false list lone lone_is keeps)) old_names new_names outputs;
+          lone_fields_kept old new false (c.in_ok-changes.ensures.keeps false (all_harmless false list lone lone_is keeps)) old_names new_names outputs;
       documents = λ keeps old_names new_names outputs new_outputs.
-          documents_kept old new true (c.in_ok-changes.ensures true (all_harmless true list all all_is keeps)) old_names new_names refl outputs new_outputs;
+          documents_kept old new true (c.in_ok-changes.ensures.keeps true (all_harmless true list all all_is keeps)) old_names new_names refl outputs new_outputs;
       fewer = no_too (Any (Breaks false) list) (Any (Breaks true) list) lone all lone_is all_is (breaks_too list);
       lone_fields_explained = answer_turned (Any (Breaks false) list) lone lone_is;
+      each = c.in_ok-changes.ensures.each;
       explained = answer_turned (Any (Breaks true) list) all all_is;
     }

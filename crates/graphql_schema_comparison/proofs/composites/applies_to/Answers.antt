@@ -1,4 +1,4 @@
-use Rattle.std.proofs.Common.{◌≡◌, Some, false, refl, rules, sym}
+use Rattle.std.proofs.Common.{◌≡◌, Some, false, refl, rules}
 use Rattle.graphql_nodes.specs.Names.{SameName, same_name}
 use Rattle.graphql_documents.specs.Schemas.{type_definition}
 use Rattle.graphql_documents.specs.declared.documents.schemas.ExtendedType.TheVariants.{Object}

@@ -1,5 +1,6 @@
+use Rattle.graphql_schema_comparison.specs.Changes.{IsApplicable}
 use Rattle.std.proofs.Common.{◌≡◌, ◌∙◌, false, sym, subst, true, Option}
-use Rattle.std.specs.Prelude.{Any, IsSomeAnd, IsTrue}
+use Rattle.std.specs.Prelude.{Any, IsSomeAnd, IsTrue, ◌↔◌}
 use Rattle.graphql_nodes.specs.declared.directive_locations.DirectiveLocation.{DirectiveLocation}
 use Rattle.graphql_nodes.specs.declared.nodes.Node.{Node}
 use Rattle.graphql_documents.specs.declared.documents.definitions.DirectiveDefinition.{DirectiveDefinition}
@@ -23,3 +24,11 @@ returns-in_ok-push_removed_directive-in-None c =
     (subst (λ (d : DirectiveDefinition). Any (λ (place : DirectiveLocation). IsTrue (is_in_documents place)) d.locations.items) (sym c.deref.ensures) any) in
     let e : false ≡ true = sym other ∙ is in let none : ⊥ = cc in none))
     c.in_ok-push_removed_directive-in-None.ensures
+
+pub compare_two_directives-requires-clause-applicable : goal.compare_two_directives-requires-clause-applicable
+compare_two_directives-requires-clause-applicable c =
+    (c.args.old.now, c.requires, subst (λ (d : DirectiveDefinition). IsTrue c.is_executable-is_executable.result ↔ IsApplicable d) c.deref.ensures c.is_executable-is_executable.ensures)
+
+pub push_removed_directive-requires-clause-applicable : goal.push_removed_directive-requires-clause-applicable
+push_removed_directive-requires-clause-applicable c =
+    (c.args.old.now, c.requires, subst (λ (d : DirectiveDefinition). IsTrue c.is_executable-is_executable.result ↔ IsApplicable d) c.deref.ensures c.is_executable-is_executable.ensures)

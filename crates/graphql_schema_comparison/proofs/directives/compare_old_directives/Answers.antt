@@ -1,9 +1,10 @@
-use Rattle.std.proofs.Common.{◌≡◌, ◌∙◌, ◌++◌, [], ◌∷◌, refl}
+use Rattle.std.proofs.Common.{◌≡◌, ◌∙◌, ◌++◌, [], ◌∷◌, refl, sym}
 use Rattle.graphql_documents.proofs.ListLemmas.{done_next}
 use Rattle.graphql_nodes.specs.Names.{NameText}
 use Rattle.graphql_nodes.specs.declared.nodes.Node.{Node}
 use Rattle.graphql_documents.specs.declared.documents.definitions.DirectiveDefinition.{DirectiveDefinition}
 use Rattle.graphql_schema_comparison.specs.Comparisons.{KeepsDirectiveNamed}
+use Rattle.graphql_schema_comparison.proofs.TruthLemmas.{found_own}
 use Rattle.graphql_schema_comparison.proofs.FindsLemmas.{found_behind, found_none, found_whole}
 use Rattle.graphql_schema_comparison.proofs.directives.compare_old_directives.Goals as goal
 
@@ -27,3 +28,9 @@ returns c =
     let whole : c.args.pair.old.now.directive_definitions.entries ≡ c.into_iter-name-iterator.result = cc in
     found_whole (λ merging (entry : NameText × Node DirectiveDefinition). KeepsDirectiveNamed c.args.pair.new.now entry.0 entry.1) c.args.pair.old.now.directive_definitions.entries c.loop-name.invariant.done
     c.loop-name.name-iterator (whole ∙ c.loop-name.invariant.all) c.in-None.ensures.steps.0 c.loop-name.invariant.found
+
+pub compare_old_directive-requires : goal.compare_old_directive-requires
+compare_old_directive-requires c =
+    let x : NameText × Node DirectiveDefinition = (c.in-Some.name.now, c.in-Some.directive.now) in
+    let gives = c.into_iter-name-iterator.ensures.into_iter_gives in
+    found_own c.args.pair.old.now.directive_definitions.entries c.loop-name.invariant.done c.loop-name.name-iterator x c.next.new.self (sym gives.0 ∙ c.loop-name.invariant.all) c.in-Some.ensures.steps gives.4

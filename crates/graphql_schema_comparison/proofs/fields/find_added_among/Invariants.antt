@@ -1,9 +1,15 @@
-use Rattle.graphql_schema_comparison.specs.Breaks.{Adds}
+use Rattle.std.proofs.Common.{◌≡◌, ◌++◌, List}
+use Rattle.graphql_nodes.specs.Names.{NameText}
+use Rattle.graphql_documents.specs.declared.documents.components.Component.{Component}
+use Rattle.graphql_documents.specs.declared.documents.definitions.FieldDefinition.{FieldDefinition}
+use Rattle.graphql_schema_comparison.specs.Found.{Adds}
 use Rattle.graphql_schema_comparison.proofs.fields.find_added_among.Given as goal
 
 abbrev pub invariant-loop-name : goal.invariant-loop-name
 invariant-loop-name l = record {
   can_next : (goal.iterator-loop-name).can_next l.name-iterator;
   is_finite : (goal.iterator-loop-name).is_finite l.name-iterator;
-  found : Adds l.initial.changes l.changes;
+  done : List (NameText × Component FieldDefinition);
+  all : l.initial.name-iterator ≡ done ++ l.name-iterator;
+  found : Adds l.pair.old.now l.pair.new.now l.initial.changes l.changes;
 }

@@ -1,6 +1,6 @@
-use Rattle.std.proofs.Common.{◌≡◌, ◌∙◌, ◌++◌, [], ◌∷◌, All, refl}
+use Rattle.std.proofs.Common.{◌≡◌, ◌∙◌, ◌++◌, [], ◌∷◌, All, refl, sym}
 use Rattle.std.proofs.lemmas.List.Elements.{All-weaker}
-use Rattle.graphql_documents.proofs.ListLemmas.{done_next}
+use Rattle.graphql_documents.proofs.ListLemmas.{done_next, stands_next}
 use Rattle.graphql_schema_comparison.specs.Comparisons.{FieldWasRequired, InputField, KeepsInputField}
 use Rattle.graphql_schema_comparison.proofs.FindsLemmas.{found_behind, found_none, found_whole, found_words}
 use Rattle.graphql_schema_comparison.proofs.input_types.compare_new_fields.Goals as goal
@@ -27,3 +27,9 @@ returns c =
     (FieldWasRequired c.args.old.now) (λ entry was. was kept) c.args.new.now.fields.entries all)
     (found_whole (λ merging (entry : InputField). All (KeepsInputField c.args.new.now) c.args.old.now.fields.entries → FieldWasRequired c.args.old.now entry) c.args.new.now.fields.entries c.loop-name.invariant.done
     c.loop-name.name-iterator (whole ∙ c.loop-name.invariant.all) c.in-None.ensures.steps.0 c.loop-name.invariant.found)
+
+pub compare_new_field-requires-clause-contained : goal.compare_new_field-requires-clause-contained
+compare_new_field-requires-clause-contained c =
+    let x : InputField = (c.in-Some.name.now, c.in-Some.field.now) in
+    let gives = c.into_iter-name-iterator.ensures.into_iter_gives in
+    stands_next c.args.new.now.fields.entries c.loop-name.invariant.done c.loop-name.name-iterator c.next.new.self x (sym gives.0 ∙ c.loop-name.invariant.all) c.in-Some.ensures.steps

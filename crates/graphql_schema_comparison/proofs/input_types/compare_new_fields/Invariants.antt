@@ -1,5 +1,5 @@
 use Rattle.std.proofs.Common.{◌≡◌, ◌++◌, List, All}
-use Rattle.graphql_schema_comparison.specs.Breaks.{Finds}
+use Rattle.graphql_schema_comparison.specs.Found.{Finds}
 use Rattle.graphql_schema_comparison.specs.Comparisons.{FieldWasRequired, InputField, KeepsInputField}
 use Rattle.graphql_schema_comparison.proofs.input_types.compare_new_fields.Given as goal
 
@@ -9,5 +9,5 @@ invariant-loop-name l = record {
   is_finite : (goal.iterator-loop-name).is_finite l.name-iterator;
   done : List InputField;
   all : l.initial.name-iterator ≡ done ++ l.name-iterator;
-  found : Finds l.initial.changes l.changes (λ merging. All (λ (entry : InputField). All (KeepsInputField l.new) l.old.fields.entries → FieldWasRequired l.old entry) done);
+  found : Finds l.pair.old.now l.pair.new.now l.initial.changes l.changes (λ merging. All (λ (entry : InputField). All (KeepsInputField l.new) l.old.fields.entries → FieldWasRequired l.old entry) done);
 }

@@ -1,6 +1,7 @@
-use Rattle.std.proofs.Common.{◌≡◌, ◌∙◌, ◌++◌, [], ◌∷◌, refl}
-use Rattle.graphql_documents.proofs.ListLemmas.{done_next}
+use Rattle.std.proofs.Common.{◌≡◌, ◌∙◌, ◌++◌, [], ◌∷◌, refl, sym}
+use Rattle.graphql_documents.proofs.ListLemmas.{done_next, stands_next}
 use Rattle.graphql_schema_comparison.specs.Comparisons.{InputField, KeepsInputField}
+use Rattle.graphql_schema_comparison.proofs.InputLemmas.{has_field}
 use Rattle.graphql_schema_comparison.proofs.FindsLemmas.{found_behind, found_none, found_whole}
 use Rattle.graphql_schema_comparison.proofs.input_types.compare_old_fields.Goals as goal
 
@@ -24,3 +25,10 @@ returns c =
     let whole : c.args.old.now.fields.entries ≡ c.into_iter-name-iterator.result = cc in
     found_whole (λ merging (entry : InputField). KeepsInputField c.args.new.now entry) c.args.old.now.fields.entries c.loop-name.invariant.done
     c.loop-name.name-iterator (whole ∙ c.loop-name.invariant.all) c.in-None.ensures.steps.0 c.loop-name.invariant.found
+
+pub compare_old_field-requires-clause-was : goal.compare_old_field-requires-clause-was
+compare_old_field-requires-clause-was c =
+    let x : InputField = (c.in-Some.name.now, c.in-Some.field.now) in
+    let gives = c.into_iter-name-iterator.ensures.into_iter_gives in
+    has_field c.args.pair.old.now c.args.ty.now c.args.old.now c.requires.was x
+    (stands_next c.args.old.now.fields.entries c.loop-name.invariant.done c.loop-name.name-iterator c.next.new.self x (sym gives.0 ∙ c.loop-name.invariant.all) c.in-Some.ensures.steps)

@@ -1,8 +1,9 @@
-use Rattle.std.proofs.Common.{◌≡◌, ◌∙◌, ◌++◌, [], ◌∷◌, refl}
+use Rattle.std.proofs.Common.{◌≡◌, ◌∙◌, ◌++◌, [], ◌∷◌, refl, sym}
 use Rattle.graphql_documents.proofs.ListLemmas.{done_next}
 use Rattle.graphql_nodes.specs.Names.{NameText}
 use Rattle.graphql_documents.specs.declared.documents.schemas.ExtendedType.{ExtendedType}
 use Rattle.graphql_schema_comparison.specs.Comparisons.{KeepsType}
+use Rattle.graphql_schema_comparison.proofs.TruthLemmas.{found_own}
 use Rattle.graphql_schema_comparison.proofs.FindsLemmas.{found_behind, found_none, found_whole}
 use Rattle.graphql_schema_comparison.proofs.types.compare_old_types.Goals as goal
 
@@ -26,3 +27,9 @@ returns c =
     let whole : c.args.pair.old.now.types.entries ≡ c.into_iter-name-iterator.result = cc in
     found_whole (λ merging (entry : NameText × ExtendedType). KeepsType c.args.meetings.now.by_shape c.args.pair.old.now c.args.pair.new.now merging entry.0 entry.1) c.args.pair.old.now.types.entries c.loop-name.invariant.done
     c.loop-name.name-iterator (whole ∙ c.loop-name.invariant.all) c.in-None.ensures.steps.0 c.loop-name.invariant.found
+
+pub compare_old_type-requires-clause-was : goal.compare_old_type-requires-clause-was
+compare_old_type-requires-clause-was c =
+    let x : NameText × ExtendedType = (c.in-Some.name.now, c.in-Some.definition.now) in
+    let gives = c.into_iter-name-iterator.ensures.into_iter_gives in
+    found_own c.args.pair.old.now.types.entries c.loop-name.invariant.done c.loop-name.name-iterator x c.next.new.self (sym gives.0 ∙ c.loop-name.invariant.all) c.in-Some.ensures.steps gives.4

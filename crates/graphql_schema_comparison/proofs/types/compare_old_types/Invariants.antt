@@ -2,7 +2,7 @@ use Rattle.std.proofs.Common.{◌≡◌, ◌++◌, List, All}
 use Rattle.graphql_nodes.specs.Names.{NameText}
 use Rattle.graphql_documents.specs.declared.documents.schemas.ExtendedType.{ExtendedType}
 use Rattle.graphql_schema_comparison.specs.Comparisons.{KeepsType}
-use Rattle.graphql_schema_comparison.specs.Breaks.{Finds}
+use Rattle.graphql_schema_comparison.specs.Found.{Finds}
 use Rattle.graphql_schema_comparison.proofs.types.compare_old_types.Given as goal
 
 abbrev pub invariant-loop-name : goal.invariant-loop-name
@@ -11,5 +11,5 @@ invariant-loop-name l = record {
   is_finite : (goal.iterator-loop-name).is_finite l.name-iterator;
   done : List (NameText × ExtendedType);
   all : l.initial.name-iterator ≡ done ++ l.name-iterator;
-  found : Finds l.initial.changes l.changes (λ merging. All (λ (entry : NameText × ExtendedType). KeepsType l.meetings.by_shape l.pair.old.now l.pair.new.now merging entry.0 entry.1) done);
+  found : Finds l.pair.old.now l.pair.new.now l.initial.changes l.changes (λ merging. All (λ (entry : NameText × ExtendedType). KeepsType l.meetings.by_shape l.pair.old.now l.pair.new.now merging entry.0 entry.1) done);
 }

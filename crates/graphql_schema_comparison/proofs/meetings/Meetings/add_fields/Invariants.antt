@@ -11,5 +11,5 @@ invariant-loop-name l = record {
   is_finite : (goal.iterator-loop-name).is_finite l.name-iterator;
   done : List (NameText × Component FieldDefinition);
   all : l.initial.name-iterator ≡ done ++ l.name-iterator;
-  learned : Learns l.initial.self.by_shape l.self.by_shape (λ table. All (λ (entry : NameText × Component FieldDefinition). KnowsEntry table l.pair.old.now l.pair.new.now l.ty entry.0 entry.1) done);
+  learned : Learns l.pair.old.now l.pair.new.now l.initial.self.by_shape l.self.by_shape (λ table. All (λ (entry : NameText × Component FieldDefinition). KnowsEntry table l.pair.old.now l.pair.new.now l.ty entry.0 entry.1) done);
 }

@@ -1,4 +1,3 @@
-use Rattle.std.specs.Prelude.{IsTrue}
 use Rattle.graphql_schema_comparison.proofs.LearnsLemmas.{type_learned}
 use Rattle.graphql_schema_comparison.proofs.meetings.Meetings.add_type.Goals as goal
 

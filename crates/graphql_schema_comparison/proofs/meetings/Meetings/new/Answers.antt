@@ -1,11 +1,13 @@
-use Rattle.std.proofs.Common.{◌≡◌, ◌∙◌, ◌++◌, [], ◌∷◌, refl}
-use Rattle.std.specs.Prelude.{IsTrue}
+use Rattle.graphql_schema_comparison.specs.declared.meetings.Meeting.{Meeting}
+use Rattle.std.proofs.Common.{◌≡◌, ◌∙◌, ◌++◌, [], ◌∷◌, refl, sym, None, Option, subst, rules}
+use Rattle.std.specs.Prelude.{IsTrue, IfSome}
 use Rattle.std.proofs.lemmas.List.Elements.{All-nil}
 use Rattle.graphql_documents.proofs.ListLemmas.{done_next}
 use Rattle.graphql_nodes.specs.Names.{NameText}
 use Rattle.graphql_documents.specs.declared.documents.schemas.ExtendedType.{ExtendedType}
 use Rattle.graphql_documents.specs.Schemas.{is_composite}
-use Rattle.graphql_schema_comparison.specs.Shapes.{KnowsType, Learns}
+use Rattle.graphql_schema_comparison.specs.Shapes.{KnowsType, IsMeeting, form_of, meeting_at}
+use Rattle.graphql_schema_comparison.proofs.TruthLemmas.{found_own}
 use Rattle.graphql_schema_comparison.proofs.LearnsLemmas.{learned_behind, learned_here, learned_whole, type_more}
 use Rattle.graphql_schema_comparison.proofs.meetings.Meetings.new.Goals as goal
 
@@ -34,5 +36,16 @@ loop-ty-preserved c =
 pub returns : goal.returns
 returns c =
     let whole : c.args.pair.old.now.types.entries ≡ c.into_iter-ty-iterator.result = cc in
-    (learned_whole (λ table (entry : NameText × ExtendedType). IsTrue (is_composite entry.1) → KnowsType table c.args.pair.old.now c.args.pair.new.now entry.0 entry.1) c.args.pair.old.now.types.entries c.loop-ty.invariant.done
-    c.loop-ty.ty-iterator (whole ∙ c.loop-ty.invariant.all) c.in-None.ensures.steps.0 c.loop-ty.invariant.learned).known
+    record {
+      knows = (learned_whole (λ table (entry : NameText × ExtendedType). IsTrue (is_composite entry.1) → KnowsType table c.args.pair.old.now c.args.pair.new.now entry.0 entry.1) c.args.pair.old.now.types.entries c.loop-ty.invariant.done
+          c.loop-ty.ty-iterator (whole ∙ c.loop-ty.invariant.all) c.in-None.ensures.steps.0 c.loop-ty.invariant.learned).known;
+      each = c.loop-ty.invariant.learned.each (λ key.
+          let none : meeting_at c.with_hasher.result key ≡ None = search rules in
+          subst (λ (o : Option Meeting). IfSome o (IsMeeting c.args.pair.old.now c.args.pair.new.now (form_of key))) (sym none) tt);
+    }
+
+pub add_type-requires : goal.add_type-requires
+add_type-requires c =
+    let x : NameText × ExtendedType = (c.in-Some.ty.now, c.in-Some.definition.now) in
+    let gives = c.into_iter-ty-iterator.ensures.into_iter_gives in
+    found_own c.args.pair.old.now.types.entries c.loop-ty.invariant.done c.loop-ty.ty-iterator x c.next.new.self (sym gives.0 ∙ c.loop-ty.invariant.all) c.in-Some.ensures.steps gives.4

@@ -12,5 +12,5 @@ invariant-loop-ty l = record {
   is_finite : (goal.iterator-loop-ty).is_finite l.ty-iterator;
   done : List (NameText × ExtendedType);
   all : l.initial.ty-iterator ≡ done ++ l.ty-iterator;
-  learned : Learns l.initial.meetings.by_shape l.meetings.by_shape (λ table. All (λ (entry : NameText × ExtendedType). IsTrue (is_composite entry.1) → KnowsType table l.pair.old.now l.pair.new.now entry.0 entry.1) done);
+  learned : Learns l.pair.old.now l.pair.new.now l.initial.meetings.by_shape l.meetings.by_shape (λ table. All (λ (entry : NameText × ExtendedType). IsTrue (is_composite entry.1) → KnowsType table l.pair.old.now l.pair.new.now entry.0 entry.1) done);
 }

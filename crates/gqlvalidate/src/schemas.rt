@@ -1,0 +1,93 @@
+//! A schema that is validated for itself.
+
+use gqlvalidate_check::accounts::Account;
+use gqlvalidate_check::bounds::OF_SCHEMA;
+use gqlvalidate_check::named_texts::NamedText;
+use gqlvalidate_check::presentations::Presentation;
+use gqlvalidate_check::schema_files::{FileKind, ReadFiles, named_schema, read_files};
+use gqlvalidate_check::schema_reports::{end_unread, extent_of, reject};
+use gqlvalidate_check::schema_texts::{schema_subject, sources_of};
+use gqlvalidate_inputs::faults::Fault;
+use gqlvalidate_inputs::statuses::Status;
+use gqlvalidate_inputs::word_paths::{schema_paths, views};
+use graphql_frontend::{SchemaReading, abandon, read_schema};
+use std::alloc::{AllocError, Global};
+use std::io::{Read, Write};
+use std::rt::Files;
+
+/// Validates the schema of the files that these words name.
+pub fn check_schema<R: Files + AllocGlobal + Clone + Drop, I: Read, O: Write, F: Write>(
+    rt: &R,
+    words: &[&str],
+    presentation: Presentation,
+    input: &mut I,
+    output: &mut O,
+    faults: &mut F,
+) -> Result<Status, Fault> {
+    let Some(files) = schema_paths(rt, words, faults)? else {
+        return Ok(Status::Unreadable);
+    };
+    let paths = views(rt.alloc(), &files)?;
+    check_files(rt, &paths, presentation, input, output, faults)
+}
+
+/// Validates the schema of these files.
+fn check_files<'a, R: Files + AllocGlobal, I: Read, O: Write, F: Write>(
+    rt: &R,
+    paths: &'a [&'a str],
+    presentation: Presentation,
+    input: &mut I,
+    output: &mut O,
+    faults: &mut F,
+) -> Result<Status, Fault> {
+    let ReadFiles { texts, unreadable } = read_files(rt, paths, FileKind::Schema, input, faults)?;
+    let Some(texts) = texts else {
+        return end_unread(rt.alloc(), unreadable, presentation, output, faults);
+    };
+    let named = named_schema(rt.alloc(), paths, &texts)?;
+    check_texts(rt.alloc(), &named, presentation, output, faults)
+}
+
+/// Validates the schema of these texts.
+fn check_texts<O: Write, F: Write>(
+    alloc: Global,
+    named: &[NamedText<'_>],
+    presentation: Presentation,
+    output: &mut O,
+    faults: &mut F,
+) -> Result<Status, Fault> {
+    let sources = sources_of(alloc, named)?;
+    match read_schema(alloc, &sources, OF_SCHEMA)? {
+        SchemaReading::Accepted(schema) => {
+            abandon(schema);
+            accept(alloc, named, presentation, output, faults)
+        }
+        SchemaReading::Rejected(reports) => {
+            let subject = schema_subject(named, &sources);
+            reject(alloc, reports, subject, presentation, output, faults)
+        }
+        SchemaReading::LacksIntrospection => Err(Fault::LacksIntrospection),
+    }
+}
+
+/// Ends a run that has nothing to report of a schema.
+fn accept<O: Write, F: Write>(
+    alloc: Global,
+    named: &[NamedText<'_>],
+    presentation: Presentation,
+    output: &mut O,
+    faults: &mut F,
+) -> Result<Status, Fault> {
+    let mut account = Account::new(alloc, presentation)?;
+    pass_own(&mut account, named)?;
+    account.end(alloc, extent_of(named), output, faults)?;
+    Ok(Status::Accepted)
+}
+
+/// Nothing is reported of the files of a user, which come behind the definitions that every schema has.
+fn pass_own(account: &mut Account<'_>, named: &[NamedText<'_>]) -> Result<(), AllocError> {
+    for text in named.iter().skip(1) {
+        account.pass(text.path)?;
+    }
+    Ok(())
+}

@@ -1,0 +1,132 @@
+//! The command line: what words ask for.
+use super::runs::words_of;
+use gqlvalidate_words::parse;
+use std::process::Abort;
+
+/// Words, and what they ask for as its `Debug` shows it.
+const READ: &[(&[&str], &str)] = &[
+    (
+        &["syntax", "a", "-"],
+        "Syntax { files: [\"a\", \"-\"], reporting: Reporting { format: Text, color: Auto, max_reports: 100 } }",
+    ),
+    (&["explain"], "Explain { rule: None }"),
+    (&["explain", "Syntax"], "Explain { rule: Some(\"Syntax\") }"),
+    (
+        &["check", "--schema", "s", "a", "--schema=t", "b"],
+        "Check { schema: [\"s\", \"t\"], documents: [\"a\", \"b\"], files_from: None, fragments: [], only: [], grouping: Project, limits: Limits { depth: 500, reach: 64, work: 160000000 }, reporting: Reporting { format: Text, color: Auto, max_reports: 100 } }",
+    ),
+    (
+        &["schema", "--format", "json", "--max-reports", "7", "s"],
+        "Schema { schema: [\"s\"], reporting: Reporting { format: Json, color: Auto, max_reports: 7 } }",
+    ),
+    (
+        &["schema", "--format=github", "--color=never", "s"],
+        "Schema { schema: [\"s\"], reporting: Reporting { format: Github, color: Never, max_reports: 18446744073709551615 } }",
+    ),
+    (
+        &["schema", "--format", "sarif", "s"],
+        "Schema { schema: [\"s\"], reporting: Reporting { format: Sarif, color: Auto, max_reports: 18446744073709551615 } }",
+    ),
+    (
+        &["schema", "--format", "junit", "s"],
+        "Schema { schema: [\"s\"], reporting: Reporting { format: Junit, color: Auto, max_reports: 18446744073709551615 } }",
+    ),
+    (
+        &["schema", "--format", "checkstyle", "s"],
+        "Schema { schema: [\"s\"], reporting: Reporting { format: Checkstyle, color: Auto, max_reports: 18446744073709551615 } }",
+    ),
+    (
+        &["schema", "--format", "gitlab", "s"],
+        "Schema { schema: [\"s\"], reporting: Reporting { format: Gitlab, color: Auto, max_reports: 18446744073709551615 } }",
+    ),
+    (&["print-schema", "a"], "PrintSchema { answer: \"a\" }"),
+    (
+        &[
+            "check",
+            "--one-document",
+            "--max-depth",
+            "7",
+            "--max-reach=5",
+            "--max-work=6",
+            "--color",
+            "always",
+            "--schema",
+            "s",
+            "a",
+        ],
+        "Check { schema: [\"s\"], documents: [\"a\"], files_from: None, fragments: [], only: [], grouping: OneDocument, limits: Limits { depth: 7, reach: 5, work: 6 }, reporting: Reporting { format: Text, color: Always, max_reports: 100 } }",
+    ),
+    (
+        &[
+            "check",
+            "--files-from=l",
+            "--fragments",
+            "f",
+            "--schema",
+            "s",
+            "--fragments=g",
+        ],
+        "Check { schema: [\"s\"], documents: [], files_from: Some(PathList { file: \"l\", ends: Lines }), fragments: [\"f\", \"g\"], only: [], grouping: Project, limits: Limits { depth: 500, reach: 64, work: 160000000 }, reporting: Reporting { format: Text, color: Auto, max_reports: 100 } }",
+    ),
+    (
+        &["check", "--each", "--schema", "s", "a"],
+        "Check { schema: [\"s\"], documents: [\"a\"], files_from: None, fragments: [], only: [], grouping: Each, limits: Limits { depth: 500, reach: 64, work: 160000000 }, reporting: Reporting { format: Text, color: Auto, max_reports: 100 } }",
+    ),
+    (
+        &["serve", "--schema", "s"],
+        "Serve { schema: [\"s\"], fragments: [], limits: Limits { depth: 500, reach: 4, work: 160000000 }, max_line: 8388608, max_reports: 1000 }",
+    ),
+    (
+        &[
+            "serve",
+            "--max-line=9",
+            "--max-reach=2",
+            "--max-depth=3",
+            "--max-reports=8",
+            "--schema",
+            "s",
+        ],
+        "Serve { schema: [\"s\"], fragments: [], limits: Limits { depth: 3, reach: 2, work: 160000000 }, max_line: 9, max_reports: 8 }",
+    ),
+    (
+        &["diff", "a", "b"],
+        "Diff { old: [\"a\"], new: [\"b\"], operations: [], lone_fields: false, fail_on: Breaking, format: Text }",
+    ),
+    (
+        &[
+            "diff",
+            "--old-schema",
+            "c",
+            "--new-schema=d",
+            "--operations",
+            "e",
+            "--operations",
+            "f",
+            "--lone-fields",
+            "--fail-on",
+            "dangerous",
+            "--format=markdown",
+            "a",
+            "b",
+        ],
+        "Diff { old: [\"a\", \"c\"], new: [\"b\", \"d\"], operations: [\"e\", \"f\"], lone_fields: true, fail_on: Dangerous, format: Markdown }",
+    ),
+];
+
+#[test]
+fn requests_are_read(rt: HostRuntime) {
+    for (texts, wanted) in READ {
+        asks(&rt, texts, wanted);
+    }
+}
+
+fn asks<R: AllocGlobal + Abort>(rt: &R, texts: &[&str], wanted: &str) {
+    let words = words_of(rt, rt.alloc(), texts);
+    match parse(rt.alloc(), &words) {
+        Ok(request) => {
+            let shown = format!(in rt.alloc(); "{request:?}").expect(rt, "memory for a text");
+            assert_eq!(rt; shown.as_str(), wanted);
+        }
+        Err(_) => panic!(rt; "the words are refused"),
+    }
+}
