@@ -8,7 +8,7 @@ use graphql_documents::documents::Type;
 use graphql_nodes::{Node, SourceSpan, ValidationError};
 use graphql_trees::TypeReference;
 use std::alloc::Global;
-use std::rc::Rc;
+use std::sync::Arc;
 
 /// The type that the tree refers to, with its place in the text. Fails only where an allocation fails.
 ///
@@ -21,7 +21,7 @@ pub fn build_located_type(
 {
     let ty = build_type(alloc, tree)?;
     Ok(Node {
-        value: Rc::new(alloc, ty)?,
+        value: Arc::new(alloc, ty)?,
         location: place(tree),
     })
 }

@@ -8,7 +8,7 @@ use graphql_nodes::{Name, Node, SourceSpan, ValidationError};
 use graphql_numbers::{FloatValue, IntValue};
 use graphql_trees::{ObjectField, Value as ValueTree};
 use std::alloc::Global;
-use std::rc::Rc;
+use std::sync::Arc;
 
 /// The value that the tree writes, with its place in the text. Fails only where an allocation fails.
 ///
@@ -19,7 +19,7 @@ pub fn build_value(alloc: Global, tree: &ValueTree) -> Result<Node<Value>, Valid
 {
     let contents = contents(alloc, tree)?;
     Ok(Node {
-        value: Rc::new(alloc, contents)?,
+        value: Arc::new(alloc, contents)?,
         location: place(tree),
     })
 }

@@ -5,13 +5,13 @@ use super::errors::ValidationError;
 use super::spans::SourceSpan;
 use std::alloc::{AllocError, Global};
 use std::hash::{Hash, Hasher};
-use std::rc::Rc;
+use std::sync::Arc;
 
 /// A shared value, and where it is. Nodes are compared and hashed by their values alone.
 #[derive(Drop)]
 #[derive_where(Debug; T)]
 pub struct Node<T> {
-    pub value: Rc<T>,
+    pub value: Arc<T>,
     pub location: Option<SourceSpan>,
 }
 
@@ -22,7 +22,7 @@ impl<T: Drop> Node<T> {
         ensures location { IfOk result (λ node. node.location ≡ None) }
     {
         Ok(Node {
-            value: Rc::new(alloc, value)?,
+            value: Arc::new(alloc, value)?,
             location: None,
         })
     }
@@ -37,7 +37,7 @@ impl<T: Drop> Node<T> {
         ensures location { IfOk result (λ node. node.location ≡ Some location) }
     {
         Ok(Node {
-            value: Rc::new(alloc, value)?,
+            value: Arc::new(alloc, value)?,
             location: Some(location),
         })
     }

@@ -14,7 +14,7 @@ use graphql_diagnostics::{Details, DiagnosticData, DiagnosticList};
 use graphql_documents::documents::{Type, Value};
 use graphql_nodes::{Node, SourceSpan, ValidationError};
 use std::alloc::Global;
-use std::rc::Rc;
+use std::sync::Arc;
 
 /// Reports that a value cannot stand for the type that is expected.
 pub(super) fn unsupported_type(
@@ -49,7 +49,7 @@ fn type_node(
 {
     let copy = ty.clone()?;
     Ok(Node {
-        value: Rc::new(alloc, copy)?,
+        value: Arc::new(alloc, copy)?,
         location,
     })
 }
