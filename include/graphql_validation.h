@@ -11,9 +11,10 @@
      pointer is null, also if the length is 0;
    - an `out` and a handle that overlap nothing else that is passed, and that no other thread uses during the call. All else
      that is passed is only read, and may be shared;
-   - of a handle: all bytes 0 before the first call; every call on the thread that read the schema; one call at a time; no
-     copy of it in use; and graphql_schema_free at the end, also if the schema was reported. Each thread has a handle of its
-     own: the schema is then read once for each thread, and calls on different handles may be made at once;
+   - of a handle: all bytes 0 before the first call; one call at a time; no copy of it in use; and graphql_schema_free at the
+     end, also if the schema was reported. A handle may go to another thread, ordered by a lock, by the start or join of a
+     thread, or by a sequentially consistent atomic. Calls on different handles may be made at once, also if the handles share
+     a schema: graphql_schema_share gives each thread a handle of its own over one schema in memory;
    - stack: 2 MiB are enough for the default depth. A stack that is too small ends the process. A thread with less passes a
      lower depth in its options: docs/EMBEDDING.md has the least stack of each depth;
    - memory: the library asks for it by three functions, below.
@@ -68,11 +69,12 @@ typedef struct {
 
 /* The answer is a JSON object, {"errors":[..]}, in the form of the errors of a GraphQL response. An error has
    - "message": what is wrong;
-   - "locations", if it has a place: its line and column, {"line":1,"column":1}, from 1, where a column counts characters; a
-     second one is the place of the first of a repetition, or of the other of two in conflict, if that is in the same file;
+   - "locations", if it has a place: one, {"line":1,"column":1}, from 1, where a column counts characters;
    - "extensions": "rule", the name of the broken rule; "span" with "start" and "end", the bytes that it is about, if it has a
-     place; and "file": "<built-in>" for a place in the definitions that every schema has, or the name of the file of a
-     schema, if it has one. */
+     place; "file": "<built-in>" for a place in the definitions that every schema has, or the name of the file of a schema, if
+     it has one; "related", if there are notes on other places: each has "message", "line", "column", "span" and, as above,
+     "file"; and "help", if something helps: an array of strings.
+   Each fault comes once. Errors are in the order of files and places, those without a place first. */
 
 /* A schema that is kept between calls. Begin with all bytes 0: graphql_schema schema = {0}; */
 typedef struct {
@@ -121,11 +123,19 @@ graphql_outcome graphql_schema_read(const graphql_file *files, size_t count, con
 graphql_outcome graphql_schema_validate(graphql_schema *schema, const uint8_t *document, size_t document_length,
                                         const graphql_options *options, uint8_t *out, size_t out_length);
 
+/* Gives `other` the schema that `schema` keeps, without an answer. The schema is in memory once, until the last handle over it
+   is freed, in any order. What `other` kept before is given back; it is another handle than `schema`, which stays as it is.
+   This is a call on both handles.
+
+   Returns GRAPHQL_ACCEPTED; or GRAPHQL_OUT_OF_MEMORY or GRAPHQL_NO_SCHEMA, and `other` then keeps nothing. */
+uint32_t graphql_schema_share(graphql_schema *schema, graphql_schema *other);
+
 /* Writes the answer of the last graphql_schema_read or graphql_schema_validate on this handle, from the byte `from` on, as
    much as there is room for, and validates nothing. Returns how many bytes the whole answer has: 0 if there is none. */
 size_t graphql_schema_answer(graphql_schema *schema, size_t from, uint8_t *out, size_t out_length);
 
-/* Gives back the memory of the handle, which then keeps nothing. It may be used again. A second call changes nothing. */
+/* Gives back the memory of the handle, which then keeps nothing: of a shared schema with the last handle over it. It may be
+   used again. A second call changes nothing. */
 void graphql_schema_free(graphql_schema *schema);
 
 /* Validates a document against a schema, by the default options. */
@@ -148,7 +158,8 @@ graphql_outcome graphql_validate_all(const uint8_t *schema, size_t schema_length
 uint32_t graphql_abi_version(void);
 
 /* The memory of the library. The shared library has these three functions over malloc, realloc and free. Of the archive, a
-   caller may define its own, and may refuse memory: the call then ends with status 3, and has given back all that it had. */
+   caller may define its own, and may refuse memory: the call then ends with status 3, and has given back all that it had.
+   Threads that call at once call these at once, and a block of a shared schema may be given back by another thread. */
 
 typedef struct {
   /* Not 0 if there is memory. */

@@ -51,7 +51,8 @@ class schema_reported : public std::runtime_error {
   std::string json;
 };
 
-// A schema that is read once. All that is done with it is done on the thread that made it, one call at a time.
+// A schema that is read once. It may go to another thread, and takes one call at a time. share() gives each thread one of its
+// own over the same schema, which is in memory once.
 class schema {
  public:
   explicit schema(std::string_view text, const options &given = {}) : schema(std::vector<file>{{"", text}}, given) {}
@@ -85,6 +86,13 @@ class schema {
   schema(const schema &) = delete;
   schema &operator=(const schema &) = delete;
 
+  // Another one over the same schema, for another thread.
+  schema share() {
+    schema other;
+    check(graphql_schema_share(&handle, &other.handle));
+    return other;
+  }
+
   // What is reported of a document against this schema.
   answer validate(std::string_view document, const options &given = {}) {
     const graphql_options passed = of(given);
@@ -94,6 +102,8 @@ class schema {
   }
 
  private:
+  schema() = default;
+
   static constexpr std::size_t room = 4096;
   graphql_schema handle{nullptr};
 
@@ -105,11 +115,15 @@ class schema {
     return {sizeof(graphql_options), given.depth, given.tokens, given.reach, given.work, given.max_reports};
   }
 
-  answer whole_answer(const graphql_outcome &outcome, const std::uint8_t *out) {
-    if (outcome.status == GRAPHQL_OUT_OF_MEMORY)
+  static void check(std::uint32_t status) {
+    if (status == GRAPHQL_OUT_OF_MEMORY)
       throw std::bad_alloc();
-    if (outcome.status > GRAPHQL_REPORTED)
-      throw refused(outcome.status);
+    if (status > GRAPHQL_REPORTED)
+      throw refused(status);
+  }
+
+  answer whole_answer(const graphql_outcome &outcome, const std::uint8_t *out) {
+    check(outcome.status);
     const std::size_t written = outcome.length < room ? outcome.length : room;
     std::string json(reinterpret_cast<const char *>(out), written);
     json.resize(outcome.length);

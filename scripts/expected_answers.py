@@ -1,6 +1,6 @@
 """Prints the JSON that the library has to answer on examples/faulty.graphql, by what docs/CLI.md states of the program: the
 annotations there have the rule, the message and both ends of each report, in lines and columns. What follows a line end in an
-annotation is a note or a help, which the library's JSON lacks."""
+annotation is a help, or a note. The notes there are on places in the schema, whose text a call on a document does not have."""
 
 import json
 import re
@@ -23,8 +23,12 @@ def byte(line, column):
 def error(line, end_line, column, end_column, rule, message):
     span = {"start": byte(line, column), "end": byte(end_line, end_column)}
     place = {"line": line, "column": column}
-    message, *_ = message.split("%0A")
-    return {"message": message, "locations": [place], "extensions": {"rule": rule, "span": span}}
+    message, *others = message.split("%0A")
+    help = [other.removeprefix("help: ") for other in others if other.startswith("help: ")]
+    notes = [other for other in others if not other.startswith("help: ")]
+    assert all(note.startswith("examples/schema.graphql:") for note in notes), "a note is not on the schema"
+    extensions = {"rule": rule, "span": span} | ({"help": help} if help else {})
+    return {"message": message, "locations": [place], "extensions": extensions}
 
 
 found = ANNOTATION.findall(Path("docs/CLI.md").read_text())

@@ -4,8 +4,8 @@
    and all further ones refused. It has to end with status 3, and `out` as it was, or with the same answer; and all that it
    was given has to be given back.
 
-   Two calls are made on a handle. Without memory graphql_schema_read closes it, and graphql_schema_validate leaves its schema
-   as it was. */
+   Three calls are made on handles. Without memory graphql_schema_read closes its handle, graphql_schema_validate leaves the
+   schema as it was, and graphql_schema_share does so too and closes the other handle. */
 
 #include "graphql_validation.h"
 
@@ -68,15 +68,24 @@ static void read_file(text *into, const char *path) {
   fclose(file);
 }
 
-enum { READ_ACCEPTED = 6, READ_REPORTED = 7, VALIDATE_KEPT = 8 };
+enum { READ_ACCEPTED = 6, READ_REPORTED = 7, VALIDATE_KEPT = 8, SHARE = 9 };
 
-static graphql_schema handle;
+static graphql_schema handle, other;
 
 static const graphql_options options = GRAPHQL_DEFAULT_OPTIONS;
 
 static graphql_outcome read_schema(const text *content, uint8_t *out) {
   graphql_file file = {(const uint8_t *)"schema.graphql", 14, content->bytes, content->length};
   return graphql_schema_read(&file, 1, &options, &handle, out, ROOM);
+}
+
+static graphql_outcome validate_kept(graphql_schema *kept, uint8_t *out) {
+  return graphql_schema_validate(kept, faulty.bytes, faulty.length, &options, out, ROOM);
+}
+
+static graphql_outcome share(void) {
+  graphql_outcome outcome = {graphql_schema_share(&handle, &other), GRAPHQL_NOWHERE, 0};
+  return outcome;
 }
 
 static graphql_outcome call(int which, uint8_t *out) {
@@ -97,40 +106,61 @@ static graphql_outcome call(int which, uint8_t *out) {
     return read_schema(&schema, out);
   case READ_REPORTED:
     return read_schema(&valid, out);
+  case VALIDATE_KEPT:
+    return validate_kept(&handle, out);
   default:
-    return graphql_schema_validate(&handle, faulty.bytes, faulty.length, &options, out, ROOM);
+    return share();
   }
 }
 
 /* The status that each call has with all memory. */
-static const uint32_t statuses[] = {0, 1, 1, 0, 1, 1, 0, 1, 1};
+static const uint32_t statuses[] = {0, 1, 1, 0, 1, 1, 0, 1, 1, 0};
 
 static uint8_t wanted[ROOM], got[ROOM], untouched[ROOM];
 
 /* Makes the handle as a call wants it. Which blocks the call may leave. */
 static long begin(int which) {
   graphql_schema_free(&handle);
+  graphql_schema_free(&other);
   if (blocks != 0)
     stop("a handle that is freed keeps memory");
   refused_from = refused_to = 0;
-  if (which == VALIDATE_KEPT && read_schema(&schema, got).status != GRAPHQL_ACCEPTED)
+  if (which >= VALIDATE_KEPT && read_schema(&schema, got).status != GRAPHQL_ACCEPTED)
     stop("no schema is kept");
+  if (which == SHARE && share().status != GRAPHQL_ACCEPTED)
+    stop("no schema is shared");
   requests = 0;
   return blocks;
 }
 
-/* The handle, after a call with status 3. */
-static void check_handle(int which) {
+/* A handle that keeps the schema answers as one that read it. */
+static void check_schema(graphql_schema *kept) {
+  static uint8_t once[ROOM];
+  graphql_outcome whole = graphql_validate(schema.bytes, schema.length, faulty.bytes, faulty.length, once, ROOM);
+  graphql_outcome outcome = validate_kept(kept, got);
+  if (outcome.status != GRAPHQL_REPORTED || memcmp(&outcome, &whole, sizeof whole) != 0 || memcmp(got, once, whole.length) != 0)
+    stop("another schema is kept");
+}
+
+/* The handles, after a call with status 3. */
+static void check_handles(int which) {
+  refused_from = refused_to = 0;
   if (which == READ_ACCEPTED || which == READ_REPORTED) {
     if (handle.at != NULL)
       stop("something is kept without memory");
   } else if (which == VALIDATE_KEPT) {
-    refused_from = refused_to = 0;
     if (graphql_schema_answer(&handle, 0, got, ROOM) != 0)
       stop("an answer is kept without memory");
-    graphql_outcome outcome = call(which, got);
-    if (outcome.status != GRAPHQL_REPORTED || memcmp(got, wanted, outcome.length) != 0)
-      stop("another schema is kept");
+    check_schema(&handle);
+  } else if (which == SHARE) {
+    if (other.at != NULL)
+      stop("something is shared without memory");
+    if (graphql_schema_answer(&handle, 0, got, ROOM) == 0)
+      stop("an answer is lost");
+    if (share().status != GRAPHQL_ACCEPTED)
+      stop("no schema is shared");
+    check_schema(&handle);
+    check_schema(&other);
   }
 }
 
@@ -146,7 +176,7 @@ static int ends_well(int which, graphql_outcome whole, long from, long to) {
       stop("memory is not given back");
     if (outcome.length != 0 || outcome.reported != 0 || memcmp(got, untouched, ROOM) != 0)
       stop("something is answered without memory");
-    check_handle(which);
+    check_handles(which);
     return 1;
   }
   if (which < READ_ACCEPTED && blocks != 0)

@@ -209,28 +209,99 @@ static void calls_do_not_grow(void) {
   want(atomic_load(&blocks) == 0);
 }
 
-static void *thread_with_a_handle(void *unused) {
-  (void)unused;
+/* Handles over one schema answer alike, and each keeps the schema as long as it wants. */
+static void handles_share_a_schema(void) {
+  static uint8_t out[ROOM];
+  graphql_schema first = {0}, second = {0}, third = {0};
+  want(graphql_schema_share(&first, &second) == GRAPHQL_NO_SCHEMA && second.at == NULL);
+  want(read_one(&first, &schema_text, out).status == GRAPHQL_ACCEPTED);
+  long before = atomic_load(&blocks);
+  graphql_outcome outcome = validate_one(&first, &faulty, out, ROOM);
+  want(graphql_schema_share(&first, &second) == GRAPHQL_ACCEPTED);
+  want(graphql_schema_answer(&first, 0, out, ROOM) == outcome.length && graphql_schema_answer(&second, 0, out, ROOM) == 0);
+  want(atomic_load(&blocks) <= before + 2);
+  answers_are_those_of_validate(&second, &faulty);
+  answers_are_those_of_validate(&first, &valid);
+  want(graphql_schema_share(&second, &third) == GRAPHQL_ACCEPTED && graphql_schema_share(&first, &third) == GRAPHQL_ACCEPTED);
+  graphql_schema_free(&first);
+  want(graphql_schema_share(&first, &third) == GRAPHQL_NO_SCHEMA && third.at == NULL);
+  graphql_schema_free(&first);
+  answers_are_those_of_validate(&second, &faulty);
+  graphql_schema_free(&second);
+  want(atomic_load(&blocks) == 0);
+}
+
+/* A handle, and how many calls were made on handles that share its schema. The lock is held to share it alone. */
+static graphql_schema root;
+static pthread_mutex_t root_lock = PTHREAD_MUTEX_INITIALIZER;
+static atomic_long answered;
+
+static void answers_in_turn(graphql_schema *schema, uint8_t *out) {
+  for (int k = 0; k < 100; k++) {
+    want(validate_one(schema, &valid, out, ROOM).status == GRAPHQL_ACCEPTED);
+    want(validate_one(schema, &faulty, out, ROOM).status == GRAPHQL_REPORTED);
+    atomic_fetch_add(&answered, 2);
+  }
+}
+
+/* With a handle that was made for it, with others that it shares itself, and with a schema of its own. */
+static void *thread_with_handles(void *given) {
   uint8_t *out = malloc(ROOM);
   want(out != NULL);
+  answers_in_turn(given, out);
+  graphql_schema_free(given);
   for (int round = 0; round < 3; round++) {
-    graphql_schema schema = {0};
-    want(read_one(&schema, &schema_text, out).status == GRAPHQL_ACCEPTED);
-    for (int k = 0; k < 100; k++) {
-      want(validate_one(&schema, &valid, out, ROOM).status == GRAPHQL_ACCEPTED);
-      want(validate_one(&schema, &faulty, out, ROOM).status == GRAPHQL_REPORTED);
-    }
-    graphql_schema_free(&schema);
+    graphql_schema shared = {0}, own = {0};
+    pthread_mutex_lock(&root_lock);
+    want(graphql_schema_share(&root, &shared) == GRAPHQL_ACCEPTED);
+    pthread_mutex_unlock(&root_lock);
+    answers_in_turn(&shared, out);
+    want(read_one(&own, &schema_text, out).status == GRAPHQL_ACCEPTED);
+    answers_in_turn(&own, out);
+    graphql_schema_free(&own);
+    graphql_schema_free(&shared);
   }
   free(out);
   return NULL;
 }
 
-static void threads_have_handles(int threads) {
+static void *thread_with_a_handle(void *given) {
+  uint8_t *out = malloc(ROOM);
+  want(out != NULL);
+  answers_in_turn(given, out);
+  graphql_schema_free(given);
+  free(out);
+  return NULL;
+}
+
+static void threads_share_a_schema(int threads) {
+  static uint8_t out[ROOM];
   pthread_t made[MOST_THREADS];
+  graphql_schema given[MOST_THREADS] = {{0}};
   want(threads <= MOST_THREADS);
+  want(read_one(&root, &schema_text, out).status == GRAPHQL_ACCEPTED);
   for (int k = 0; k < threads; k++)
-    want(pthread_create(&made[k], NULL, thread_with_a_handle, NULL) == 0);
+    want(graphql_schema_share(&root, &given[k]) == GRAPHQL_ACCEPTED);
+  for (int k = 0; k < threads; k++)
+    want(pthread_create(&made[k], NULL, thread_with_handles, &given[k]) == 0);
+  for (int k = 0; k < threads; k++)
+    want(pthread_join(made[k], NULL) == 0);
+  want(atomic_load(&answered) == 1400L * threads);
+  graphql_schema_free(&root);
+  want(atomic_load(&blocks) == 0);
+}
+
+/* The first handle is freed, and threads use the schema until the last of them frees it. */
+static void threads_keep_a_schema(int threads) {
+  static uint8_t out[ROOM];
+  pthread_t made[MOST_THREADS];
+  graphql_schema given[MOST_THREADS] = {{0}}, first = {0};
+  want(read_one(&first, &schema_text, out).status == GRAPHQL_ACCEPTED);
+  for (int k = 0; k < threads; k++)
+    want(graphql_schema_share(k ? &given[k - 1] : &first, &given[k]) == GRAPHQL_ACCEPTED);
+  for (int k = 0; k < threads; k++)
+    want(pthread_create(&made[k], NULL, thread_with_a_handle, &given[k]) == 0);
+  graphql_schema_free(&first);
   for (int k = 0; k < threads; k++)
     want(pthread_join(made[k], NULL) == 0);
   want(atomic_load(&blocks) == 0);
@@ -248,7 +319,9 @@ int main(int count, char **words) {
   options_are_bounds();
   reports_name_files();
   calls_do_not_grow();
-  threads_have_handles(atoi(words[5]));
-  printf("handles: each answer is that of graphql_validate; %ld calls on one handle keep no more memory; %s threads with a handle each\n", calls, words[5]);
+  handles_share_a_schema();
+  threads_share_a_schema(atoi(words[5]));
+  threads_keep_a_schema(atoi(words[5]));
+  printf("handles: each answer is that of graphql_validate; %ld calls on one handle keep no more memory; %s threads share a schema\n", calls, words[5]);
   return 0;
 }

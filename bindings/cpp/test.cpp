@@ -4,6 +4,8 @@
 
 #include <cstdio>
 #include <cstdlib>
+#include <thread>
+#include <vector>
 
 using graphql_validation::file;
 using graphql_validation::options;
@@ -34,7 +36,25 @@ static bool raises(Call call) {
   return false;
 }
 
+// Threads call at once, each by a schema of its own over one that is read once, and outlive it.
+static void threads_share_a_schema() {
+  std::vector<std::thread> threads;
+  {
+    schema first("type Query { a: Int }");
+    for (int k = 0; k < 8; k++)
+      threads.emplace_back([mine = first.share()]() mutable {
+        for (int call = 0; call < 100; call++) {
+          want(!mine.validate("{ a }").reported);
+          want(errors_in(mine.validate("{ b }").json) == 1);
+        }
+      });
+  }
+  for (std::thread &thread : threads)
+    thread.join();
+}
+
 int main() {
+  threads_share_a_schema();
   schema first("type Query { a: Query b: Int }");
   want(!first.validate("{ a { b } }").reported);
   want(first.validate("").reported);
@@ -51,6 +71,7 @@ int main() {
   schema moved(std::move(first));
   want(!moved.validate("{ b }").reported);
   want(raises<graphql_validation::refused>([&] { first.validate("{ b }"); }));
+  want(raises<graphql_validation::refused>([&] { first.share(); }));
   want(raises<graphql_validation::refused>([&] { moved.validate("{ \xff }"); }));
   moved = schema("type Query { other: Int }");
   want(!moved.validate("{ other }").reported);

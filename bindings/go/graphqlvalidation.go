@@ -31,8 +31,8 @@ import (
 	"encoding/json"
 	"errors"
 	"fmt"
-	"runtime"
 	"strings"
+	"sync"
 	"unsafe"
 )
 
@@ -64,11 +64,25 @@ type Report struct {
 	Message string
 	// Rule is the name of the broken rule; "Syntax" where the text is no document.
 	Rule string
-	// Locations has where it is, if it has a place. A second one is the first of a repetition, or the other of two in conflict.
+	// Locations has where it is, if it has a place: one location.
 	Locations []Location
 	// Span is what it is about, if it has a place.
 	Span *Span
 	// File is the file of the schema, if it has a name; "<built-in>" for the definitions that every schema has.
+	File string
+	// Related has notes on other places.
+	Related []Note
+	// Help is what helps, in words.
+	Help []string
+}
+
+// A Note is about another place of a report.
+type Note struct {
+	Message string
+	Location
+	// Span is what it is about.
+	Span Span
+	// File is its file, as of a report.
 	File string
 }
 
@@ -100,82 +114,112 @@ func (e *SchemaReported) Error() string {
 	return "the schema is reported: " + strings.Join(messages, "; ")
 }
 
-// A Schema is a schema that is read once, and documents against it. Goroutines may share it: it has a thread of its own, which
-// takes one document after another.
+// A Schema is a schema that is read once, and documents against it. Goroutines may share it and call it at once: the schema is
+// in memory once.
 type Schema struct {
-	questions chan question
-	closed    chan struct{}
+	lock sync.Mutex
+	// root is nil once the schema is closed. The lock is held to share it and to look for a handle that no call uses.
+	root *handle
+	idle []*handle
 }
 
-type question struct {
-	document string
-	options  Options
-	answers  chan answered
+// A handle is a handle of the library, and room for the beginning of an answer. It is used by one call at a time.
+type handle struct {
+	kept *C.graphql_schema
+	out  *C.uint8_t
 }
 
-type answered struct {
-	reports []Report
-	err     error
+func newHandle() (*handle, error) {
+	made := &handle{(*C.graphql_schema)(C.calloc(1, C.sizeof_graphql_schema)), (*C.uint8_t)(C.malloc(room))}
+	if made.kept == nil || made.out == nil {
+		C.free(unsafe.Pointer(made.kept))
+		C.free(unsafe.Pointer(made.out))
+		return nil, ErrOutOfMemory
+	}
+	return made, nil
+}
+
+func (h *handle) free() {
+	C.graphql_schema_free(h.kept)
+	C.free(unsafe.Pointer(h.kept))
+	C.free(unsafe.Pointer(h.out))
+}
+
+// share gives another handle over the same schema.
+func (h *handle) share() (*handle, error) {
+	other, err := newHandle()
+	if err != nil {
+		return nil, err
+	}
+	if err := errorOf(C.graphql_schema_share(h.kept, other.kept)); err != nil {
+		other.free()
+		return nil, err
+	}
+	return other, nil
 }
 
 // ReadSchema reads a schema. If something is reported of it, the error is a *SchemaReported.
 func ReadSchema(files []File, options Options) (*Schema, error) {
-	schema := &Schema{questions: make(chan question), closed: make(chan struct{})}
-	read := make(chan error)
-	go schema.serve(files, options, read)
-	if err := <-read; err != nil {
+	root, err := newHandle()
+	if err != nil {
 		return nil, err
 	}
-	return schema, nil
+	if err := root.read(files, options); err != nil {
+		root.free()
+		return nil, err
+	}
+	return &Schema{root: root}, nil
 }
 
 // Validate tells what is reported of a document: nothing, if it is valid.
 func (s *Schema) Validate(document string, options Options) ([]Report, error) {
-	answers := make(chan answered, 1)
-	select {
-	case s.questions <- question{document, options, answers}:
-		it := <-answers
-		return it.reports, it.err
-	case <-s.closed:
+	own, err := s.take()
+	if err != nil {
+		return nil, err
+	}
+	defer s.give(own)
+	return own.validate(document, options)
+}
+
+// Close gives back the memory of the schema, once the calls that are under way have ended.
+func (s *Schema) Close() {
+	s.lock.Lock()
+	defer s.lock.Unlock()
+	if s.root != nil {
+		s.root.free()
+	}
+	for _, it := range s.idle {
+		it.free()
+	}
+	s.root, s.idle = nil, nil
+}
+
+// take gives a handle for one call: one that no call uses, or another one over the same schema.
+func (s *Schema) take() (*handle, error) {
+	s.lock.Lock()
+	defer s.lock.Unlock()
+	if s.root == nil {
 		return nil, ErrClosed
 	}
+	if last := len(s.idle) - 1; last >= 0 {
+		own := s.idle[last]
+		s.idle = s.idle[:last]
+		return own, nil
+	}
+	return s.root.share()
 }
 
-// Close gives back the memory of the schema. It is called once.
-func (s *Schema) Close() {
-	close(s.closed)
-}
-
-// serve keeps the handle on the thread that reads the schema, as the library wants.
-func (s *Schema) serve(files []File, options Options, read chan<- error) {
-	runtime.LockOSThread()
-	defer runtime.UnlockOSThread()
-	handle := (*C.graphql_schema)(C.calloc(1, C.sizeof_graphql_schema))
-	out := (*C.uint8_t)(C.malloc(room))
-	if handle == nil || out == nil {
-		read <- ErrOutOfMemory
-		return
-	}
-	defer C.free(unsafe.Pointer(handle))
-	defer C.free(unsafe.Pointer(out))
-	defer C.graphql_schema_free(handle)
-	err := readFiles(handle, files, options, out)
-	read <- err
-	if err != nil {
-		return
-	}
-	for {
-		select {
-		case it := <-s.questions:
-			reports, err := validate(handle, it.document, it.options, out)
-			it.answers <- answered{reports, err}
-		case <-s.closed:
-			return
-		}
+func (s *Schema) give(own *handle) {
+	s.lock.Lock()
+	defer s.lock.Unlock()
+	if s.root == nil {
+		own.free()
+	} else {
+		s.idle = append(s.idle, own)
 	}
 }
 
-func readFiles(handle *C.graphql_schema, files []File, options Options, out *C.uint8_t) error {
+func (h *handle) read(files []File, options Options) error {
 	var bytes strings.Builder
 	lengths := make([]C.size_t, 0, 2*len(files)+1)
 	for _, file := range files {
@@ -186,20 +230,20 @@ func readFiles(handle *C.graphql_schema, files []File, options Options, out *C.u
 	given := C.CString(bytes.String())
 	defer C.free(unsafe.Pointer(given))
 	passed := cOptions(options)
-	outcome := C.read_schema(given, &lengths[0], C.size_t(len(files)), &passed, handle, out, room)
-	reports, err := reportsOf(handle, outcome, out)
+	outcome := C.read_schema(given, &lengths[0], C.size_t(len(files)), &passed, h.kept, h.out, room)
+	reports, err := h.reports(outcome)
 	if err == nil && len(reports) > 0 {
 		err = &SchemaReported{reports}
 	}
 	return err
 }
 
-func validate(handle *C.graphql_schema, document string, options Options, out *C.uint8_t) ([]Report, error) {
+func (h *handle) validate(document string, options Options) ([]Report, error) {
 	given := C.CString(document)
 	defer C.free(unsafe.Pointer(given))
 	passed := cOptions(options)
-	outcome := C.graphql_schema_validate(handle, (*C.uint8_t)(unsafe.Pointer(given)), C.size_t(len(document)), &passed, out, room)
-	return reportsOf(handle, outcome, out)
+	outcome := C.graphql_schema_validate(h.kept, (*C.uint8_t)(unsafe.Pointer(given)), C.size_t(len(document)), &passed, h.out, room)
+	return h.reports(outcome)
 }
 
 func cOptions(options Options) C.graphql_options {
@@ -213,23 +257,29 @@ func cOptions(options Options) C.graphql_options {
 	}
 }
 
-// reportsOf reads the answer, of which the beginning was written to out. The handle has the rest.
-func reportsOf(handle *C.graphql_schema, outcome C.graphql_outcome, out *C.uint8_t) ([]Report, error) {
-	switch outcome.status {
-	case C.GRAPHQL_ACCEPTED:
-		return nil, nil
-	case C.GRAPHQL_REPORTED:
+// errorOf says why there is no answer, if there is none.
+func errorOf(status C.uint32_t) error {
+	switch status {
+	case C.GRAPHQL_ACCEPTED, C.GRAPHQL_REPORTED:
+		return nil
 	case C.GRAPHQL_OUT_OF_MEMORY:
-		return nil, ErrOutOfMemory
+		return ErrOutOfMemory
 	case C.GRAPHQL_NOT_UTF8:
-		return nil, ErrNotUTF8
+		return ErrNotUTF8
 	default:
-		return nil, fmt.Errorf("graphqlvalidation: status %d", outcome.status)
+		return fmt.Errorf("graphqlvalidation: status %d", status)
+	}
+}
+
+// reports reads the answer, of which the beginning was written to out. The handle has the rest.
+func (h *handle) reports(outcome C.graphql_outcome) ([]Report, error) {
+	if err := errorOf(outcome.status); err != nil || outcome.status == C.GRAPHQL_ACCEPTED {
+		return nil, err
 	}
 	answer := make([]byte, outcome.length)
-	copy(answer, unsafe.Slice((*byte)(unsafe.Pointer(out)), room))
+	copy(answer, unsafe.Slice((*byte)(unsafe.Pointer(h.out)), room))
 	if rest := len(answer) - room; rest > 0 {
-		C.graphql_schema_answer(handle, room, (*C.uint8_t)(unsafe.Pointer(&answer[room])), C.size_t(rest))
+		C.graphql_schema_answer(h.kept, room, (*C.uint8_t)(unsafe.Pointer(&answer[room])), C.size_t(rest))
 	}
 	return parse(answer)
 }
@@ -240,9 +290,11 @@ func parse(answer []byte) ([]Report, error) {
 			Message    string
 			Locations  []Location
 			Extensions struct {
-				Rule string
-				Span *Span
-				File string
+				Rule    string
+				Span    *Span
+				File    string
+				Related []Note
+				Help    []string
 			}
 		}
 	}
@@ -251,7 +303,8 @@ func parse(answer []byte) ([]Report, error) {
 	}
 	reports := make([]Report, len(object.Errors))
 	for k, it := range object.Errors {
-		reports[k] = Report{it.Message, it.Extensions.Rule, it.Locations, it.Extensions.Span, it.Extensions.File}
+		more := it.Extensions
+		reports[k] = Report{it.Message, more.Rule, it.Locations, more.Span, more.File, more.Related, more.Help}
 	}
 	return reports, nil
 }

@@ -7,6 +7,7 @@ import (
 	"strings"
 	"sync"
 	"testing"
+	"time"
 )
 
 const text = "type Query { pet(id: ID!): Pet } type Pet { name: String }"
@@ -43,8 +44,9 @@ func TestDocumentsAreValidatedAsOftenAsWanted(t *testing.T) {
 	wanted := []Report{{
 		Message:   "the argument `id` is provided multiple times",
 		Rule:      "UniqueArgument",
-		Locations: []Location{{3, 2}, {2, 6}},
+		Locations: []Location{{3, 2}},
 		Span:      &Span{16, 21},
+		Related:   []Note{{Message: "first here", Location: Location{2, 6}, Span: Span{7, 12}}},
 	}}
 	for k := 0; k < 100; k++ {
 		if found := rules(t, schema, valid, Options{}); found != "" {
@@ -53,6 +55,13 @@ func TestDocumentsAreValidatedAsOftenAsWanted(t *testing.T) {
 		if reports, err := schema.Validate(repeated, Options{}); err != nil || !reflect.DeepEqual(reports, wanted) {
 			t.Fatal(reports, err)
 		}
+	}
+}
+
+func TestAReportHasHelp(t *testing.T) {
+	reports, err := read(t, text).Validate("{ pet(id: 1) { nama } }", Options{})
+	if err != nil || len(reports) != 1 || !reflect.DeepEqual(reports[0].Help, []string{"did you mean `name`?"}) {
+		t.Fatal(reports, err)
 	}
 }
 
@@ -124,7 +133,35 @@ func TestAClosedSchemaAnswersNothing(t *testing.T) {
 		t.Fatal(err)
 	}
 	schema.Close()
+	schema.Close()
 	if _, err := schema.Validate(valid, Options{}); err != ErrClosed {
 		t.Fatal(err)
 	}
+}
+
+func TestASchemaMayBeClosedWhileGoroutinesCallIt(t *testing.T) {
+	schema, err := ReadSchema([]File{{Text: text}}, Options{})
+	if err != nil {
+		t.Fatal(err)
+	}
+	var all sync.WaitGroup
+	for k := 0; k < 8; k++ {
+		all.Add(1)
+		go func() {
+			defer all.Done()
+			for {
+				reports, err := schema.Validate(valid, Options{})
+				if err == ErrClosed {
+					return
+				}
+				if err != nil || len(reports) != 0 {
+					t.Error(reports, err)
+					return
+				}
+			}
+		}()
+	}
+	time.Sleep(10 * time.Millisecond)
+	schema.Close()
+	all.Wait()
 }

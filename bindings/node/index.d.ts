@@ -9,7 +9,7 @@ export interface Report {
   message: string;
   /** The name of the broken rule; `Syntax` where the text is no document. */
   rule: string;
-  /** Where it is, if it has a place. A second one is the first of a repetition, or the other of two in conflict. */
+  /** Where it is, if it has a place: one location. */
   locations: Location[];
   /** The bytes of the text, in UTF-8, that it is about. */
   span: { start: number; end: number } | null;
@@ -17,6 +17,19 @@ export interface Report {
   file: string | null;
   /** Whether it is about the schema. */
   inSchema: boolean;
+  /** Notes on other places. */
+  related: Note[];
+  /** What helps, in words. */
+  help: string[];
+}
+
+/** A note on another place of a report. */
+export interface Note extends Location {
+  message: string;
+  /** Its file, as of a report. */
+  file: string | null;
+  /** The bytes of the text, in UTF-8, that it is about. */
+  span: { start: number; end: number };
 }
 
 /** What a call may take. 0 and a missing number say the default, which `include/graphql_validation.h` states. */

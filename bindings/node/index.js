@@ -13,9 +13,13 @@ class SchemaReported extends Error {
   }
 }
 
+function noteOf({ message, file = null, line, column, span }) {
+  return { message, file, line, column, span };
+}
+
 function reportOf(error, inSchema) {
-  const { rule, span = null, file = null } = error.extensions;
-  return { message: error.message, rule, locations: error.locations || [], span, file, inSchema };
+  const { rule, span = null, file = null, related = [], help = [] } = error.extensions;
+  return { message: error.message, rule, locations: error.locations || [], span, file, inSchema, related: related.map(noteOf), help };
 }
 
 function reportsOf(answer, inSchema) {

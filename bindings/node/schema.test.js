@@ -16,13 +16,20 @@ test("documents are validated as often as wanted", () => {
       {
         message: "the argument `id` is provided multiple times",
         rule: "UniqueArgument",
-        locations: [{ line: 3, column: 2 }, { line: 2, column: 6 }],
+        locations: [{ line: 3, column: 2 }],
         span: { start: 16, end: 21 },
         file: null,
         inSchema: false,
+        related: [{ message: "first here", file: null, line: 2, column: 6, span: { start: 7, end: 12 } }],
+        help: [],
       },
     ]);
   }
+});
+
+test("a report has help", () => {
+  const [report] = new Schema(TEXT).validate("{ pet(id: 1) { nama } }");
+  assert.deepStrictEqual(report.help, ["did you mean `name`?"]);
 });
 
 test("answers longer than the room are whole", () => {
@@ -38,6 +45,7 @@ test("a schema that does not hold is thrown, and reports name its files", () => 
     assert.ok(error instanceof SchemaReported);
     assert.strictEqual(error.reports.length, 1);
     assert.strictEqual(error.reports[0].file, "pet.graphql");
+    assert.strictEqual(error.reports[0].related[0].file, "pet.graphql");
     return error.reports[0].inSchema;
   });
 });

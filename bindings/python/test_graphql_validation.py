@@ -3,6 +3,7 @@ import unittest
 
 from graphql_validation import (
     Location,
+    Note,
     Options,
     Report,
     Schema,
@@ -26,12 +27,17 @@ class Calls(unittest.TestCase):
         repeated = Report(
             message="the argument `id` is provided multiple times",
             rule="UniqueArgument",
-            locations=(Location(3, 2), Location(2, 6)),
+            locations=(Location(3, 2),),
             span=(16, 21),
             in_schema=False,
+            related=(Note("first here", Location(2, 6), (7, 12)),),
         )
         self.assertEqual(validate(SCHEMA, REPEATED), [repeated])
         self.assertEqual(validate_all(SCHEMA, [VALID, REPEATED, VALID]), [[], [repeated], []])
+
+    def test_a_report_has_help(self):
+        [report] = validate(SCHEMA, "{ pet(id: 1) { nama } }")
+        self.assertEqual(report.help, ("did you mean `name`?",))
 
     def test_no_documents_have_no_reports(self):
         self.assertEqual(validate_all(SCHEMA, []), [])
@@ -123,38 +129,53 @@ class Schemas(unittest.TestCase):
             self.assertEqual(len(first), 3)
             self.assertEqual(schema.validate(wrong, Options(max_reports=2)), first[:2])
 
-    def test_a_schema_belongs_to_its_thread_until_it_is_closed(self):
+    def test_a_closed_schema_is_refused(self):
         schema = Schema(SCHEMA)
-        raised = []
-
-        def call():
-            try:
-                schema.validate(VALID)
-            except RuntimeError:
-                raised.append(True)
-
-        thread = threading.Thread(target=call)
-        thread.start()
-        thread.join()
-        self.assertEqual(raised, [True])
+        schema.validate(VALID)
         schema.close()
         schema.close()
         with self.assertRaises(ValueError):
             schema.validate(VALID)
 
-    def test_threads_have_schemas_of_their_own(self):
-        counts = []
+    def test_threads_share_a_schema(self):
+        schema = Schema(SCHEMA)
+        wanted = validate(SCHEMA, REPEATED)
+        right = []
 
         def call():
-            with Schema(SCHEMA) as schema:
-                counts.append(sum(len(schema.validate(REPEATED)) for _ in range(50)))
+            for _ in range(50):
+                right.append(schema.validate(VALID) == [] and schema.validate(REPEATED) == wanted)
 
         threads = [threading.Thread(target=call) for _ in range(8)]
         for thread in threads:
             thread.start()
         for thread in threads:
             thread.join()
-        self.assertEqual(counts, [50] * 8)
+        self.assertEqual(right, [True] * 400)
+
+    def test_a_schema_may_be_closed_while_threads_call_it(self):
+        schema = Schema(SCHEMA)
+        called = threading.Barrier(9)
+        ended = []
+
+        def call():
+            called.wait()
+            while True:
+                try:
+                    if schema.validate(VALID):
+                        return
+                except ValueError:
+                    ended.append(True)
+                    return
+
+        threads = [threading.Thread(target=call) for _ in range(8)]
+        for thread in threads:
+            thread.start()
+        called.wait()
+        schema.close()
+        for thread in threads:
+            thread.join()
+        self.assertEqual(ended, [True] * 8)
 
 
 if __name__ == "__main__":

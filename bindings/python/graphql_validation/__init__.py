@@ -9,12 +9,12 @@ import ctypes
 import json
 import os
 import threading
-import warnings
 from collections.abc import Mapping
 from dataclasses import dataclass
 
 __all__ = [
     "Location",
+    "Note",
     "Options",
     "Report",
     "Schema",
@@ -39,6 +39,18 @@ class Location:
 
 
 @dataclass(frozen=True)
+class Note:
+    """A note on another place of a report."""
+
+    message: str
+    location: Location
+    span: tuple[int, int]
+    """The bytes of the text, in UTF-8, that it is about."""
+    file: str | None = None
+    """Its file, as of a report."""
+
+
+@dataclass(frozen=True)
 class Report:
     """What is wrong with a text."""
 
@@ -46,13 +58,17 @@ class Report:
     rule: str
     """The name of the broken rule; `Syntax` where the text is no document."""
     locations: tuple[Location, ...]
-    """Where it is, if it has a place. A second one is the first of a repetition, or the other of two in conflict."""
+    """Where it is, if it has a place: one location."""
     span: tuple[int, int] | None
     """The bytes of the text, in UTF-8, that it is about."""
     in_schema: bool
     """Whether it is about the schema. The document was then not looked at."""
     file: str | None = None
     """The file of the schema, if it has a name; `<built-in>` for the definitions that every schema has."""
+    related: tuple[Note, ...] = ()
+    """Notes on other places."""
+    help: tuple[str, ...] = ()
+    """What helps, in words."""
 
 
 @dataclass(frozen=True)
@@ -117,6 +133,8 @@ def _load() -> ctypes.CDLL:
         function = getattr(library, name)
         function.argtypes = given + [ctypes.c_char_p, ctypes.c_size_t]
         function.restype = _Outcome
+    library.graphql_schema_share.argtypes = [handle, handle]
+    library.graphql_schema_share.restype = ctypes.c_uint32
     library.graphql_schema_answer.argtypes = [handle, ctypes.c_size_t, ctypes.c_char_p, ctypes.c_size_t]
     library.graphql_schema_answer.restype = ctypes.c_size_t
     library.graphql_schema_free.argtypes = [handle]
@@ -130,12 +148,12 @@ def _load() -> ctypes.CDLL:
 _library = _load()
 
 
-def _check(outcome: _Outcome) -> None:
+def _check(status: int) -> None:
     """Raises if there is no answer."""
-    if outcome.status == _STATUS_NO_MEMORY:
+    if status == _STATUS_NO_MEMORY:
         raise MemoryError
-    if outcome.status > _STATUS_REPORTED:
-        raise ValueError(f"the library refused what it was given: status {outcome.status}")
+    if status > _STATUS_REPORTED:
+        raise ValueError(f"the library refused what it was given: status {status}")
 
 
 def _call(function, *given) -> tuple[_Outcome, object]:
@@ -144,10 +162,20 @@ def _call(function, *given) -> tuple[_Outcome, object]:
     while True:
         out = ctypes.create_string_buffer(room)
         outcome = function(*given, out, room)
-        _check(outcome)
+        _check(outcome.status)
         if outcome.length <= room:
             return outcome, json.loads(out.raw[: outcome.length])
         room = outcome.length
+
+
+def _note(note: dict) -> Note:
+    span = note["span"]
+    return Note(
+        message=note["message"],
+        location=Location(note["line"], note["column"]),
+        span=(span["start"], span["end"]),
+        file=note.get("file"),
+    )
 
 
 def _report(error: dict, in_schema: bool) -> Report:
@@ -160,6 +188,8 @@ def _report(error: dict, in_schema: bool) -> Report:
         span=(span["start"], span["end"]) if span else None,
         in_schema=in_schema,
         file=extensions.get("file"),
+        related=tuple(_note(note) for note in extensions.get("related", [])),
+        help=tuple(extensions.get("help", [])),
     )
 
 
@@ -198,11 +228,46 @@ def validate_all(schema: str, documents: list[str]) -> list[list[Report]]:
     return [_reports(outcome, it) for it in answer]
 
 
+class _Kept:
+    """A handle of the library, and room for the beginning of an answer. It is used by one call at a time."""
+
+    def __init__(self) -> None:
+        self._handle = _Handle()
+        self._out = ctypes.create_string_buffer(_ROOM)
+
+    def __del__(self) -> None:
+        _library.graphql_schema_free(self._handle)
+
+    def read(self, files: list[tuple[bytes, bytes]], options: _Options) -> list[Report]:
+        given = (_File * max(len(files), 1))()
+        for it, (name, content) in zip(given, files):
+            it.name, it.name_length, it.text, it.text_length = name, len(name), content, len(content)
+        outcome = _library.graphql_schema_read(given, len(files), options, self._handle, self._out, _ROOM)
+        return self._answer(outcome)
+
+    def share(self) -> _Kept:
+        other = _Kept()
+        _check(_library.graphql_schema_share(self._handle, other._handle))
+        return other
+
+    def validate(self, text: bytes, options: _Options) -> list[Report]:
+        outcome = _library.graphql_schema_validate(self._handle, text, len(text), options, self._out, _ROOM)
+        return self._answer(outcome)
+
+    def _answer(self, outcome: _Outcome) -> list[Report]:
+        _check(outcome.status)
+        written = self._out.raw[: outcome.length]
+        if outcome.length > _ROOM:
+            rest = ctypes.create_string_buffer(outcome.length - _ROOM)
+            _library.graphql_schema_answer(self._handle, _ROOM, rest, len(rest))
+            written += rest.raw
+        return _reports(outcome, json.loads(written))
+
+
 class Schema:
     """A schema that is read once, and documents against it.
 
-    Its calls belong to the thread that made it: another thread makes a Schema of its own. Close it on that thread, as `with`
-    does.
+    Threads may share it and call it at once: the schema is in memory once, and a call lets other threads run.
     """
 
     def __init__(
@@ -218,29 +283,29 @@ class Schema:
         """
         if (text is None) == (files is None):
             raise TypeError("a schema has either a text or files")
-        self._thread = threading.get_ident()
-        self._handle: _Handle | None = _Handle()
-        self._out = ctypes.create_string_buffer(_ROOM)
+        self._lock = threading.Lock()
         self._options = _options(options)
         given = [("", text)] if files is None else list(files.items())
-        reports = self._read([(name.encode(), content.encode()) for name, content in given])
+        root = _Kept()
+        reports = root.read([(name.encode(), content.encode()) for name, content in given], self._options)
         if reports:
-            self.close()
             raise SchemaReported(reports)
+        self._root: _Kept | None = root
+        self._idle: list[_Kept] = []
 
     def validate(self, document: str, options: Options | None = None) -> list[Report]:
         """What is reported of a document against this schema: nothing, if it is valid."""
-        handle = self._open()
         text = document.encode()
-        given = self._options if options is None else _options(options)
-        outcome = _library.graphql_schema_validate(handle, text, len(text), given, self._out, _ROOM)
-        return self._answer(handle, outcome)
+        kept = self._take()
+        reports = kept.validate(text, self._options if options is None else _options(options))
+        self._give(kept)
+        return reports
 
     def close(self) -> None:
-        """Gives back the memory of the schema. It cannot be used again."""
-        if self._handle is not None:
-            _library.graphql_schema_free(self._open())
-            self._handle = None
+        """Gives back the memory of the schema, once the calls that are under way have ended. It cannot be used again."""
+        with self._lock:
+            self._root = None
+            self._idle.clear()
 
     def __enter__(self) -> Schema:
         return self
@@ -248,37 +313,17 @@ class Schema:
     def __exit__(self, *_: object) -> None:
         self.close()
 
-    def __del__(self) -> None:
-        if getattr(self, "_handle", None) is None:
-            return
-        if threading.get_ident() == self._thread:
-            self.close()
-        else:
-            warnings.warn("a Schema was not closed on its thread: its memory is lost", ResourceWarning)
+    def _take(self) -> _Kept:
+        """A handle for one call: one that no call uses, or another one over the same schema."""
+        with self._lock:
+            if self._root is None:
+                raise ValueError("the Schema is closed")
+            return self._idle.pop() if self._idle else self._root.share()
 
-    def _open(self) -> _Handle:
-        if threading.get_ident() != self._thread:
-            raise RuntimeError("a Schema is used by the thread that made it alone")
-        if self._handle is None:
-            raise ValueError("the Schema is closed")
-        return self._handle
-
-    def _read(self, files: list[tuple[bytes, bytes]]) -> list[Report]:
-        handle = self._open()
-        given = (_File * max(len(files), 1))()
-        for it, (name, content) in zip(given, files):
-            it.name, it.name_length, it.text, it.text_length = name, len(name), content, len(content)
-        outcome = _library.graphql_schema_read(given, len(files), self._options, handle, self._out, _ROOM)
-        return self._answer(handle, outcome)
-
-    def _answer(self, handle: _Handle, outcome: _Outcome) -> list[Report]:
-        _check(outcome)
-        written = self._out.raw[: outcome.length]
-        if outcome.length > _ROOM:
-            rest = ctypes.create_string_buffer(outcome.length - _ROOM)
-            _library.graphql_schema_answer(handle, _ROOM, rest, len(rest))
-            written += rest.raw
-        return _reports(outcome, json.loads(written))
+    def _give(self, kept: _Kept) -> None:
+        with self._lock:
+            if self._root is not None:
+                self._idle.append(kept)
 
 
 def _options(options: Options) -> _Options:

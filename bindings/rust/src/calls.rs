@@ -83,6 +83,7 @@ extern "C" {
         out: *mut u8,
         out_length: usize,
     ) -> Outcome;
+    fn graphql_schema_share(schema: *mut SchemaHandle, other: *mut SchemaHandle) -> u32;
     fn graphql_schema_answer(
         schema: *mut SchemaHandle,
         from: usize,
@@ -96,21 +97,27 @@ extern "C" {
 /// An answer, and whether it is about the schema.
 pub(crate) type Answer = (String, bool);
 
-/// What the library keeps of a schema. It has a pointer, so it stays on its thread.
+/// A handle of the library, which keeps a schema and the last answer.
 pub(crate) struct Kept {
     handle: SchemaHandle,
-    out: Vec<u8>,
 }
 
+// SAFETY: a handle may go to another thread, and what handles share is shared among threads.
+unsafe impl Send for Kept {}
+
 impl Kept {
+    fn new() -> Kept {
+        Kept {
+            handle: SchemaHandle { at: null_mut() },
+        }
+    }
+
     /// Reads the schema of these files, and answers what is reported of it.
     pub(crate) fn read(files: &[File<'_>], options: &Options) -> Result<(Kept, Answer), Error> {
         check_version()?;
         let given: Vec<CFile> = files.iter().map(c_file).collect();
-        let mut kept = Kept {
-            handle: SchemaHandle { at: null_mut() },
-            out: vec![0; ROOM],
-        };
+        let mut kept = Kept::new();
+        let mut out = [0; ROOM];
         // SAFETY: pointers and lengths are those of slices that are borrowed for the call; the handle is zeroed, and it and
         // `out` are no part of the others.
         let outcome = unsafe {
@@ -119,35 +126,44 @@ impl Kept {
                 given.len(),
                 &c_options(options),
                 &mut kept.handle,
-                kept.out.as_mut_ptr(),
-                kept.out.len(),
+                out.as_mut_ptr(),
+                out.len(),
             )
         };
-        let answer = kept.answer(outcome)?;
+        let answer = kept.answer(outcome, &out)?;
         Ok((kept, answer))
+    }
+
+    /// Another handle over the schema that is kept, which is in memory once.
+    pub(crate) fn share(&mut self) -> Result<Kept, Error> {
+        let mut other = Kept::new();
+        // SAFETY: two handles, which are borrowed for this call alone.
+        check_status(unsafe { graphql_schema_share(&mut self.handle, &mut other.handle) })?;
+        Ok(other)
     }
 
     /// Validates a document against the schema that is kept.
     pub(crate) fn validate(&mut self, document: &str, options: &Options) -> Result<Answer, Error> {
-        // SAFETY: as in `read`; the handle was read on this thread, and is borrowed for this call alone.
+        let mut out = [0; ROOM];
+        // SAFETY: as in `read`; the handle is borrowed for this call alone.
         let outcome = unsafe {
             graphql_schema_validate(
                 &mut self.handle,
                 document.as_ptr(),
                 document.len(),
                 &c_options(options),
-                self.out.as_mut_ptr(),
-                self.out.len(),
+                out.as_mut_ptr(),
+                out.len(),
             )
         };
-        self.answer(outcome)
+        self.answer(outcome, &out)
     }
 
-    /// The whole answer of the last call, of which the beginning was written.
-    fn answer(&mut self, outcome: Outcome) -> Result<Answer, Error> {
-        check_status(&outcome)?;
-        let written = outcome.length.min(self.out.len());
-        let mut answer = self.out[..written].to_vec();
+    /// The whole answer of the last call, of which the beginning was written to `out`.
+    fn answer(&mut self, outcome: Outcome, out: &[u8]) -> Result<Answer, Error> {
+        check_status(outcome.status)?;
+        let written = outcome.length.min(out.len());
+        let mut answer = out[..written].to_vec();
         answer.resize(outcome.length, 0);
         let rest = &mut answer[written..];
         if !rest.is_empty() {
@@ -162,7 +178,7 @@ impl Kept {
 
 impl Drop for Kept {
     fn drop(&mut self) {
-        // SAFETY: the handle is zeroed or was read on this thread, and no call uses it.
+        // SAFETY: no call uses the handle.
         unsafe { graphql_schema_free(&mut self.handle) }
     }
 }
@@ -251,7 +267,7 @@ fn answer(call: impl Fn(&mut [u8]) -> Outcome) -> Result<Answer, Error> {
     let mut out = vec![0; ROOM];
     loop {
         let outcome = call(&mut out);
-        check_status(&outcome)?;
+        check_status(outcome.status)?;
         if outcome.length <= out.len() {
             out.truncate(outcome.length);
             return text(out, &outcome);
@@ -269,8 +285,8 @@ fn check_version() -> Result<(), Error> {
     }
 }
 
-fn check_status(outcome: &Outcome) -> Result<(), Error> {
-    match outcome.status {
+fn check_status(status: u32) -> Result<(), Error> {
+    match status {
         0 | 1 => Ok(()),
         3 => Err(Error::OutOfMemory),
         _ => Err(Error::UnknownAnswer),

@@ -23,13 +23,30 @@ pub struct Report {
     pub message: String,
     /// The name of the broken rule; `Syntax` where the text is no document.
     pub rule: String,
-    /// Where it is, if it has a place. A second one is the first of a repetition, or the other of two in conflict.
+    /// Where it is, if it has a place: one location.
     pub locations: Vec<Location>,
     /// The bytes of the text that it is about, if it has a place.
     pub span: Option<std::ops::Range<usize>>,
     /// Whether it is about the schema. No document was then looked at.
     pub in_schema: bool,
     /// The file of the schema, if it has a name; `<built-in>` for the definitions that every schema has.
+    pub file: Option<String>,
+    /// Notes on other places.
+    pub related: Vec<Note>,
+    /// What helps, in words.
+    pub help: Vec<String>,
+}
+
+/// A note on another place of a report.
+#[derive(Clone, Debug, PartialEq, Eq)]
+pub struct Note {
+    /// What is there.
+    pub message: String,
+    /// Where it is.
+    pub location: Location,
+    /// The bytes of the text that it is about.
+    pub span: std::ops::Range<usize>,
+    /// Its file, as of a report.
     pub file: Option<String>,
 }
 
@@ -78,25 +95,43 @@ fn reports(value: &Value, in_schema: bool) -> Result<Vec<Report>, Error> {
 
 fn report(error: &Value, in_schema: bool) -> Option<Report> {
     let extensions = error.member("extensions")?;
-    let places = error.member("locations").and_then(Value::items);
     Some(Report {
         message: error.member("message")?.text()?.to_owned(),
         rule: extensions.member("rule")?.text()?.to_owned(),
-        locations: places
-            .unwrap_or(&[])
-            .iter()
-            .map(location)
-            .collect::<Option<_>>()?,
+        locations: items(error, "locations").iter().map(location).collect::<Option<_>>()?,
         span: match extensions.member("span") {
-            Some(span) => Some(span.member("start")?.number()?..span.member("end")?.number()?),
+            Some(span) => Some(range(span)?),
             None => None,
         },
         in_schema,
-        file: extensions
-            .member("file")
-            .and_then(Value::text)
-            .map(str::to_owned),
+        file: file(extensions),
+        related: items(extensions, "related").iter().map(note).collect::<Option<_>>()?,
+        help: items(extensions, "help")
+            .iter()
+            .map(|it| it.text().map(str::to_owned))
+            .collect::<Option<_>>()?,
     })
+}
+
+fn note(value: &Value) -> Option<Note> {
+    Some(Note {
+        message: value.member("message")?.text()?.to_owned(),
+        location: location(value)?,
+        span: range(value.member("span")?)?,
+        file: file(value),
+    })
+}
+
+fn items<'a>(value: &'a Value, name: &str) -> &'a [Value] {
+    value.member(name).and_then(Value::items).unwrap_or(&[])
+}
+
+fn file(value: &Value) -> Option<String> {
+    value.member("file").and_then(Value::text).map(str::to_owned)
+}
+
+fn range(span: &Value) -> Option<std::ops::Range<usize>> {
+    Some(span.member("start")?.number()?..span.member("end")?.number()?)
 }
 
 fn location(value: &Value) -> Option<Location> {

@@ -2,12 +2,12 @@
 
 use crate::calls::Kept;
 use crate::{read, reports, Error, Report};
-use std::cell::RefCell;
+use std::sync::{Arc, Mutex, PoisonError};
 
 /// A schema that is read once, and documents against it.
 ///
-/// It stays on the thread that read it; each thread reads one of its own. Calls need 2 MiB of stack, which a thread of Rust
-/// has, or less with a lower depth.
+/// Threads may share it, by reference or by clones, and call it at once; the schema is in memory once. Calls need 2 MiB of
+/// stack, which a thread of Rust has, or less with a lower depth.
 ///
 /// ```
 /// let schema = graphql_validation::Schema::read("type Query { a: Int }")?;
@@ -16,12 +16,17 @@ use std::cell::RefCell;
 /// # Ok::<(), graphql_validation::Error>(())
 /// ```
 ///
-/// ```compile_fail
-/// let schema = graphql_validation::Schema::read("type Query { a: Int }").unwrap();
-/// std::thread::spawn(move || schema.validate("{ a }"));
 /// ```
+/// let schema = graphql_validation::Schema::read("type Query { a: Int }")?;
+/// let clone = schema.clone();
+/// let other = std::thread::spawn(move || clone.validate("{ a }"));
+/// assert_eq!(other.join().unwrap(), schema.validate("{ a }"));
+/// # Ok::<(), graphql_validation::Error>(())
+/// ```
+#[derive(Clone)]
 pub struct Schema {
-    kept: RefCell<Kept>,
+    /// Each call has a handle of its own over the schema. The lock is held to share this one alone.
+    root: Arc<Mutex<Kept>>,
     options: Options,
 }
 
@@ -62,7 +67,7 @@ impl Schema {
             return Err(Error::SchemaReported(reports(&read(&answer)?, true)?));
         }
         Ok(Schema {
-            kept: RefCell::new(kept),
+            root: Arc::new(Mutex::new(kept)),
             options: *options,
         })
     }
@@ -74,13 +79,18 @@ impl Schema {
 
     /// What is reported of a document within these bounds.
     pub fn validate_within(&self, document: &str, options: &Options) -> Result<Vec<Report>, Error> {
-        let (answer, _) = self.kept.borrow_mut().validate(document, options)?;
+        let (answer, _) = self.handle()?.validate(document, options)?;
         reports(&read(&answer)?, false)
     }
 
     /// The answer on a document as it is: a JSON object, `{"errors":[..]}`.
     pub fn validate_json(&self, document: &str) -> Result<String, Error> {
-        let (answer, _) = self.kept.borrow_mut().validate(document, &self.options)?;
+        let (answer, _) = self.handle()?.validate(document, &self.options)?;
         Ok(answer)
+    }
+
+    fn handle(&self) -> Result<Kept, Error> {
+        let mut root = self.root.lock().unwrap_or_else(PoisonError::into_inner);
+        root.share()
     }
 }

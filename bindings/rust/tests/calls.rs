@@ -1,5 +1,5 @@
 use graphql_validation::{validate, validate_all, validate_json, validate_schema};
-use graphql_validation::{Error, Location, Report};
+use graphql_validation::{Error, Location, Note, Report};
 
 const SCHEMA: &str = "type Query { pet(id: ID!): Pet } type Pet { name: String }";
 
@@ -11,13 +11,17 @@ fn repeated() -> Report {
     Report {
         message: "the argument `id` is provided multiple times".to_owned(),
         rule: "UniqueArgument".to_owned(),
-        locations: vec![
-            Location { line: 3, column: 2 },
-            Location { line: 2, column: 6 },
-        ],
+        locations: vec![Location { line: 3, column: 2 }],
         span: Some(16..21),
         in_schema: false,
         file: None,
+        related: vec![Note {
+            message: "first here".to_owned(),
+            location: Location { line: 2, column: 6 },
+            span: 7..12,
+            file: None,
+        }],
+        help: vec![],
     }
 }
 
@@ -34,6 +38,13 @@ fn a_report_has_its_places() {
     let each = validate_all(SCHEMA, &[VALID, REPEATED, VALID]);
     assert_eq!(each, Ok(vec![vec![], vec![repeated()], vec![]]));
     assert_eq!(validate_all(SCHEMA, &[]), Ok(vec![]));
+}
+
+#[test]
+fn a_report_has_help() {
+    let reports = validate(SCHEMA, "{ pet(id: 1) { nama } }").unwrap();
+    assert_eq!(reports.len(), 1);
+    assert_eq!(reports[0].help, ["did you mean `name`?"]);
 }
 
 #[test]

@@ -42,6 +42,9 @@ fn reports_name_the_files_of_a_schema() {
     };
     assert_eq!(reports.len(), 1);
     assert_eq!(reports[0].file.as_deref(), Some("pet.graphql"));
+    assert_eq!(reports[0].related.len(), 1);
+    assert_eq!(reports[0].related[0].file.as_deref(), Some("pet.graphql"));
+    assert_eq!(reports[0].related[0].span, 5..8);
     let more = File { name: "more.graphql", text: "extend type Query { b: Int }" };
     let schema = Schema::read_files(&[query, more], &options).unwrap();
     assert_eq!(schema.validate("{ a b }"), Ok(vec![]));
@@ -60,17 +63,35 @@ fn options_are_bounds() {
     assert_eq!(schema.validate_within("{ c d e }", &two), Ok(all[..2].to_vec()));
 }
 
+fn answers_in_turn(schema: &Schema) {
+    let wanted = validate(TEXT, REPEATED);
+    for _ in 0..50 {
+        assert_eq!(schema.validate(VALID), Ok(vec![]));
+        assert_eq!(schema.validate(REPEATED), wanted);
+    }
+}
+
 #[test]
-fn threads_have_schemas_of_their_own() {
+fn threads_share_a_schema() {
+    let schema = Schema::read(TEXT).unwrap();
     std::thread::scope(|scope| {
         for _ in 0..8 {
-            scope.spawn(|| {
-                let schema = Schema::read(TEXT).unwrap();
-                for _ in 0..50 {
-                    assert_eq!(schema.validate(VALID), Ok(vec![]));
-                    assert_eq!(schema.validate(REPEATED).map(|it| it.len()), Ok(1));
-                }
-            });
+            scope.spawn(|| answers_in_turn(&schema));
         }
     });
+}
+
+#[test]
+fn clones_outlive_the_thread_that_read_the_schema() {
+    let schema = std::thread::spawn(|| Schema::read(TEXT).unwrap()).join().unwrap();
+    let threads: Vec<_> = (0..8)
+        .map(|_| {
+            let clone = schema.clone();
+            std::thread::spawn(move || answers_in_turn(&clone))
+        })
+        .collect();
+    drop(schema);
+    for thread in threads {
+        thread.join().unwrap();
+    }
 }

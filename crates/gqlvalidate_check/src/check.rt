@@ -5,7 +5,7 @@ ghost use Rattle.graphql_frontend.specs.Documents.{ValidatesDocument};
 ghost use Rattle.graphql_frontend.specs.Schemas.{IsUsable};
 
 use crate::one_document::check_together;
-use crate::project_files::check_files;
+use crate::project_files::{check_files, project_of, report_beside};
 use gqlvalidate_inputs::faults::Fault;
 use gqlvalidate_inputs::sources::{shown_path, text_or_said};
 use gqlvalidate_inputs::statuses::Status;
@@ -18,7 +18,9 @@ use gqlvalidate_runs::schema_reports::{end_unread, reject};
 use gqlvalidate_runs::schema_texts::{schema_subject, sources_of};
 use gqlvalidate_words::Grouping;
 use graphql_documents::documents::Schema;
-use graphql_frontend::{Reports, SchemaReading, abandon, read_schema, validate_document};
+use graphql_frontend::{
+    ProjectReports, Reports, SchemaReading, abandon, read_schema, validate_document,
+};
 use graphql_parser::Bounds;
 use std::alloc::Global;
 use std::io::{Read, Write};
@@ -217,16 +219,30 @@ fn check_text<O: Write>(
             Ok(Status::Accepted)
         }
         Some(reports) => {
-            report_document(alloc, reports, document, bounds, account, output)?;
+            if report_beside(alloc, schema, document, &reports, bounds, account, output)? {
+                return Ok(Status::Reported);
+            }
+            let sources = [document.source];
+            let project = project_of(alloc, schema, sources.as_slice(), &reports, bounds)?;
+            report_document(
+                alloc,
+                reports,
+                project.as_ref(),
+                document,
+                bounds,
+                account,
+                output,
+            )?;
             Ok(Status::Reported)
         }
     }
 }
 
-/// Reports what is wrong with a document.
+/// Reports what is wrong with a document. The operations on which reports depend are taken from what is reported of it as a project.
 pub fn report_document<O: Write>(
     alloc: Global,
     reports: Reports,
+    project: Option<&ProjectReports>,
     document: NamedText<'_>,
     bounds: Bounds,
     account: &mut Account<'_>,
@@ -239,5 +255,12 @@ pub fn report_document<O: Write>(
         texts: texts.as_slice(),
         sources: sources.as_slice(),
     };
-    account.reject(alloc, [reports].as_slice(), subject, bounds, output)
+    account.reject(
+        alloc,
+        [reports].as_slice(),
+        project,
+        subject,
+        bounds,
+        output,
+    )
 }

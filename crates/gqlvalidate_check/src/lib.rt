@@ -2,6 +2,7 @@
 #![tactic(auto)]
 
 mod check;
+mod cuts;
 mod expansions;
 mod one_document;
 mod project_files;

@@ -5,6 +5,7 @@ ghost use Rattle.graphql_frontend.specs.Documents.{ValidatesDocuments};
 ghost use Rattle.graphql_frontend.specs.Schemas.{IsUsable};
 
 use crate::check::Paths;
+use crate::project_files::project_of;
 use gqlvalidate_inputs::faults::Fault;
 use gqlvalidate_inputs::statuses::Status;
 use gqlvalidate_runs::accounts::Account;
@@ -67,7 +68,15 @@ fn check_one<O: Write>(
             Ok(Status::Accepted)
         }
         Some(reports) => {
-            account.reject(alloc, [reports].as_slice(), subject, paths.bounds, output)?;
+            let project = project_of(alloc, schema, &sources, &reports, paths.bounds)?;
+            account.reject(
+                alloc,
+                [reports].as_slice(),
+                project.as_ref(),
+                subject,
+                paths.bounds,
+                output,
+            )?;
             Ok(Status::Reported)
         }
     }

@@ -5,20 +5,22 @@ ghost use Rattle.graphql_frontend.specs.Schemas.{IsUsable};
 ghost use Rattle.graphql_tokens.specs.Lexical.{AreTokens};
 
 use crate::check::Paths;
+use crate::cuts::{Cuts, add_cuts, count_of, cuts_of, with_cuts};
 use gqlvalidate_inputs::faults::Fault;
 use gqlvalidate_inputs::sources::{shown_path, text_or_said};
 use gqlvalidate_inputs::statuses::Status;
 use gqlvalidate_runs::accounts::{Account, FilesOfProject};
+use gqlvalidate_runs::depend_on_operations;
 use gqlvalidate_runs::named_texts::{NamedText, Subject};
 use gqlvalidate_runs::schema_files::named_text;
 use gqlvalidate_runs::schema_texts::sources_of;
 use graphql_documents::documents::Schema;
-use graphql_frontend::{Reports, SourceText};
+use graphql_frontend::{ProjectReports, Reports, SourceText};
 use graphql_parser::Bounds;
 use graphql_project_checking::{check_part_of_project, check_project};
 use graphql_tokens::{Stop, measure};
 use std::alloc::{AllocError, Global};
-use std::collections::BTreeSet;
+use std::collections::{BTreeMap, BTreeSet};
 use std::io::{Read, Write};
 use std::rt::Files;
 
@@ -123,25 +125,115 @@ fn check_texts<O: Write>(
     requires { IsUsable schema.now }
 {
     let sources = sources_of(alloc, project.texts)?;
-    let (own, lent) = sources
+    let (own, _) = sources
         .as_slice()
         .split_at(project.judged.min(sources.len()));
-    let found = reports_of(alloc, schema, own, lent, paths.bounds, project.is_whole)?;
     count_files(account, own);
-    let subject = Subject {
+    let found = reports_of(alloc, schema, project, &sources, paths.bounds)?;
+    let (texts, _) = project
+        .texts
+        .split_at(project.judged.min(project.texts.len()));
+    let cuts = cuts_of(alloc, texts, &found, paths.bounds)?;
+    if cuts.is_empty() {
+        return report_found(alloc, &found, project, &sources, paths, account, output);
+    }
+    drop(found);
+    let counted = check_cut(alloc, schema, project, &cuts, paths, account, output);
+    drop(cuts);
+    counted
+}
+
+/// Validates these texts together, each that is no document with its parts. The answer is how many reports there are.
+fn check_cut<O: Write>(
+    alloc: Global,
+    schema: &Schema,
+    project: Project<'_>,
+    cuts: &Cuts,
+    paths: Paths<'_>,
+    account: &mut Account<'_>,
+    output: &mut O,
+) -> Result<usize, Fault>
+    requires { IsUsable schema.now }
+{
+    let texts = with_cuts(alloc, project.texts, cuts)?;
+    let project = Project {
+        texts: &texts,
+        judged: project.judged.saturating_add(count_of(cuts)),
+        is_whole: project.is_whole,
+    };
+    let sources = sources_of(alloc, &texts)?;
+    let found = reports_of(alloc, schema, project, &sources, paths.bounds)?;
+    report_found(alloc, &found, project, &sources, paths, account, output)
+}
+
+/// Reports what is wrong with a document that cannot be built, for this reason: also with those of its definitions that can be. False, if the reason is
+/// another, or if no part of its text can be read besides.
+pub fn report_beside<O: Write>(
+    alloc: Global,
+    schema: &Schema,
+    document: NamedText<'_>,
+    reports: &Reports,
+    bounds: Bounds,
+    account: &mut Account<'_>,
+    output: &mut O,
+) -> Result<bool, Fault>
+    requires { IsUsable schema.now }
+{
+    let cuts = match reports {
+        Reports::Syntax(errors) => {
+            let mut cuts = BTreeMap::new(alloc);
+            add_cuts(alloc, &[document], errors, bounds, &mut cuts)?;
+            if cuts.is_empty() {
+                return Ok(false);
+            }
+            cuts
+        }
+        Reports::Building(_) | Reports::FirstBuilding(_) => BTreeMap::new(alloc),
+        _ => return Ok(false),
+    };
+    let reported = report_cut(alloc, schema, document, &cuts, bounds, account, output);
+    drop(cuts);
+    reported?;
+    Ok(true)
+}
+
+/// Reports what is wrong with the definitions of a document, and of the parts of its text.
+fn report_cut<O: Write>(
+    alloc: Global,
+    schema: &Schema,
+    document: NamedText<'_>,
+    cuts: &Cuts,
+    bounds: Bounds,
+    account: &mut Account<'_>,
+    output: &mut O,
+) -> Result<usize, Fault>
+    requires { IsUsable schema.now }
+{
+    let texts = with_cuts(alloc, &[document], cuts)?;
+    let sources = sources_of(alloc, &texts)?;
+    let project = Project {
+        texts: &texts,
+        judged: texts.len(),
+        is_whole: true,
+    };
+    let found = reports_of(alloc, schema, project, &sources, bounds)?;
+    account.add_documents(1);
+    let hidden = BTreeSet::new(alloc);
+    let files = FilesOfProject {
+        judged: project.judged,
+        hidden: &hidden,
+    };
+    let subject = subject_of(project, &sources);
+    account.report_together(alloc, &found, subject, files, bounds, output)
+}
+
+/// What reports on these texts are about.
+fn subject_of<'a>(project: Project<'a>, sources: &'a [SourceText<'a>]) -> Subject<'a> {
+    Subject {
         path: project.texts.first().and_then(|text| text.path),
         texts: project.texts,
-        sources: &sources,
-    };
-    report_found(
-        alloc,
-        &found,
-        subject,
-        project.judged,
-        paths,
-        account,
-        output,
-    )
+        sources,
+    }
 }
 
 /// Counts these texts: those that are validated, and those without a token.
@@ -154,21 +246,22 @@ fn count_files(account: &mut Account<'_>, own: &[SourceText<'_>]) {
     account.add_empty(empty);
 }
 
-/// Reports what was found in texts, of which so many are judged. The answer is how many reports there are.
+/// Reports what was found in texts. The answer is how many reports there are.
 fn report_found<O: Write>(
     alloc: Global,
-    found: &[Reports],
-    subject: Subject<'_>,
-    judged: usize,
+    found: &ProjectReports,
+    project: Project<'_>,
+    sources: &[SourceText<'_>],
     paths: Paths<'_>,
     account: &mut Account<'_>,
     output: &mut O,
 ) -> Result<usize, Fault> {
-    let hidden = hidden_files(alloc, subject.texts, paths.hidden)?;
+    let hidden = hidden_files(alloc, project.texts, paths.hidden)?;
     let files = FilesOfProject {
-        judged,
+        judged: project.judged,
         hidden: &hidden,
     };
+    let subject = subject_of(project, sources);
     account.report_together(alloc, found, subject, files, paths.bounds, output)
 }
 
@@ -259,18 +352,36 @@ fn add_named<'a>(files: &'a [ReadFile], named: &mut Vec<NamedText<'a>>) -> Resul
 fn reports_of(
     alloc: Global,
     schema: &Schema,
+    project: Project<'_>,
     sources: &[SourceText<'_>],
-    lent: &[SourceText<'_>],
     bounds: Bounds,
-    is_all: bool,
-) -> Result<Vec<Reports>, Fault>
+) -> Result<ProjectReports, Fault>
     requires { IsUsable schema.now }
 {
-    if is_all {
-        Ok(check_project(alloc, schema, sources, lent, bounds)?)
+    let (own, lent) = sources.split_at(project.judged.min(sources.len()));
+    if project.is_whole {
+        Ok(check_project(alloc, schema, own, lent, bounds)?)
     } else {
-        Ok(check_part_of_project(alloc, schema, sources, lent, bounds)?)
+        Ok(check_part_of_project(alloc, schema, own, lent, bounds)?)
     }
+}
+
+/// What is reported of the texts of a document as a project, if one of these reports on it depends on an operation.
+pub fn project_of(
+    alloc: Global,
+    schema: &Schema,
+    sources: &[SourceText<'_>],
+    reports: &Reports,
+    bounds: Bounds,
+) -> Result<Option<ProjectReports>, Fault>
+    requires { IsUsable schema.now }
+{
+    if !depend_on_operations(alloc, reports)? {
+        return Ok(None);
+    }
+    let lent: [SourceText<'_>; 0] = [];
+    let project = check_project(alloc, schema, sources, lent.as_slice(), bounds)?;
+    Ok(Some(project))
 }
 
 /// The status of a run that shows, or counts, so many reports.

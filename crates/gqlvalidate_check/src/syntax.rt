@@ -72,7 +72,15 @@ fn check_text<O: Write>(
             let mut errors = Vec::new(alloc);
             errors.push(SyntaxReport { file_id, error })?;
             let reports = Reports::Syntax(errors);
-            report_document(alloc, reports, named, Bounds::DEFAULT, account, output)?;
+            report_document(
+                alloc,
+                reports,
+                None,
+                named,
+                Bounds::DEFAULT,
+                account,
+                output,
+            )?;
             Ok(Status::Reported)
         }
     }

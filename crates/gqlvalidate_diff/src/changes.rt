@@ -23,11 +23,12 @@ use graphql_change_formats::{
     ChangeTally, ChangeVerdict, ComparedTexts, ShownChange, json_format, markdown_format,
     text_format, verdict_of,
 };
+use graphql_change_kinds::{BreakingReason, Level, SchemaChange};
 use graphql_change_witnesses::confirmed_witness;
 use graphql_documents::documents::Schema;
 use graphql_frontend::{SchemaReading, abandon, read_schema};
 use graphql_parser::Bounds;
-use graphql_schema_comparison::{BreakingReason, Comparison, Level, SchemaChange, compare_schemas};
+use graphql_schema_comparison::{Comparison, compare_schemas};
 use graphql_schema_ways::Ways;
 use json::Writer;
 use std::alloc::{AllocError, Global};

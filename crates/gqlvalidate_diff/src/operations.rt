@@ -13,10 +13,10 @@ use gqlvalidate_runs::accounts::Account;
 use gqlvalidate_runs::named_texts::{NamedText, Subject};
 use gqlvalidate_runs::schema_files::named_text;
 use gqlvalidate_uses::mark_used;
+use graphql_change_kinds::SchemaChange;
 use graphql_documents::documents::Schema;
 use graphql_frontend::{Reports, SourceText, ValidationError, validate_document};
 use graphql_parser::Bounds;
-use graphql_schema_comparison::SchemaChange;
 use std::alloc::{AllocError, Global};
 use std::io::{Read, Write};
 use std::rt::Files;
@@ -240,6 +240,7 @@ fn add_outcome<'a, O: Write>(
             account.report(
                 alloc,
                 [reports].as_slice(),
+                None,
                 subject,
                 Bounds::DEFAULT,
                 output,

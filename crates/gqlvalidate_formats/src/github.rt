@@ -2,8 +2,9 @@
 
 use gqlvalidate_inputs::printable::printable_character;
 use gqlvalidate_texts::named_texts::{Located, shown_name};
-use gqlvalidate_texts::{Finding, FindingHelp, ShownReport, Texts, UNREADABLE, UNREADABLE_RULE};
-use graphql_notes::Note;
+use gqlvalidate_texts::{
+    Finding, FindingHelp, Note, ShownReport, Texts, UNREADABLE, UNREADABLE_RULE, operation_notes,
+};
 use std::alloc::{AllocError, Global};
 use std::fmt;
 
@@ -29,6 +30,7 @@ pub fn annotations_of(
     for finding in findings {
         push_report(&mut out, &finding.report, texts)?;
         push_notes(&mut out, &finding.notes, texts)?;
+        push_notes(&mut out, &operation_notes(alloc, finding)?, texts)?;
         push_help(&mut out, alloc, finding.help.as_ref())?;
         out.push('\n')?;
     }

@@ -1,8 +1,7 @@
 //! Findings as one JSON object, version 1: `docs/report.schema.json` describes it.
 
 use gqlvalidate_texts::named_texts::{Located, shown_name};
-use gqlvalidate_texts::{Finding, FindingHelp, Run, Texts, file_of};
-use graphql_notes::Note;
+use gqlvalidate_texts::{Finding, FindingHelp, Note, OperationMark, Run, Texts, file_of, place_of};
 use graphql_places::Place;
 use json::Writer;
 use std::alloc::{AllocError, Global};
@@ -76,6 +75,10 @@ fn add_finding(
     json.begin_array()?;
     add_notes(json, &finding.notes, texts)?;
     json.end_array()?;
+    json.key("operations")?;
+    json.begin_array()?;
+    add_operations(json, &finding.operations, texts)?;
+    json.end_array()?;
     json.key("help")?;
     json.begin_array()?;
     add_help(json, alloc, finding.help.as_ref())?;
@@ -100,6 +103,26 @@ fn add_notes(json: &mut Writer, notes: &[Note], texts: Texts<'_>) -> Result<(), 
             json.begin_object()?;
             add_text(json, "file", shown_name(located.path))?;
             add_text(json, "message", note.message.as_str())?;
+            add_span(json, located)?;
+            json.end_object()?;
+        }
+    }
+    Ok(())
+}
+
+/// Adds the operations on which a finding depends.
+fn add_operations(
+    json: &mut Writer,
+    operations: &[&OperationMark],
+    texts: Texts<'_>,
+) -> Result<(), AllocError> {
+    for operation in operations {
+        if let Some(located) = texts.locate(place_of(operation)) {
+            json.begin_object()?;
+            if let Some(name) = &operation.name {
+                add_text(json, "name", name.as_str())?;
+            }
+            add_text(json, "file", shown_name(located.path))?;
             add_span(json, located)?;
             json.end_object()?;
         }

@@ -3,9 +3,9 @@
 use crate::xml::Escaped;
 use gqlvalidate_texts::named_texts::shown_name;
 use gqlvalidate_texts::{
-    Finding, FindingHelp, Run, Texts, UNREADABLE, UNREADABLE_RULE, file_of, of_first_file,
+    Finding, FindingHelp, Note, Run, Texts, UNREADABLE, UNREADABLE_RULE, file_of, of_first_file,
+    operation_notes,
 };
-use graphql_notes::Note;
 use std::alloc::{AllocError, Global};
 
 /// The test cases until now.
@@ -122,6 +122,7 @@ fn push_failures(
         write!(out, "<failure message=\"{message}\" type=\"{rule}\">")?;
         push_place(out, finding, texts)?;
         push_notes(out, &finding.notes, texts)?;
+        push_notes(out, &operation_notes(alloc, finding)?, texts)?;
         push_help(out, alloc, finding.help.as_ref())?;
         writeln!(out, "</failure>")?;
     }

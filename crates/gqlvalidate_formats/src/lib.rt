@@ -16,7 +16,7 @@ pub mod text;
 mod xml;
 
 pub use gqlvalidate_texts::{
-    Finding, Reports, Run, ShownReport, SourceText, Texts, findings_of, json_format, named_texts,
-    schema_texts, shown_reports,
+    Finding, ProjectReports, Reports, Run, SourceText, Texts, depend_on_operations,
+    findings_beside, findings_of, json_format, named_texts, schema_texts,
 };
 pub use styles::Style;

@@ -2,8 +2,7 @@
 
 use crate::helped::Helped;
 use gqlvalidate_texts::named_texts::{Located, shown_name};
-use gqlvalidate_texts::{Finding, Run, Texts, UNREADABLE};
-use graphql_notes::Note;
+use gqlvalidate_texts::{Finding, Note, Run, Texts, UNREADABLE, operation_notes};
 use graphql_places::Place;
 use json::Writer;
 use std::alloc::{AllocError, Global};
@@ -107,6 +106,7 @@ fn add_finding(
     json.key("relatedLocations")?;
     json.begin_array()?;
     add_notes(json, alloc, &finding.notes, texts)?;
+    add_notes(json, alloc, &operation_notes(alloc, finding)?, texts)?;
     json.end_array()?;
     json.end_object()
 }

@@ -4,8 +4,7 @@ use crate::excerpts::{Line, shown_beginning, shown_end};
 use crate::styles::Style;
 use gqlvalidate_inputs::printable::Printable;
 use gqlvalidate_texts::named_texts::{Located, shown_name};
-use gqlvalidate_texts::{Finding, FindingHelp, ShownReport, Texts};
-use graphql_notes::Note;
+use gqlvalidate_texts::{Finding, FindingHelp, Note, ShownReport, Texts, operation_notes};
 use std::alloc::{AllocError, Global};
 use unicode_width::UnicodeWidthStr;
 
@@ -26,6 +25,13 @@ pub fn text_of(
     for finding in findings {
         push_report(&mut out, &finding.report, texts, style, alloc)?;
         push_notes(&mut out, &finding.notes, texts, style, alloc)?;
+        push_notes(
+            &mut out,
+            &operation_notes(alloc, finding)?,
+            texts,
+            style,
+            alloc,
+        )?;
         push_help(&mut out, finding.help.as_ref(), style, alloc)?;
     }
     Ok(out)

@@ -2,13 +2,13 @@
 
 use crate::presentations::Presentation;
 use crate::sheets::Sheet;
-use gqlvalidate_formats::named_texts::{CountedSubject, Subject};
-use gqlvalidate_formats::{Finding, Reports, Run, Texts, findings_of};
+use gqlvalidate_formats::named_texts::{CountedSubject, NamedText, Subject};
+use gqlvalidate_formats::{Finding, ProjectReports, Reports, Run, Texts, findings_beside};
 use gqlvalidate_inputs::faults::{Fault, fault_of_output};
 use graphql_documents::documents::Schema;
 use graphql_parser::Bounds;
 use std::alloc::{AllocError, Global};
-use std::collections::BTreeSet;
+use std::collections::{BTreeMap, BTreeSet};
 use std::fmt;
 use std::io::Write;
 
@@ -156,17 +156,19 @@ impl<'a> Account<'a> {
         }
     }
 
-    /// Reports what is wrong with one document, which was read within these bounds.
+    /// Reports what is wrong with one document, which was read within these bounds. The operations on which reports depend are taken from
+    /// what is reported of its texts as a project, if that is given.
     pub fn reject<O: Write>(
         &mut self,
         alloc: Global,
         reports: &[Reports],
+        project: Option<&ProjectReports>,
         subject: Subject<'_>,
         bounds: Bounds,
         output: &mut O,
     ) -> Result<(), Fault> {
         self.tally.documents = self.tally.documents.saturating_add(1);
-        self.report(alloc, reports, subject, bounds, output)
+        self.report(alloc, reports, project, subject, bounds, output)
     }
 
     /// Reports what is wrong with documents that were read within these bounds, and validated together: each fault once, unless it is in a
@@ -174,16 +176,17 @@ impl<'a> Account<'a> {
     pub fn report_together<O: Write>(
         &mut self,
         alloc: Global,
-        reports: &[Reports],
+        found: &ProjectReports,
         subject: Subject<'_>,
         files: FilesOfProject<'_>,
         bounds: Bounds,
         output: &mut O,
     ) -> Result<usize, Fault> {
-        let mut findings = findings_of(
+        let mut findings = findings_beside(
             alloc,
             self.definitions,
-            reports,
+            &found.lists,
+            Some(found),
             subject.sources,
             bounds,
             usize::MAX,
@@ -205,7 +208,10 @@ impl<'a> Account<'a> {
         let most = self.room();
         shown.retain(|finding| is_in_none(finding, files.hidden));
         let count = shown.len();
-        let faulty = files_of(alloc, shown, subject)?;
+        let firsts = first_texts(alloc, subject.texts)?;
+        shown.sort_by(|a, b| place_in(a, &firsts).cmp(&place_in(b, &firsts)))?;
+        let faulty = files_of(alloc, shown, subject, &firsts)?;
+        drop(firsts);
         shown.truncate(most);
         self.tally
             .add(shown.len(), count.saturating_sub(most), faulty.len());
@@ -240,9 +246,12 @@ impl<'a> Account<'a> {
         faulty: &BTreeSet<u32>,
         files: FilesOfProject<'_>,
     ) -> Result<(), AllocError> {
+        let mut last = None;
         for text in subject.texts.iter().take(files.judged) {
             let file = text.source.file_id.0;
-            if !faulty.contains(&file) && !files.hidden.contains(&file) {
+            let is_part = text.path.is_some() && text.path == last;
+            last = text.path;
+            if !is_part && !faulty.contains(&file) && !files.hidden.contains(&file) {
                 self.pass(text.path)?;
             }
         }
@@ -262,15 +271,17 @@ impl<'a> Account<'a> {
         &mut self,
         alloc: Global,
         reports: &[Reports],
+        project: Option<&ProjectReports>,
         subject: Subject<'_>,
         bounds: Bounds,
         output: &mut O,
     ) -> Result<(), Fault> {
         let most = self.room();
-        let findings = findings_of(
+        let findings = findings_beside(
             alloc,
             self.definitions,
             reports,
+            project,
             subject.sources,
             bounds,
             most,
@@ -332,21 +343,49 @@ fn is_in_none(finding: &Finding<'_>, files: &BTreeSet<u32>) -> bool {
     }
 }
 
-/// The files that these are about. Those without a place are about the first file of the subject.
+/// The numbers of the files that these are about, each that of its first text. Those without a place are about the first file of the subject.
 fn files_of(
     alloc: Global,
     findings: &[Finding<'_>],
     subject: Subject<'_>,
+    firsts: &BTreeMap<u32, u32>,
 ) -> Result<BTreeSet<u32>, AllocError> {
     let mut files = BTreeSet::new(alloc);
     let first = subject.sources.first().map(|source| source.file_id.0);
     for finding in findings {
         let file = finding.report.location.map(|place| place.file_id.0);
         if let Some(file) = file.or(first) {
-            files.insert(file)?;
+            files.insert(first_of(file, firsts))?;
         }
     }
     Ok(files)
+}
+
+/// The number of the first text of the file of this text.
+fn first_of(file: u32, firsts: &BTreeMap<u32, u32>) -> u32 {
+    firsts.get(&file).copied().unwrap_or(file)
+}
+
+/// Where a finding is: its file, by the number of the first text, and the bytes at which it begins and ends. What has no place comes first.
+fn place_in(finding: &Finding<'_>, firsts: &BTreeMap<u32, u32>) -> Option<(u32, u32, u32)> {
+    let place = finding.report.location?;
+    Some((first_of(place.file_id.0, firsts), place.start, place.end))
+}
+
+/// The number of the first text of the same file, by the number of each text: the parts of a text come after it, under its path.
+fn first_texts(alloc: Global, texts: &[NamedText<'_>]) -> Result<BTreeMap<u32, u32>, AllocError> {
+    let mut firsts = BTreeMap::new(alloc);
+    let mut path = None;
+    let mut first = 0_u32;
+    for text in texts {
+        let number = text.source.file_id.0;
+        if text.path.is_none() || text.path != path {
+            path = text.path;
+            first = number;
+        }
+        firsts.insert(number, first)?;
+    }
+    Ok(firsts)
 }
 
 fn views(alloc: Global, paths: &[String]) -> Result<Vec<&str>, AllocError> {

@@ -10,5 +10,6 @@ pub mod schema_reports;
 pub mod sheets;
 
 pub use gqlvalidate_formats::{
-    ShownReport, findings_of, github, json_format, named_texts, schema_texts, shown_reports,
+    Finding, Texts, depend_on_operations, findings_of, github, json_format, named_texts,
+    schema_texts,
 };

@@ -29,7 +29,7 @@ pub fn reject<O: Write, F: Write>(
 ) -> Result<Status, Fault> {
     let mut account = Account::new(alloc, presentation)?;
     let reports = [reports];
-    account.report(alloc, reports.as_slice(), subject, OF_SCHEMA, output)?;
+    account.report(alloc, reports.as_slice(), None, subject, OF_SCHEMA, output)?;
     account.end(alloc, extent_of(subject.texts), output, faults)?;
     Ok(Status::Reported)
 }

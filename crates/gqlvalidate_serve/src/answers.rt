@@ -11,17 +11,17 @@ use gqlvalidate_inputs::word_paths::{expanded, schema_paths, views};
 use gqlvalidate_paths::Expansion;
 use gqlvalidate_paths::plain::plain;
 use gqlvalidate_runs::bounds::OF_SCHEMA;
-use gqlvalidate_runs::json_format::{add_reports, begin_errors};
+use gqlvalidate_runs::json_format::{add_findings, begin_errors};
 use gqlvalidate_runs::json_lines::print_line;
 use gqlvalidate_runs::named_texts::{CountedSubject, NamedText, Subject};
 use gqlvalidate_runs::schema_files::{FileKind, ReadFiles, named_schema, named_text, read_files};
 use gqlvalidate_runs::schema_texts::{schema_subject, sources_of};
-use gqlvalidate_runs::{ShownReport, findings_of, shown_reports};
+use gqlvalidate_runs::{Finding, Texts, findings_of};
 use graphql_documents::documents::Schema;
 use graphql_frontend::{
     Reports, SchemaReading, SourceText, abandon, read_schema, validate_document,
 };
-use graphql_nodes::{FileId, ValidationError};
+use graphql_nodes::FileId;
 use graphql_parser::Bounds;
 use graphql_project_checking::check_project;
 use json::{Scratch, Writer};
@@ -29,6 +29,7 @@ use std::alloc::{AllocError, Global};
 use std::io;
 use std::io::{BufReader, Read, Write};
 use std::rt::Files;
+use std::slice::from_ref;
 
 /// The number of the text of a question.
 const QUESTION: FileId = FileId(u32::MAX);
@@ -98,16 +99,16 @@ fn serve_schema<R: Files + AllocGlobal + Clone + Drop, I: Read, O: Write, F: Wri
     faults: &mut F,
 ) -> Result<Status, Fault> {
     let sources = sources_of(rt.alloc(), named)?;
+    let subject = schema_subject(named, &sources);
     match read_schema(rt.alloc(), &sources, OF_SCHEMA)? {
         SchemaReading::Accepted(schema) => {
             let status = serve_beside(
-                rt, &schema, named, fragments, allowance, input, output, faults,
+                rt, &schema, subject, fragments, allowance, input, output, faults,
             );
             abandon(schema);
             status
         }
         SchemaReading::Rejected(reports) => {
-            let subject = schema_subject(named, &sources);
             let allowance = Allowance {
                 bounds: OF_SCHEMA,
                 ..allowance
@@ -123,7 +124,7 @@ fn serve_schema<R: Files + AllocGlobal + Clone + Drop, I: Read, O: Write, F: Wri
 fn serve_beside<R: Files + AllocGlobal + Clone + Drop, I: Read, O: Write, F: Write>(
     rt: &R,
     schema: &Schema,
-    of_schema: &[NamedText<'_>],
+    of_schema: Subject<'_>,
     fragments: &[&str],
     allowance: Allowance,
     input: &mut I,
@@ -158,7 +159,7 @@ struct LentFiles<'a> {
 fn serve_with<R: Files + AllocGlobal, I: Read, O: Write, F: Write>(
     rt: &R,
     schema: &Schema,
-    of_schema: &[NamedText<'_>],
+    of_schema: Subject<'_>,
     lent: LentFiles<'_>,
     allowance: Allowance,
     input: &mut I,
@@ -182,8 +183,17 @@ fn serve_with<R: Files + AllocGlobal, I: Read, O: Write, F: Write>(
     if !lent.is_all {
         return Ok(Status::Unreadable);
     }
-    let lent = named_beside(rt.alloc(), of_schema, &paths, &texts)?;
-    answer_lines(rt.alloc(), schema, &lent, allowance, input, output, faults)
+    let lent = named_beside(rt.alloc(), of_schema.texts, &paths, &texts)?;
+    answer_counted(
+        rt.alloc(),
+        schema,
+        of_schema,
+        &lent,
+        allowance,
+        input,
+        output,
+        faults,
+    )
 }
 
 /// The texts with their paths, numbered after those of the schema.
@@ -201,9 +211,20 @@ fn named_beside<'a>(
     Ok(named)
 }
 
-fn answer_lines<I: Read, O: Write, F: Write>(
+/// The texts that questions may be about besides their own.
+#[derive(Clone, Copy)]
+struct KnownTexts<'a> {
+    /// Those of the schema, with their lines counted.
+    of_schema: &'a CountedSubject<'a>,
+    /// Those of the files that lend fragments.
+    lent: &'a [NamedText<'a>],
+}
+
+/// Counts the lines of the schema, and answers each line of standard input.
+fn answer_counted<I: Read, O: Write, F: Write>(
     alloc: Global,
     schema: &Schema,
+    of_schema: Subject<'_>,
     lent: &[NamedText<'_>],
     allowance: Allowance,
     input: &mut I,
@@ -212,7 +233,41 @@ fn answer_lines<I: Read, O: Write, F: Write>(
 ) -> Result<Status, Fault>
     requires { IsUsable schema.now }
 {
-    match answer_each(alloc, schema, lent, allowance, input, output) {
+    let counted = CountedSubject::new(alloc, of_schema)?;
+    answer_known(
+        alloc, schema, &counted, lent, allowance, input, output, faults,
+    )
+}
+
+/// Answers each line of standard input, with the texts of the schema, whose lines are counted, and of files that lend fragments.
+fn answer_known<I: Read, O: Write, F: Write>(
+    alloc: Global,
+    schema: &Schema,
+    of_schema: &CountedSubject<'_>,
+    lent: &[NamedText<'_>],
+    allowance: Allowance,
+    input: &mut I,
+    output: &mut O,
+    faults: &mut F,
+) -> Result<Status, Fault>
+    requires { IsUsable schema.now }
+{
+    let known = KnownTexts { of_schema, lent };
+    answer_lines(alloc, schema, known, allowance, input, output, faults)
+}
+
+fn answer_lines<I: Read, O: Write, F: Write>(
+    alloc: Global,
+    schema: &Schema,
+    known: KnownTexts<'_>,
+    allowance: Allowance,
+    input: &mut I,
+    output: &mut O,
+    faults: &mut F,
+) -> Result<Status, Fault>
+    requires { IsUsable schema.now }
+{
+    match answer_each(alloc, schema, known, allowance, input, output) {
         Ok(()) => Ok(Status::Accepted),
         Err(Ended::Fault(fault)) => Err(fault),
         Err(Ended::InputFailed(error)) => {
@@ -247,7 +302,7 @@ impl From<io::Error> for Ended {
 fn answer_each<I: Read, O: Write>(
     alloc: Global,
     schema: &Schema,
-    lent: &[NamedText<'_>],
+    known: KnownTexts<'_>,
     allowance: Allowance,
     input: &mut I,
     output: &mut O,
@@ -258,7 +313,7 @@ fn answer_each<I: Read, O: Write>(
     let mut line = Vec::new(alloc);
     for _ in 0..u64::MAX {
         let read = read_line(&mut lines, allowance.line, &mut line)?;
-        if !answer_read(alloc, schema, lent, allowance, read, &line, output)? {
+        if !answer_read(alloc, schema, known, allowance, read, &line, output)? {
             break;
         }
     }
@@ -269,7 +324,7 @@ fn answer_each<I: Read, O: Write>(
 fn answer_read<O: Write>(
     alloc: Global,
     schema: &Schema,
-    lent: &[NamedText<'_>],
+    known: KnownTexts<'_>,
     allowance: Allowance,
     read: ReadLine,
     line: &[u8],
@@ -279,7 +334,7 @@ fn answer_read<O: Write>(
 {
     match read {
         ReadLine::End => return Ok(false),
-        ReadLine::Whole => answer(alloc, schema, lent, allowance, line, output)?,
+        ReadLine::Whole => answer(alloc, schema, known, allowance, line, output)?,
         ReadLine::TooLong => say(TOO_LONG, output)?,
         ReadLine::OutOfMemory => say(OUT_OF_MEMORY, output)?,
     }
@@ -302,14 +357,14 @@ fn say<O: Write>(line: &str, output: &mut O) -> Result<(), Fault> {
 fn answer<O: Write>(
     alloc: Global,
     schema: &Schema,
-    lent: &[NamedText<'_>],
+    known: KnownTexts<'_>,
     allowance: Allowance,
     line: &[u8],
     output: &mut O,
 ) -> Result<(), Fault>
     requires { IsUsable schema.now }
 {
-    match answer_of(alloc, schema, lent, allowance, line) {
+    match answer_of(alloc, schema, known, allowance, line) {
         Ok(json) => match print_now(alloc, json, output) {
             Err(Fault::OutOfMemory) => say(OUT_OF_MEMORY, output),
             ended => ended,
@@ -323,14 +378,14 @@ fn answer<O: Write>(
 fn answer_of(
     alloc: Global,
     schema: &Schema,
-    lent: &[NamedText<'_>],
+    known: KnownTexts<'_>,
     allowance: Allowance,
     line: &[u8],
 ) -> Result<Writer, Fault>
     requires { IsUsable schema.now }
 {
     let mut json = Writer::new(Vec::new(alloc));
-    write_answer(alloc, schema, lent, allowance, line, &mut json)?;
+    write_answer(alloc, schema, known, allowance, line, &mut json)?;
     Ok(json)
 }
 
@@ -338,7 +393,7 @@ fn answer_of(
 fn write_answer(
     alloc: Global,
     schema: &Schema,
-    lent: &[NamedText<'_>],
+    known: KnownTexts<'_>,
     allowance: Allowance,
     line: &[u8],
     json: &mut Writer,
@@ -348,7 +403,7 @@ fn write_answer(
     let mut scratch = Scratch::new(alloc);
     json.begin_object()?;
     match Question::read(alloc, line, &mut scratch) {
-        Ok(question) => answer_question(alloc, schema, lent, allowance, &question, json)?,
+        Ok(question) => answer_question(alloc, schema, known, allowance, &question, json)?,
         Err(QuestionError::OutOfMemory) => return Err(Fault::OutOfMemory),
         Err(QuestionError::Unclear(why)) => add_fault(why, json)?,
     }
@@ -365,7 +420,7 @@ fn add_fault(why: &str, json: &mut Writer) -> Result<(), AllocError> {
 fn answer_question(
     alloc: Global,
     schema: &Schema,
-    lent: &[NamedText<'_>],
+    known: KnownTexts<'_>,
     allowance: Allowance,
     question: &Question<'_>,
     json: &mut Writer,
@@ -374,9 +429,9 @@ fn answer_question(
 {
     question.add_id(json)?;
     if allowance.lends {
-        answer_beside(alloc, schema, lent, allowance, question, json)
+        answer_beside(alloc, schema, known, allowance, question, json)
     } else {
-        answer_alone(alloc, schema, allowance, question.document, json)
+        answer_alone(alloc, schema, known, allowance, question.document, json)
     }
 }
 
@@ -384,6 +439,7 @@ fn answer_question(
 fn answer_alone(
     alloc: Global,
     schema: &Schema,
+    known: KnownTexts<'_>,
     allowance: Allowance,
     document: &str,
     json: &mut Writer,
@@ -394,7 +450,6 @@ fn answer_alone(
         file_id: QUESTION,
         text: document,
     };
-    let reports = validate_document(alloc, schema, source, allowance.bounds)?;
     let texts = [NamedText { path: None, source }];
     let sources = [source];
     let subject = Subject {
@@ -402,8 +457,12 @@ fn answer_alone(
         texts: texts.as_slice(),
         sources: sources.as_slice(),
     };
-    match reports {
-        Some(reports) => add_errors(alloc, &reports, subject, allowance, json),
+    let about = About {
+        subject,
+        of_schema: Some(known.of_schema),
+    };
+    match validate_document(alloc, schema, source, allowance.bounds)? {
+        Some(reports) => add_errors(alloc, Some(schema), &reports, about, allowance, json),
         None => {
             begin_errors(json)?;
             Ok(json.end_array()?)
@@ -411,48 +470,80 @@ fn answer_alone(
     }
 }
 
+/// What findings are about.
+#[derive(Clone, Copy)]
+struct About<'a> {
+    subject: Subject<'a>,
+    /// The texts of the schema, if these are others.
+    of_schema: Option<&'a CountedSubject<'a>>,
+}
+
 /// Answers what is reported of a document that may spread the fragments of the files that are lent, without the file of its own name. Other
 /// documents may spread its fragments, so none is reported as unused.
 fn answer_beside(
     alloc: Global,
     schema: &Schema,
-    lent: &[NamedText<'_>],
+    known: KnownTexts<'_>,
     allowance: Allowance,
     question: &Question<'_>,
     json: &mut Writer,
 ) -> Result<(), Fault>
     requires { IsUsable schema.now }
 {
-    let texts = texts_of(alloc, question, lent)?;
+    let texts = texts_of(alloc, question, known.lent)?;
     let sources = sources_of(alloc, &texts)?;
     let (own, others) = sources.as_slice().split_at(1.min(sources.len()));
     let found = check_project(alloc, schema, own, others, allowance.bounds)?;
-    let subject = Subject {
-        path: None,
-        texts: &texts,
-        sources: &sources,
+    let about = About {
+        subject: Subject {
+            path: None,
+            texts: &texts,
+            sources: &sources,
+        },
+        of_schema: Some(known.of_schema),
     };
-    let reports = distinct_reports(alloc, schema, &found, &sources, allowance.bounds);
+    let written = add_used(alloc, schema, &found.lists, about, allowance, json);
     drop(found);
-    let mut reports = reports?;
-    let others = reports.len().saturating_sub(allowance.reports);
-    reports.truncate(allowance.reports);
-    let written = write_errors(alloc, &reports, others, subject, json);
-    drop(reports);
     written
 }
 
-/// Adds these reports, and the number of the others, if there are any.
-fn write_errors(
+/// Adds the first findings that are not about unused fragments, as many as an answer has at most, and the number of the others, if there are
+/// any.
+fn add_used(
     alloc: Global,
-    reports: &[ShownReport],
-    others: usize,
-    subject: Subject<'_>,
+    schema: &Schema,
+    found: &[Reports],
+    about: About<'_>,
+    allowance: Allowance,
     json: &mut Writer,
 ) -> Result<(), Fault> {
-    let counted = CountedSubject::new(alloc, subject)?;
+    let sources = about.subject.sources;
+    let bounds = allowance.bounds;
+    let mut findings = findings_of(alloc, Some(schema), found, sources, bounds, usize::MAX)?;
+    let shown = &mut findings.shown;
+    shown.retain(|finding| finding.report.rule != UNUSED_FRAGMENT);
+    let others = shown.len().saturating_sub(allowance.reports);
+    shown.truncate(allowance.reports);
+    let written = write_errors(alloc, shown, others, about, json);
+    drop(findings);
+    written
+}
+
+/// Adds these findings, and the number of the others, if there are any.
+fn write_errors(
+    alloc: Global,
+    findings: &[Finding<'_>],
+    others: usize,
+    about: About<'_>,
+    json: &mut Writer,
+) -> Result<(), Fault> {
+    let counted = CountedSubject::new(alloc, about.subject)?;
+    let texts = Texts {
+        subject: &counted,
+        schema: about.of_schema,
+    };
     begin_errors(json)?;
-    add_reports(json, reports, &counted)?;
+    add_findings(json, alloc, findings, texts)?;
     json.end_array()?;
     add_others(json, others)
 }
@@ -478,25 +569,7 @@ fn texts_of<'a>(
     Ok(texts)
 }
 
-/// Each of these reports once, but those of unused fragments.
-fn distinct_reports(
-    alloc: Global,
-    schema: &Schema,
-    found: &[Reports],
-    sources: &[SourceText<'_>],
-    bounds: Bounds,
-) -> Result<Vec<ShownReport>, ValidationError> {
-    let findings = findings_of(alloc, Some(schema), found, sources, bounds, usize::MAX)?;
-    let mut reports = Vec::new(alloc);
-    for finding in findings.shown {
-        if finding.report.rule != UNUSED_FRAGMENT {
-            reports.push(finding.report)?;
-        }
-    }
-    Ok(reports)
-}
-
-/// Adds the number of reports that are not shown, if there are any.
+/// Adds the number of findings that are not shown, if there are any.
 fn add_others(json: &mut Writer, others: usize) -> Result<(), Fault> {
     if others > 0 {
         json.key("notShown")?;
@@ -505,27 +578,25 @@ fn add_others(json: &mut Writer, others: usize) -> Result<(), Fault> {
     Ok(())
 }
 
-/// Adds the first reports, as many as an answer has at most, and the number of the others, if there are any.
+/// Adds the first findings, as many as an answer has at most, and the number of the others, if there are any.
 fn add_errors(
     alloc: Global,
+    schema: Option<&Schema>,
     reports: &Reports,
-    subject: Subject<'_>,
+    about: About<'_>,
     allowance: Allowance,
     json: &mut Writer,
 ) -> Result<(), Fault> {
-    let Allowance {
-        bounds,
-        reports: most,
-        ..
-    } = allowance;
-    let shown = shown_reports(alloc, reports, subject.sources, bounds, most)?;
-    let others = reports.len().saturating_sub(shown.len());
-    let written = write_errors(alloc, &shown, others, subject, json);
-    drop(shown);
+    let lists = from_ref(reports);
+    let sources = about.subject.sources;
+    let bounds = allowance.bounds;
+    let findings = findings_of(alloc, schema, lists, sources, bounds, allowance.reports)?;
+    let written = write_errors(alloc, &findings.shown, findings.others, about, json);
+    drop(findings);
     written
 }
 
-/// Prints the reports of a schema as a line.
+/// Prints the findings of a schema as a line.
 fn print_reports<O: Write>(
     alloc: Global,
     reports: &Reports,
@@ -533,9 +604,13 @@ fn print_reports<O: Write>(
     allowance: Allowance,
     output: &mut O,
 ) -> Result<(), Fault> {
+    let about = About {
+        subject,
+        of_schema: None,
+    };
     let mut json = Writer::new(Vec::new(alloc));
     json.begin_object()?;
-    add_errors(alloc, reports, subject, allowance, &mut json)?;
+    add_errors(alloc, None, reports, about, allowance, &mut json)?;
     json.end_object()?;
     print_now(alloc, json, output)
 }

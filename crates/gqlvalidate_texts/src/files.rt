@@ -1,8 +1,7 @@
 //! Findings by their files.
 
-use crate::texts::Texts;
-use graphql_findings::Finding;
-use graphql_report_formats::named_texts::shown_name;
+use graphql_report_formats::Finding;
+use graphql_report_formats::named_texts::{Texts, shown_name};
 
 /// What a line calls the file of a finding.
 pub fn file_of<'a>(finding: &Finding<'_>, texts: Texts<'a>) -> &'a str {

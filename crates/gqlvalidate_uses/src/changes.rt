@@ -1,9 +1,9 @@
 //! Whether a document uses what a change is about.
 
 use crate::uses::{Use, Uses};
+use graphql_change_kinds::{Change, InputCoordinate};
 use graphql_coordinates::TypeAttributeCoordinate;
 use graphql_nodes::NamedType;
-use graphql_schema_comparison::{Change, InputCoordinate};
 
 /// Whether the document uses what the change is about: the field, argument, type, value or directive that the old schema has there; if a
 /// type gains or loses a member or an implementer, that type; and if an input gains a condition, what it belongs to. A document uses

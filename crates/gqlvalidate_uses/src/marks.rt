@@ -4,13 +4,13 @@ use crate::changes::is_used;
 use crate::selections::add_document;
 use crate::uses::Uses;
 use graphql_building_reports::BuildingReportList;
+use graphql_change_kinds::SchemaChange;
 use graphql_document_building::build_document;
 use graphql_document_checking::check_document;
 use graphql_documents::documents::{ExecutableDocument, Schema};
 use graphql_hash_seeds::HashSeed;
 use graphql_nodes::{FileId, ValidationError};
 use graphql_parser::{Bounds, SyntaxError, parse_document};
-use graphql_schema_comparison::SchemaChange;
 use std::alloc::Global;
 
 /// Marks each of these changes of a schema that is about something that the document of this text uses, built against the old schema:

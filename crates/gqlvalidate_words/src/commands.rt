@@ -116,7 +116,9 @@ Status:
 /// The program with its commands.
 pub fn program<'a>(alloc: Global) -> Result<Command<'a>, Error> {
     let program = Command::new(alloc, "gqlvalidate")
-        .version("0.1.0")
+        .version(
+            "0.1.0 (GraphQL October 2021 with @defer; proved with Rattle, logic dac8208d650f15bf)",
+        )
         .about("Validates GraphQL schemas and documents")
         .after_help(STATUSES)
         .no_binary_name(true)

@@ -1,6 +1,5 @@
 -- The texts of the first files, and of one more.
-use Rattle.std.proofs.Common.{◌≡◌, ◌∙◌, ◌<◌, ◌+◌, ℕ, zero, suc, List, [], ◌∷◌, ◌++◌, ap, append_assoc, arith, get_or, length, map, refl, sym, take}
-use Rattle.std.proofs.lemmas.List.{take_more}
+use Rattle.std.proofs.Common.{◌≡◌, ◌∙◌, ◌<◌, ◌+◌, ℕ, zero, suc, List, [], ◌∷◌, ◌++◌, ap, arith, get_or, length, map, refl, sym, take}
 use Rattle.graphql_report_formats.specs.NamedTexts.{Text, named_text}
 use Rattle.graphql_report_formats.specs.declared.named_texts.NamedText.{NamedText}
 use Rattle.graphql_answers.specs.Files.{file_text, texts_from}

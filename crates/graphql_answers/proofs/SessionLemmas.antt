@@ -1,19 +1,18 @@
 -- What is read of one file without a name, and what is answered against it.
-use Rattle.std.proofs.Common.{◌≡◌, ◌≢◌, ◌∙◌, ℕ, Bool, List, [], ◌∷◌, Err, IfErr, None, Ok, Option, Result, Some, ap, arith, get_or, length, map, refl, sym, subst}
+use Rattle.std.proofs.Common.{◌≡◌, ◌∙◌, ℕ, Bool, Bor, List, [], ◌∷◌, Err, IfErr, None, Ok, Option, Result, Some, ap, arith, get_or, length, map, refl, sym, subst}
 use Rattle.json.specs.Print.{print}
 use Rattle.json.specs.Token.{Token}
 use Rattle.graphql_documents.specs.declared.documents.schemas.Schema.{Schema}
 use Rattle.graphql_nodes.specs.declared.spans.FileId.{FileId}
-use Rattle.graphql_nodes.specs.declared.spans.TheConstants as spans
 use Rattle.graphql_frontend.specs.Schemas.{ReadsSchema}
-use Rattle.graphql_frontend.specs.Texts.{AreTextsOf}
+use Rattle.graphql_frontend.specs.Texts.{AreTextsOf, IsTextOf, document_file}
 use Rattle.graphql_frontend.specs.Verdicts.{holds, rejected, schema_is_read}
 use Rattle.graphql_frontend.specs.declared.schemas.SchemaReading.{SchemaReading}
 use Rattle.graphql_frontend.specs.declared.schemas.SchemaReading.TheVariants.{Accepted, Rejected, LacksIntrospection}
 use Rattle.graphql_frontend.specs.declared.texts.SourceText.{SourceText}
 use Rattle.graphql_report_formats.specs.NamedTexts.{Text, named_text, schema_path}
 use Rattle.graphql_report_formats.specs.declared.named_texts.NamedText.{NamedText}
-use Rattle.graphql_answers.specs.Answers.{AreFirstErrorsOf, ChecksWithin, Finds, FindsInSchema, IsRefusalOf, by_reading, built_in_path, by_verdict, default_limits, no_errors, reports_nothing, reports_some, schema_texts, unnamed}
+use Rattle.graphql_answers.specs.Answers.{AreFirstErrorsOf, ChecksWithin, Finds, FindsInSchema, IsRefusalOf, by_reading, built_in_path, by_verdict, default_limits, no_errors, reports_nothing, reports_some, schema_texts}
 use Rattle.graphql_answers.specs.Batches.{found_in_documents}
 use Rattle.graphql_answers.specs.Files.{built_in_text, file_text, name_of, sources_of, texts_of_files}
 use Rattle.graphql_answers.specs.Sessions.{FindsAgainst, FindsInFiles, IsObjectOfTexts, IsReadFrom, IsReadFromTexts, IsRefusalOfKept, by_checking, found_in_schema, has_no_schema, is_accepted, is_of_document, is_reported}
@@ -25,6 +24,13 @@ use Rattle.graphql_answers.specs.declared.answers.Refusal.{Refusal}
 use Rattle.graphql_answers.specs.declared.answers.Refusal.TheVariants.{NoSchema}
 use Rattle.graphql_answers.specs.declared.files.SchemaFile.{SchemaFile}
 use Rattle.graphql_answers.specs.declared.limits.Limits.{Limits}
+
+-- the text of a document
+abbrev pub text_source : Bor (List ℕ) → SourceText
+text_source text = record { file_id = document_file; text = text }
+
+pub is_text_of : (text : Bor (List ℕ)) → IsTextOf text.now (text_source text)
+is_text_of text = record { file_is = refl; is_not_built_in = λ e. grind (arith, ap (λ (f : FileId). f.0) e); text_is = refl }
 
 -- the two texts of one file
 record AreTwo (text : List ℕ) (texts : List NamedText) : Type 0 where
@@ -65,28 +71,30 @@ two_of file (x ∷ y ∷ []) none are =
     }
 two_of file (x ∷ y ∷ z ∷ zs) none are = absurd (grind (arith, ap length are))
 
-checked_alike : (text : List ℕ) (texts : List NamedText) (schema : Schema) (document : List ℕ) → AreTextsOf text (sources_of texts) →
-    ReadsSchema default_limits.bounds (sources_of texts) (Accepted schema) → {reported : Bool} {object : List Token} →
+checked_alike : (text : List ℕ) (sources : List SourceText) (schema : Schema) (document : List ℕ) → AreTextsOf text sources →
+    ReadsSchema default_limits.bounds sources (Accepted schema) → {reported : Bool} {object : List Token} →
     ChecksWithin default_limits schema document reported object → Finds text document (found_in_documents reported) (print object)
-checked_alike text texts schema document are reads (reports_nothing source is validates) =
-    by_verdict no_errors (sources_of texts) source are is (schema_is_read schema reads (holds validates)) refl
-checked_alike text texts schema document are reads (reports_some source is validates errors) =
-    by_verdict _ (sources_of texts) source are is (schema_is_read schema reads (rejected validates)) errors
+checked_alike text sources schema document are reads (reports_nothing source is validates) =
+    by_verdict no_errors sources source are is (schema_is_read schema reads (holds validates)) refl
+checked_alike text sources schema document are reads (reports_some source is validates errors) =
+    by_verdict _ sources source are is (schema_is_read schema reads (rejected validates))
+    (record { schema = schema; reads = reads; validates = validates; are_errors = errors })
 
 accepted : {texts : List NamedText} {schema : Schema} {json : List ℕ} → IsReadFromTexts default_limits texts (Some schema) json →
     ReadsSchema default_limits.bounds (sources_of texts) (Accepted schema)
 accepted (is_accepted reads) = reads
 
-against : (text document : List ℕ) (texts : List NamedText) (schema : Schema) → AreTextsOf text (sources_of texts) →
-    ReadsSchema default_limits.bounds (sources_of texts) (Accepted schema) → {found : Found} {json : List ℕ} →
+-- what is found against a schema that these texts say is what is found in them and the document
+pub against : (text document : List ℕ) (sources : List SourceText) (schema : Schema) → AreTextsOf text sources →
+    ReadsSchema default_limits.bounds sources (Accepted schema) → {found : Found} {json : List ℕ} →
     FindsAgainst default_limits schema document found json → Finds text document found json
-against text document texts schema are reads (by_checking reported object checks) = checked_alike text texts schema document are reads checks
+against text document sources schema are reads (by_checking reported object checks) = checked_alike text sources schema document are reads checks
 
 pub answered_alike : (file : SchemaFile) (schema : Schema) (read : List ℕ) → file.name.now ≡ [] →
     IsReadFrom default_limits (file ∷ []) (Some schema) read → (document : List ℕ) (found : Found) (json : List ℕ) →
     FindsAgainst default_limits schema document found json → Finds file.text.now document found json
 answered_alike file schema read none is document found json finds =
-    against file.text.now document is.texts schema (texts_alike file.text.now is.texts (two_of file is.texts none is.texts_are)) (accepted is.reads) finds
+    against file.text.now document (sources_of is.texts) schema (texts_alike file.text.now is.texts (two_of file is.texts none is.texts_are)) (accepted is.reads) finds
 
 -- the texts as reports name them
 named_alike : (text : List ℕ) (texts : List NamedText) → AreTwo text texts → map named_text texts ≡ schema_texts (sources_of texts)
@@ -106,8 +114,8 @@ reported_alike : (text : List ℕ) (texts : List NamedText) → AreTwo text text
     FindsInSchema text InSchema (print object)
 reported_alike text texts two (Accepted schema) object reads is = absurd is
 reported_alike text texts two (Rejected reports) object reads is = by_reading object (sources_of texts) (texts_alike text texts two) reads
-    (subst (λ p. AreFirstErrorsOf default_limits (schema_texts (sources_of texts)) p (sources_of texts) reports object) (path_alike text texts two)
-    (subst (λ t. AreFirstErrorsOf default_limits t (schema_path (map named_text texts)) (sources_of texts) reports object) (named_alike text texts two) is))
+    (subst (λ p. AreFirstErrorsOf default_limits None (schema_texts (sources_of texts)) p (sources_of texts) reports object) (path_alike text texts two)
+    (subst (λ t. AreFirstErrorsOf default_limits None t (schema_path (map named_text texts)) (sources_of texts) reports object) (named_alike text texts two) is))
 reported_alike text texts two LacksIntrospection object reads is = by_reading object (sources_of texts) (texts_alike text texts two) reads is
 
 texts_read : (text : List ℕ) (texts : List NamedText) → AreTwo text texts → {schema : Option Schema} {json : List ℕ} →

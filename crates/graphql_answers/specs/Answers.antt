@@ -1,21 +1,20 @@
 -- What is answered of bytes. Specification: 2.2 Document; 3 Type System; 5 Validation; 7.1.2 Errors.
-use Rattle.std.specs.Prelude.{◌≡◌, IsUtf8, ℕ, List, [], ◌∷◌, Bool, true, false, Contains, None, Option, Some, codes, map, take}
-use Rattle.std.specs.List.{AllZip}
+use Rattle.std.specs.Prelude.{◌≡◌, IsUtf8, ℕ, List, [], ◌∷◌, ◌++◌, Bool, true, false, Contains, None, Option, Some, codes, map}
 use Rattle.json.specs.Print.{print}
 use Rattle.json.specs.Token.{Token}
 use Rattle.graphql_documents.specs.declared.documents.schemas.Schema.{Schema}
 use Rattle.graphql_parser.specs.declared.bounds.TheConstants as bounds
-use Rattle.graphql_report_formats.specs.JsonReports.{errors_object}
+use Rattle.graphql_findings.specs.Findings.{AreShown, all_listed}
+use Rattle.graphql_findings.specs.declared.findings.Findings.{Findings}
+use Rattle.graphql_report_formats.specs.JsonReports.{error_without_place, errors_object, object_begin, object_end}
 use Rattle.graphql_report_formats.specs.NamedTexts.{Text}
 use Rattle.graphql_frontend.specs.Documents.{ValidatesDocument}
 use Rattle.graphql_frontend.specs.Schemas.{ReadsSchema}
-use Rattle.graphql_shown_reports.specs.Shown.{IsShownAs, Shows, listed}
 use Rattle.graphql_frontend.specs.Texts.{AreTextsOf, IsTextOf}
 use Rattle.graphql_frontend.specs.Verdicts.{Validates}
 use Rattle.graphql_frontend.specs.declared.reports.Reports.{Reports}
 use Rattle.graphql_frontend.specs.declared.schemas.SchemaReading.{SchemaReading}
 use Rattle.graphql_frontend.specs.declared.schemas.SchemaReading.TheVariants.{Accepted, Rejected, LacksIntrospection}
-use Rattle.graphql_shown_reports.specs.declared.shown.ShownReport.{ShownReport}
 use Rattle.graphql_frontend.specs.declared.texts.SourceText.{SourceText}
 use Rattle.graphql_frontend.specs.declared.verdicts.Verdict.{Verdict}
 use Rattle.graphql_frontend.specs.declared.verdicts.Verdict.TheVariants as verdict
@@ -39,25 +38,29 @@ abbrev pub schema_texts : List SourceText → List Text
 schema_texts (first ∷ own) = record { path = built_in_path; file_id = first.file_id; text = first.text.now } ∷ map unnamed own
 schema_texts [] = []
 
--- the object of the first reports on these texts, as many as an answer has at most, and of this file, if they have no place
-pub record AreFirstErrorsOf (limits : Limits) (texts : List Text) (path : Option (List ℕ)) (sources : List SourceText) (reports : Reports) (object : List Token) : Type 0 where
-  pub shown : List ShownReport
-  pub shows : AllZip (Shows sources limits.bounds) (take limits.reports (listed reports)) shown
-  pub object_is : object ≡ errors_object texts path shown
+-- the object of what is shown of these reports on these texts, at most as many findings as an answer has; of this file, if they have no place. If the
+-- reports are on a document, it was validated against this schema
+pub record AreFirstErrorsOf (limits : Limits) (schema : Option Schema) (texts : List Text) (path : Option (List ℕ)) (sources : List SourceText) (reports : Reports)
+    (object : List Token) : Type 0 where
+  pub found : Findings
+  pub are_shown : AreShown schema sources limits.bounds (all_listed (reports ∷ [])) limits.reports found
+  pub object_is : object ≡ errors_object texts path found.shown.items
 
 -- the default bounds, and all reports that are kept
 abbrev pub default_limits : Limits
 default_limits = constants.Limits.DEFAULT
 
--- the object of all reports that are kept, by the default bounds. No memory holds more reports than are taken
-abbrev pub AreErrorsOf : List Text → Option (List ℕ) → List SourceText → Reports → List Token → Type 0
+-- the object of all reports that are kept, by the default bounds. No memory holds more findings than are taken
+abbrev pub AreErrorsOf : Option Schema → List Text → Option (List ℕ) → List SourceText → Reports → List Token → Type 0
 AreErrorsOf = AreFirstErrorsOf default_limits
 
 -- the object that says that the definitions are missing which every schema has
-pub record IsErrorOfLack (object : List Token) : Type 0 where
-  pub shown : ShownReport
-  pub shows : IsShownAs None (codes "LacksIntrospection") (codes "the definitions that every schema has are missing") None shown
-  pub object_is : object ≡ errors_object [] built_in_path (shown ∷ [])
+abbrev pub error_of_lack : List Token
+error_of_lack = object_begin ++
+    (error_without_place (codes "LacksIntrospection") (codes "the definitions that every schema has are missing") built_in_path ++ object_end)
+
+abbrev pub IsErrorOfLack : List Token → Type 0
+IsErrorOfLack object = object ≡ error_of_lack
 
 -- the object without reports
 abbrev pub no_errors : List Token
@@ -70,12 +73,19 @@ found_by (verdict.SchemaRejected _) = InSchema
 found_by verdict.LacksIntrospection = InSchema
 found_by (verdict.DocumentRejected _) = InDocuments
 
+-- the object of what is reported of a document, which was validated against the schema that these texts say
+pub record IsObjectOfDocument (sources : List SourceText) (source : SourceText) (reports : Reports) (object : List Token) : Type 0 where
+  pub schema : Schema
+  pub reads : ReadsSchema bounds.Bounds.DEFAULT sources (Accepted schema)
+  pub validates : ValidatesDocument bounds.Bounds.DEFAULT (Some schema) source (Some reports)
+  pub are_errors : AreErrorsOf (Some schema) (unnamed source ∷ []) None (source ∷ []) reports object
+
 -- the object of a verdict
 abbrev pub IsObjectOf : List SourceText → SourceText → Verdict → List Token → Type 0
 IsObjectOf sources source verdict.Valid object = object ≡ no_errors
-IsObjectOf sources source (verdict.SchemaRejected reports) object = AreErrorsOf (schema_texts sources) None sources reports object
+IsObjectOf sources source (verdict.SchemaRejected reports) object = AreErrorsOf None (schema_texts sources) None sources reports object
 IsObjectOf sources source verdict.LacksIntrospection object = IsErrorOfLack object
-IsObjectOf sources source (verdict.DocumentRejected reports) object = AreErrorsOf (unnamed source ∷ []) None (source ∷ []) reports object
+IsObjectOf sources source (verdict.DocumentRejected reports) object = IsObjectOfDocument sources source reports object
 
 -- what is found in the bytes of a schema and of a document, and its JSON: what the verdict on their texts says
 pub data Finds (schema document : List ℕ) : Found → List ℕ → Type 0 where
@@ -91,7 +101,7 @@ found_by_reading LacksIntrospection = InSchema
 -- the object of a reading
 abbrev pub IsObjectOfReading : List SourceText → SchemaReading → List Token → Type 0
 IsObjectOfReading sources (Accepted _) object = object ≡ no_errors
-IsObjectOfReading sources (Rejected reports) object = AreErrorsOf (schema_texts sources) None sources reports object
+IsObjectOfReading sources (Rejected reports) object = AreErrorsOf None (schema_texts sources) None sources reports object
 IsObjectOfReading sources LacksIntrospection object = IsErrorOfLack object
 
 -- what is found in the bytes of a schema, and its JSON
@@ -104,7 +114,7 @@ pub data ChecksWithin (limits : Limits) (schema : Schema) (document : List ℕ) 
   reports_nothing : (source : SourceText) → IsTextOf document source →
       ValidatesDocument limits.bounds (Some schema) source None → ChecksWithin limits schema document false no_errors
   reports_some : {reports : Reports} {object : List Token} (source : SourceText) → IsTextOf document source →
-      ValidatesDocument limits.bounds (Some schema) source (Some reports) → AreFirstErrorsOf limits (unnamed source ∷ []) None (source ∷ []) reports object →
+      ValidatesDocument limits.bounds (Some schema) source (Some reports) → AreFirstErrorsOf limits (Some schema) (unnamed source ∷ []) None (source ∷ []) reports object →
       ChecksWithin limits schema document true object
 
 -- the same by the default limits

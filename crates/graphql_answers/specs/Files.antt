@@ -1,5 +1,5 @@
 -- The files of a schema, as texts. Specification: 2.2 Document; 3 Type System.
-use Rattle.std.specs.Prelude.{◌≡◌, ◌==◌, ◌+◌, IsUtf8, ℕ, suc, List, [], ◌∷◌, Contains, None, Option, Some, map, min, if◌then◌else◌}
+use Rattle.std.specs.Prelude.{◌==◌, ◌+◌, IsUtf8, ℕ, suc, List, [], ◌∷◌, Contains, None, Option, Some, map, min, if◌then◌else◌}
 use Rattle.graphql_nodes.specs.declared.spans.FileId.{FileId}
 use Rattle.graphql_nodes.specs.declared.spans.TheConstants as spans
 use Rattle.graphql_schema_building.specs.declared.built_in.TheConstants as built_in

@@ -1,5 +1,7 @@
 -- What is answered of a schema that is kept, and of documents against it. Specification: 3 Type System; 5 Validation.
 use Rattle.std.specs.Prelude.{◌≡◌, ℕ, List, [], ◌∷◌, Bool, None, Option, Some, map}
+use Rattle.std.specs.Arc.{arc_value}
+use Rattle.std.specs.Option.{option_map}
 use Rattle.json.specs.Print.{print}
 use Rattle.json.specs.Token.{Token}
 use Rattle.graphql_documents.specs.declared.documents.schemas.Schema.{Schema}
@@ -15,14 +17,18 @@ use Rattle.graphql_answers.specs.Files.{sources_of, texts_of_files}
 use Rattle.graphql_answers.specs.declared.answers.Found.{Found}
 use Rattle.graphql_answers.specs.declared.answers.Found.TheVariants.{Nothing, InSchema}
 use Rattle.graphql_answers.specs.declared.answers.Refusal.{Refusal}
-use Rattle.graphql_answers.specs.declared.answers.Refusal.TheVariants.{NoSchema}
+use Rattle.graphql_answers.specs.declared.answers.Refusal.TheVariants.{NoSchema, OutOfMemory}
 use Rattle.graphql_answers.specs.declared.files.SchemaFile.{SchemaFile}
 use Rattle.graphql_answers.specs.declared.limits.Limits.{Limits}
+
+-- the schema of a session, if it has one
+abbrev pub schema_of : Session → Option Schema
+schema_of session = option_map arc_value session.schema
 
 -- the schema that a handle keeps, if it keeps one
 abbrev pub schema_in : Option Session → Option Schema
 schema_in None = None
-schema_in (Some session) = session.schema
+schema_in (Some session) = schema_of session
 
 -- the answer that a handle keeps: none, if it keeps nothing
 abbrev pub answer_in : Option Session → List ℕ
@@ -38,7 +44,7 @@ IsUsableIfKept (Some schema) = IsUsable schema
 abbrev pub IsObjectOfTexts : Limits → List NamedText → SchemaReading → List Token → Type 0
 IsObjectOfTexts limits texts (Accepted _) object = ⊥
 IsObjectOfTexts limits texts (Rejected reports) object =
-    AreFirstErrorsOf limits (map named_text texts) (schema_path (map named_text texts)) (sources_of texts) reports object
+    AreFirstErrorsOf limits None (map named_text texts) (schema_path (map named_text texts)) (sources_of texts) reports object
 IsObjectOfTexts limits texts LacksIntrospection object = IsErrorOfLack object
 
 -- what these texts come to: a schema, of which nothing is reported, or the JSON of what is reported
@@ -78,3 +84,13 @@ pub data IsRefusalOfKept : Option Schema → List ℕ → Refusal → Type 0 whe
   has_no_schema : {document : List ℕ} → IsRefusalOfKept None document NoSchema
   is_of_document : {schema : Schema} {document : List ℕ} {refusal : Refusal} → IsRefusalOf (document ∷ []) refusal →
       IsRefusalOfKept (Some schema) document refusal
+
+-- another handle keeps the schema that is kept, and no answer. Without a schema nothing is shared
+abbrev pub IsSharedWith : Option Schema → Option Session → Type 0
+IsSharedWith None other = ⊥
+IsSharedWith (Some schema) other = (schema_in other ≡ Some schema) × (answer_in other ≡ [])
+
+-- why the schema that is kept, if one is, is not shared
+abbrev pub refusal_of_sharing : Option Schema → Refusal
+refusal_of_sharing None = NoSchema
+refusal_of_sharing (Some schema) = OutOfMemory

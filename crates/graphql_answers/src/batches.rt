@@ -113,7 +113,7 @@ fn add_one(json: &mut Writer, alloc: Global, schema: &Schema, text: &str) -> Res
             Ok(false)
         }
         Some(reports) => {
-            add_document(json, alloc, &reports, document, Limits::DEFAULT)?;
+            add_document(json, alloc, schema, &reports, document, Limits::DEFAULT)?;
             Ok(true)
         }
     }

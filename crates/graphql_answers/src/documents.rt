@@ -5,9 +5,10 @@ ghost use Rattle.graphql_answers.specs.Answers.{Finds, IsRefusalOf};
 
 use crate::answers::{Answer, Refusal};
 use crate::limits::Limits;
-use crate::objects::{lack_of_introspection, nothing, reports_of_document, reports_of_schema};
+use crate::objects::{lack_of_introspection, reports_of_schema};
+use crate::sessions;
 use crate::texts::text_of;
-use graphql_frontend::{Verdict, document_source, schema_sources};
+use graphql_frontend::{SchemaReading, read_schema, schema_sources};
 use graphql_parser::Bounds;
 use std::alloc::Global;
 
@@ -30,13 +31,11 @@ fn answer(alloc: Global, schema: &str, document: &str) -> Result<Answer, Refusal
     ensures refused { IsOkUnless result Refusal.OutOfMemory }
 {
     let sources = schema_sources(schema);
-    let document = document_source(document);
-    match graphql_frontend::validate(alloc, sources.as_slice(), document, Bounds::DEFAULT)? {
-        Verdict::Valid => nothing(alloc),
-        Verdict::SchemaRejected(reports) => reports_of_schema(alloc, &reports, sources),
-        Verdict::LacksIntrospection => lack_of_introspection(alloc),
-        Verdict::DocumentRejected(reports) => {
-            reports_of_document(alloc, &reports, document, Limits::DEFAULT)
+    match read_schema(alloc, sources.as_slice(), Bounds::DEFAULT)? {
+        SchemaReading::Accepted(schema) => {
+            sessions::answer(alloc, &schema, document, Limits::DEFAULT)
         }
+        SchemaReading::Rejected(reports) => reports_of_schema(alloc, &reports, sources),
+        SchemaReading::LacksIntrospection => lack_of_introspection(alloc),
     }
 }

@@ -1,23 +1,24 @@
 //! Reports as JSON objects.
 
-ghost use Rattle.std.specs.Prelude.{◌≡◌, ◌++◌, [], ◌∷◌, IfOk, IsOkUnless, None, codes, map};
-ghost use Rattle.graphql_answers.specs.Answers.{AreErrorsOf, AreFirstErrorsOf, IsErrorOfLack, no_errors, schema_texts, unnamed};
+ghost use Rattle.std.specs.Prelude.{◌≡◌, ◌++◌, [], ◌∷◌, IfOk, IsOkUnless, None, Some, map};
+ghost use Rattle.std.specs.Option.{option_copied};
+ghost use Rattle.graphql_answers.specs.Answers.{AreErrorsOf, AreFirstErrorsOf, IsErrorOfLack, error_of_lack, no_errors, schema_texts, unnamed};
 ghost use Rattle.graphql_answers.specs.Objects.{AppendsOne, IsAnswer};
-ghost use Rattle.graphql_shown_reports.specs.Shown.{IsShownAs};
 ghost use Rattle.graphql_report_formats.specs.JsonReports.{Appends, errors_object};
-ghost use Rattle.graphql_report_formats.specs.NamedTexts.{named_text, path_of};
+ghost use Rattle.graphql_report_formats.specs.NamedTexts.{named_text, path_of, texts_of};
 ghost use Rattle.json.specs.Print.{print};
 
 use crate::answers::{Answer, Found, Refusal};
 use crate::limits::Limits;
 use crate::texts::{schema_texts, unnamed};
+use graphql_documents::documents::Schema;
 use graphql_frontend::{Reports, SourceText};
-use graphql_report_formats::json_format;
-use graphql_report_formats::named_texts::{CountedSubject, Subject};
+use graphql_report_formats::named_texts::{CountedSubject, Subject, Texts};
 use graphql_report_formats::schema_texts::BUILT_IN_TEXT;
-use graphql_shown_reports::{ShownReport, shown_copy, shown_reports};
+use graphql_report_formats::{Finding, findings_of, json_format};
 use json::Writer;
-use std::alloc::{AllocError, Global};
+use std::alloc::Global;
+use std::slice::from_ref;
 
 /// The answer that nothing is reported of a schema, or of one document.
 pub(crate) fn nothing(alloc: Global) -> Result<Answer, Refusal>
@@ -45,7 +46,7 @@ pub(crate) fn reports_of_schema(
     reports: &Reports,
     sources: [SourceText<'_>; 2],
 ) -> Result<Answer, Refusal>
-    ensures found { IfOk result (IsAnswer Found.InSchema (AreErrorsOf (schema_texts sources.entry) None sources.entry reports.now)) }
+    ensures found { IfOk result (IsAnswer Found.InSchema (AreErrorsOf None (schema_texts sources.entry) None sources.entry reports.now)) }
     ensures refused { IsOkUnless result Refusal.OutOfMemory }
 {
     let texts = schema_texts(sources);
@@ -64,11 +65,11 @@ pub(crate) fn reports_of_subject(
     subject: Subject<'_>,
     limits: Limits,
 ) -> Result<Answer, Refusal>
-    ensures found { IfOk result (IsAnswer Found.InSchema (AreFirstErrorsOf limits (map named_text subject.entry.texts.now) (path_of subject.entry.path) subject.entry.sources.now reports.now)) }
+    ensures found { IfOk result (IsAnswer Found.InSchema (AreFirstErrorsOf limits None (map named_text subject.entry.texts.now) (path_of subject.entry.path) subject.entry.sources.now reports.now)) }
     ensures refused { IsOkUnless result Refusal.OutOfMemory }
 {
     let mut json = Writer::new(Vec::new(alloc));
-    add_reports(&mut json, alloc, reports, subject, limits)?;
+    add_reports(&mut json, alloc, None, reports, subject, limits)?;
     Ok(answer(Found::InSchema, json))
 }
 
@@ -77,52 +78,53 @@ pub(crate) fn lack_of_introspection(alloc: Global) -> Result<Answer, Refusal>
     ensures found { IfOk result (IsAnswer Found.InSchema IsErrorOfLack) }
     ensures refused { IsOkUnless result Refusal.OutOfMemory }
 {
-    let lack = lack(alloc)?;
     let mut json = Writer::new(Vec::new(alloc));
-    let subject = Subject {
-        path: BUILT_IN_TEXT.path,
-        texts: &[],
-        sources: &[],
-    };
-    add_shown(&mut json, alloc, &[lack], subject)?;
+    add_lack(&mut json)?;
     Ok(answer(Found::InSchema, json))
 }
 
-fn lack(alloc: Global) -> Result<ShownReport, AllocError>
-    ensures { IfOk result (IsShownAs None (codes "LacksIntrospection") (codes "the definitions that every schema has are missing") None) }
+/// Adds an object that says so.
+fn add_lack(json: &mut Writer) -> Result<(), Refusal>
+    ensures added { Appends result json.old json.new error_of_lack }
+    ensures refused { IsOkUnless result Refusal.OutOfMemory }
 {
-    Ok(ShownReport {
-        location: None,
-        rule: "LacksIntrospection",
-        message: shown_copy(alloc, "the definitions that every schema has are missing")?,
-        original: None,
-    })
+    json_format::begin(json)?;
+    json_format::add_error(
+        json,
+        "LacksIntrospection",
+        "the definitions that every schema has are missing",
+        BUILT_IN_TEXT.path,
+    )?;
+    json_format::end(json)?;
+    Ok(())
 }
 
-/// The answer that these are reported of a document with this text.
+/// The answer that these are reported of a document with this text, which was validated against this schema.
 pub(crate) fn reports_of_document(
     alloc: Global,
+    schema: &Schema,
     reports: &Reports,
     document: SourceText<'_>,
     limits: Limits,
 ) -> Result<Answer, Refusal>
-    ensures found { IfOk result (IsAnswer Found.InDocuments (AreFirstErrorsOf limits (unnamed document.entry ∷ []) None (document.entry ∷ []) reports.now)) }
+    ensures found { IfOk result (IsAnswer Found.InDocuments (AreFirstErrorsOf limits (Some schema.now) (unnamed document.entry ∷ []) None (document.entry ∷ []) reports.now)) }
     ensures refused { IsOkUnless result Refusal.OutOfMemory }
 {
     let mut json = Writer::new(Vec::new(alloc));
-    add_document(&mut json, alloc, reports, document, limits)?;
+    add_document(&mut json, alloc, schema, reports, document, limits)?;
     Ok(answer(Found::InDocuments, json))
 }
 
-/// Adds an object with the first reports of a document.
+/// Adds an object with the first findings of a document, which was validated against this schema.
 pub(crate) fn add_document(
     json: &mut Writer,
     alloc: Global,
+    schema: &Schema,
     reports: &Reports,
     document: SourceText<'_>,
     limits: Limits,
 ) -> Result<(), Refusal>
-    ensures added { AppendsOne result json.old json.new (AreFirstErrorsOf limits (unnamed document.entry ∷ []) None (document.entry ∷ []) reports.now) }
+    ensures added { AppendsOne result json.old json.new (AreFirstErrorsOf limits (Some schema.now) (unnamed document.entry ∷ []) None (document.entry ∷ []) reports.now) }
     ensures refused { IsOkUnless result Refusal.OutOfMemory }
 {
     let texts = [unnamed(document)];
@@ -132,40 +134,60 @@ pub(crate) fn add_document(
         texts: texts.as_slice(),
         sources: sources.as_slice(),
     };
-    add_reports(json, alloc, reports, subject, limits)
+    add_reports(json, alloc, Some(schema), reports, subject, limits)
 }
 
-/// Adds an object with the first of these reports.
+/// Adds an object with the first findings of these reports.
 fn add_reports(
     json: &mut Writer,
     alloc: Global,
+    schema: Option<&Schema>,
     reports: &Reports,
     subject: Subject<'_>,
     limits: Limits,
 ) -> Result<(), Refusal>
-    ensures added { AppendsOne result json.old json.new (AreFirstErrorsOf limits (map named_text subject.entry.texts.now) (path_of subject.entry.path) subject.entry.sources.now reports.now) }
+    ensures added { AppendsOne result json.old json.new (AreFirstErrorsOf limits (option_copied schema.entry) (map named_text subject.entry.texts.now) (path_of subject.entry.path) subject.entry.sources.now reports.now) }
     ensures refused { IsOkUnless result Refusal.OutOfMemory }
 {
     let Limits {
         bounds,
         reports: most,
     } = limits;
-    let shown = shown_reports(alloc, reports, subject.sources, bounds, most)?;
-    add_shown(json, alloc, &shown, subject)
+    let lists = from_ref(reports);
+    let findings = findings_of(alloc, schema, lists, subject.sources, bounds, most)?;
+    add_shown(json, alloc, &findings.shown, subject)
 }
 
+/// Adds an object with these findings.
 fn add_shown(
     json: &mut Writer,
     alloc: Global,
-    shown: &[ShownReport],
+    shown: &[Finding<'_>],
     subject: Subject<'_>,
 ) -> Result<(), Refusal>
     ensures added { Appends result json.old json.new (errors_object (map named_text subject.entry.texts.now) (path_of subject.entry.path) shown.now) }
     ensures refused { IsOkUnless result Refusal.OutOfMemory }
 {
     let counted = CountedSubject::new(alloc, subject)?;
+    add_counted(json, alloc, shown, &counted)
+}
+
+/// Adds an object with these findings on texts whose lines are counted.
+fn add_counted(
+    json: &mut Writer,
+    alloc: Global,
+    shown: &[Finding<'_>],
+    counted: &CountedSubject<'_>,
+) -> Result<(), Refusal>
+    ensures added { Appends result json.old json.new (errors_object (texts_of counted.now) (path_of counted.now.path) shown.now) }
+    ensures refused { IsOkUnless result Refusal.OutOfMemory }
+{
+    let texts = Texts {
+        subject: counted,
+        schema: None,
+    };
     json_format::begin(json)?;
-    json_format::add_reports(json, shown, &counted)?;
+    json_format::add_findings(json, alloc, shown, texts)?;
     json_format::end(json)?;
     Ok(())
 }

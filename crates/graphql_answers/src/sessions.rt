@@ -1,9 +1,9 @@
 //! A schema that is kept between calls, and documents against it.
 
-ghost use Rattle.std.specs.Prelude.{◌≡◌, [], ◌∷◌, IfErr, IfOk, IsOkUnless, None, drop, length};
+ghost use Rattle.std.specs.Prelude.{◌≡◌, [], ◌∷◌, IfErr, IfOk, IsOkUnless, None, Some, drop, length};
 ghost use Rattle.graphql_answers.specs.Answers.{IsRefusalOf};
 ghost use Rattle.graphql_answers.specs.Files.{IsRefusalOfFiles};
-ghost use Rattle.graphql_answers.specs.Sessions.{FindsAgainst, FindsAgainstKept, FindsInFiles, IsReadFrom, IsReadFromTexts, IsRefusalOfKept, IsUsableIfKept, answer_in, found_in_schema, schema_in};
+ghost use Rattle.graphql_answers.specs.Sessions.{FindsAgainst, FindsAgainstKept, FindsInFiles, IsReadFrom, IsReadFromTexts, IsRefusalOfKept, IsSharedWith, IsUsableIfKept, answer_in, found_in_schema, refusal_of_sharing, schema_in, schema_of};
 ghost use Rattle.graphql_answers.specs.Written.{written};
 ghost use Rattle.graphql_frontend.specs.Schemas.{IsUsable};
 
@@ -20,6 +20,7 @@ use graphql_schema_handles::handle::SchemaHandle;
 use graphql_schema_handles::sessions::Session;
 use std::alloc::Global;
 use std::mem::replace;
+use std::sync::Arc;
 
 /// Reads the schema of these files, to which the definitions are added that every schema has, and keeps it and the answer. The
 /// memory of what the handle kept before is given back. After an error the handle keeps nothing.
@@ -48,7 +49,7 @@ pub fn read(
 
 /// Whether something is reported of the schema.
 fn found_in(session: &Session) -> Found
-    ensures { result ≡ found_in_schema session.now.schema }
+    ensures { result ≡ found_in_schema (schema_of session.now) }
 {
     match &session.schema {
         Some(_schema) => Found::Nothing,
@@ -58,8 +59,8 @@ fn found_in(session: &Session) -> Found
 
 /// The session of these files.
 fn session_of(alloc: Global, files: &[SchemaFile<'_>], limits: Limits) -> Result<Session, Refusal>
-    ensures read { IfOk result (λ session. IsReadFrom limits files.now session.schema session.answer.items) }
-    ensures usable { IfOk result (λ session. IsUsableIfKept session.schema) }
+    ensures read { IfOk result (λ session. IsReadFrom limits files.now (schema_of session) session.answer.items) }
+    ensures usable { IfOk result (λ session. IsUsableIfKept (schema_of session)) }
     ensures refused { IfErr result (IsRefusalOfFiles files.now) }
 {
     let texts = named_texts(alloc, files)?;
@@ -72,16 +73,17 @@ fn session_of_texts(
     texts: &[NamedText<'_>],
     limits: Limits,
 ) -> Result<Session, Refusal>
-    ensures read { IfOk result (λ session. IsReadFromTexts limits texts.now session.schema session.answer.items) }
-    ensures usable { IfOk result (λ session. IsUsableIfKept session.schema) }
+    ensures read { IfOk result (λ session. IsReadFromTexts limits texts.now (schema_of session) session.answer.items) }
+    ensures usable { IfOk result (λ session. IsUsableIfKept (schema_of session)) }
     ensures refused { IsOkUnless result Refusal.OutOfMemory }
 {
     let sources = sources_of(alloc, texts)?;
     match read_schema(alloc, &sources, limits.bounds)? {
         SchemaReading::Accepted(schema) => {
             let answer = nothing(alloc)?;
+            let shared = Arc::new(alloc, schema)?;
             Ok(Session {
-                schema: Some(schema),
+                schema: Some(shared),
                 answer: answer.json,
             })
         }
@@ -99,7 +101,7 @@ fn session_of_texts(
 
 /// The session of a schema of which this is reported.
 fn reported(answer: Answer) -> Session
-    ensures schema { result.schema ≡ None }
+    ensures schema { schema_of result ≡ None }
     ensures answer { result.answer.items ≡ answer.json.items }
 {
     Session {
@@ -142,9 +144,9 @@ fn validate_in(
     document: &[u8],
     limits: Limits,
 ) -> Result<Found, Refusal>
-    requires { IsUsableIfKept session.old.schema }
-    ensures found { IfOk result (λ found. FindsAgainstKept limits session.old.schema document.now found session.new.answer.items) }
-    ensures refused { IfErr result (IsRefusalOfKept session.old.schema document.now) }
+    requires { IsUsableIfKept (schema_of session.old) }
+    ensures found { IfOk result (λ found. FindsAgainstKept limits (schema_of session.old) document.now found session.new.answer.items) }
+    ensures refused { IfErr result (IsRefusalOfKept (schema_of session.old) document.now) }
     ensures schema { session.new.schema ≡ session.old.schema }
     ensures nothing { IfErr result (λ _. session.new.answer.items ≡ []) }
 {
@@ -161,9 +163,9 @@ fn answer_against(
     document: &[u8],
     limits: Limits,
 ) -> Result<Answer, Refusal>
-    requires { IsUsableIfKept session.now.schema }
-    ensures found { IfOk result (λ answer. FindsAgainstKept limits session.now.schema document.now answer.found answer.json.items) }
-    ensures refused { IfErr result (IsRefusalOfKept session.now.schema document.now) }
+    requires { IsUsableIfKept (schema_of session.now) }
+    ensures found { IfOk result (λ answer. FindsAgainstKept limits (schema_of session.now) document.now answer.found answer.json.items) }
+    ensures refused { IfErr result (IsRefusalOfKept (schema_of session.now) document.now) }
 {
     match &session.schema {
         Some(schema) => validate_against(alloc, schema, document, limits),
@@ -187,7 +189,12 @@ fn validate_against(
 }
 
 /// The answer on a document with this text, against this schema.
-fn answer(alloc: Global, schema: &Schema, text: &str, limits: Limits) -> Result<Answer, Refusal>
+pub(crate) fn answer(
+    alloc: Global,
+    schema: &Schema,
+    text: &str,
+    limits: Limits,
+) -> Result<Answer, Refusal>
     requires { IsUsable schema.now }
     ensures found { IfOk result (λ answer. FindsAgainst limits schema.now text.now answer.found answer.json.items) }
     ensures refused { IsOkUnless result Refusal.OutOfMemory }
@@ -195,7 +202,49 @@ fn answer(alloc: Global, schema: &Schema, text: &str, limits: Limits) -> Result<
     let document = document_source(text);
     match validate_document(alloc, schema, document, limits.bounds)? {
         None => nothing(alloc),
-        Some(reports) => reports_of_document(alloc, &reports, document, limits),
+        Some(reports) => reports_of_document(alloc, schema, &reports, document, limits),
+    }
+}
+
+/// Gives another handle the schema that this one keeps, without an answer. The schema is then in memory once, until both are
+/// closed. The memory of what the other kept before is given back. After an error the other keeps nothing.
+pub fn share(
+    alloc: Global,
+    handle: &mut SchemaHandle,
+    other: &mut SchemaHandle,
+) -> Result<(), Refusal>
+    ensures shared { IfOk result (λ _. IsSharedWith (schema_in handle.old.kept) other.new.kept) }
+    ensures refused { IfErr result (λ refusal. refusal ≡ refusal_of_sharing (schema_in handle.old.kept)) }
+    ensures closed { IfErr result (λ _. other.new.kept ≡ None) }
+    ensures usable { IsUsableIfKept (schema_in handle.old.kept) → IsUsableIfKept (schema_in other.new.kept) }
+    ensures kept { handle.new.kept ≡ handle.old.kept }
+{
+    close(alloc, other);
+    match replace(handle, SchemaHandle::closed()).open(alloc) {
+        Some(session) => {
+            let shared = shared_session(alloc, &session);
+            handle.put(SchemaHandle::keep(session), alloc);
+            other.put(SchemaHandle::keep(shared?), alloc);
+            Ok(())
+        }
+        None => Err(Refusal::NoSchema),
+    }
+}
+
+/// A session that shares the schema of this one, without an answer.
+fn shared_session(alloc: Global, session: &Session) -> Result<Box<Session>, Refusal>
+    ensures shared { IfOk result (λ shared. IsSharedWith (schema_of session.now) (Some shared.value)) }
+    ensures refused { IfErr result (λ refusal. refusal ≡ refusal_of_sharing (schema_of session.now)) }
+{
+    match &session.schema {
+        Some(schema) => Ok(Box::new(
+            alloc,
+            Session {
+                schema: Some(schema.clone()?),
+                answer: Vec::new(alloc),
+            },
+        )?),
+        None => Err(Refusal::NoSchema),
     }
 }
 

@@ -1,6 +1,7 @@
 //! Documents that use what a change takes away.
 
 use crate::merging::{push_conflicts, push_meetings};
+use graphql_change_kinds::{Change, Gain, InputCoordinate, TypeEffect};
 use graphql_coordinates::{
     DirectiveArgumentCoordinate, DirectiveCoordinate, FieldArgumentCoordinate,
     TypeAttributeCoordinate,
@@ -9,7 +10,6 @@ use graphql_documents::documents::{
     Component, DirectiveDefinition, ExtendedType, FieldDefinition, Schema, Type, definition_named,
 };
 use graphql_nodes::{DirectiveLocation, Name, NamedType, Node, OperationType, ValidationError};
-use graphql_schema_comparison::{Change, Gain, InputCoordinate, TypeEffect};
 use graphql_schema_parts::fields_of;
 use graphql_schema_ways::directives::{application, document_at, document_with};
 use graphql_schema_ways::literals::{Piece, push_literal};

@@ -1,10 +1,10 @@
 -- What the output calls levels, and where changes are. Specification: 5 Validation.
 use Rattle.std.specs.Prelude.{ℕ, Bool, false, true, List, Option, None, Some, codes}
 use Rattle.graphql_report_formats.specs.NamedTexts.{Part, part_at, texts_of}
-use Rattle.graphql_schema_comparison.specs.declared.changes.SchemaChange.{SchemaChange}
-use Rattle.graphql_schema_comparison.specs.declared.levels.BreakingReason.TheVariants as reason
-use Rattle.graphql_schema_comparison.specs.declared.levels.Level.{Level}
-use Rattle.graphql_schema_comparison.specs.declared.levels.Level.TheVariants as level
+use Rattle.graphql_change_kinds.specs.declared.changes.SchemaChange.{SchemaChange}
+use Rattle.graphql_change_kinds.specs.declared.levels.BreakingReason.TheVariants as reason
+use Rattle.graphql_change_kinds.specs.declared.levels.Level.{Level}
+use Rattle.graphql_change_kinds.specs.declared.levels.Level.TheVariants as level
 use Rattle.graphql_change_formats.specs.declared.shown_changes.ComparedTexts.{ComparedTexts}
 
 -- what the output calls a level

@@ -5,9 +5,9 @@ ghost use Rattle.std.specs.Option.{option_map};
 ghost use Rattle.graphql_report_formats.specs.NamedTexts.{part, path_of};
 ghost use Rattle.graphql_change_formats.specs.ShownChanges.{is_breaking, is_dangerous, is_other, level_name, reason_name, shown_place};
 
+use graphql_change_kinds::{BreakingReason, Level, SchemaChange};
 use graphql_nodes::SourceSpan;
 use graphql_report_formats::named_texts::{CountedSubject, Located};
-use graphql_schema_comparison::{BreakingReason, Level, SchemaChange};
 use std::fmt;
 
 /// A change, how grave it is for the documents that are asked of, and a document that shows it.

@@ -1,10 +1,11 @@
 ghost use Rattle.graphql_frontend.specs.Schemas.{IsUsable};
 
+use graphql_change_kinds::{BreakingReason, Level, SchemaChange};
 use graphql_change_witnesses::confirmed_witness;
 use graphql_documents::documents::Schema;
 use graphql_frontend::{SchemaReading, read_schema, schema_sources};
 use graphql_parser::Bounds;
-use graphql_schema_comparison::{BreakingReason, Level, SchemaChange, compare_schemas};
+use graphql_schema_comparison::compare_schemas;
 use graphql_schema_ways::Ways;
 use std::alloc::Global;
 use std::fmt::Write;

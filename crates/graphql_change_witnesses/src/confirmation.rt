@@ -4,16 +4,16 @@ ghost use Rattle.std.specs.Prelude.{◌≡◌, ◌↔◌, All, IfOk, IfSome, IsF
 ghost use Rattle.graphql_diagnostics.specs.Diagnostics.{IsLimit, IsLimitEntry, entries};
 ghost use Rattle.graphql_frontend.specs.Documents.{ValidatesDocument};
 ghost use Rattle.graphql_frontend.specs.Schemas.{IsUsable};
-ghost use Rattle.graphql_schema_comparison.specs.Breaks.{breaks};
+ghost use Rattle.graphql_change_kinds.specs.Breaks.{breaks};
 ghost use Rattle.graphql_change_witnesses.specs.Witnesses.{BreaksRules, BreaksRulesOf, IsWitness, IsWitnessText};
 
 use graphql_change_candidates::witness_candidates;
+use graphql_change_kinds::{BreakingReason, Change, Level};
 use graphql_diagnostics::{Details, DiagnosticData, DiagnosticEntry, DiagnosticList};
 use graphql_documents::documents::Schema;
 use graphql_frontend::{FileId, Reports, SourceText, validate_document};
 use graphql_nodes::ValidationError;
 use graphql_parser::Bounds;
-use graphql_schema_comparison::{BreakingReason, Change, Level};
 use graphql_schema_ways::Ways;
 use std::alloc::Global;
 

@@ -1,5 +1,7 @@
 -- Answers in numbers.
-use Rattle.std.specs.Prelude.{◌≡◌, ℕ, List, length}
+use Rattle.std.specs.Prelude.{◌≡◌, ℕ, List, None, Option, length}
+use Rattle.graphql_schema_handles.specs.declared.sessions.Session.{Session}
+use Rattle.graphql_answers.specs.Sessions.{IsSharedWith, refusal_of_sharing, schema_in}
 use Rattle.graphql_answers.specs.Written.{written}
 use Rattle.graphql_answers.specs.declared.answers.Found.{Found}
 use Rattle.graphql_answers.specs.declared.answers.Found.TheVariants.{Nothing, InSchema, InDocuments}
@@ -30,3 +32,8 @@ pub data Tells (finds : Found → List ℕ → Type 0) (refuses : Refusal → Ty
       outcome.length ≡ length json → new ≡ written json old → Tells finds refuses outcome old new
   has_no_answer : (refusal : Refusal) → refuses refusal → outcome.status ≡ status_of_refusal refusal → outcome.length ≡ 0 → new ≡ old →
       Tells finds refuses outcome old new
+
+-- the status tells whether another handle keeps the schema that is kept, or why not: it then keeps nothing
+pub data TellsSharing (kept other : Option Session) : ℕ → Type 0 where
+  is_shared : IsSharedWith (schema_in kept) other → TellsSharing kept other 0
+  is_not_shared : other ≡ None → TellsSharing kept other (status_of_refusal (refusal_of_sharing (schema_in kept)))

@@ -11,13 +11,13 @@ ghost use Rattle.graphql_answers.specs.Files.{IsRefusalOfFiles};
 ghost use Rattle.graphql_answers.specs.Sessions.{FindsAgainstKept, FindsInFiles, IsRefusalOfKept, IsUsableIfKept, answer_in, schema_in};
 ghost use Rattle.graphql_answers.specs.Written.{written};
 ghost use Rattle.graphql_embed.specs.Options.{IsRefusalWith, limits_of};
-ghost use Rattle.graphql_embed.specs.Outcomes.{Tells};
+ghost use Rattle.graphql_embed.specs.Outcomes.{Tells, TellsSharing};
 
-use graphql_answers::sessions::{close, read, validate_kept, write_answer};
+use graphql_answers::sessions::{close, read, share, validate_kept, write_answer};
 use graphql_answers::{Batch, Limits, SchemaFile, validate, validate_each, validate_schema};
 use graphql_schema_handles::handle::SchemaHandle;
 use options::Options;
-use outcomes::{Outcome, hand_over, hand_over_kept, no_answer};
+use outcomes::{Outcome, hand_over, hand_over_kept, no_answer, status_of_refusal};
 use std::alloc::Global;
 
 /// The version of these calls. It changes where a caller has to be compiled anew.
@@ -130,6 +130,23 @@ fn validate_within(
 {
     let answered = validate_kept(alloc, handle, document, limits);
     hand_over_kept(alloc, answered, handle, out)
+}
+
+/// Gives another handle the schema that this one keeps, without an answer. If that fails, the other is closed.
+#[unsafe(no_mangle)]
+pub extern "C" fn graphql_schema_share(
+    alloc: Global,
+    handle: &mut SchemaHandle,
+    other: &mut SchemaHandle,
+) -> u32
+    ensures tells { TellsSharing handle.old.kept other.new.kept result }
+    ensures usable { IsUsableIfKept (schema_in handle.old.kept) → IsUsableIfKept (schema_in other.new.kept) }
+    ensures kept { handle.new.kept ≡ handle.old.kept }
+{
+    match share(alloc, handle, other) {
+        Ok(()) => 0,
+        Err(refusal) => status_of_refusal(refusal),
+    }
 }
 
 /// Writes the answer of the last call on this handle, from this byte on. Answers how long the whole answer is.

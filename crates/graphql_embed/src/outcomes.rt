@@ -102,7 +102,8 @@ fn number_of_found(found: Found) -> u32
     }
 }
 
-fn status_of_refusal(refusal: Refusal) -> u32
+/// Why there is no answer, as a status.
+pub fn status_of_refusal(refusal: Refusal) -> u32
     ensures { result ≡ status_of_refusal refusal }
 {
     match refusal {

@@ -1,5 +1,5 @@
 -- What helps with reports. Specification: 2 Language, 5 Validation.
-use Rattle.std.specs.Prelude.{List, Option, None, Some}
+use Rattle.std.specs.Prelude.{ℕ, List, Option, None, Some}
 use Rattle.graphql_building_reports.specs.declared.lists.BuildingReport.{BuildingReport}
 use Rattle.graphql_diagnostics.specs.declared.lists.DiagnosticEntry.{DiagnosticEntry}
 use Rattle.graphql_documents.specs.declared.documents.schemas.Schema.{Schema}
@@ -7,8 +7,10 @@ use Rattle.graphql_findings.specs.declared.helps.FindingHelp.{FindingHelp}
 use Rattle.graphql_findings.specs.declared.helps.FindingHelp.TheVariants as by
 use Rattle.graphql_frontend.specs.declared.texts.SourceText.{SourceText}
 use Rattle.graphql_frontend.specs.declared.texts.SyntaxReport.{SyntaxReport}
+use Rattle.graphql_helps.specs.HelpWords.{help_words}
 use Rattle.graphql_helps.specs.Helps.{HelpsWithBuilding, HelpsWithDetails}
 use Rattle.graphql_shown_reports.specs.Shown.{Report, building, syntax, text_of, validation}
+use Rattle.graphql_syntax_helps.specs.HelpWords.{syntax_help_words}
 use Rattle.graphql_syntax_helps.specs.SyntaxHelps.{HelpsWithSyntax}
 
 -- by the text of its file
@@ -35,3 +37,8 @@ abbrev pub HelpsWith : Report → Option Schema → List SourceText → FindingH
 HelpsWith (syntax report) schema sources h = IsSyntaxHelp sources report h
 HelpsWith report None sources h = ⊥
 HelpsWith report (Some schema) sources h = IsSchemaHelp report schema h
+
+-- help in words
+abbrev pub help_text : FindingHelp → List ℕ
+help_text (by.Schema h) = help_words h
+help_text (by.Syntax h) = syntax_help_words h

@@ -8,9 +8,11 @@ ghost use Rattle.graphql_shown_reports.specs.Shown.{listed};
 
 use crate::helps::{FindingHelp, help_of};
 use crate::notes::notes_of;
+use crate::operations::Concerns;
 use crate::order::{Found, keep_distinct};
 use crate::singles::{Single, singles_of};
 use graphql_documents::documents::Schema;
+use graphql_frontend::project_reports::{OperationMark, ProjectReports};
 use graphql_frontend::reports::Reports;
 use graphql_frontend::texts::SourceText;
 use graphql_nodes::ValidationError;
@@ -19,12 +21,14 @@ use graphql_parser::Bounds;
 use graphql_shown_reports::{ShownReport, shown_reports};
 use std::alloc::{AllocError, Global};
 
-/// A report as it is shown, with notes on its other places and what helps, if something does.
+/// A report as it is shown, with notes on its other places, what helps, if something does, and the operations on which it depends.
 #[derive(Debug, Drop)]
 pub struct Finding<'a> {
     pub report: ShownReport,
     pub notes: Vec<Note>,
     pub help: Option<FindingHelp<'a>>,
+    /// The operations on which the report depends, if it lies in a fragment that they reach.
+    pub operations: Vec<&'a OperationMark>,
 }
 
 /// What is shown of a run.
@@ -50,12 +54,40 @@ pub fn findings_of<'a>(
 ) -> Result<Findings<'a>, ValidationError>
     ensures { IfOk result (AreShown (option_copied schema.entry) sources.now bounds (all_listed reports.now) most) }
 {
+    findings_beside(alloc, schema, reports, None, sources, bounds, most)
+}
+
+/// The same, with the operations on which a report depends, taken from what is reported of these texts as a project, if that is given.
+pub fn findings_beside<'a>(
+    alloc: Global,
+    schema: Option<&Schema>,
+    reports: &'a [Reports],
+    project: Option<&'a ProjectReports>,
+    sources: &[SourceText<'_>],
+    bounds: Bounds,
+    most: usize,
+) -> Result<Findings<'a>, ValidationError>
+    ensures { IfOk result (AreShown (option_copied schema.entry) sources.now bounds (all_listed reports.now) most) }
+{
     let mut found = found_in(alloc, reports, sources, bounds)?;
     keep_distinct(&mut found)?;
     let others = found.len().saturating_sub(most);
     found.truncate(most);
-    let shown = with_notes(alloc, schema, sources, bounds, found)?;
+    let concerns = concerns_in(alloc, project, sources, bounds)?;
+    let shown = with_notes(alloc, schema, sources, bounds, &concerns, found)?;
     Ok(Findings { shown, others })
+}
+
+fn concerns_in<'a>(
+    alloc: Global,
+    project: Option<&'a ProjectReports>,
+    sources: &[SourceText<'_>],
+    bounds: Bounds,
+) -> Result<Concerns<'a>, ValidationError> {
+    match project {
+        Some(project) => Concerns::of(alloc, project, sources, bounds),
+        None => Ok(Concerns::none(alloc)),
+    }
 }
 
 /// All reports as they are shown, one for one and in order.
@@ -117,13 +149,14 @@ fn with_notes<'a>(
     schema: Option<&Schema>,
     sources: &[SourceText<'_>],
     bounds: Bounds,
+    concerns: &Concerns<'a>,
     found: Vec<Found<'a>>,
 ) -> Result<Vec<Finding<'a>>, ValidationError>
     ensures { IfOk result (λ findings. AllZip (IsFindingOf (option_copied schema.entry) sources.now bounds) found.entry.items findings.items) }
 {
     let mut findings = Vec::new(alloc);
     for one in found {
-        findings.push(finding_of(alloc, schema, sources, bounds, one)?)?;
+        findings.push(finding_of(alloc, schema, sources, bounds, concerns, one)?)?;
     }
     Ok(findings)
 }
@@ -134,6 +167,7 @@ fn finding_of<'a>(
     schema: Option<&Schema>,
     sources: &[SourceText<'_>],
     bounds: Bounds,
+    concerns: &Concerns<'a>,
     found: Found<'a>,
 ) -> Result<Finding<'a>, ValidationError>
     ensures { IfOk result (IsFindingOf (option_copied schema.entry) sources.now bounds found.entry) }
@@ -141,9 +175,11 @@ fn finding_of<'a>(
     let Found { report, single } = found;
     let notes = notes_of(alloc, sources, bounds, report.location, single)?;
     let help = help_of(alloc, schema, sources, single)?;
+    let operations = concerns.operations(alloc, &report)?;
     Ok(Finding {
         report,
         notes,
         help,
+        operations,
     })
 }

@@ -1,8 +1,8 @@
 //! What helps with single reports.
 
 ghost use Rattle.std.specs.Option.{option_copied};
-ghost use Rattle.std.specs.Prelude.{IfOk, IfSome};
-ghost use Rattle.graphql_findings.specs.Helps.{HelpsWith, IsBuildingHelp, IsRuleHelp, IsSyntaxHelp};
+ghost use Rattle.std.specs.Prelude.{IfOk, IfSome, Some};
+ghost use Rattle.graphql_findings.specs.Helps.{HelpsWith, IsBuildingHelp, IsRuleHelp, IsSyntaxHelp, help_text};
 ghost use Rattle.graphql_findings.specs.Singles.{report_of};
 
 use crate::singles::Single;
@@ -27,6 +27,8 @@ pub enum FindingHelp<'a> {
 }
 
 impl fmt::Display for FindingHelp<'_> {
+    ghost output = { λ help. Some (help_text help) };
+
     fn fmt<W: fmt::Write>(&self, f: &mut fmt::Formatter<W>) -> fmt::Result {
         match self {
             FindingHelp::Schema(help) => write!(f, "{help}"),

@@ -4,10 +4,13 @@
 pub mod findings;
 pub mod helps;
 mod notes;
+mod operations;
 mod order;
 mod singles;
 
-pub use findings::{Finding, Findings, findings_of};
-pub use graphql_frontend::{Reports, SourceText};
+pub use findings::{Finding, Findings, findings_beside, findings_of};
+pub use graphql_frontend::{OperationMark, ProjectReports, Reports, SourceText};
+pub use graphql_notes::Note;
 pub use graphql_shown_reports::{ShownReport, shown_reports};
 pub use helps::FindingHelp;
+pub use operations::depend_on_operations;

@@ -42,7 +42,7 @@ fn drop_equals(found: &mut Vec<Found<'_>>)
 }
 
 /// How two reports are ordered: by place, rule and message.
-fn compare(a: &ShownReport, b: &ShownReport) -> Ordering
+pub(crate) fn compare(a: &ShownReport, b: &ShownReport) -> Ordering
     ensures { result ≡ report_cmp a.now b.now }
 {
     match compare_places(a.location, b.location) {

@@ -6,7 +6,8 @@ ghost use Rattle.graphql_frontend.specs.declared.reports.Reports.TheVariants as 
 ghost use Rattle.graphql_shown_reports.specs.Shown.{building, input_field, listed, more, once_if, syntax, usage, validation};
 
 use graphql_building_reports::{BuildingReport, BuildingReportList};
-use graphql_diagnostics::{DiagnosticEntry, DiagnosticList};
+use graphql_diagnostics::{BuildError, Details, DiagnosticData, DiagnosticEntry, DiagnosticList};
+use graphql_documents::documents::Value;
 use graphql_frontend::reports::{DocumentReports, Reports, SchemaReports};
 use graphql_frontend::texts::SyntaxReport;
 use graphql_frontend::work::WorkReport;
@@ -29,6 +30,42 @@ pub enum Single<'a> {
     Usage(&'a VariableMisuse),
     /// That there are more than are kept.
     More,
+}
+
+impl Single<'_> {
+    /// Whether the report depends on the operation that reaches its place, and not on the place alone: on variables, or on fields that are
+    /// merged.
+    pub(crate) fn depends_on_operation(&self) -> bool {
+        match self {
+            Single::Usage(_) => true,
+            Single::Validation(entry) => match &entry.details {
+                Details::Diagnostic(diagnostic) => depends_on_variables(diagnostic),
+                Details::Build(error) => is_conflict(error),
+                Details::RecursionLimit(_) => false,
+            },
+            _ => false,
+        }
+    }
+}
+
+fn depends_on_variables(diagnostic: &DiagnosticData) -> bool {
+    match diagnostic {
+        DiagnosticData::UndefinedVariable { .. } | DiagnosticData::DisallowedVariableUsage { .. } =>
+            { true }
+        DiagnosticData::UnsupportedValueType { value, .. } => {
+            matches!(&*value.value, Value::Variable(_))
+        }
+        _ => false,
+    }
+}
+
+fn is_conflict(error: &BuildError) -> bool {
+    matches!(
+        error,
+        BuildError::ConflictingFieldName { .. }
+            | BuildError::ConflictingFieldArgument { .. }
+            | BuildError::ConflictingFieldType { .. }
+    )
 }
 
 /// The reports one by one, in the order in which they are listed. The only error is a failed allocation.

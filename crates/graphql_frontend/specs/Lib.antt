@@ -1,6 +1,7 @@
 pub mod Documents
 pub mod FirstReports
 pub mod Places
+pub mod ProjectReports
 pub mod RuleReadings
 pub mod SchemaRuleReadings
 pub mod Schemas

@@ -6,6 +6,7 @@ mod document_rules;
 pub mod documents;
 pub mod first_reports;
 mod meta_fields;
+pub mod project_reports;
 pub mod reports;
 mod schema_rules;
 pub mod schemas;
@@ -19,6 +20,7 @@ pub use documents::{
 pub use graphql_nodes::{FileId, SourceSpan, ValidationError};
 pub use graphql_parser::Bounds;
 pub use graphql_schema_building::BUILT_IN_DEFINITIONS;
+pub use project_reports::{ListOperation, OperationMark, ProjectReports};
 pub use reports::{DocumentReports, Reports, SchemaReports};
 pub use schemas::{SchemaReading, abandon, read_schema};
 pub use texts::{SourceText, SyntaxReport, syntax_error_of};

@@ -1,1 +1,2 @@
+pub mod HelpWords
 pub mod Helps

@@ -1,10 +1,12 @@
 //! What helps with a report, in words.
 
-ghost use Rattle.std.specs.Prelude.{IfSome, List};
+ghost use Rattle.std.specs.Prelude.{IfSome, List, Some};
+ghost use Rattle.graphql_helps.specs.HelpWords.{help_words};
 ghost use Rattle.graphql_helps.specs.Helps.{IsDidYouMean};
 ghost use Rattle.graphql_nodes.specs.Names.{NameText};
 ghost use Rattle.graphql_suggestions.specs.Suggestions.{AreSuggested};
 
+use crate::lists::{AnyName, AnyType, EachLocation};
 use graphql_nodes::{DirectiveLocation, Name};
 use graphql_suggestions::Suggestion;
 use std::fmt;
@@ -36,54 +38,27 @@ pub(crate) fn did_you_mean<'a>(found: Vec<Suggestion>) -> Option<Help<'a>>
 }
 
 impl fmt::Display for Help<'_> {
+    ghost output = { λ help. Some (help_words help) };
+
     fn fmt<W: fmt::Write>(&self, f: &mut fmt::Formatter<W>) -> fmt::Result {
         match self {
-            Help::DidYouMean(found) => write_names(found, f),
-            Help::OnTypes { field, types } => write_types(field, types, f),
+            Help::DidYouMean(found) => {
+                let names = AnyName(found);
+                write!(f, "did you mean {names}?")
+            }
+            Help::OnTypes { field, types } => {
+                let any = AnyType { field, types };
+                write!(f, "did you mean {any}?")
+            }
             Help::Select { field, ty } => write!(
                 f,
                 "`{field}` is of type `{ty}`: select fields of it, `{field} {{ .. }}`"
             ),
-            Help::Locations(locations) => write_locations(locations, f),
+            Help::Locations(locations) => {
+                let each = EachLocation(locations);
+                write!(f, "it may be applied at {each}")
+            }
             Help::LeaveOut => f.write_str("leave it out: every schema has it"),
         }
     }
-}
-
-fn write_names<W: fmt::Write>(found: &[Suggestion], f: &mut fmt::Formatter<W>) -> fmt::Result {
-    f.write_str("did you mean ")?;
-    let mut separator = "";
-    for suggestion in found {
-        let name = &suggestion.name;
-        write!(f, "{separator}`{name}`")?;
-        separator = " or ";
-    }
-    f.write_str("?")
-}
-
-fn write_types<W: fmt::Write>(
-    field: &Name,
-    types: &[Name],
-    f: &mut fmt::Formatter<W>,
-) -> fmt::Result {
-    f.write_str("did you mean ")?;
-    let mut separator = "";
-    for ty in types {
-        write!(f, "{separator}`... on {ty} {{ {field} }}`")?;
-        separator = " or ";
-    }
-    f.write_str("?")
-}
-
-fn write_locations<W: fmt::Write>(
-    locations: &[DirectiveLocation],
-    f: &mut fmt::Formatter<W>,
-) -> fmt::Result {
-    f.write_str("it may be applied at ")?;
-    let mut separator = "";
-    for location in locations {
-        write!(f, "{separator}{location}")?;
-        separator = ", ";
-    }
-    Ok(())
 }

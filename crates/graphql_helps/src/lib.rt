@@ -4,6 +4,7 @@
 pub mod building;
 mod field_types;
 pub mod helps;
+mod lists;
 pub mod validation;
 
 pub use building::help_of_building;

@@ -4,6 +4,7 @@
 mod building;
 mod contexts;
 mod file_rules;
+mod marks;
 mod operations;
 mod parts;
 pub mod projects;

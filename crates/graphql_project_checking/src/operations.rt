@@ -8,7 +8,7 @@ ghost use Rattle.graphql_variables.specs.Uses.{names_of};
 
 use crate::contexts::Context;
 use graphql_documents::documents::{ExecutableDocument, Operation};
-use graphql_frontend::{Reports, ValidationError, validate_built};
+use graphql_frontend::{OperationMark, ProjectReports, Reports, ValidationError, validate_built};
 use graphql_hash_seeds::HashSeed;
 use graphql_nodes::{Name, Node, SourceSpan};
 use graphql_pools::document_of;
@@ -24,17 +24,18 @@ pub(crate) fn check_operation(
     context: Context<'_>,
     operation: &Node<Operation>,
     names: &IndexSet<&Name, HashSeed>,
-    found: &mut Vec<Reports>,
+    found: &mut ProjectReports,
 ) -> Result<(), ValidationError>
-    ensures silence { OnOk result (SilentOnlyIf found.old.items found.new.items
+    ensures silence { OnOk result (SilentOnlyIf found.old.lists.items found.new.lists.items
         (HoldsWith context.entry.schema.now context.entry.pool.now operation.now (names_of names.now.keys))) }
     ensures truth { OnOk result (KeepsReports (AreOfDocumentWith context.entry.bounds context.entry.schema.now context.entry.pool.now operation.now (names_of names.now.keys))
-        found.old.items found.new.items) }
+        found.old.lists.items found.new.lists.items) }
 {
     match reports_of(alloc, context, operation, names)? {
         None => Ok(()),
         Some(reports) => {
-            found.push(reports)?;
+            let mark = OperationMark::of(alloc, operation)?;
+            found.push(Some(mark), reports)?;
             Ok(())
         }
     }

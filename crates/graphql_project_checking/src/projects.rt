@@ -12,7 +12,7 @@ use crate::texts::read_texts;
 use crate::whole::check_whole;
 use graphql_documents::documents::Schema;
 use graphql_frontend::texts::hash_seed_of;
-use graphql_frontend::{Bounds, Reports, SourceText, ValidationError};
+use graphql_frontend::{Bounds, ProjectReports, Reports, SourceText, ValidationError};
 use graphql_hash_seeds::HashSeed;
 use std::alloc::Global;
 
@@ -34,12 +34,12 @@ pub fn check_project(
     sources: &[SourceText<'_>],
     lent: &[SourceText<'_>],
     bounds: Bounds,
-) -> Result<Vec<Reports>, ValidationError>
+) -> Result<ProjectReports, ValidationError>
     requires { IsUsable schema.now }
-    ensures silence { IfOk result (λ found. found.items ≡ [] → ProjectHolds bounds schema.now sources.now lent.now) }
-    ensures truth { IfOk result (λ found. AreAllTrue bounds schema.now sources.now lent.now found.items) }
+    ensures silence { IfOk result (λ found. found.lists.items ≡ [] → ProjectHolds bounds schema.now sources.now lent.now) }
+    ensures truth { IfOk result (λ found. AreAllTrue bounds schema.now sources.now lent.now found.lists.items) }
 {
-    let mut found = Vec::new(alloc);
+    let mut found = ProjectReports::new(alloc);
     check_texts(alloc, schema, sources, lent, bounds, true, &mut found)?;
     Ok(found)
 }
@@ -54,11 +54,11 @@ pub fn check_part_of_project(
     sources: &[SourceText<'_>],
     lent: &[SourceText<'_>],
     bounds: Bounds,
-) -> Result<Vec<Reports>, ValidationError>
+) -> Result<ProjectReports, ValidationError>
     requires { IsUsable schema.now }
-    ensures truth { IfOk result (λ found. AreAllTrue bounds schema.now sources.now lent.now found.items) }
+    ensures truth { IfOk result (λ found. AreAllTrue bounds schema.now sources.now lent.now found.lists.items) }
 {
-    let mut found = Vec::new(alloc);
+    let mut found = ProjectReports::new(alloc);
     check_texts(alloc, schema, sources, lent, bounds, false, &mut found)?;
     Ok(found)
 }
@@ -70,24 +70,24 @@ fn check_texts(
     lent: &[SourceText<'_>],
     bounds: Bounds,
     is_all: bool,
-    found: &mut Vec<Reports>,
+    found: &mut ProjectReports,
 ) -> Result<(), ValidationError>
     requires { IsUsable schema.now }
-    ensures silence { IsTrue is_all → OnOk result (SilentOnlyIf found.old.items found.new.items (ProjectHolds bounds schema.now sources.now lent.now)) }
-    ensures truth { OnOk result (AddsTrue bounds schema.now sources.now lent.now found.old.items found.new.items) }
+    ensures silence { IsTrue is_all → OnOk result (SilentOnlyIf found.old.lists.items found.new.lists.items (ProjectHolds bounds schema.now sources.now lent.now)) }
+    ensures truth { OnOk result (AddsTrue bounds schema.now sources.now lent.now found.old.lists.items found.new.lists.items) }
 {
     let building = Building {
         schema,
         hash_seed: seed_of_all(alloc, sources, lent)?,
         bounds,
     };
-    let own = read_texts(alloc, sources, bounds, found)?;
-    let lent = read_texts(alloc, lent, bounds, found)?;
-    let is_all_read = is_silent(is_all, found.as_slice());
-    check_fragment_names(alloc, building, &own, &lent, found)?;
-    let files = build_files(alloc, building, &own, found)?;
-    let built = build_lent_files(alloc, building, lent, found)?;
-    if is_silent(is_all_read, found.as_slice()) {
+    let own = read_texts(alloc, sources, bounds, &mut found.lists)?;
+    let lent = read_texts(alloc, lent, bounds, &mut found.lists)?;
+    let is_all_read = is_silent(is_all, found.lists.as_slice());
+    check_fragment_names(alloc, building, &own, &lent, &mut found.lists)?;
+    let files = build_files(alloc, building, &own, &mut found.lists)?;
+    let built = build_lent_files(alloc, building, lent, &mut found.lists)?;
+    if is_silent(is_all_read, found.lists.as_slice()) {
         check_whole(alloc, building, &own, files, &built.files, found)
     } else {
         check_rest(alloc, building, own, built.documents, !is_all_read, found)

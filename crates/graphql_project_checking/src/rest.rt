@@ -7,6 +7,7 @@ ghost use Rattle.graphql_project_checking.specs.Truth.{AddsOfParts, SayParts, Sa
 
 use crate::building::Building;
 use crate::contexts::Context;
+use crate::marks::Marks;
 use crate::parts::{leave_out, those_that_build};
 use crate::whole::check_each;
 use graphql_building_reports::BuildingReportList;
@@ -14,7 +15,7 @@ use graphql_diagnostics::{Details, DiagnosticData, DiagnosticEntry, DiagnosticLi
 use graphql_document_building::build_document;
 use graphql_document_checking::check_document;
 use graphql_documents::documents::ExecutableDocument;
-use graphql_frontend::{Reports, ValidationError};
+use graphql_frontend::{ListOperation, ProjectReports, Reports, ValidationError};
 use graphql_hash_seeds::HashSeed;
 use graphql_nodes::Name;
 use graphql_pools::pool_of;
@@ -39,11 +40,11 @@ pub(crate) fn check_rest(
     own: Vec<Document>,
     lent: Vec<Document>,
     may_be_others: bool,
-    found: &mut Vec<Reports>,
+    found: &mut ProjectReports,
 ) -> Result<(), ValidationError>
-    ensures silence { OnOk result (found.new.items ≡ [] → found.old.items ≡ []) }
+    ensures silence { OnOk result (found.new.lists.items ≡ [] → found.old.lists.items ≡ []) }
     ensures truth { IsUsable building.entry.schema.now →
-        OnOk result (AddsOfParts building.entry.bounds building.entry.schema.now own.items lent.items found.old.items found.new.items) }
+        OnOk result (AddsOfParts building.entry.bounds building.entry.schema.now own.items lent.items found.old.lists.items found.new.lists.items) }
 {
     let mut left_out = Vec::new(alloc);
     let files = build_parts(alloc, building, own, &mut left_out)?;
@@ -59,9 +60,10 @@ pub(crate) fn check_rest(
         bounds: building.bounds,
     };
     let mut used = IndexSet::with_hasher(alloc, building.hash_seed);
-    let mut all = Vec::new(alloc);
+    let mut all = ProjectReports::new(alloc);
     check_each(alloc, context, files, &mut used, &mut all)?;
-    add_known(all, &unknown, found)
+    let (all, operations) = all.into_parts();
+    add_known(all, operations, &unknown, found)
 }
 
 /// The typed documents of what can be built of these. What cannot is added to what is left out.
@@ -118,20 +120,23 @@ fn fragment_names(
     Ok(names)
 }
 
-/// Adds those of the reports that do not follow from what is not known.
+/// Adds those of the reports that do not follow from what is not known, each with the operation whose document it is about.
 fn add_known(
     all: Vec<Reports>,
+    operations: Vec<ListOperation>,
     unknown: &Unknown,
-    found: &mut Vec<Reports>,
+    found: &mut ProjectReports,
 ) -> Result<(), ValidationError>
-    ensures silence { OnOk result (found.new.items ≡ [] → found.old.items ≡ []) }
-    ensures truth { OnOk result (KeepsReports (Contains all.items) found.old.items found.new.items) }
+    ensures silence { OnOk result (found.new.lists.items ≡ [] → found.old.lists.items ≡ []) }
+    ensures truth { OnOk result (KeepsReports (Contains all.items) found.old.lists.items found.new.lists.items) }
 {
+    let mut marks = Marks::of(operations);
     for reports in all {
+        let mark = marks.next_mark();
         if may_follow(&reports, unknown) {
             continue;
         }
-        found.push(reports)?;
+        found.push(mark, reports)?;
     }
     Ok(())
 }

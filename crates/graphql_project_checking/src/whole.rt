@@ -18,7 +18,7 @@ use crate::file_rules::check_file_rules;
 use crate::operations::check_operation;
 use crate::uses::check_uses;
 use graphql_documents::documents::{ExecutableDocument, Fragment, Operation, OperationMap};
-use graphql_frontend::{Reports, ValidationError};
+use graphql_frontend::{ProjectReports, ValidationError};
 use graphql_hash_seeds::HashSeed;
 use graphql_nodes::{Name, Node};
 use graphql_pools::{Used, borrow_fragments, note_uses, pool_of};
@@ -35,15 +35,15 @@ pub(crate) fn check_whole(
     own: &[Document],
     files: Vec<ExecutableDocument>,
     lenders: &[ExecutableDocument],
-    found: &mut Vec<Reports>,
+    found: &mut ProjectReports,
 ) -> Result<(), ValidationError>
     ensures silence { (lent : List tree.Document) → IsUsable building.entry.schema.now → BuildAll building.entry.schema.now own.now files.items →
         BuildAll building.entry.schema.now lent lenders.now → AreDistinct (map (λ p. p.0) (fragments_among (own.now ++ lent))) →
-        OnOk result (SilentOnlyIf found.old.items found.new.items (FilesHold building.entry.schema.now own.now lent)) }
+        OnOk result (SilentOnlyIf found.old.lists.items found.new.lists.items (FilesHold building.entry.schema.now own.now lent)) }
     ensures truth { (lent : List tree.Document) → IsUsable building.entry.schema.now → BuildAll building.entry.schema.now own.now files.items →
         BuildAll building.entry.schema.now lent lenders.now →
         OnOk result (KeepsReports (AreOfWhole building.entry.bounds building.entry.schema.now (fragments_among (own.now ++ lent)) own.now)
-        found.old.items found.new.items) }
+        found.old.lists.items found.new.lists.items) }
 {
     let pool = pool_of(alloc, building.hash_seed, &files, lenders)?;
     let context = Context {
@@ -53,7 +53,7 @@ pub(crate) fn check_whole(
     };
     let mut used = IndexSet::with_hasher(alloc, building.hash_seed);
     check_each(alloc, context, files, &mut used, found)?;
-    check_uses(alloc, building, own, &used, found)
+    check_uses(alloc, building, own, &used, &mut found.lists)
 }
 
 /// Reports what is wrong with these files, each with the fragments of all, and notes which fragments their operations reach.
@@ -62,10 +62,10 @@ pub(crate) fn check_each<'a>(
     context: Context<'a>,
     files: Vec<ExecutableDocument>,
     used: &mut Used<'a>,
-    found: &mut Vec<Reports>,
+    found: &mut ProjectReports,
 ) -> Result<(), ValidationError>
-    ensures passes { OnOk result (SilentOnlyIf found.old.items found.new.items (All (FilePasses context.entry.schema.now context.entry.pool.now) files.items)) }
-    ensures truth { OnOk result (KeepsReports (AreOfOneFile context.entry.bounds context.entry.schema.now context.entry.pool.now files.items) found.old.items found.new.items) }
+    ensures passes { OnOk result (SilentOnlyIf found.old.lists.items found.new.lists.items (All (FilePasses context.entry.schema.now context.entry.pool.now) files.items)) }
+    ensures truth { OnOk result (KeepsReports (AreOfOneFile context.entry.bounds context.entry.schema.now context.entry.pool.now files.items) found.old.lists.items found.new.lists.items) }
     ensures used { OnOk result (NotesUses context.entry.pool.now (flat_map operations_of files.items) (names_of used.old.keys) (names_of used.new.keys)) }
     ensures noted { OnOk result (NotesAll context.entry.pool.now (flat_map operations_of files.items) (names_of used.old.keys) (names_of used.new.keys)) }
 {
@@ -80,10 +80,10 @@ fn check_file<'a>(
     context: Context<'a>,
     mut file: ExecutableDocument,
     used: &mut Used<'a>,
-    found: &mut Vec<Reports>,
+    found: &mut ProjectReports,
 ) -> Result<(), ValidationError>
-    ensures passes { OnOk result (SilentOnlyIf found.old.items found.new.items (FilePasses context.entry.schema.now context.entry.pool.now file)) }
-    ensures truth { OnOk result (KeepsReports (AreOfFile context.entry.bounds context.entry.schema.now context.entry.pool.now file) found.old.items found.new.items) }
+    ensures passes { OnOk result (SilentOnlyIf found.old.lists.items found.new.lists.items (FilePasses context.entry.schema.now context.entry.pool.now file)) }
+    ensures truth { OnOk result (KeepsReports (AreOfFile context.entry.bounds context.entry.schema.now context.entry.pool.now file) found.old.lists.items found.new.lists.items) }
     ensures used { OnOk result (NotesUses context.entry.pool.now (operations_of file) (names_of used.old.keys) (names_of used.new.keys)) }
     ensures noted { OnOk result (NotesAll context.entry.pool.now (operations_of file) (names_of used.old.keys) (names_of used.new.keys)) }
 {
@@ -97,7 +97,7 @@ fn check_file<'a>(
     )?;
     // The names of fragments differ, as a map says where it is counted.
     let _count = file.fragments.len();
-    check_file_rules(alloc, &file, context.bounds, found)
+    check_file_rules(alloc, &file, context.bounds, &mut found.lists)
 }
 
 /// The operations of a file: the one without a name, then the others in order.
@@ -119,12 +119,12 @@ fn check_operations<'a>(
     operations: &OperationMap,
     fragments: &mut IndexMap<Name, Node<Fragment>, HashSeed>,
     used: &mut Used<'a>,
-    found: &mut Vec<Reports>,
+    found: &mut ProjectReports,
 ) -> Result<(), ValidationError>
-    ensures passes { OnOk result (SilentOnlyIf found.old.items found.new.items
+    ensures passes { OnOk result (SilentOnlyIf found.old.lists.items found.new.lists.items
         (All (OperationPasses context.entry.schema.now context.entry.pool.now) (operations_in_map operations.now))) }
     ensures truth { OnOk result (KeepsReports (AreOfOneOperation context.entry.bounds context.entry.schema.now context.entry.pool.now (operations_in_map operations.now))
-        found.old.items found.new.items) }
+        found.old.lists.items found.new.lists.items) }
     ensures borrows { OnOk result (BorrowsForAll context.entry.pool.now (operations_in_map operations.now) fragments.old.entries fragments.new.entries) }
     ensures used { OnOk result (NotesUses context.entry.pool.now (operations_in_map operations.now) (names_of used.old.keys) (names_of used.new.keys)) }
     ensures noted { OnOk result (NotesAll context.entry.pool.now (operations_in_map operations.now) (names_of used.old.keys) (names_of used.new.keys)) }
@@ -143,12 +143,12 @@ fn check_reaching<'a>(
     operation: &Node<Operation>,
     fragments: &mut IndexMap<Name, Node<Fragment>, HashSeed>,
     used: &mut Used<'a>,
-    found: &mut Vec<Reports>,
+    found: &mut ProjectReports,
 ) -> Result<(), ValidationError>
-    ensures passes { OnOk result (SilentOnlyIf found.old.items found.new.items
+    ensures passes { OnOk result (SilentOnlyIf found.old.lists.items found.new.lists.items
         (OperationPasses context.entry.schema.now context.entry.pool.now operation.now)) }
     ensures truth { OnOk result (KeepsReports (AreOfOperation context.entry.bounds context.entry.schema.now context.entry.pool.now operation.now)
-        found.old.items found.new.items) }
+        found.old.lists.items found.new.lists.items) }
     ensures borrows { OnOk result (BorrowsForAll context.entry.pool.now (operation.now ∷ []) fragments.old.entries fragments.new.entries) }
     ensures used { OnOk result (NotesUses context.entry.pool.now (operation.now ∷ []) (names_of used.old.keys) (names_of used.new.keys)) }
     ensures noted { OnOk result (NotesAll context.entry.pool.now (operation.now ∷ []) (names_of used.old.keys) (names_of used.new.keys)) }

@@ -1,5 +1,5 @@
 -- The texts that reports are about, and their parts.
-use Rattle.std.specs.Prelude.{◌==◌, ℕ, List, [], ◌∷◌, Option, None, Some, codes, length, map, min, if◌then◌else◌}
+use Rattle.std.specs.Prelude.{◌==◌, ℕ, List, [], ◌∷◌, ◌++◌, Option, None, Some, codes, length, map, min, if◌then◌else◌}
 use Rattle.std.specs.Borrow.{Bor}
 use Rattle.std.specs.Option.{option_map}
 use Rattle.graphql_nodes.specs.declared.spans.FileId.{FileId}
@@ -10,6 +10,7 @@ use Rattle.graphql_report_formats.specs.declared.named_texts.CountedSubject.{Cou
 use Rattle.graphql_report_formats.specs.declared.named_texts.CountedText.{CountedText}
 use Rattle.graphql_report_formats.specs.declared.named_texts.Located.{Located}
 use Rattle.graphql_report_formats.specs.declared.named_texts.NamedText.{NamedText}
+use Rattle.graphql_report_formats.specs.declared.named_texts.Texts.{Texts}
 
 -- a text of a file, and the path of the file, if it has one
 pub record Text : Type 0 where
@@ -31,6 +32,15 @@ counted_text counted = record { path = path_of counted.path; file_id = counted.f
 -- the texts of a subject, in order
 abbrev pub texts_of : CountedSubject → List Text
 texts_of subject = map counted_text subject.texts.items
+
+-- these texts, and those of a schema, if these are others
+abbrev pub with_schema : List Text → Option (Bor CountedSubject) → List Text
+with_schema texts None = texts
+with_schema texts (Some schema) = texts ++ texts_of schema.now
+
+-- the texts that are validated, and those of the schema
+abbrev pub all_texts : Texts → List Text
+all_texts texts = with_schema (texts_of texts.subject.now) texts.schema
 
 -- the text of a file: the first of these that is of it
 abbrev pub text_in : List Text → FileId → Option Text

@@ -1,12 +1,12 @@
 //! The texts that reports are about, with the paths of their files.
 
-ghost use Rattle.std.specs.Prelude.{◌≡◌, IfOk, codes, map, unwrap_or};
+ghost use Rattle.std.specs.Prelude.{◌≡◌, ◌++◌, IfOk, codes, map, unwrap_or};
 ghost use Rattle.std.specs.Option.{option_map};
-ghost use Rattle.graphql_report_formats.specs.NamedTexts.{counted_text, named_text, part, part_at, part_of, path_of, place_in, texts_of};
+ghost use Rattle.graphql_report_formats.specs.NamedTexts.{all_texts, counted_text, named_text, part, part_at, part_of, path_of, place_in, texts_of};
 
+use graphql_findings::SourceText;
 use graphql_nodes::{FileId, SourceSpan};
 use graphql_places::{LineIndex, Place};
-use graphql_shown_reports::SourceText;
 use std::alloc::{AllocError, Global};
 
 /// A text, and what reports call its file, if it is of one.
@@ -45,6 +45,14 @@ struct CountedText<'a> {
     path: Option<&'a str>,
     file_id: FileId,
     lines: LineIndex<'a>,
+}
+
+/// The texts that findings are about, with their lines counted: those that are validated, and those of the schema.
+#[derive(Clone, Copy)]
+pub struct Texts<'a> {
+    pub subject: &'a CountedSubject<'a>,
+    /// The texts of the schema, if these are others.
+    pub schema: Option<&'a CountedSubject<'a>>,
 }
 
 /// A part of a text.
@@ -114,6 +122,40 @@ impl<'a> CountedText<'a> {
         ensures { result ≡ place_in (counted_text self.now).text at }
     {
         self.lines.place(at.min(self.lines.text().len()))
+    }
+}
+
+impl<'a> Texts<'a> {
+    /// The file of a report that has no place.
+    pub fn path(&self) -> Option<&'a str>
+        ensures { path_of result ≡ path_of self.now.subject.now.path }
+    {
+        self.subject.path
+    }
+
+    /// The part that this span is of the text of its file: the first text that is of it. None, if there is no span, or if no
+    /// text is of its file.
+    pub fn locate(&self, span: Option<SourceSpan>) -> Option<Located<'a>>
+        ensures { option_map part result ≡ part_at (all_texts self.now) span }
+    {
+        match self.schema {
+            Some(schema) => locate_in_either(self.subject, schema, span),
+            None => self.subject.locate(span),
+        }
+    }
+}
+
+/// The part of a text of the first, or else of the second.
+fn locate_in_either<'a>(
+    first: &'a CountedSubject<'a>,
+    second: &'a CountedSubject<'a>,
+    span: Option<SourceSpan>,
+) -> Option<Located<'a>>
+    ensures { option_map part result ≡ part_at (texts_of first.now ++ texts_of second.now) span }
+{
+    match first.locate(span) {
+        Some(located) => Some(located),
+        None => second.locate(span),
     }
 }
 

@@ -5,9 +5,9 @@ ghost use Rattle.graphql_report_formats.specs.NamedTexts.{named_text, path_of, s
 ghost use Rattle.graphql_report_formats.specs.declared.named_texts.NamedText as named_type;
 
 use crate::named_texts::{NamedText, Subject};
+use graphql_findings::SourceText;
 use graphql_nodes::FileId;
 use graphql_schema_building::BUILT_IN_DEFINITIONS;
-use graphql_shown_reports::SourceText;
 use std::alloc::{AllocError, Global};
 
 /// The definitions that every schema has, as the first of its texts.

@@ -2,12 +2,12 @@
 use Rattle.std.proofs.Common.{◌≡◌, Bool, true, false, not, List, refl, All}
 use Rattle.std.specs.Prelude.{◌↔◌, Any, IsFalse, IsTrue}
 use Rattle.graphql_documents.proofs.ListLemmas.{each_standing}
-use Rattle.graphql_schema_comparison.specs.Breaks.{Breaks, IsHarmless, breaks, breaks_selections}
-use Rattle.graphql_schema_comparison.specs.declared.changes.Change.{Change}
-use Rattle.graphql_schema_comparison.specs.declared.changes.Change.TheVariants as change
-use Rattle.graphql_schema_comparison.specs.declared.changes.SchemaChange.{SchemaChange}
-use Rattle.graphql_schema_comparison.specs.declared.changes.TypeEffect.{TypeEffect}
-use Rattle.graphql_schema_comparison.specs.declared.changes.TypeEffect.TheVariants as effect
+use Rattle.graphql_change_kinds.specs.Breaks.{Breaks, IsHarmless, breaks, breaks_selections}
+use Rattle.graphql_change_kinds.specs.declared.changes.Change.{Change}
+use Rattle.graphql_change_kinds.specs.declared.changes.Change.TheVariants as change
+use Rattle.graphql_change_kinds.specs.declared.changes.SchemaChange.{SchemaChange}
+use Rattle.graphql_change_kinds.specs.declared.changes.TypeEffect.{TypeEffect}
+use Rattle.graphql_change_kinds.specs.declared.changes.TypeEffect.TheVariants as effect
 
 harmless_if : (merging : Bool) (found : SchemaChange) → ¬ Breaks merging found → IsHarmless merging found
 harmless_if merging found none = by (breaks merging found.change) refl where

@@ -21,12 +21,14 @@ use Rattle.graphql_specification.specs.Fragments.{NamesComposite}
 use Rattle.graphql_document_building.specs.Documents.{HasOutputFields}
 use Rattle.graphql_document_building.specs.Trees.{names_leaf_type, type_below}
 use Rattle.graphql_schema_changes.specs.Keeps.{KeepsFields, KeepsRoots, KeepsShapes}
-use Rattle.graphql_schema_comparison.specs.Comparisons.{KeepsAll, KeepsContents, KeepsFieldNamed, KeepsFieldType, KeepsPlace, KeepsSelections, KeepsType, KeepsUses}
-use Rattle.graphql_schema_comparison.specs.Shapes.{Knows, KnowsEntry, KnowsType, ShapeTable, form_in}
-use Rattle.graphql_schema_comparison.proofs.FindsLemmas.{looked_up}
+use Rattle.graphql_change_kinds.specs.Kinds.{KeepsSelections}
+use Rattle.graphql_schema_comparison.specs.Comparisons.{KeepsAll, KeepsContents, KeepsFieldNamed, KeepsFieldType, KeepsPlace, KeepsType, KeepsUses}
+use Rattle.graphql_change_kinds.specs.Forms.{form_in}
+use Rattle.graphql_shape_comparison.specs.Shapes.{Knows, KnowsEntry, KnowsType, ShapeTable}
+use Rattle.graphql_change_kinds.proofs.FindsLemmas.{looked_up}
 use Rattle.graphql_schema_comparison.proofs.KindLemmas.{leaf_alike, still_composite}
-use Rattle.graphql_schema_comparison.proofs.NamedLemmas.{one_field, one_field_name, one_type}
-use Rattle.graphql_schema_comparison.proofs.ShapeLemmas.{form_stays, no_other_form, one_form_of, one_shape_of, same_inner}
+use Rattle.graphql_shape_comparison.proofs.NamedLemmas.{one_field, one_field_name, one_type}
+use Rattle.graphql_shape_comparison.proofs.ShapeLemmas.{form_stays, no_other_form, one_form_of, one_shape_of, same_inner}
 
 -- ==== meta-fields
 

@@ -18,15 +18,16 @@ use Rattle.graphql_documents.specs.declared.documents.schemas.Schema.{Schema}
 use Rattle.graphql_document_building.specs.Documents.{HasOutputFields}
 use Rattle.graphql_schema_changes.specs.Keeps.{IsExecutable, KeepsDirective, KeepsDirectives, KeepsDocumentsValid, KeepsInput, KeepsLoneFieldsValid, KeepsObject, KeepsSubscriptionRoot, KeepsValues, keeps_enum_values, keeps_input_fields, same_built_in_scalar, to_custom_scalar}
 use Rattle.graphql_schema_parts.specs.Locations.{is_in_documents}
-use Rattle.graphql_schema_comparison.specs.Breaks.{can_become}
-use Rattle.graphql_schema_comparison.specs.Comparisons.{KeepsAll, KeepsApplications, KeepsContents, KeepsDirectiveNamed, KeepsLocation, kind_of}
-use Rattle.graphql_schema_comparison.specs.Shapes.{ShapeTable}
-use Rattle.graphql_schema_comparison.specs.declared.changes.TypeKind.{TypeKind}
-use Rattle.graphql_schema_comparison.specs.declared.changes.TypeKind.TheVariants as kind
+use Rattle.graphql_change_kinds.specs.Breaks.{can_become}
+use Rattle.graphql_change_kinds.specs.Kinds.{kind_of}
+use Rattle.graphql_schema_comparison.specs.Comparisons.{KeepsAll, KeepsApplications, KeepsContents, KeepsDirectiveNamed, KeepsLocation}
+use Rattle.graphql_shape_comparison.specs.Shapes.{ShapeTable}
+use Rattle.graphql_change_kinds.specs.declared.changes.TypeKind.{TypeKind}
+use Rattle.graphql_change_kinds.specs.declared.changes.TypeKind.TheVariants as kind
 use Rattle.graphql_schema_comparison.proofs.FieldLemmas.{fields_kept, place_stays, shapes_kept, type_stays}
-use Rattle.graphql_schema_comparison.proofs.FindsLemmas.{looked_up}
+use Rattle.graphql_change_kinds.proofs.FindsLemmas.{looked_up}
 use Rattle.graphql_schema_comparison.proofs.KindLemmas.{still_object}
-use Rattle.graphql_schema_comparison.proofs.NamedLemmas.{applies_as, one_directive, one_type, own_name_is}
+use Rattle.graphql_shape_comparison.proofs.NamedLemmas.{applies_as, one_directive, one_type, own_name_is}
 use Rattle.graphql_schema_comparison.proofs.PossibleLemmas.{conditions_kept}
 
 -- ==== values

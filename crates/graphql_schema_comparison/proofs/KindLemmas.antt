@@ -5,14 +5,15 @@ use Rattle.graphql_documents.specs.Schemas.{is_built_in, is_composite, is_object
 use Rattle.graphql_documents.specs.declared.documents.schemas.ExtendedType.{ExtendedType}
 use Rattle.graphql_documents.specs.declared.documents.schemas.ExtendedType.TheVariants.{Scalar, Object, Interface, Union, Enum, InputObject}
 use Rattle.graphql_document_building.specs.Trees.{is_leaf_type}
-use Rattle.graphql_schema_comparison.specs.Breaks.{can_become}
-use Rattle.graphql_schema_comparison.specs.Comparisons.{KeepsContents, KeepsPlace, kind_of}
-use Rattle.graphql_schema_comparison.specs.Shapes.{ShapeTable}
+use Rattle.graphql_change_kinds.specs.Breaks.{can_become}
+use Rattle.graphql_change_kinds.specs.Kinds.{kind_of}
+use Rattle.graphql_schema_comparison.specs.Comparisons.{KeepsContents, KeepsPlace}
+use Rattle.graphql_shape_comparison.specs.Shapes.{ShapeTable}
 use Rattle.graphql_nodes.specs.Names.{NameText}
 use Rattle.graphql_documents.specs.declared.documents.schemas.Schema.{Schema}
-use Rattle.graphql_schema_comparison.specs.contracts.changes.TypeKindPartialEq.TheImpl as kind_impl
-use Rattle.graphql_schema_comparison.specs.declared.changes.TypeKind.{TypeKind}
-use Rattle.graphql_schema_comparison.specs.declared.changes.TypeKind.TheVariants as kind
+use Rattle.graphql_change_kinds.specs.contracts.changes.TypeKindPartialEq.TheImpl as kind_impl
+use Rattle.graphql_change_kinds.specs.declared.changes.TypeKind.{TypeKind}
+use Rattle.graphql_change_kinds.specs.declared.changes.TypeKind.TheVariants as kind
 
 -- ==== kinds
 

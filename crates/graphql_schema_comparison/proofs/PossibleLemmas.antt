@@ -15,11 +15,12 @@ use Rattle.graphql_documents.specs.declared.documents.schemas.ObjectType.{Object
 use Rattle.graphql_nodes.specs.declared.nodes.Node.{Node}
 use Rattle.graphql_specification.specs.Fragments.{HaveCommonObject, NamesComposite}
 use Rattle.graphql_schema_changes.specs.Keeps.{KeepsConditions}
-use Rattle.graphql_schema_comparison.specs.Comparisons.{IsObjectOf, KeepsAll, KeepsType}
+use Rattle.graphql_change_kinds.specs.Kinds.{IsObjectOf}
+use Rattle.graphql_schema_comparison.specs.Comparisons.{KeepsAll, KeepsType}
 use Rattle.graphql_schema_comparison.proofs.FieldLemmas.{place_stays, type_stays}
-use Rattle.graphql_schema_comparison.proofs.FindsLemmas.{looked_up}
+use Rattle.graphql_change_kinds.proofs.FindsLemmas.{looked_up}
 use Rattle.graphql_schema_comparison.proofs.KindLemmas.{still_composite, still_object}
-use Rattle.graphql_schema_comparison.proofs.NamedLemmas.{listed_as, one_type, own_name_is, subtype_at}
+use Rattle.graphql_shape_comparison.proofs.NamedLemmas.{listed_as, one_type, own_name_is, subtype_at}
 
 -- the object type that a definition is
 as_object : (d : ExtendedType) → IsTrue (is_object_type d) → (o : Node ObjectType) × (d ≡ Object o)

@@ -5,18 +5,17 @@ ghost use Rattle.std.specs.List.Sorted.{IsPermutation};
 ghost use Rattle.graphql_documents.specs.Built.{StandsUnderOwnNames};
 ghost use Rattle.graphql_document_building.specs.Documents.{HasOutputFields};
 ghost use Rattle.graphql_schema_changes.specs.Keeps.{KeepsDocumentsValid, KeepsLoneFieldsValid, KeepsRoots};
-ghost use Rattle.graphql_schema_comparison.specs.Breaks.{Breaks, IsHarmless};
-ghost use Rattle.graphql_schema_comparison.specs.Changes.{IsTrueOf};
+ghost use Rattle.graphql_change_kinds.specs.Breaks.{Breaks, IsHarmless};
+ghost use Rattle.graphql_change_kinds.specs.Changes.{IsTrueOf};
 ghost use Rattle.graphql_schema_comparison.specs.Comparisons.{KeepsAll};
 
-use crate::change_list::{ChangeList, SchemaPair};
-use crate::changes::SchemaChange;
 use crate::directives::compare_directives;
-use crate::meetings::Meetings;
 use crate::roots::compare_roots;
 use crate::types::compare_types;
+use graphql_change_kinds::{ChangeList, SchemaChange, SchemaPair};
 use graphql_documents::documents::Schema;
 use graphql_nodes::{SourceSpan, ValidationError};
+use graphql_shape_comparison::Meetings;
 use std::alloc::Global;
 
 /// What changes from one schema to another.

@@ -2,16 +2,14 @@
 
 ghost use Rattle.std.specs.Prelude.{◌≡◌, ◌↔◌, All, Contains, IsFalse, IsNone, IsSome, IsTrue, OnOk, Some};
 ghost use Rattle.graphql_documents.specs.Directives.{directive_definition};
-ghost use Rattle.graphql_schema_comparison.specs.Changes.{IsApplicable, IsApplicableIf, IsDirectiveNamed};
-ghost use Rattle.graphql_schema_comparison.specs.Found.{Adds, Finds};
+ghost use Rattle.graphql_change_kinds.specs.Changes.{IsApplicable, IsApplicableIf, IsDirectiveNamed};
+ghost use Rattle.graphql_change_kinds.specs.Found.{Adds, Finds};
 ghost use Rattle.graphql_schema_comparison.specs.Comparisons.{KeepsApplications, KeepsDirectiveNamed, KeepsLocation};
 
-use crate::arguments::compare_arguments;
-use crate::change_list::{ChangeList, Places, SchemaPair};
-use crate::changes::Change;
-use crate::inputs::Owner;
+use graphql_change_kinds::{Change, ChangeList, Places, SchemaPair};
 use graphql_coordinates::DirectiveCoordinate;
 use graphql_documents::documents::DirectiveDefinition;
+use graphql_input_comparison::{Owner, compare_arguments};
 use graphql_nodes::{DirectiveLocation, Name, Node, SourceSpan, ValidationError};
 use graphql_schema_parts::is_executable_location;
 

@@ -2,22 +2,21 @@
 
 ghost use Rattle.std.specs.Prelude.{◌≡◌, ◌↔◌, All, Bool, IfOk, IsFalse, IsTrue, Ok, OnOk, Some};
 ghost use Rattle.graphql_documents.specs.Schemas.{fields_of, type_definition, type_field};
-ghost use Rattle.graphql_document_building.specs.Trees.{names_leaf_type};
-ghost use Rattle.graphql_schema_comparison.specs.Breaks.{breaks_selections};
-ghost use Rattle.graphql_schema_comparison.specs.Changes.{HasEffect};
-ghost use Rattle.graphql_schema_comparison.specs.Found.{Adds, Finds};
-ghost use Rattle.graphql_schema_comparison.specs.Shapes.{AreMeetings};
-ghost use Rattle.graphql_schema_comparison.specs.Comparisons.{AreFieldsOf, KeepsFieldIfAny, KeepsFieldNamed, KeepsFieldType, KeepsFieldsOf, KeepsSelections, KeepsUses};
+ghost use Rattle.graphql_change_kinds.specs.Breaks.{breaks_selections};
+ghost use Rattle.graphql_change_kinds.specs.Changes.{HasEffect};
+ghost use Rattle.graphql_change_kinds.specs.Found.{Adds, Finds};
+ghost use Rattle.graphql_shape_comparison.specs.Shapes.{AreMeetings};
+ghost use Rattle.graphql_change_kinds.specs.Kinds.{KeepsSelections};
+ghost use Rattle.graphql_shape_comparison.specs.Fields.{AreFieldsOf};
+ghost use Rattle.graphql_schema_comparison.specs.Comparisons.{KeepsFieldIfAny, KeepsFieldNamed, KeepsFieldType, KeepsFieldsOf, KeepsUses};
 
-use crate::arguments::compare_arguments;
-use crate::change_list::{ChangeList, Places, SchemaPair};
-use crate::changes::{Change, TypeEffect};
-use crate::inputs::{Owner, is_same_type};
-use crate::meetings::Meetings;
+use graphql_change_kinds::{Change, ChangeList, Places, SchemaPair, TypeEffect};
 use graphql_coordinates::TypeAttributeCoordinate;
-use graphql_documents::documents::{Component, ExtendedType, FieldDefinition, Schema, Type};
+use graphql_documents::documents::{Component, ExtendedType, FieldDefinition, Type};
+use graphql_input_comparison::{Owner, compare_arguments, is_same_type};
 use graphql_nodes::{Name, NamedType, SourceSpan, ValidationError};
 use graphql_schema_parts::{FieldMap, fields_of};
+use graphql_shape_comparison::{Meetings, names_leaf_type};
 use std::alloc::Global;
 
 /// Finds the changes of the fields of a composite type of this name. If none breaks documents, each selection of a field that was valid
@@ -315,17 +314,7 @@ fn keeps_selections(pair: SchemaPair<'_>, from: &Type, to: &Type) -> bool
     was_leaf == is_leaf && (is_leaf || old_name == new_name)
 }
 
-/// Whether the name is that of a scalar or an enum.
-pub(crate) fn names_leaf_type(schema: &Schema, name: &NamedType) -> bool
-    ensures { result ≡ names_leaf_type schema.now name.now }
-{
-    matches!(
-        schema.types.get(name),
-        Some(ExtendedType::Scalar(_) | ExtendedType::Enum(_))
-    )
-}
-
 /// The place of a field, without its description.
-pub(crate) fn place_of_field(field: &Component<FieldDefinition>) -> Option<SourceSpan> {
+fn place_of_field(field: &Component<FieldDefinition>) -> Option<SourceSpan> {
     SourceSpan::recompose(field.node.value.name.location(), field.node.location)
 }

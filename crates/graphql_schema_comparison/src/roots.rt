@@ -4,11 +4,10 @@ ghost use Rattle.std.specs.Prelude.{◌≡◌, OnOk, Some};
 ghost use Rattle.graphql_nodes.specs.Names.{SameName};
 ghost use Rattle.graphql_document_building.specs.Trees.{root_name};
 ghost use Rattle.graphql_schema_changes.specs.Keeps.{KeepsRoots};
-ghost use Rattle.graphql_schema_comparison.specs.Found.{Finds};
+ghost use Rattle.graphql_change_kinds.specs.Found.{Finds};
 ghost use Rattle.graphql_schema_comparison.specs.Comparisons.{KeepsRoot};
 
-use crate::change_list::{ChangeList, Places, SchemaPair};
-use crate::changes::Change;
+use graphql_change_kinds::{Change, ChangeList, Places, SchemaPair};
 use graphql_nodes::{NamedType, OperationType, SourceSpan, ValidationError};
 
 /// Finds the changes of the root types. If none breaks documents, each root type that was there is there, with its name.

@@ -2,20 +2,22 @@
 
 ghost use Rattle.std.specs.Prelude.{◌≡◌, All, IfOk, IsSome, IsTrue, OnOk, Some};
 ghost use Rattle.graphql_documents.specs.Schemas.{type_definition};
-ghost use Rattle.graphql_schema_comparison.specs.Breaks.{can_become};
-ghost use Rattle.graphql_schema_comparison.specs.Found.{Adds, Finds};
-ghost use Rattle.graphql_schema_comparison.specs.Shapes.{AreMeetings};
-ghost use Rattle.graphql_schema_comparison.specs.Comparisons.{KeepsContents, KeepsPlace, KeepsType, kind_of};
+ghost use Rattle.graphql_change_kinds.specs.Breaks.{can_become};
+ghost use Rattle.graphql_change_kinds.specs.Found.{Adds, Finds};
+ghost use Rattle.graphql_shape_comparison.specs.Shapes.{AreMeetings};
+ghost use Rattle.graphql_change_kinds.specs.Kinds.{kind_of};
+ghost use Rattle.graphql_schema_comparison.specs.Comparisons.{KeepsContents, KeepsPlace, KeepsType};
 
-use crate::change_list::{ChangeList, Places, SchemaPair};
-use crate::changes::{Change, TypeKind};
-use crate::composites::{compare_interfaces, compare_members, compare_subscription_root};
 use crate::fields::compare_fields;
-use crate::input_types::{compare_enums, compare_input_objects};
-use crate::meetings::Meetings;
+use graphql_change_kinds::{Change, ChangeList, Places, SchemaPair, TypeKind};
+use graphql_composite_comparison::{
+    compare_interfaces, compare_members, compare_subscription_root,
+};
 use graphql_coordinates::TypeCoordinate;
 use graphql_documents::documents::ExtendedType;
+use graphql_input_comparison::{compare_enums, compare_input_objects};
 use graphql_nodes::{NamedType, SourceSpan, ValidationError};
+use graphql_shape_comparison::Meetings;
 use std::alloc::Global;
 
 /// Finds the changes of types. If none breaks documents, what could be selected on each type and given for it still can; if none

@@ -25,6 +25,9 @@ impl Model for SchemaHandle {
     ghost also_owns = { λ h. held the_row h.at h.kept };
 }
 
+// What it owns names no thread.
+unsafe impl Send for SchemaHandle {}
+
 impl SchemaHandle {
     /// A handle that keeps nothing.
     pub fn closed() -> SchemaHandle

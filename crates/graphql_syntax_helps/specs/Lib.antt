@@ -1,2 +1,3 @@
 pub mod Brackets
+pub mod HelpWords
 pub mod SyntaxHelps

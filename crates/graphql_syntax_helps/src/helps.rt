@@ -1,5 +1,8 @@
 //! What helps, in words.
 
+ghost use Rattle.std.specs.Prelude.{Some};
+ghost use Rattle.graphql_syntax_helps.specs.HelpWords.{syntax_help_words};
+
 use std::fmt;
 
 /// What helps with a text that is no document.
@@ -32,6 +35,8 @@ pub enum SyntaxHelp {
 }
 
 impl fmt::Display for SyntaxHelp {
+    ghost output = { λ help. Some (syntax_help_words help) };
+
     fn fmt<W: fmt::Write>(&self, f: &mut fmt::Formatter<W>) -> fmt::Result {
         f.write_str(match self {
             SyntaxHelp::UnclosedString => "the string has no closing quote on this line",

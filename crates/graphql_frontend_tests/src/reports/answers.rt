@@ -9,7 +9,7 @@ const REPORTED: &[u8] = b"{ a(c: 1) }";
 
 /// The answer to `REPORTED` in the form of the errors of a response.
 const REPORT: &str =
-    "{\"errors\":[{\"message\":\"the argument `c` is not supported by `Query.a`\",\"locations\":[{\"line\":1,\"column\":5}],\"extensions\":{\"rule\":\"UndefinedArgument\",\"span\":{\"start\":4,\"end\":8}}}]}";
+    "{\"errors\":[{\"message\":\"the argument `c` is not supported by `Query.a`\",\"locations\":[{\"line\":1,\"column\":5}],\"extensions\":{\"rule\":\"UndefinedArgument\",\"span\":{\"start\":4,\"end\":8},\"help\":[\"did you mean `b`?\"]}}]}";
 
 /// This is what was found, and its JSON.
 fn is_answer(rt: &impl Abort, answered: Result<Answer, Refusal>, found: Found, json: &str) {
@@ -55,17 +55,57 @@ fn schemas_are_answered(rt: HostRuntime) {
     is_answer(&rt, validate_schema(alloc, b""), Found::InSchema, syntax);
 }
 
-/// The first definition of the type is in the file of the definitions that every schema has: locations name no file.
+/// The first definition of the type is in the file of the definitions that every schema has.
 #[test]
-fn a_place_in_another_file_is_no_location(rt: HostRuntime) {
+fn a_note_names_its_file(rt: HostRuntime) {
     let json =
-        "{\"errors\":[{\"message\":\"the type `__Type` is defined multiple times in the schema\",\"locations\":[{\"line\":1,\"column\":28}],\"extensions\":{\"rule\":\"TypeDefinitionCollision\",\"span\":{\"start\":27,\"end\":33}}}]}";
+        "{\"errors\":[{\"message\":\"the type `__Type` is defined multiple times in the schema\",\"locations\":[{\"line\":1,\"column\":28}],\"extensions\":{\"rule\":\"TypeDefinitionCollision\",\"span\":{\"start\":27,\"end\":33},\"related\":[{\"message\":\"first here\",\"file\":\"<built-in>\",\"line\":21,\"column\":6,\"span\":{\"start\":574,\"end\":580}}]}}]}";
     is_answer(
         &rt,
         validate_schema(rt.alloc(), b"type Query { a: Int } type __Type { b: Int }"),
         Found::InSchema,
         json,
     );
+}
+
+/// A schema, a document, and what is answered.
+const ANSWERS: &[(&str, &str, &str)] = &[
+    // One fault that two operations reach.
+    (
+        "type Query { a(b: Int): Int }",
+        "query A { ...F } query B { ...F } fragment F on Query { a(c: 1) }",
+        "{\"errors\":[{\"message\":\"the argument `c` is not supported by `Query.a`\",\"locations\":[{\"line\":1,\"column\":59}],\"extensions\":{\"rule\":\"UndefinedArgument\",\"span\":{\"start\":58,\"end\":62},\"help\":[\"did you mean `b`?\"]}}]}",
+    ),
+    // The other place is in the document.
+    (
+        "type Query { a(b: Int): Int }",
+        "{ a(b: 1, b: 2) }",
+        "{\"errors\":[{\"message\":\"the argument `b` is provided multiple times\",\"locations\":[{\"line\":1,\"column\":11}],\"extensions\":{\"rule\":\"UniqueArgument\",\"span\":{\"start\":10,\"end\":14},\"related\":[{\"message\":\"first here\",\"line\":1,\"column\":5,\"span\":{\"start\":4,\"end\":8}}]}}]}",
+    ),
+    // The front end reports the usage last.
+    (
+        "type Query { a(b: Int): Int f(l: [Int!]): Int }",
+        "query A($v: Int) { f(l: [$v]) a(c: 1) }",
+        "{\"errors\":[{\"message\":\"variable `$v` of type `Int` used in position expecting type `Int!`\",\"locations\":[{\"line\":1,\"column\":26}],\"extensions\":{\"rule\":\"DisallowedVariableUsage\",\"span\":{\"start\":25,\"end\":27},\"related\":[{\"message\":\"`$v` of type `Int` is defined here\",\"line\":1,\"column\":9,\"span\":{\"start\":8,\"end\":15}}]}},{\"message\":\"the argument `c` is not supported by `Query.a`\",\"locations\":[{\"line\":1,\"column\":33}],\"extensions\":{\"rule\":\"UndefinedArgument\",\"span\":{\"start\":32,\"end\":36},\"help\":[\"did you mean `b`?\"]}}]}",
+    ),
+    // A text that is no document.
+    (
+        "type Query { a(b: Int): Int }",
+        "{ a(b: 01) }",
+        "{\"errors\":[{\"message\":\"invalid number\",\"locations\":[{\"line\":1,\"column\":8}],\"extensions\":{\"rule\":\"Syntax\",\"span\":{\"start\":7,\"end\":7},\"help\":[\"a number has no zeros before its first digit\"]}}]}",
+    ),
+];
+
+#[test]
+fn each_fault_is_answered_once_and_in_order(rt: HostRuntime) {
+    for (schema, document, json) in ANSWERS {
+        is_answer(
+            &rt,
+            validate(rt.alloc(), schema.as_bytes(), document.as_bytes()),
+            Found::InDocuments,
+            json,
+        );
+    }
 }
 
 /// The documents lie one behind another.
@@ -77,7 +117,7 @@ fn each_document_is_answered(rt: HostRuntime) {
         ends: &[11, 22],
     };
     let json =
-        "[{\"errors\":[]},{\"errors\":[{\"message\":\"the argument `c` is not supported by `Query.a`\",\"locations\":[{\"line\":1,\"column\":5}],\"extensions\":{\"rule\":\"UndefinedArgument\",\"span\":{\"start\":4,\"end\":8}}}]}]";
+        "[{\"errors\":[]},{\"errors\":[{\"message\":\"the argument `c` is not supported by `Query.a`\",\"locations\":[{\"line\":1,\"column\":5}],\"extensions\":{\"rule\":\"UndefinedArgument\",\"span\":{\"start\":4,\"end\":8},\"help\":[\"did you mean `b`?\"]}}]}]";
     is_answer(
         &rt,
         validate_each(alloc, SCHEMA, both),

@@ -306,7 +306,12 @@ fn reported<'a>(
             };
             own.extend_from_slice(&lent)
                 .expect(rt, "memory for sources");
-            lines(rt, alloc, &found.expect(rt, "memory for reports"), &own)
+            lines(
+                rt,
+                alloc,
+                &found.expect(rt, "memory for reports").lists,
+                &own,
+            )
         }
         _ => panic!(rt; "the schema is rejected"),
     }

@@ -1,6 +1,6 @@
 ghost use Rattle.std.specs.Prelude.{◌≡◌};
 
-use graphql_answers::sessions::{read, validate_kept, write_answer};
+use graphql_answers::sessions::{close, read, share, validate_kept, write_answer};
 use graphql_answers::{Found, Limits, Refusal, SchemaFile};
 use graphql_schema_handles::handle::SchemaHandle;
 use std::alloc::Global;
@@ -17,7 +17,7 @@ const REPORTED: &[u8] = b"{ a(c: 1) }";
 
 /// The answer to `REPORTED`, in the form of the errors of a response.
 const REPORT: &str =
-    "{\"errors\":[{\"message\":\"the argument `c` is not supported by `Query.a`\",\"locations\":[{\"line\":1,\"column\":5}],\"extensions\":{\"rule\":\"UndefinedArgument\",\"span\":{\"start\":4,\"end\":8}}}]}";
+    "{\"errors\":[{\"message\":\"the argument `c` is not supported by `Query.a`\",\"locations\":[{\"line\":1,\"column\":5}],\"extensions\":{\"rule\":\"UndefinedArgument\",\"span\":{\"start\":4,\"end\":8},\"help\":[\"did you mean `b`?\"]}}]}";
 
 fn is_found(rt: &impl Abort, found: Result<Found, Refusal>, wanted: Found) {
     match found {
@@ -26,8 +26,8 @@ fn is_found(rt: &impl Abort, found: Result<Found, Refusal>, wanted: Found) {
     }
 }
 
-fn is_refused(rt: &impl Abort, found: Result<Found, Refusal>, refusal: Refusal) {
-    match found {
+fn is_refused<T: Drop>(rt: &impl Abort, answered: Result<T, Refusal>, refusal: Refusal) {
+    match answered {
         Ok(_) => panic!(rt; "answered"),
         Err(given) => assert_eq!(rt; given, refusal),
     }
@@ -76,4 +76,85 @@ fn a_handle_without_a_schema_refuses_documents(rt: HostRuntime) {
     let found = validate_kept(alloc, &mut handle, VALID, Limits::DEFAULT);
     is_refused(&rt, found, Refusal::NoSchema);
     drop(handle.open(alloc));
+}
+
+/// The answer to two faults, at most one of which is shown.
+const FIRST: &str =
+    "{\"errors\":[{\"message\":\"the argument `c` is not supported by `Query.a`\",\"locations\":[{\"line\":1,\"column\":8}],\"extensions\":{\"rule\":\"UndefinedArgument\",\"span\":{\"start\":7,\"end\":11},\"help\":[\"did you mean `b`?\"]}}]}";
+
+/// The answer to two files that define one type.
+const TWICE: &str =
+    "{\"errors\":[{\"message\":\"the type `Query` is defined multiple times in the schema\",\"locations\":[{\"line\":1,\"column\":6}],\"extensions\":{\"file\":\"two.graphql\",\"rule\":\"TypeDefinitionCollision\",\"span\":{\"start\":5,\"end\":10},\"related\":[{\"message\":\"first here\",\"file\":\"one.graphql\",\"line\":1,\"column\":6,\"span\":{\"start\":5,\"end\":10}}]}}]}";
+
+#[test]
+fn the_first_findings_are_answered(rt: HostRuntime) {
+    let alloc = rt.alloc();
+    let mut handle = SchemaHandle::closed();
+    let found = read(alloc, &[FILE], Limits::DEFAULT, &mut handle);
+    is_found(&rt, found, Found::Nothing);
+    let limits = Limits {
+        reports: 1,
+        ..Limits::DEFAULT
+    };
+    let found = validate_kept(alloc, &mut handle, b"{ x: a(c: 1) y: a(d: 1) }", limits);
+    is_found(&rt, found, Found::InDocuments);
+    is_kept(&rt, alloc, &mut handle, FIRST.as_bytes());
+    drop(handle.open(alloc));
+}
+
+#[test]
+fn a_note_names_another_file(rt: HostRuntime) {
+    let alloc = rt.alloc();
+    let one = SchemaFile {
+        name: b"one.graphql",
+        text: b"type Query { a: Int }",
+    };
+    let two = SchemaFile {
+        name: b"two.graphql",
+        text: b"type Query { b: Int }",
+    };
+    let mut handle = SchemaHandle::closed();
+    let found = read(alloc, &[one, two], Limits::DEFAULT, &mut handle);
+    is_found(&rt, found, Found::InSchema);
+    is_kept(&rt, alloc, &mut handle, TWICE.as_bytes());
+    drop(handle.open(alloc));
+}
+
+#[test]
+fn handles_share_a_schema(rt: HostRuntime) {
+    let alloc = rt.alloc();
+    let mut handle = SchemaHandle::closed();
+    let mut other = SchemaHandle::closed();
+    let found = read(alloc, &[FILE], Limits::DEFAULT, &mut handle);
+    is_found(&rt, found, Found::Nothing);
+    let found = validate_kept(alloc, &mut handle, REPORTED, Limits::DEFAULT);
+    is_found(&rt, found, Found::InDocuments);
+    if share(alloc, &mut handle, &mut other).is_err() {
+        panic!(rt; "refused");
+    }
+    is_kept(&rt, alloc, &mut handle, REPORT.as_bytes());
+    is_kept(&rt, alloc, &mut other, b"");
+    close(alloc, &mut handle);
+    let found = validate_kept(alloc, &mut other, REPORTED, Limits::DEFAULT);
+    is_found(&rt, found, Found::InDocuments);
+    is_kept(&rt, alloc, &mut other, REPORT.as_bytes());
+    let found = validate_kept(alloc, &mut other, VALID, Limits::DEFAULT);
+    is_found(&rt, found, Found::Nothing);
+    drop(handle.open(alloc));
+    drop(other.open(alloc));
+}
+
+#[test]
+fn a_handle_without_a_schema_shares_none(rt: HostRuntime) {
+    let alloc = rt.alloc();
+    let mut handle = SchemaHandle::closed();
+    let mut other = SchemaHandle::closed();
+    let found = read(alloc, &[FILE], Limits::DEFAULT, &mut other);
+    is_found(&rt, found, Found::Nothing);
+    let shared = share(alloc, &mut handle, &mut other);
+    is_refused(&rt, shared, Refusal::NoSchema);
+    let found = validate_kept(alloc, &mut other, VALID, Limits::DEFAULT);
+    is_refused(&rt, found, Refusal::NoSchema);
+    drop(handle.open(alloc));
+    drop(other.open(alloc));
 }

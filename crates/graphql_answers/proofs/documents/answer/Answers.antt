@@ -1,44 +1,37 @@
-use Rattle.std.proofs.Common.{◌≡◌, [], ◌∷◌, None, subst}
+use Rattle.std.proofs.Common.{None, subst}
+use Rattle.std.proofs.lemmas.Result.{IfOk-weaker}
 use Rattle.graphql_parser.specs.declared.bounds.TheConstants as bounds
-use Rattle.graphql_frontend.specs.Verdicts.{Validates}
-use Rattle.graphql_frontend.specs.declared.verdicts.Verdict.TheVariants as verdict
-use Rattle.graphql_answers.specs.declared.answers.Found.TheVariants.{Nothing, InSchema, InDocuments}
-use Rattle.graphql_answers.specs.Answers.{AreErrorsOf, Finds, IsErrorOfLack, by_verdict, no_errors, schema_texts, unnamed}
+use Rattle.graphql_frontend.specs.Schemas.{ReadsSchema}
+use Rattle.graphql_frontend.specs.Verdicts.{lacks_introspection, schema_is_rejected}
+use Rattle.graphql_frontend.specs.declared.schemas.SchemaReading.TheVariants as reading
+use Rattle.graphql_answers.specs.declared.answers.Found.TheVariants.{InSchema}
+use Rattle.graphql_answers.specs.Answers.{AreErrorsOf, Finds, IsErrorOfLack, by_verdict, schema_texts}
 use Rattle.graphql_answers.proofs.AnswerLemmas.{told}
+use Rattle.graphql_answers.proofs.SessionLemmas.{against, is_text_of, text_source}
 use Rattle.graphql_answers.proofs.documents.answer.Goals as goal
 
-pub returns-in-Valid-clause-found : goal.returns-in-Valid-clause-found
-returns-in-Valid-clause-found c =
+pub returns-in-Accepted-clause-found : goal.returns-in-Accepted-clause-found
+returns-in-Accepted-clause-found c =
     let sources = c.schema_sources-sources.result in
-    let source = c.document_source-document.result in
-    let is_verdict = subst (Validates bounds.Bounds.DEFAULT c.as_slice.result.now source) c.in-Valid.is c.in_ok-validate.ensures in
-    told (Finds c.args.schema.now c.args.document.now) c.nothing.result Nothing (λ object. object ≡ no_errors) c.nothing.ensures.found
-    (λ object is. by_verdict object sources source c.schema_sources-sources.ensures c.document_source-document.ensures
-    (subst (λ l. Validates bounds.Bounds.DEFAULT l source verdict.Valid) c.as_slice.ensures is_verdict) is)
+    let reads = subst (ReadsSchema bounds.Bounds.DEFAULT c.as_slice.result.now) c.in-Accepted.is c.in_ok-schema.ensures.reads in
+    IfOk-weaker c.answer.result _ _
+    (λ answer finds. against c.args.schema.now c.args.document.now sources c.in-Accepted.schema c.schema_sources-sources.ensures
+    (subst (λ l. ReadsSchema bounds.Bounds.DEFAULT l (reading.Accepted c.in-Accepted.schema)) c.as_slice.ensures reads) finds)
+    c.answer.ensures.found
 
-pub returns-in-SchemaRejected-clause-found : goal.returns-in-SchemaRejected-clause-found
-returns-in-SchemaRejected-clause-found c =
+pub returns-in-Rejected-clause-found : goal.returns-in-Rejected-clause-found
+returns-in-Rejected-clause-found c =
     let sources = c.schema_sources-sources.result in
-    let source = c.document_source-document.result in
-    let is_verdict = subst (Validates bounds.Bounds.DEFAULT c.as_slice.result.now source) c.in-SchemaRejected.is c.in_ok-validate.ensures in
-    told (Finds c.args.schema.now c.args.document.now) c.reports_of_schema.result InSchema (AreErrorsOf (schema_texts sources) None sources c.in-SchemaRejected.reports) c.reports_of_schema.ensures.found
-    (λ object is. by_verdict object sources source c.schema_sources-sources.ensures c.document_source-document.ensures
-    (subst (λ l. Validates bounds.Bounds.DEFAULT l source (verdict.SchemaRejected c.in-SchemaRejected.reports)) c.as_slice.ensures is_verdict) is)
+    let reads = subst (ReadsSchema bounds.Bounds.DEFAULT c.as_slice.result.now) c.in-Rejected.is c.in_ok-schema.ensures.reads in
+    told (Finds c.args.schema.now c.args.document.now) c.reports_of_schema.result InSchema (AreErrorsOf None (schema_texts sources) None sources c.in-Rejected.reports)
+    c.reports_of_schema.ensures.found
+    (λ object is. by_verdict object sources (text_source c.args.document) c.schema_sources-sources.ensures (is_text_of c.args.document)
+    (schema_is_rejected (subst (λ l. ReadsSchema bounds.Bounds.DEFAULT l (reading.Rejected c.in-Rejected.reports)) c.as_slice.ensures reads)) is)
 
 pub returns-in-LacksIntrospection-clause-found : goal.returns-in-LacksIntrospection-clause-found
 returns-in-LacksIntrospection-clause-found c =
     let sources = c.schema_sources-sources.result in
-    let source = c.document_source-document.result in
-    let is_verdict = subst (Validates bounds.Bounds.DEFAULT c.as_slice.result.now source) c.in-LacksIntrospection.is c.in_ok-validate.ensures in
+    let reads = subst (ReadsSchema bounds.Bounds.DEFAULT c.as_slice.result.now) c.in-LacksIntrospection.is c.in_ok-schema.ensures.reads in
     told (Finds c.args.schema.now c.args.document.now) c.lack_of_introspection.result InSchema IsErrorOfLack c.lack_of_introspection.ensures.found
-    (λ object is. by_verdict object sources source c.schema_sources-sources.ensures c.document_source-document.ensures
-    (subst (λ l. Validates bounds.Bounds.DEFAULT l source verdict.LacksIntrospection) c.as_slice.ensures is_verdict) is)
-
-pub returns-in-DocumentRejected-clause-found : goal.returns-in-DocumentRejected-clause-found
-returns-in-DocumentRejected-clause-found c =
-    let sources = c.schema_sources-sources.result in
-    let source = c.document_source-document.result in
-    let is_verdict = subst (Validates bounds.Bounds.DEFAULT c.as_slice.result.now source) c.in-DocumentRejected.is c.in_ok-validate.ensures in
-    told (Finds c.args.schema.now c.args.document.now) c.reports_of_document.result InDocuments (AreErrorsOf (unnamed source ∷ []) None (source ∷ []) c.in-DocumentRejected.reports) c.reports_of_document.ensures.found
-    (λ object is. by_verdict object sources source c.schema_sources-sources.ensures c.document_source-document.ensures
-    (subst (λ l. Validates bounds.Bounds.DEFAULT l source (verdict.DocumentRejected c.in-DocumentRejected.reports)) c.as_slice.ensures is_verdict) is)
+    (λ object is. by_verdict object sources (text_source c.args.document) c.schema_sources-sources.ensures (is_text_of c.args.document)
+    (lacks_introspection (subst (λ l. ReadsSchema bounds.Bounds.DEFAULT l reading.LacksIntrospection) c.as_slice.ensures reads)) is)

@@ -9,6 +9,6 @@ pub returns-clause-found : goal.returns-clause-found
 returns-clause-found c =
     let r = c.reports_of_subject.result in
     let reports = c.args.reports.now in
-    subst (λ s. IfOk r (IsAnswer InSchema (AreErrorsOf (schema_texts c.args.sources) None s reports))) c.as_slice-2.ensures
-    (subst (λ t. IfOk r (IsAnswer InSchema (AreErrorsOf t None c.as_slice-2.result.now reports))) (ap (map named_text) c.as_slice.ensures ∙ c.schema_texts-texts.ensures)
+    subst (λ s. IfOk r (IsAnswer InSchema (AreErrorsOf None (schema_texts c.args.sources) None s reports))) c.as_slice-2.ensures
+    (subst (λ t. IfOk r (IsAnswer InSchema (AreErrorsOf None t None c.as_slice-2.result.now reports))) (ap (map named_text) c.as_slice.ensures ∙ c.schema_texts-texts.ensures)
     c.reports_of_subject.ensures.found)

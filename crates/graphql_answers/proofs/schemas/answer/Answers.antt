@@ -19,7 +19,7 @@ pub returns-in-Rejected-clause-found : goal.returns-in-Rejected-clause-found
 returns-in-Rejected-clause-found c =
     let sources = c.schema_sources-sources.result in
     let reads = subst (ReadsSchema bounds.Bounds.DEFAULT c.as_slice.result.now) c.in-Rejected.is c.in_ok-_schema.ensures.reads in
-    told (FindsInSchema c.args.schema.now) c.reports_of_schema.result InSchema (AreErrorsOf (schema_texts sources) None sources c.in-Rejected.reports)
+    told (FindsInSchema c.args.schema.now) c.reports_of_schema.result InSchema (AreErrorsOf None (schema_texts sources) None sources c.in-Rejected.reports)
     c.reports_of_schema.ensures.found
     (λ object is. by_reading object sources c.schema_sources-sources.ensures
     (subst (λ l. ReadsSchema bounds.Bounds.DEFAULT l (reading.Rejected c.in-Rejected.reports)) c.as_slice.ensures reads) is)

@@ -21,6 +21,6 @@ returns-in-Some-clause-found c =
     let source = c.document_source-document.result in
     let limits = c.args.limits in
     told (FindsAgainst limits c.args.schema.now c.args.text.now) c.reports_of_document.result InDocuments
-    (AreFirstErrorsOf limits (unnamed source ∷ []) None (source ∷ []) c.in-Some.reports) c.reports_of_document.ensures.found
+    (AreFirstErrorsOf limits (Some c.args.schema.now) (unnamed source ∷ []) None (source ∷ []) c.in-Some.reports) c.reports_of_document.ensures.found
     (λ object is. by_checking true object (reports_some source c.document_source-document.ensures
     (subst (ValidatesDocument limits.bounds (Some c.args.schema.now) source) c.in-Some.is c.in_ok-validate_document.ensures) is))

@@ -13,8 +13,8 @@ returns-in-None c =
     let o = c.args.operation.now in
     let names = names_of c.args.names.now.keys in
     record {
-      silence = stays_silent c.args.found.now.items (HoldsWith s pool o names) (c.reports_of.ensures.silence (c.in_ok-reports_of.was ∙ ap Ok c.in-None.is));
-      truth = adds_nothing (AreOfDocumentWith c.args.context.bounds s pool o names) c.args.found.now.items;
+      silence = stays_silent c.args.found.now.lists.items (HoldsWith s pool o names) (c.reports_of.ensures.silence (c.in_ok-reports_of.was ∙ ap Ok c.in-None.is));
+      truth = adds_nothing (AreOfDocumentWith c.args.context.bounds s pool o names) c.args.found.now.lists.items;
     }
 
 pub returns-in_ok-push-in-Some : goal.returns-in_ok-push-in-Some
@@ -24,7 +24,7 @@ returns-in_ok-push-in-Some c =
     let o = c.args.operation.now in
     let names = names_of c.args.names.now.keys in
     record {
-      silence = is_not_silent c.args.found.now.items c.push.new.self.items _ (HoldsWith s pool o names) c.in_ok-push-in-Some.ensures.items;
-      truth = adds_one (AreOfDocumentWith c.args.context.bounds s pool o names) c.args.found.now.items c.push.new.self.items _ c.in_ok-push-in-Some.ensures.items
+      silence = is_not_silent c.args.found.now.lists.items c.push.new.self.lists.items _ (HoldsWith s pool o names) c.in_ok-push-in-Some.ensures.lists;
+      truth = adds_one (AreOfDocumentWith c.args.context.bounds s pool o names) c.args.found.now.lists.items c.push.new.self.lists.items _ c.in_ok-push-in-Some.ensures.lists
           (c.reports_of.ensures.truth c.in-Some.reports (c.in_ok-reports_of.was ∙ ap Ok c.in-Some.is));
     }

@@ -6,7 +6,7 @@ use Rattle.graphql_project_checking.proofs.TruthLemmas.{adds_nothing, adds_one, 
 use Rattle.graphql_project_checking.proofs.rest.add_known.Goals as goal
 
 pub loop-reports-init : goal.loop-reports-init
-loop-reports-init c = ([], search rules, λ none. none, adds_nothing (Contains c.args.all.items) c.args.found.now.items)
+loop-reports-init c = ([], search rules, λ none. none, adds_nothing (Contains c.args.all.items) c.args.found.now.lists.items)
 
 pub loop-reports-preserved-then-may_follow : goal.loop-reports-preserved-then-may_follow
 loop-reports-preserved-then-may_follow c =
@@ -19,15 +19,15 @@ loop-reports-preserved c =
     let before = c.loop-reports.invariant in
     let all = c.args.all.items in
     let x = c.in-Some.reports in
-    let old = c.args.found.now.items in
-    let mid = c.loop-reports.found.items in
-    let new = c.push.new.self.items in
+    let old = c.args.found.now.lists.items in
+    let mid = c.loop-reports.found.lists.items in
+    let new = c.push.new.self.lists.items in
     let rest = c.loop-reports.reports-iterator.rest.items in (
       before.0 ++ x ∷ [],
       done_next _ before.0 rest c.next.new.self.rest.items x before.1 c.in-Some.ensures.steps.0,
-      λ none. absurd (not_nil mid x (sym c.in_ok-push.ensures.items ∙ none)),
+      λ none. absurd (not_nil mid x (sym c.in_ok-push.ensures.lists ∙ none)),
       adds_then (Contains all) old mid new before.3
-          (adds_one (Contains all) mid new x c.in_ok-push.ensures.items (stands_next all before.0 rest c.next.new.self.rest.items x before.1 c.in-Some.ensures.steps.0)),
+          (adds_one (Contains all) mid new x c.in_ok-push.ensures.lists (stands_next all before.0 rest c.next.new.self.rest.items x before.1 c.in-Some.ensures.steps.0)),
     )
 
 pub returns : goal.returns

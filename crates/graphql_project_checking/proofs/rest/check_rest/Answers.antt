@@ -1,4 +1,4 @@
-use Rattle.std.proofs.Common.{◌++◌, [], subst}
+use Rattle.std.proofs.Common.{◌++◌, [], ap, subst, sym}
 use Rattle.std.specs.Prelude.{All, Contains}
 use Rattle.std.proofs.lemmas.List.Elements.{All-contains}
 use Rattle.graphql_diagnostics.specs.Reports.{KeepsReports}
@@ -19,14 +19,16 @@ returns c =
     let own = c.in_ok-files.ensures in
     let lent = c.in_ok-lenders.ensures in
     let pool = c.in_ok-pool.pool in
-    let all = c.check_each.new.found.items in
-    let old = c.args.found.now.items in
-    let new = c.add_known.new.found.items in
+    let found = c.check_each.new.found.lists.items in
+    let all = c.into_parts-all.result.0.items in
+    let old = c.args.found.now.lists.items in
+    let new = c.add_known.new.found.lists.items in
     let One = AreOfOneFile b s pool files in
     let Parts = AreOfParts b s (fragments_among (own.0 ++ lent.0)) own.0 in
     let first = subst (λ l. HasFirst (entries_among files ++ entries_among l) [] pool.fragments.entries) c.deref-3.ensures.value
     (subst (λ l. HasFirst (entries_among l ++ entries_among c.deref-3.result.now) [] pool.fragments.entries) c.deref-2.ensures.value c.in_ok-pool.ensures.first) in
-    let each : All One all = all_added One c.new-all.result.items all c.in_ok-check_each.ensures.truth c.new-all.ensures.items in
+    let each : All One all = subst (All One) (sym (ap (λ v. v.items) c.into_parts-all.ensures.lists))
+    (all_added One c.new-all.result.lists.items found c.in_ok-check_each.ensures.truth c.new-all.ensures.lists) in
     record {
       silence = c.add_known.ensures.silence;
       truth = λ usable. on_ok (KeepsReports (Contains all) old new) (AddsOfParts b s c.args.own.items c.args.lent.items old new)

@@ -20,9 +20,9 @@ loop-file-init c =
     let Passes = FilePasses s pool in (
       [],
       search rules,
-      stays_silent c.args.found.now.items (All Passes []) (All-nil Passes),
+      stays_silent c.args.found.now.lists.items (All Passes []) (All-nil Passes),
       note_nothing pool (names_of c.args.used.now.keys),
-      adds_nothing (AreOfOneFile c.args.context.bounds s pool c.args.files.items) c.args.found.now.items,
+      adds_nothing (AreOfOneFile c.args.context.bounds s pool c.args.files.items) c.args.found.now.lists.items,
       all_of_nothing pool (names_of c.args.used.now.keys),
     )
 
@@ -32,9 +32,9 @@ loop-file-preserved c =
     let b = c.args.context.bounds in
     let pool = c.args.context.pool.now in
     let files = c.args.files.items in
-    let old = c.args.found.now.items in
-    let mid = c.loop-file.found.items in
-    let new = c.check_file.new.found.items in
+    let old = c.args.found.now.lists.items in
+    let mid = c.loop-file.found.lists.items in
+    let new = c.check_file.new.found.lists.items in
     let before = c.loop-file.invariant in
     let rest = c.loop-file.file-iterator.rest.items in
     let x = c.in-Some.file in (
@@ -57,7 +57,7 @@ returns c =
     let none : rest.items ≡ [] = nil_from_length rest.items (sym rest.ok.0 ∙ c.in-None.ensures.steps.0) in
     let done = before.1 ∙ ap (λ l. before.0 ++ l) none ∙ append-nil before.0 in
     record {
-      passes = subst (λ l. SilentOnlyIf c.args.found.now.items c.loop-file.found.items (All (FilePasses s pool) l)) (sym done) before.2;
+      passes = subst (λ l. SilentOnlyIf c.args.found.now.lists.items c.loop-file.found.lists.items (All (FilePasses s pool) l)) (sym done) before.2;
       truth = before.4;
       used = subst (λ l. NotesUses pool (flat_map operations_of l) (names_of c.args.used.now.keys) (names_of c.loop-file.used.keys)) (sym done) before.3;
       noted = subst (λ l. NotesAll pool (flat_map operations_of l) (names_of c.args.used.now.keys) (names_of c.loop-file.used.keys)) (sym done) before.5;

@@ -12,7 +12,7 @@ use Rattle.graphql_project_checking.proofs.whole.check_each.Given as goal
 abbrev pub invariant-loop-file : goal.invariant-loop-file
 invariant-loop-file l =
     (done : List ExecutableDocument) × (l.fn.files.items ≡ done ++ l.file-iterator.rest.items) ×
-    SilentOnlyIf l.initial.found.items l.found.items (All (FilePasses l.context.schema.now l.context.pool.now) done) ×
+    SilentOnlyIf l.initial.found.lists.items l.found.lists.items (All (FilePasses l.context.schema.now l.context.pool.now) done) ×
     NotesUses l.context.pool.now (flat_map operations_of done) (names_of l.initial.used.keys) (names_of l.used.keys) ×
-    KeepsReports (AreOfOneFile l.context.bounds l.context.schema.now l.context.pool.now l.fn.files.items) l.initial.found.items l.found.items ×
+    KeepsReports (AreOfOneFile l.context.bounds l.context.schema.now l.context.pool.now l.fn.files.items) l.initial.found.lists.items l.found.lists.items ×
     NotesAll l.context.pool.now (flat_map operations_of done) (names_of l.initial.used.keys) (names_of l.used.keys)

@@ -18,8 +18,8 @@ returns c =
     let pool = c.args.context.pool.now in
     let file = c.args.file in
     let whole : ExecutableDocument = record { operations = file.operations; fragments = c.check_operations.new.fragments } in
-    let old = c.args.found.now.items in
-    let mid = c.check_operations.new.found.items in
+    let old = c.args.found.now.lists.items in
+    let mid = c.check_operations.new.found.lists.items in
     let new = c.check_file_rules.new.found.items in
     record {
       passes = on_ok (SilentOnlyIf mid new (LabelsHold whole × InputFieldsAreUnique whole)) (SilentOnlyIf old new (FilePasses s pool file))

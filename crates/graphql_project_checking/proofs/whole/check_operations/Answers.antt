@@ -20,10 +20,10 @@ loop-operation-init c =
     let s = c.args.context.schema.now in
     let pool = c.args.context.pool.now in
     let Passes = OperationPasses s pool in (
-      stays_silent c.args.found.now.items (All Passes []) (All-nil Passes),
+      stays_silent c.args.found.now.lists.items (All Passes []) (All-nil Passes),
       borrow_nothing pool c.args.fragments.now.entries,
       note_nothing pool (names_of c.args.used.now.keys),
-      adds_nothing (AreOfOneOperation c.args.context.bounds s pool (nodes_at c.deref-operation-items.result.now)) c.args.found.now.items,
+      adds_nothing (AreOfOneOperation c.args.context.bounds s pool (nodes_at c.deref-operation-items.result.now)) c.args.found.now.lists.items,
       all_of_nothing pool (names_of c.args.used.now.keys),
     )
 
@@ -35,9 +35,9 @@ loop-operation-preserved c =
     let all = c.deref-operation-items.result.now in
     let i = c.loop-operation.operation-index in
     let x = c.operation-item.result in
-    let old = c.args.found.now.items in
-    let mid = c.loop-operation.found.items in
-    let new = c.check_reaching.new.found.items in
+    let old = c.args.found.now.lists.items in
+    let mid = c.loop-operation.found.lists.items in
+    let new = c.check_reaching.new.found.lists.items in
     let before = c.loop-operation.invariant in (
       passes_more pool s all i x old mid new c.loop-operation-test.true c.operation-item.is before.0 c.in_ok-check_reaching.ensures.passes,
       borrow_more pool all i x c.args.fragments.now.entries c.loop-operation.fragments.entries c.check_reaching.new.fragments.entries c.loop-operation-test.true c.operation-item.is
@@ -61,8 +61,8 @@ returns c =
     let are = ap nodes_at c.deref-operation-items.ensures.value ∙ c.in_ok-operations.ensures in
     let done = ap nodes_at (take_all c.loop-operation.operation-index all c.loop-operation-test.false) ∙ are in
     record {
-      passes = subst (λ l. SilentOnlyIf c.args.found.now.items c.loop-operation.found.items (All (OperationPasses s pool) l)) done before.0;
-      truth = subst (λ l. KeepsReports (AreOfOneOperation c.args.context.bounds s pool l) c.args.found.now.items c.loop-operation.found.items) are before.3;
+      passes = subst (λ l. SilentOnlyIf c.args.found.now.lists.items c.loop-operation.found.lists.items (All (OperationPasses s pool) l)) done before.0;
+      truth = subst (λ l. KeepsReports (AreOfOneOperation c.args.context.bounds s pool l) c.args.found.now.lists.items c.loop-operation.found.lists.items) are before.3;
       borrows = subst (λ l. BorrowsForAll pool l c.args.fragments.now.entries c.loop-operation.fragments.entries) done before.1;
       used = subst (λ l. NotesUses pool l (names_of c.args.used.now.keys) (names_of c.loop-operation.used.keys)) done before.2;
       noted = subst (λ l. NotesAll pool l (names_of c.args.used.now.keys) (names_of c.loop-operation.used.keys)) done before.4;

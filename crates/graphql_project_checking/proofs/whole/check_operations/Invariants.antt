@@ -10,9 +10,9 @@ use Rattle.graphql_project_checking.proofs.whole.check_operations.Given as goal
 -- so many of the operations pass where nothing is reported, what is reported is true, and what they reach is borrowed and noted
 abbrev pub invariant-loop-operation : goal.invariant-loop-operation
 invariant-loop-operation l =
-    SilentOnlyIf l.initial.found.items l.found.items
+    SilentOnlyIf l.initial.found.lists.items l.found.lists.items
     (All (OperationPasses l.context.schema.now l.context.pool.now) (nodes_at (take l.operation-index l.operation-items))) ×
     BorrowsForAll l.context.pool.now (nodes_at (take l.operation-index l.operation-items)) l.initial.fragments.entries l.fragments.entries ×
     NotesUses l.context.pool.now (nodes_at (take l.operation-index l.operation-items)) (names_of l.initial.used.keys) (names_of l.used.keys) ×
-    KeepsReports (AreOfOneOperation l.context.bounds l.context.schema.now l.context.pool.now (nodes_at l.operation-items)) l.initial.found.items l.found.items ×
+    KeepsReports (AreOfOneOperation l.context.bounds l.context.schema.now l.context.pool.now (nodes_at l.operation-items)) l.initial.found.lists.items l.found.lists.items ×
     NotesAll l.context.pool.now (nodes_at (take l.operation-index l.operation-items)) (names_of l.initial.used.keys) (names_of l.used.keys)

@@ -19,8 +19,8 @@ returns c =
     let pool = c.args.context.pool.now in
     let o = c.args.operation.now in
     let names = names_of c.in_ok-names.names.keys in
-    let old = c.args.found.now.items in
-    let new = c.check_operation.new.found.items in
+    let old = c.args.found.now.lists.items in
+    let new = c.check_operation.new.found.lists.items in
     let reached = subst (λ (x : Operation). ReachesNames (fragments_of pool) x.selection_set names) c.deref.ensures c.in_ok-names.ensures in
     record {
       passes = on_ok (SilentOnlyIf old new (HoldsWith s pool o names)) (SilentOnlyIf old new (OperationPasses s pool o))

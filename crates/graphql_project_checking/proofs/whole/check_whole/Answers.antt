@@ -22,8 +22,8 @@ returns c =
     let files = c.args.files.items in
     let lenders = c.args.lenders.now in
     let pool = c.in_ok-pool.pool in
-    let old = c.args.found.now.items in
-    let mid = c.check_each.new.found.items in
+    let old = c.args.found.now.lists.items in
+    let mid = c.check_each.new.found.lists.items in
     let new = c.check_uses.new.found.items in
     let used = names_of c.check_each.new.used.keys in
     record {

@@ -1,7 +1,7 @@
 use Rattle.std.proofs.Common.{List, false, true, refl, subst}
 use Rattle.std.specs.Prelude.{◌↔◌, Any, IsTrue}
-use Rattle.graphql_schema_comparison.specs.Breaks.{Breaks}
-use Rattle.graphql_schema_comparison.specs.declared.changes.SchemaChange.{SchemaChange}
+use Rattle.graphql_change_kinds.specs.Breaks.{Breaks}
+use Rattle.graphql_change_kinds.specs.declared.changes.SchemaChange.{SchemaChange}
 use Rattle.graphql_schema_comparison.proofs.ExplainedLemmas.{all_harmless, answer_turned, breaks_too, no_too}
 use Rattle.graphql_schema_comparison.proofs.KeptLemmas.{documents_kept, lone_fields_kept}
 use Rattle.graphql_schema_comparison.proofs.comparison.compare_schemas.Goals as goal

@@ -1,9 +1,9 @@
 use Rattle.std.proofs.Common.{◌≡◌, [], All, rules, subst, sym}
 use Rattle.std.proofs.lemmas.List.Sorted.{All-permutation, IsPermutation-sym}
 use Rattle.std.proofs.lemmas.List.Elements.{All-nil}
-use Rattle.graphql_schema_comparison.specs.Breaks.{IsHarmless}
-use Rattle.graphql_schema_comparison.specs.Changes.{IsTrueOf}
-use Rattle.graphql_schema_comparison.proofs.FindsLemmas.{found_both}
+use Rattle.graphql_change_kinds.specs.Breaks.{IsHarmless}
+use Rattle.graphql_change_kinds.specs.Changes.{IsTrueOf}
+use Rattle.graphql_change_kinds.proofs.FindsLemmas.{found_both}
 use Rattle.graphql_schema_comparison.proofs.comparison.find_changes.Goals as goal
 
 pub returns : goal.returns

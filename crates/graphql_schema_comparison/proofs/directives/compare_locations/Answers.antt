@@ -3,7 +3,7 @@ use Rattle.std.proofs.Common.{All, subst, Contains, List, get_or}
 use Rattle.graphql_nodes.specs.declared.directive_locations.DirectiveLocation.{DirectiveLocation}
 use Rattle.graphql_nodes.specs.declared.directive_locations.DirectiveLocation.TheVariants as location
 use Rattle.graphql_schema_comparison.specs.Comparisons.{KeepsLocation}
-use Rattle.graphql_schema_comparison.proofs.FindsLemmas.{found_all_of, found_more_copy, found_none, found_words}
+use Rattle.graphql_change_kinds.proofs.FindsLemmas.{found_all_of, found_more_copy, found_none, found_words}
 use Rattle.graphql_schema_comparison.proofs.directives.compare_locations.Goals as goal
 
 pub loop-location-init : goal.loop-location-init

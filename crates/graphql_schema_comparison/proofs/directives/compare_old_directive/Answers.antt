@@ -1,4 +1,4 @@
-use Rattle.graphql_schema_comparison.specs.Changes.{IsApplicable}
+use Rattle.graphql_change_kinds.specs.Changes.{IsApplicable}
 use Rattle.std.proofs.Common.{◌≡◌, ◌∙◌, false, sym, subst, true, Option}
 use Rattle.std.specs.Prelude.{Any, IsSomeAnd, IsTrue, ◌↔◌}
 use Rattle.graphql_nodes.specs.declared.directive_locations.DirectiveLocation.{DirectiveLocation}
@@ -6,7 +6,7 @@ use Rattle.graphql_nodes.specs.declared.nodes.Node.{Node}
 use Rattle.graphql_documents.specs.declared.documents.definitions.DirectiveDefinition.{DirectiveDefinition}
 use Rattle.graphql_schema_parts.specs.Locations.{is_in_documents}
 use Rattle.graphql_schema_comparison.specs.Comparisons.{KeepsApplications}
-use Rattle.graphql_schema_comparison.proofs.FindsLemmas.{found_words}
+use Rattle.graphql_change_kinds.proofs.FindsLemmas.{found_words}
 use Rattle.graphql_schema_comparison.proofs.directives.compare_old_directive.Goals as goal
 
 pub returns-in_ok-compare_two_directives-in-Some : goal.returns-in_ok-compare_two_directives-in-Some

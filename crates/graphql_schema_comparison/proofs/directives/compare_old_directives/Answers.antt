@@ -4,8 +4,8 @@ use Rattle.graphql_nodes.specs.Names.{NameText}
 use Rattle.graphql_nodes.specs.declared.nodes.Node.{Node}
 use Rattle.graphql_documents.specs.declared.documents.definitions.DirectiveDefinition.{DirectiveDefinition}
 use Rattle.graphql_schema_comparison.specs.Comparisons.{KeepsDirectiveNamed}
-use Rattle.graphql_schema_comparison.proofs.TruthLemmas.{found_own}
-use Rattle.graphql_schema_comparison.proofs.FindsLemmas.{found_behind, found_none, found_whole}
+use Rattle.graphql_change_kinds.proofs.TruthLemmas.{found_own}
+use Rattle.graphql_change_kinds.proofs.FindsLemmas.{found_behind, found_none, found_whole}
 use Rattle.graphql_schema_comparison.proofs.directives.compare_old_directives.Goals as goal
 
 pub loop-name-init : goal.loop-name-init

@@ -3,7 +3,7 @@ use Rattle.graphql_nodes.specs.Names.{NameText}
 use Rattle.graphql_nodes.specs.declared.nodes.Node.{Node}
 use Rattle.graphql_documents.specs.declared.documents.definitions.DirectiveDefinition.{DirectiveDefinition}
 use Rattle.graphql_schema_comparison.specs.Comparisons.{KeepsDirectiveNamed}
-use Rattle.graphql_schema_comparison.specs.Found.{Finds}
+use Rattle.graphql_change_kinds.specs.Found.{Finds}
 use Rattle.graphql_schema_comparison.proofs.directives.compare_old_directives.Given as goal
 
 abbrev pub invariant-loop-name : goal.invariant-loop-name

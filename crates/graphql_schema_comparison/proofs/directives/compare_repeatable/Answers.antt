@@ -1,8 +1,8 @@
 use Rattle.graphql_coordinates.specs.declared.coordinates.DirectiveCoordinate.{DirectiveCoordinate}
-use Rattle.graphql_schema_comparison.specs.declared.changes.Change.TheVariants as change
-use Rattle.graphql_schema_comparison.specs.Changes.{IsChange, repeatable_added, repeatable_removed}
+use Rattle.graphql_change_kinds.specs.declared.changes.Change.TheVariants as change
+use Rattle.graphql_change_kinds.specs.Changes.{IsChange, repeatable_added, repeatable_removed}
 use Rattle.std.proofs.Common.{◌≡◌, ◌∙◌, false, sym, true, subst, rules}
-use Rattle.graphql_schema_comparison.proofs.FindsLemmas.{found_words}
+use Rattle.graphql_change_kinds.proofs.FindsLemmas.{found_words}
 use Rattle.graphql_schema_comparison.proofs.directives.compare_repeatable.Goals as goal
 
 pub returns-in_ok-push-2 : goal.returns-in_ok-push-2

@@ -1,14 +1,14 @@
-use Rattle.graphql_schema_comparison.specs.declared.inputs.Owner.TheVariants as owner
-use Rattle.graphql_schema_comparison.specs.Owners.{HasArguments}
+use Rattle.graphql_input_comparison.specs.declared.inputs.Owner.TheVariants as owner
+use Rattle.graphql_input_comparison.specs.Owners.{HasArguments}
 use Rattle.graphql_nodes.specs.declared.nodes.Node.{Node}
 use Rattle.graphql_documents.specs.declared.documents.definitions.InputValueDefinition.{InputValueDefinition}
-use Rattle.graphql_schema_comparison.proofs.InputLemmas.{directive_arguments}
+use Rattle.graphql_input_comparison.proofs.InputLemmas.{directive_arguments}
 use Rattle.std.proofs.Common.{◌≡◌, All, subst₂, sym, subst, List}
 use Rattle.std.specs.Prelude.{IsTrue}
 use Rattle.graphql_documents.specs.declared.documents.definitions.DirectiveDefinition.{DirectiveDefinition}
 use Rattle.graphql_schema_changes.specs.Keeps.{KeepsArguments}
 use Rattle.graphql_schema_comparison.specs.Comparisons.{KeepsLocation}
-use Rattle.graphql_schema_comparison.proofs.FindsLemmas.{found_both, found_words}
+use Rattle.graphql_change_kinds.proofs.FindsLemmas.{found_both, found_words}
 use Rattle.graphql_schema_comparison.proofs.directives.compare_two_directives.Goals as goal
 
 pub returns : goal.returns

@@ -1,9 +1,9 @@
-use Rattle.graphql_schema_comparison.proofs.FindsLemmas.{adds_found}
+use Rattle.graphql_change_kinds.proofs.FindsLemmas.{adds_found}
 use Rattle.std.proofs.Common.{sym, subst, rules}
 use Rattle.std.specs.Prelude.{IsNone}
 use Rattle.graphql_documents.specs.Directives.{directive_definition}
-use Rattle.graphql_schema_comparison.specs.Changes.{IsChange, directive_added}
-use Rattle.graphql_schema_comparison.specs.declared.changes.Change.TheVariants as change
+use Rattle.graphql_change_kinds.specs.Changes.{IsChange, directive_added}
+use Rattle.graphql_change_kinds.specs.declared.changes.Change.TheVariants as change
 use Rattle.graphql_coordinates.specs.declared.coordinates.DirectiveCoordinate.{DirectiveCoordinate}
 use Rattle.graphql_schema_comparison.proofs.directives.find_added_directive.Goals as goal
 

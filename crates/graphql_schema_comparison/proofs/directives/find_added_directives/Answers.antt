@@ -3,8 +3,8 @@ use Rattle.graphql_documents.proofs.ListLemmas.{done_next}
 use Rattle.graphql_nodes.specs.Names.{NameText}
 use Rattle.graphql_nodes.specs.declared.nodes.Node.{Node}
 use Rattle.graphql_documents.specs.declared.documents.definitions.DirectiveDefinition.{DirectiveDefinition}
-use Rattle.graphql_schema_comparison.proofs.TruthLemmas.{found_some}
-use Rattle.graphql_schema_comparison.proofs.FindsLemmas.{adds_none, adds_then}
+use Rattle.graphql_change_kinds.proofs.TruthLemmas.{found_some}
+use Rattle.graphql_change_kinds.proofs.FindsLemmas.{adds_none, adds_then}
 use Rattle.graphql_schema_comparison.proofs.directives.find_added_directives.Goals as goal
 
 pub loop-name-init : goal.loop-name-init

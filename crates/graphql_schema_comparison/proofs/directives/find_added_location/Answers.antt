@@ -1,9 +1,9 @@
 use Rattle.graphql_nodes.specs.declared.directive_locations.DirectiveLocation.{DirectiveLocation}
-use Rattle.graphql_schema_comparison.proofs.TruthLemmas.{location_found}
-use Rattle.graphql_schema_comparison.proofs.FindsLemmas.{adds_found}
+use Rattle.graphql_change_kinds.proofs.TruthLemmas.{location_found}
+use Rattle.graphql_change_kinds.proofs.FindsLemmas.{adds_found}
 use Rattle.std.proofs.Common.{List, sym, subst, Contains}
-use Rattle.graphql_schema_comparison.specs.Changes.{IsChange, location_added}
-use Rattle.graphql_schema_comparison.specs.declared.changes.Change.TheVariants as change
+use Rattle.graphql_change_kinds.specs.Changes.{IsChange, location_added}
+use Rattle.graphql_change_kinds.specs.declared.changes.Change.TheVariants as change
 use Rattle.graphql_coordinates.specs.declared.coordinates.DirectiveCoordinate.{DirectiveCoordinate}
 use Rattle.graphql_schema_comparison.proofs.directives.find_added_location.Goals as goal
 

@@ -1,4 +1,4 @@
-use Rattle.graphql_schema_comparison.proofs.FindsLemmas.{adds_none, adds_then}
+use Rattle.graphql_change_kinds.proofs.FindsLemmas.{adds_none, adds_then}
 use Rattle.graphql_schema_comparison.proofs.directives.find_added_locations.Goals as goal
 
 pub loop-location-init : goal.loop-location-init

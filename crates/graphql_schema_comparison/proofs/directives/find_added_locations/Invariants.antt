@@ -1,4 +1,4 @@
-use Rattle.graphql_schema_comparison.specs.Found.{Adds}
+use Rattle.graphql_change_kinds.specs.Found.{Adds}
 use Rattle.graphql_schema_comparison.proofs.directives.find_added_locations.Given as goal
 
 abbrev pub invariant-loop-location : goal.invariant-loop-location

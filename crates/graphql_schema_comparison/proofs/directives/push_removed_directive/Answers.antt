@@ -1,6 +1,6 @@
 use Rattle.std.proofs.Common.{sym, subst}
-use Rattle.graphql_schema_comparison.specs.Changes.{IsChange, directive_removed}
-use Rattle.graphql_schema_comparison.specs.declared.changes.Change.TheVariants as change
+use Rattle.graphql_change_kinds.specs.Changes.{IsChange, directive_removed}
+use Rattle.graphql_change_kinds.specs.declared.changes.Change.TheVariants as change
 use Rattle.graphql_coordinates.specs.declared.coordinates.DirectiveCoordinate.{DirectiveCoordinate}
 use Rattle.graphql_schema_comparison.proofs.directives.push_removed_directive.Goals as goal
 

@@ -1,11 +1,11 @@
 use Rattle.graphql_coordinates.specs.declared.coordinates.TypeAttributeCoordinate.{TypeAttributeCoordinate}
-use Rattle.graphql_schema_comparison.specs.declared.changes.Change.TheVariants as change
-use Rattle.graphql_schema_comparison.specs.Changes.{HasEffect, IsChange, field_type_changed}
+use Rattle.graphql_change_kinds.specs.declared.changes.Change.TheVariants as change
+use Rattle.graphql_change_kinds.specs.Changes.{HasEffect, IsChange, field_type_changed}
 use Rattle.graphql_documents.specs.TypeReferences.{IsTypeCopy, same_type}
 use Rattle.std.proofs.Common.{◌≡◌, subst₂, false, rules, subst, sym}
 use Rattle.graphql_documents.specs.declared.documents.definitions.FieldDefinition.{FieldDefinition}
 use Rattle.graphql_schema_comparison.specs.Comparisons.{KeepsFieldType}
-use Rattle.graphql_schema_comparison.proofs.FindsLemmas.{found_words}
+use Rattle.graphql_change_kinds.proofs.FindsLemmas.{found_words}
 use Rattle.graphql_schema_comparison.proofs.fields.compare_field_types.Goals as goal
 
 pub returns : goal.returns

@@ -1,4 +1,4 @@
-use Rattle.graphql_schema_comparison.proofs.FindsLemmas.{found_both, found_words}
+use Rattle.graphql_change_kinds.proofs.FindsLemmas.{found_both, found_words}
 use Rattle.graphql_schema_comparison.proofs.fields.compare_fields.Goals as goal
 
 pub returns : goal.returns

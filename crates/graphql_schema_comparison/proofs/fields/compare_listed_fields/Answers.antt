@@ -4,8 +4,8 @@ use Rattle.graphql_nodes.specs.Names.{NameText}
 use Rattle.graphql_documents.specs.declared.documents.components.Component.{Component}
 use Rattle.graphql_documents.specs.declared.documents.definitions.FieldDefinition.{FieldDefinition}
 use Rattle.graphql_schema_comparison.specs.Comparisons.{KeepsFieldNamed}
-use Rattle.graphql_schema_comparison.proofs.TruthLemmas.{found_own}
-use Rattle.graphql_schema_comparison.proofs.FindsLemmas.{found_behind, found_none, found_whole}
+use Rattle.graphql_change_kinds.proofs.TruthLemmas.{found_own}
+use Rattle.graphql_change_kinds.proofs.FindsLemmas.{found_behind, found_none, found_whole}
 use Rattle.graphql_schema_comparison.proofs.fields.compare_listed_fields.Goals as goal
 
 pub loop-name-init : goal.loop-name-init

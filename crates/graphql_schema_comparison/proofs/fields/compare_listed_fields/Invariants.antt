@@ -3,7 +3,7 @@ use Rattle.graphql_nodes.specs.Names.{NameText}
 use Rattle.graphql_documents.specs.declared.documents.components.Component.{Component}
 use Rattle.graphql_documents.specs.declared.documents.definitions.FieldDefinition.{FieldDefinition}
 use Rattle.graphql_schema_comparison.specs.Comparisons.{KeepsFieldNamed}
-use Rattle.graphql_schema_comparison.specs.Found.{Finds}
+use Rattle.graphql_change_kinds.specs.Found.{Finds}
 use Rattle.graphql_schema_comparison.proofs.fields.compare_listed_fields.Given as goal
 
 abbrev pub invariant-loop-name : goal.invariant-loop-name

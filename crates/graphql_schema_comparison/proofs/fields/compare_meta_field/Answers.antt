@@ -3,7 +3,7 @@ use Rattle.graphql_documents.specs.Schemas.{type_field}
 use Rattle.graphql_documents.specs.declared.documents.components.Component.{Component}
 use Rattle.graphql_documents.specs.declared.documents.definitions.FieldDefinition.{FieldDefinition}
 use Rattle.graphql_schema_comparison.specs.Comparisons.{KeepsUses}
-use Rattle.graphql_schema_comparison.proofs.FindsLemmas.{found_words, one_ok}
+use Rattle.graphql_change_kinds.proofs.FindsLemmas.{found_words, one_ok}
 use Rattle.graphql_schema_comparison.proofs.fields.compare_meta_field.Goals as goal
 
 pub returns : goal.returns

@@ -1,9 +1,9 @@
 use Rattle.graphql_coordinates.specs.declared.coordinates.TypeAttributeCoordinate.{TypeAttributeCoordinate}
-use Rattle.graphql_schema_comparison.specs.declared.changes.Change.TheVariants as change
-use Rattle.graphql_schema_comparison.specs.Changes.{field_removed, IsChange}
+use Rattle.graphql_change_kinds.specs.declared.changes.Change.TheVariants as change
+use Rattle.graphql_change_kinds.specs.Changes.{field_removed, IsChange}
 use Rattle.std.proofs.Common.{sym, subst}
-use Rattle.graphql_schema_comparison.proofs.TruthLemmas.{ok_no_err}
-use Rattle.graphql_schema_comparison.proofs.FindsLemmas.{found_words}
+use Rattle.graphql_change_kinds.proofs.TruthLemmas.{ok_no_err}
+use Rattle.graphql_change_kinds.proofs.FindsLemmas.{found_words}
 use Rattle.graphql_schema_comparison.proofs.fields.compare_own_field.Goals as goal
 
 pub returns-in_ok-compare_two_fields-in-Ok : goal.returns-in_ok-compare_two_fields-in-Ok

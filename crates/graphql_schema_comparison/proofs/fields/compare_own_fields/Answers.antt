@@ -3,7 +3,7 @@ use Rattle.graphql_nodes.specs.Names.{NameText}
 use Rattle.graphql_documents.specs.declared.documents.components.Component.{Component}
 use Rattle.graphql_documents.specs.declared.documents.definitions.FieldDefinition.{FieldDefinition}
 use Rattle.graphql_schema_comparison.specs.Comparisons.{KeepsFieldNamed}
-use Rattle.graphql_schema_comparison.proofs.FindsLemmas.{found_words}
+use Rattle.graphql_change_kinds.proofs.FindsLemmas.{found_words}
 use Rattle.graphql_schema_comparison.proofs.fields.compare_own_fields.Goals as goal
 
 pub returns-in_ok-compare_listed_fields-in-Some : goal.returns-in_ok-compare_listed_fields-in-Some

@@ -1,11 +1,11 @@
-use Rattle.graphql_schema_comparison.specs.declared.inputs.Owner.TheVariants as owner
-use Rattle.graphql_schema_comparison.specs.Owners.{HasArguments}
+use Rattle.graphql_input_comparison.specs.declared.inputs.Owner.TheVariants as owner
+use Rattle.graphql_input_comparison.specs.Owners.{HasArguments}
 use Rattle.graphql_nodes.specs.declared.nodes.Node.{Node}
 use Rattle.graphql_documents.specs.declared.documents.definitions.InputValueDefinition.{InputValueDefinition}
-use Rattle.graphql_schema_comparison.proofs.InputLemmas.{field_arguments}
+use Rattle.graphql_input_comparison.proofs.InputLemmas.{field_arguments}
 use Rattle.std.proofs.Common.{◌≡◌, refl, subst₂, subst, List}
 use Rattle.graphql_schema_changes.specs.Keeps.{KeepsArguments}
-use Rattle.graphql_schema_comparison.proofs.FindsLemmas.{found_both, found_words}
+use Rattle.graphql_change_kinds.proofs.FindsLemmas.{found_both, found_words}
 use Rattle.graphql_schema_comparison.proofs.fields.compare_two_fields.Goals as goal
 
 pub returns : goal.returns

@@ -1,7 +1,7 @@
 use Rattle.std.proofs.Common.{◌≡◌, false, rules, true}
 use Rattle.graphql_documents.specs.TypeReferences.{is_assignable}
-use Rattle.graphql_schema_comparison.specs.Changes.{PartsFrom, meets_other, narrower, other_responses, other_selections}
-use Rattle.graphql_schema_comparison.specs.Comparisons.{KeepsSelections}
+use Rattle.graphql_change_kinds.specs.Changes.{PartsFrom, meets_other, narrower, other_responses, other_selections}
+use Rattle.graphql_change_kinds.specs.Kinds.{KeepsSelections}
 use Rattle.graphql_schema_comparison.proofs.fields.effect_of.Goals as goal
 
 pub returns-then-not-keeps_selections-clause-means : goal.returns-then-not-keeps_selections-clause-means

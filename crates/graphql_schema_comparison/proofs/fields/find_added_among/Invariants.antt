@@ -2,7 +2,7 @@ use Rattle.std.proofs.Common.{◌≡◌, ◌++◌, List}
 use Rattle.graphql_nodes.specs.Names.{NameText}
 use Rattle.graphql_documents.specs.declared.documents.components.Component.{Component}
 use Rattle.graphql_documents.specs.declared.documents.definitions.FieldDefinition.{FieldDefinition}
-use Rattle.graphql_schema_comparison.specs.Found.{Adds}
+use Rattle.graphql_change_kinds.specs.Found.{Adds}
 use Rattle.graphql_schema_comparison.proofs.fields.find_added_among.Given as goal
 
 abbrev pub invariant-loop-name : goal.invariant-loop-name

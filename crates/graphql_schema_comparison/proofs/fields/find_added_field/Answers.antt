@@ -1,11 +1,11 @@
-use Rattle.graphql_schema_comparison.proofs.TruthLemmas.{none_if_err}
+use Rattle.graphql_change_kinds.proofs.TruthLemmas.{none_if_err}
 use Rattle.graphql_coordinates.specs.declared.coordinates.TypeAttributeCoordinate.{TypeAttributeCoordinate}
-use Rattle.graphql_schema_comparison.specs.declared.changes.Change.TheVariants as change
+use Rattle.graphql_change_kinds.specs.declared.changes.Change.TheVariants as change
 use Rattle.std.specs.Result.{is_ok}
-use Rattle.graphql_schema_comparison.proofs.FindsLemmas.{adds_found}
+use Rattle.graphql_change_kinds.proofs.FindsLemmas.{adds_found}
 use Rattle.std.proofs.Common.{◌≡◌, rules, sym, subst, false, rules}
 use Rattle.graphql_documents.specs.Schemas.{type_field}
-use Rattle.graphql_schema_comparison.specs.Changes.{field_added, IsChange}
+use Rattle.graphql_change_kinds.specs.Changes.{field_added, IsChange}
 use Rattle.graphql_schema_comparison.proofs.fields.find_added_field.Goals as goal
 
 pub returns : goal.returns

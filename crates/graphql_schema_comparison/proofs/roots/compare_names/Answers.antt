@@ -1,7 +1,7 @@
 use Rattle.std.proofs.Common.{◌≡◌, Some, rules, false}
 use Rattle.graphql_nodes.specs.Names.{same_name}
 use Rattle.graphql_document_building.specs.Trees.{root_name}
-use Rattle.graphql_schema_comparison.specs.Changes.{root_changed}
+use Rattle.graphql_change_kinds.specs.Changes.{root_changed}
 use Rattle.graphql_schema_comparison.proofs.roots.compare_names.Goals as goal
 
 pub push-requires : goal.push-requires

@@ -2,9 +2,9 @@ use Rattle.std.proofs.Common.{◌≡◌, ◌∙◌, None, Option, Some, rules, s
 use Rattle.std.specs.Prelude.{IsNone, IsSome, IsSomeAnd}
 use Rattle.std.proofs.lemmas.Option.{same_Some}
 use Rattle.graphql_nodes.specs.Names.{NameText, SameName}
-use Rattle.graphql_schema_comparison.proofs.FindsLemmas.{found_words}
+use Rattle.graphql_change_kinds.proofs.FindsLemmas.{found_words}
 use Rattle.graphql_document_building.specs.Trees.{root_name}
-use Rattle.graphql_schema_comparison.specs.Changes.{root_added, root_removed}
+use Rattle.graphql_change_kinds.specs.Changes.{root_added, root_removed}
 use Rattle.graphql_schema_comparison.proofs.roots.compare_root.Goals as goal
 
 pub push-requires : goal.push-requires

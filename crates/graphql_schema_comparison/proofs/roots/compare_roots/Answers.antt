@@ -1,7 +1,7 @@
 use Rattle.graphql_nodes.specs.declared.operation_types.OperationType.{OperationType}
 use Rattle.graphql_nodes.specs.declared.operation_types.OperationType.TheVariants as operation
 use Rattle.graphql_schema_comparison.specs.Comparisons.{KeepsRoot}
-use Rattle.graphql_schema_comparison.proofs.FindsLemmas.{found_both, found_words}
+use Rattle.graphql_change_kinds.proofs.FindsLemmas.{found_both, found_words}
 use Rattle.graphql_schema_comparison.proofs.roots.compare_roots.Goals as goal
 
 each_kind : (P : OperationType → Type 0) → P operation.Query → P operation.Mutation → P operation.Subscription → (kind : OperationType) → P kind

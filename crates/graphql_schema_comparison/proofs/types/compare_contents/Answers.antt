@@ -5,10 +5,11 @@ use Rattle.graphql_documents.specs.declared.documents.schemas.ExtendedType.TheVa
 use Rattle.graphql_documents.specs.declared.documents.schemas.EnumType.{EnumType}
 use Rattle.graphql_documents.specs.declared.documents.schemas.InputObjectType.{InputObjectType}
 use Rattle.graphql_schema_changes.specs.Keeps.{KeepsInputFields}
-use Rattle.graphql_schema_comparison.specs.Comparisons.{KeepsContents, KeepsEnumValue}
-use Rattle.graphql_schema_comparison.specs.Owners.{HasInputFields}
-use Rattle.graphql_schema_comparison.proofs.FindsLemmas.{found_words}
-use Rattle.graphql_schema_comparison.proofs.InputLemmas.{input_fields}
+use Rattle.graphql_input_comparison.specs.Inputs.{KeepsEnumValue}
+use Rattle.graphql_schema_comparison.specs.Comparisons.{KeepsContents}
+use Rattle.graphql_input_comparison.specs.Owners.{HasInputFields}
+use Rattle.graphql_change_kinds.proofs.FindsLemmas.{found_words}
+use Rattle.graphql_input_comparison.proofs.InputLemmas.{input_fields}
 use Rattle.graphql_schema_comparison.proofs.KindLemmas.{contents_of_composite}
 use Rattle.graphql_schema_comparison.proofs.types.compare_contents.Goals as goal
 

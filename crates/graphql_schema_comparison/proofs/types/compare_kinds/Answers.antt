@@ -1,14 +1,14 @@
-use Rattle.graphql_schema_comparison.specs.declared.changes.TypeKind.{TypeKind}
+use Rattle.graphql_change_kinds.specs.declared.changes.TypeKind.{TypeKind}
 use Rattle.graphql_nodes.specs.Names.{NameText}
-use Rattle.graphql_schema_comparison.specs.declared.changes.Change.TheVariants as change
-use Rattle.graphql_schema_comparison.specs.Changes.{kind_changed, IsChange}
+use Rattle.graphql_change_kinds.specs.declared.changes.Change.TheVariants as change
+use Rattle.graphql_change_kinds.specs.Changes.{kind_changed, IsChange}
 use Rattle.graphql_documents.specs.Schemas.{type_definition}
 use Rattle.std.proofs.Common.{◌≡◌, ◌∙◌, ap₂, sym, rules, Some, false, subst, subst₂, true}
-use Rattle.graphql_schema_comparison.specs.Breaks.{can_become}
-use Rattle.graphql_schema_comparison.specs.contracts.changes.TypeKindPartialEq.TheImpl as kind_impl
+use Rattle.graphql_change_kinds.specs.Breaks.{can_become}
+use Rattle.graphql_change_kinds.specs.contracts.changes.TypeKindPartialEq.TheImpl as kind_impl
 use Rattle.graphql_schema_comparison.proofs.KindLemmas.{kind_itself}
-use Rattle.graphql_schema_comparison.proofs.FindsLemmas.{found_words}
-use Rattle.graphql_schema_comparison.proofs.TypeCopyLemmas.{not_false}
+use Rattle.graphql_change_kinds.proofs.FindsLemmas.{found_words}
+use Rattle.graphql_input_comparison.proofs.TypeCopyLemmas.{not_false}
 use Rattle.graphql_schema_comparison.proofs.types.compare_kinds.Goals as goal
 
 pub returns : goal.returns

@@ -1,8 +1,8 @@
-use Rattle.graphql_schema_comparison.specs.Changes.{type_removed}
+use Rattle.graphql_change_kinds.specs.Changes.{type_removed}
 use Rattle.graphql_documents.specs.Schemas.{type_definition}
 use Rattle.std.specs.Prelude.{IsNone, IsSome}
 use Rattle.std.proofs.Common.{sym, rules}
-use Rattle.graphql_schema_comparison.proofs.FindsLemmas.{found_both, found_words}
+use Rattle.graphql_change_kinds.proofs.FindsLemmas.{found_both, found_words}
 use Rattle.graphql_schema_comparison.proofs.types.compare_old_type.Goals as goal
 
 pub returns : goal.returns

@@ -3,8 +3,8 @@ use Rattle.graphql_documents.proofs.ListLemmas.{done_next}
 use Rattle.graphql_nodes.specs.Names.{NameText}
 use Rattle.graphql_documents.specs.declared.documents.schemas.ExtendedType.{ExtendedType}
 use Rattle.graphql_schema_comparison.specs.Comparisons.{KeepsType}
-use Rattle.graphql_schema_comparison.proofs.TruthLemmas.{found_own}
-use Rattle.graphql_schema_comparison.proofs.FindsLemmas.{found_behind, found_none, found_whole}
+use Rattle.graphql_change_kinds.proofs.TruthLemmas.{found_own}
+use Rattle.graphql_change_kinds.proofs.FindsLemmas.{found_behind, found_none, found_whole}
 use Rattle.graphql_schema_comparison.proofs.types.compare_old_types.Goals as goal
 
 pub loop-name-init : goal.loop-name-init

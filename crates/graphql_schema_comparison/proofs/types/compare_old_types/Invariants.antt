@@ -2,7 +2,7 @@ use Rattle.std.proofs.Common.{◌≡◌, ◌++◌, List, All}
 use Rattle.graphql_nodes.specs.Names.{NameText}
 use Rattle.graphql_documents.specs.declared.documents.schemas.ExtendedType.{ExtendedType}
 use Rattle.graphql_schema_comparison.specs.Comparisons.{KeepsType}
-use Rattle.graphql_schema_comparison.specs.Found.{Finds}
+use Rattle.graphql_change_kinds.specs.Found.{Finds}
 use Rattle.graphql_schema_comparison.proofs.types.compare_old_types.Given as goal
 
 abbrev pub invariant-loop-name : goal.invariant-loop-name

@@ -1,8 +1,8 @@
-use Rattle.graphql_schema_comparison.proofs.FindsLemmas.{adds_found}
+use Rattle.graphql_change_kinds.proofs.FindsLemmas.{adds_found}
 use Rattle.std.proofs.Common.{rules}
 use Rattle.std.specs.Prelude.{IsNone, IsSome}
 use Rattle.graphql_documents.specs.Schemas.{type_definition}
-use Rattle.graphql_schema_comparison.specs.Changes.{type_added}
+use Rattle.graphql_change_kinds.specs.Changes.{type_added}
 use Rattle.graphql_schema_comparison.proofs.types.find_added_type.Goals as goal
 
 pub push-requires : goal.push-requires

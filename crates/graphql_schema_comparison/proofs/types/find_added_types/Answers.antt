@@ -2,8 +2,8 @@ use Rattle.std.proofs.Common.{◌∙◌, ◌++◌, [], ◌∷◌, refl, sym}
 use Rattle.graphql_documents.proofs.ListLemmas.{done_next}
 use Rattle.graphql_nodes.specs.Names.{NameText}
 use Rattle.graphql_documents.specs.declared.documents.schemas.ExtendedType.{ExtendedType}
-use Rattle.graphql_schema_comparison.proofs.TruthLemmas.{found_some}
-use Rattle.graphql_schema_comparison.proofs.FindsLemmas.{adds_none, adds_then}
+use Rattle.graphql_change_kinds.proofs.TruthLemmas.{found_some}
+use Rattle.graphql_change_kinds.proofs.FindsLemmas.{adds_none, adds_then}
 use Rattle.graphql_schema_comparison.proofs.types.find_added_types.Goals as goal
 
 pub loop-name-init : goal.loop-name-init

@@ -1,7 +1,7 @@
 use Rattle.std.proofs.Common.{◌≡◌, ◌++◌, List}
 use Rattle.graphql_nodes.specs.Names.{NameText}
 use Rattle.graphql_documents.specs.declared.documents.schemas.ExtendedType.{ExtendedType}
-use Rattle.graphql_schema_comparison.specs.Found.{Adds}
+use Rattle.graphql_change_kinds.specs.Found.{Adds}
 use Rattle.graphql_schema_comparison.proofs.types.find_added_types.Given as goal
 
 abbrev pub invariant-loop-name : goal.invariant-loop-name

@@ -1,0 +1,2 @@
+pub mod FindsLemmas
+pub mod TruthLemmas

@@ -1,0 +1,13 @@
+use Rattle.std.proofs.Common.{◌≡◌, ◌++◌, List, All}
+use Rattle.graphql_change_kinds.specs.Found.{Finds}
+use Rattle.graphql_input_comparison.specs.Inputs.{FieldWasRequired, InputField, KeepsInputField}
+use Rattle.graphql_input_comparison.proofs.input_types.compare_new_fields.Given as goal
+
+abbrev pub invariant-loop-name : goal.invariant-loop-name
+invariant-loop-name l = record {
+  can_next : (goal.iterator-loop-name).can_next l.name-iterator;
+  is_finite : (goal.iterator-loop-name).is_finite l.name-iterator;
+  done : List InputField;
+  all : l.initial.name-iterator ≡ done ++ l.name-iterator;
+  found : Finds l.pair.old.now l.pair.new.now l.initial.changes l.changes (λ merging. All (λ (entry : InputField). All (KeepsInputField l.new) l.old.fields.entries → FieldWasRequired l.old entry) done);
+}

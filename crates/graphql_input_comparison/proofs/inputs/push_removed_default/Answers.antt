@@ -1,0 +1,32 @@
+use Rattle.graphql_input_comparison.specs.Owners.{coordinate_of}
+use Rattle.std.specs.Prelude.{Bool}
+use Rattle.graphql_change_kinds.specs.declared.changes.InputCoordinate.{InputCoordinate}
+use Rattle.graphql_change_kinds.specs.declared.changes.Change.TheVariants as change
+use Rattle.graphql_change_kinds.specs.Changes.{IsChange, default_removed}
+use Rattle.std.proofs.Common.{◌≡◌, ◌∙◌, rules, sym, subst}
+use Rattle.graphql_documents.specs.TypeReferences.{is_non_null}
+use Rattle.graphql_change_kinds.specs.Breaks.{is_given}
+use Rattle.graphql_input_comparison.proofs.InputLemmas.{says_applicable}
+use Rattle.graphql_change_kinds.proofs.FindsLemmas.{found_words}
+use Rattle.graphql_input_comparison.proofs.TypeCopyLemmas.{first_false}
+use Rattle.graphql_input_comparison.proofs.inputs.push_removed_default.Goals as goal
+
+pub returns : goal.returns
+returns c =
+    let required : c.is_non_null-is_required.result ≡ is_non_null c.args.new.now.value.value.ty.value.value = search rules in
+    found_words (λ merging harmless given.
+    sym required ∙ first_false c.is_non_null-is_required.result (is_given c.in_ok-input.input) harmless (c.in_ok-input.ensures.given ∙ given))
+    c.in_ok-push.ensures
+
+pub push-requires : goal.push-requires
+push-requires c =
+    let old = c.args.pair.old.now in
+    let new = c.args.pair.new.now in
+    let owner = c.args.owner in
+    let name = c.args.name.now in
+    let a = c.args.old.now.value.value in
+    let b = c.args.new.now.value.value in
+    let required : c.is_non_null-is_required.result ≡ is_non_null b.ty.value.value = search rules in
+    subst (λ (i : InputCoordinate). IsChange old new (change.DefaultRemoved i c.is_non_null-is_required.result)) (sym c.in_ok-input.ensures.is)
+    (subst (λ (r : Bool). IsChange old new (change.DefaultRemoved (coordinate_of owner name) r)) (sym required)
+    (default_removed a b (says_applicable old owner name c.requires.known) c.requires.was c.requires.is c.requires.had_default c.requires.has_none))

@@ -1,9 +1,0 @@
-use Rattle.std.proofs.Common.{◌≡◌, Some, refl, rules}
-use Rattle.graphql_documents.specs.Schemas.{type_definition}
-use Rattle.graphql_documents.specs.declared.documents.schemas.ExtendedType.TheVariants.{Object}
-use Rattle.graphql_schema_comparison.proofs.composites.is_object_of.Goals as goal
-
-pub returns-in-Some-Object : goal.returns-in-Some-Object
-returns-in-Some-Object c =
-    let is : type_definition c.args.schema.now c.args.object.now ≡ Some (Object c.in-Some-Object.field-0-0) = search rules in
-    (λ given. (c.is_subtype.ensures.0 given, (Object c.in-Some-Object.field-0-0, is, refl)), λ both. c.is_subtype.ensures.1 both.0)

@@ -1,0 +1,3 @@
+pub mod LearnsLemmas
+pub mod NamedLemmas
+pub mod ShapeLemmas
