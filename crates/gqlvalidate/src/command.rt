@@ -1,8 +1,9 @@
+use crate::configured::check_configured;
 use crate::explain::{explain, list_rules};
 use crate::schemas::check_schema;
 use gqlvalidate_check::bounds::{bounds_of, bounds_of_answers};
 use gqlvalidate_check::presentations::Presentation;
-use gqlvalidate_check::{Words, check_syntax, check_words};
+use gqlvalidate_check::{Words, check_syntax};
 use gqlvalidate_diff::{Compared, compare, presentation_of};
 use gqlvalidate_inputs::faults::{Fault, fault_of_output, fault_of_words};
 use gqlvalidate_inputs::introspections::print_schema;
@@ -66,6 +67,7 @@ fn answer<R: Files + AllocGlobal + Clone + Drop, I: Read, O: Write, F: Write>(
 ) -> Result<Status, Fault> {
     match request {
         Request::Check {
+            choice,
             schema,
             documents,
             files_from,
@@ -85,7 +87,7 @@ fn answer<R: Files + AllocGlobal + Clone + Drop, I: Read, O: Write, F: Write>(
                 bounds: bounds_of(*limits),
             };
             let presentation = Presentation::new(*reporting, terminal);
-            check_words(rt, words, presentation, input, output, faults)
+            check_configured(rt, words, *choice, presentation, input, output, faults)
         }
         Request::Diff {
             old,

@@ -2,6 +2,7 @@
 #![tactic(auto)]
 
 mod command;
+mod configured;
 mod explain;
 mod schemas;
 #[cfg(test)]

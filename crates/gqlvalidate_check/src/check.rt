@@ -21,6 +21,7 @@ use graphql_documents::documents::Schema;
 use graphql_frontend::{
     ProjectReports, Reports, SchemaReading, abandon, read_schema, validate_document,
 };
+use graphql_literals::is_program;
 use graphql_parser::Bounds;
 use std::alloc::Global;
 use std::io::{Read, Write};
@@ -58,6 +59,12 @@ impl Paths<'_> {
             && self.documents.len() == 1
             && self.fragments.is_empty()
             && self.hidden.is_empty()
+            && self.program().is_none()
+    }
+
+    /// The first of the documents that is a program.
+    pub fn program(&self) -> Option<&str> {
+        self.documents.iter().copied().find(|path| is_program(path))
     }
 }
 
@@ -184,20 +191,56 @@ fn check_each<R: Files + AllocGlobal, I: Read, O: Write, F: Write>(
 {
     let mut status = Status::Accepted;
     for (position, path) in paths.documents.iter().enumerate() {
-        let checked = match text_or_said(rt, path, input, faults)? {
-            Some(text) => {
-                let position = position.saturating_add(paths.schema.len());
-                let document = named_text(position, path, text.as_str());
-                check_text(rt.alloc(), schema, document, paths.bounds, account, output)?
-            }
-            None => {
-                account.add_unreadable(rt.alloc(), shown_path(path))?;
-                Status::Unreadable
-            }
+        let checked = if is_program(path) {
+            let documents = [*path];
+            let paths = Paths {
+                documents: documents.as_slice(),
+                ..paths
+            };
+            check_files(rt, schema, paths, account, input, output, faults)?
+        } else {
+            let position = position.saturating_add(paths.schema.len());
+            check_file(
+                rt,
+                schema,
+                position,
+                path,
+                paths.bounds,
+                account,
+                input,
+                output,
+                faults,
+            )?
         };
         status = status.with(checked);
     }
     Ok(status)
+}
+
+/// Validates the document of a file, which has this position in the run.
+fn check_file<R: Files + AllocGlobal, I: Read, O: Write, F: Write>(
+    rt: &R,
+    schema: &Schema,
+    position: usize,
+    path: &str,
+    bounds: Bounds,
+    account: &mut Account<'_>,
+    input: &mut I,
+    output: &mut O,
+    faults: &mut F,
+) -> Result<Status, Fault>
+    requires { IsUsable schema.now }
+{
+    match text_or_said(rt, path, input, faults)? {
+        Some(text) => {
+            let document = named_text(position, path, text.as_str());
+            check_text(rt.alloc(), schema, document, bounds, account, output)
+        }
+        None => {
+            account.add_unreadable(rt.alloc(), shown_path(path))?;
+            Ok(Status::Unreadable)
+        }
+    }
 }
 
 /// Validates one document, and reports what is wrong with it.

@@ -1,9 +1,8 @@
 //! Texts that are no documents, with their parts as texts beside them: so that a fault in one definition hides no fault in another.
 
+use crate::run_texts::RunTexts;
 use gqlvalidate_runs::named_texts::NamedText;
-use graphql_frontend::{
-    FileId, ProjectReports, Reports, SourceText, SyntaxReport, ValidationError,
-};
+use graphql_frontend::{ProjectReports, Reports, SourceText, SyntaxReport, ValidationError};
 use graphql_parser::{Bounds, SyntaxError};
 use graphql_text_parts::{parts_beside, text_of_part};
 use std::alloc::{AllocError, Global};
@@ -15,7 +14,7 @@ pub type Cuts = BTreeMap<usize, Vec<String>>;
 /// The parts of those of these texts that are no documents.
 pub fn cuts_of(
     alloc: Global,
-    texts: &[NamedText<'_>],
+    texts: &[SourceText<'_>],
     found: &ProjectReports,
     bounds: Bounds,
 ) -> Result<Cuts, ValidationError> {
@@ -31,7 +30,7 @@ pub fn cuts_of(
 /// Adds the parts of those of these texts that have these errors.
 pub fn add_cuts(
     alloc: Global,
-    texts: &[NamedText<'_>],
+    texts: &[SourceText<'_>],
     errors: &[SyntaxReport],
     bounds: Bounds,
     cuts: &mut Cuts,
@@ -41,10 +40,10 @@ pub fn add_cuts(
         by_file.insert(report.file_id.0, report.error)?;
     }
     for (position, text) in texts.iter().enumerate() {
-        let Some(error) = by_file.get(&text.source.file_id.0) else {
+        let Some(error) = by_file.get(&text.file_id.0) else {
             continue;
         };
-        let parts = texts_of_parts(alloc, text.source.text, *error, bounds)?;
+        let parts = texts_of_parts(alloc, text.text, *error, bounds)?;
         if !parts.is_empty() {
             cuts.insert(position, parts)?;
         }
@@ -77,47 +76,21 @@ pub fn count_of(cuts: &Cuts) -> usize {
     count
 }
 
-/// These texts, each with its parts after it, under its path. They are numbered anew, from the number of the first one.
+/// These texts, as they are shown and as they are read, each with its parts after it, under its path. They are numbered anew, from the number of
+/// the first one.
 pub fn with_cuts<'a>(
     alloc: Global,
-    texts: &[NamedText<'a>],
+    shown: &[NamedText<'a>],
+    read: &[SourceText<'a>],
     cuts: &'a Cuts,
-) -> Result<Vec<NamedText<'a>>, AllocError> {
-    let first = texts.first().map_or(0, |text| text.source.file_id.0);
-    let mut all = Vec::new(alloc);
-    for (position, text) in texts.iter().enumerate() {
-        add_text(first, text.path, text.source.text, &mut all)?;
+) -> Result<RunTexts<'a>, AllocError> {
+    let first = shown.first().map_or(0, |text| text.source.file_id.0);
+    let mut all = RunTexts::from_number(alloc, first);
+    for (position, (text, source)) in shown.iter().zip(read.iter()).enumerate() {
+        all.push(text.path, text.source.text, source.text)?;
         if let Some(parts) = cuts.get(&position) {
-            add_parts(first, text.path, parts, &mut all)?;
+            all.add_parts(text.path, text.source.text, parts)?;
         }
     }
     Ok(all)
-}
-
-fn add_parts<'a>(
-    first: u32,
-    path: Option<&'a str>,
-    parts: &'a [String],
-    all: &mut Vec<NamedText<'a>>,
-) -> Result<(), AllocError> {
-    for part in parts {
-        add_text(first, path, part.as_str(), all)?;
-    }
-    Ok(())
-}
-
-/// Adds a text, with the number of its position from the first number on.
-fn add_text<'a>(
-    first: u32,
-    path: Option<&'a str>,
-    text: &'a str,
-    all: &mut Vec<NamedText<'a>>,
-) -> Result<(), AllocError> {
-    let position = u32::try_from(all.len()).unwrap_or(u32::MAX);
-    let source = SourceText {
-        file_id: FileId(first.saturating_add(position)),
-        text,
-    };
-    all.push(NamedText { path, source })?;
-    Ok(())
 }

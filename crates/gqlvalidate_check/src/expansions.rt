@@ -27,6 +27,18 @@ pub struct Words<'a> {
     pub bounds: Bounds,
 }
 
+impl Words<'_> {
+    /// Whether a word, or a list, names documents.
+    pub fn names_documents(&self) -> bool {
+        !self.documents.is_empty() || self.files_from.is_some()
+    }
+
+    /// Whether words name a schema and documents.
+    pub fn is_complete(&self) -> bool {
+        !self.schema.is_empty() && self.names_documents()
+    }
+}
+
 /// The files of a run.
 #[derive(Drop)]
 struct FilesOfRun {

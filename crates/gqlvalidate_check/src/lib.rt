@@ -5,7 +5,9 @@ mod check;
 mod cuts;
 mod expansions;
 mod one_document;
+mod programs;
 mod project_files;
+mod run_texts;
 mod syntax;
 
 pub use expansions::{Words, check_words};

@@ -7,6 +7,8 @@ ghost use Rattle.graphql_frontend.specs.Schemas.{IsUsable};
 use crate::check::Paths;
 use crate::project_files::project_of;
 use gqlvalidate_inputs::faults::Fault;
+use gqlvalidate_inputs::printable::Printable;
+use gqlvalidate_inputs::sources::shown_path;
 use gqlvalidate_inputs::statuses::Status;
 use gqlvalidate_runs::accounts::Account;
 use gqlvalidate_runs::named_texts::{NamedText, Subject};
@@ -31,6 +33,10 @@ pub fn check_together<R: Files + AllocGlobal, I: Read, O: Write, F: Write>(
 ) -> Result<Status, Fault>
     requires { IsUsable schema.now }
 {
+    if let Some(program) = paths.program() {
+        explain_program(program, faults);
+        return Ok(Status::BadArguments);
+    }
     let ReadFiles { texts, unreadable } = read_files(
         rt,
         paths.documents,
@@ -46,6 +52,15 @@ pub fn check_together<R: Files + AllocGlobal, I: Read, O: Write, F: Write>(
     let status = check_one(rt.alloc(), schema, paths, &texts, account, output);
     drop(texts);
     status
+}
+
+/// Says on standard error that the literals of a program are documents of their own. That this fails changes nothing.
+fn explain_program<F: Write>(path: &str, faults: &mut F) {
+    let path = Printable(shown_path(path));
+    let _ = writeln!(
+        faults,
+        "{path}: error: the literals of a program are documents of their own, and no parts of one document"
+    );
 }
 
 /// Validates the one document that these texts are together.

@@ -1,45 +1,23 @@
 //! Documents that are validated together: operations spread fragments of each other's files.
 
-ghost use Rattle.std.specs.Prelude.{IsTrue, []};
 ghost use Rattle.graphql_frontend.specs.Schemas.{IsUsable};
-ghost use Rattle.graphql_tokens.specs.Lexical.{AreTokens};
 
 use crate::check::Paths;
 use crate::cuts::{Cuts, add_cuts, count_of, cuts_of, with_cuts};
+use crate::run_texts::{ReadFile, ReadFiles, RunTexts, read_files};
 use gqlvalidate_inputs::faults::Fault;
-use gqlvalidate_inputs::sources::{shown_path, text_or_said};
 use gqlvalidate_inputs::statuses::Status;
 use gqlvalidate_runs::accounts::{Account, FilesOfProject};
 use gqlvalidate_runs::depend_on_operations;
 use gqlvalidate_runs::named_texts::{NamedText, Subject};
-use gqlvalidate_runs::schema_files::named_text;
-use gqlvalidate_runs::schema_texts::sources_of;
 use graphql_documents::documents::Schema;
 use graphql_frontend::{ProjectReports, Reports, SourceText};
 use graphql_parser::Bounds;
 use graphql_project_checking::{check_part_of_project, check_project};
-use graphql_tokens::{Stop, measure};
 use std::alloc::{AllocError, Global};
 use std::collections::{BTreeMap, BTreeSet};
 use std::io::{Read, Write};
 use std::rt::Files;
-
-/// A file of the run, with its text.
-#[derive(Drop)]
-struct ReadFile {
-    path: String,
-    /// Its position among the files of the run, those of the schema included.
-    position: usize,
-    text: String,
-}
-
-/// The files that could be read.
-#[derive(Drop)]
-struct ReadFiles {
-    files: Vec<ReadFile>,
-    /// Those that could not, as lines call them.
-    unreadable: Vec<String>,
-}
 
 /// The files that could be read, when the account has the others.
 #[derive(Drop)]
@@ -47,15 +25,20 @@ struct TextFiles {
     files: Vec<ReadFile>,
     /// There are no others.
     is_all: bool,
+    /// All their literals are read.
+    has_all_literals: bool,
 }
 
 /// Texts that are validated together.
 #[derive(Clone, Copy)]
 struct Project<'a> {
-    texts: &'a [NamedText<'a>],
+    /// The texts as they are shown.
+    shown: &'a [NamedText<'a>],
+    /// The same texts as they are read.
+    read: &'a [SourceText<'a>],
     /// So many come first; the others lend fragments.
     judged: usize,
-    /// No file of the run is missing.
+    /// No text of the run is missing.
     is_whole: bool,
 }
 
@@ -71,18 +54,18 @@ pub fn check_files<R: Files + AllocGlobal, I: Read, O: Write, F: Write>(
 ) -> Result<Status, Fault>
     requires { IsUsable schema.now }
 {
-    let first = paths.schema.len();
-    let own = text_files(rt, paths.documents, first, account, input, faults)?;
-    let next = first.saturating_add(paths.documents.len());
-    let lent = text_files(rt, paths.fragments, next, account, input, faults)?;
+    let own = text_files(rt, paths.documents, account, input, faults)?;
+    let lent = text_files(rt, paths.fragments, account, input, faults)?;
     let is_all = own.is_all && lent.is_all;
+    let has_all_literals = own.has_all_literals && lent.has_all_literals;
+    count_files(account, &own.files);
     let count = check_text_files(
         rt.alloc(),
         schema,
         &own.files,
         &lent.files,
         paths,
-        is_all,
+        is_all && has_all_literals,
         account,
         output,
     )?;
@@ -102,12 +85,14 @@ fn check_text_files<O: Write>(
 ) -> Result<usize, Fault>
     requires { IsUsable schema.now }
 {
-    let mut named = Vec::new(alloc);
-    add_named(own, &mut named)?;
-    add_named(lent, &mut named)?;
+    let mut texts = RunTexts::new(alloc, paths.schema.len());
+    texts.add_files(own)?;
+    let judged = texts.shown.len();
+    texts.add_files(lent)?;
     let project = Project {
-        texts: &named,
-        judged: own.len(),
+        shown: &texts.shown,
+        read: &texts.read,
+        judged,
         is_whole: is_all && paths.is_all,
     };
     check_texts(alloc, schema, project, paths, account, output)
@@ -124,18 +109,13 @@ fn check_texts<O: Write>(
 ) -> Result<usize, Fault>
     requires { IsUsable schema.now }
 {
-    let sources = sources_of(alloc, project.texts)?;
-    let (own, _) = sources
-        .as_slice()
-        .split_at(project.judged.min(sources.len()));
-    count_files(account, own);
-    let found = reports_of(alloc, schema, project, &sources, paths.bounds)?;
-    let (texts, _) = project
-        .texts
-        .split_at(project.judged.min(project.texts.len()));
-    let cuts = cuts_of(alloc, texts, &found, paths.bounds)?;
+    let found = reports_of(alloc, schema, project, paths.bounds)?;
+    let (own, _) = project
+        .read
+        .split_at(project.judged.min(project.read.len()));
+    let cuts = cuts_of(alloc, own, &found, paths.bounds)?;
     if cuts.is_empty() {
-        return report_found(alloc, &found, project, &sources, paths, account, output);
+        return report_found(alloc, &found, project, paths, account, output);
     }
     drop(found);
     let counted = check_cut(alloc, schema, project, &cuts, paths, account, output);
@@ -155,15 +135,15 @@ fn check_cut<O: Write>(
 ) -> Result<usize, Fault>
     requires { IsUsable schema.now }
 {
-    let texts = with_cuts(alloc, project.texts, cuts)?;
+    let texts = with_cuts(alloc, project.shown, project.read, cuts)?;
     let project = Project {
-        texts: &texts,
+        shown: &texts.shown,
+        read: &texts.read,
         judged: project.judged.saturating_add(count_of(cuts)),
         is_whole: project.is_whole,
     };
-    let sources = sources_of(alloc, &texts)?;
-    let found = reports_of(alloc, schema, project, &sources, paths.bounds)?;
-    report_found(alloc, &found, project, &sources, paths, account, output)
+    let found = reports_of(alloc, schema, project, paths.bounds)?;
+    report_found(alloc, &found, project, paths, account, output)
 }
 
 /// Reports what is wrong with a document that cannot be built, for this reason: also with those of its definitions that can be. False, if the reason is
@@ -182,7 +162,7 @@ pub fn report_beside<O: Write>(
     let cuts = match reports {
         Reports::Syntax(errors) => {
             let mut cuts = BTreeMap::new(alloc);
-            add_cuts(alloc, &[document], errors, bounds, &mut cuts)?;
+            add_cuts(alloc, &[document.source], errors, bounds, &mut cuts)?;
             if cuts.is_empty() {
                 return Ok(false);
             }
@@ -209,39 +189,36 @@ fn report_cut<O: Write>(
 ) -> Result<usize, Fault>
     requires { IsUsable schema.now }
 {
-    let texts = with_cuts(alloc, &[document], cuts)?;
-    let sources = sources_of(alloc, &texts)?;
+    let texts = with_cuts(alloc, &[document], &[document.source], cuts)?;
     let project = Project {
-        texts: &texts,
-        judged: texts.len(),
+        shown: &texts.shown,
+        read: &texts.read,
+        judged: texts.shown.len(),
         is_whole: true,
     };
-    let found = reports_of(alloc, schema, project, &sources, bounds)?;
+    let found = reports_of(alloc, schema, project, bounds)?;
     account.add_documents(1);
     let hidden = BTreeSet::new(alloc);
     let files = FilesOfProject {
         judged: project.judged,
         hidden: &hidden,
     };
-    let subject = subject_of(project, &sources);
+    let subject = subject_of(project);
     account.report_together(alloc, &found, subject, files, bounds, output)
 }
 
 /// What reports on these texts are about.
-fn subject_of<'a>(project: Project<'a>, sources: &'a [SourceText<'a>]) -> Subject<'a> {
+fn subject_of(project: Project<'_>) -> Subject<'_> {
     Subject {
-        path: project.texts.first().and_then(|text| text.path),
-        texts: project.texts,
-        sources,
+        path: project.shown.first().and_then(|text| text.path),
+        texts: project.shown,
+        sources: project.read,
     }
 }
 
-/// Counts these texts: those that are validated, and those without a token.
-fn count_files(account: &mut Account<'_>, own: &[SourceText<'_>]) {
-    let empty = own
-        .iter()
-        .filter(|source| has_no_token(source.text))
-        .count();
+/// Counts these files: those that are validated, and those without a token.
+fn count_files(account: &mut Account<'_>, own: &[ReadFile]) {
+    let empty = own.iter().filter(|file| file.has_no_token()).count();
     account.add_documents(own.len().saturating_sub(empty));
     account.add_empty(empty);
 }
@@ -251,25 +228,17 @@ fn report_found<O: Write>(
     alloc: Global,
     found: &ProjectReports,
     project: Project<'_>,
-    sources: &[SourceText<'_>],
     paths: Paths<'_>,
     account: &mut Account<'_>,
     output: &mut O,
 ) -> Result<usize, Fault> {
-    let hidden = hidden_files(alloc, project.texts, paths.hidden)?;
+    let hidden = hidden_files(alloc, project.shown, paths.hidden)?;
     let files = FilesOfProject {
         judged: project.judged,
         hidden: &hidden,
     };
-    let subject = subject_of(project, sources);
+    let subject = subject_of(project);
     account.report_together(alloc, found, subject, files, paths.bounds, output)
-}
-
-/// Whether the text has no token.
-fn has_no_token(text: &str) -> bool
-    ensures { IsTrue result → AreTokens text.now [] }
-{
-    matches!(measure(text, 0).stop, Stop::End)
 }
 
 /// The numbers of the files whose reports are not shown.
@@ -302,50 +271,26 @@ fn files_among(
     Ok(files)
 }
 
-/// The texts of these files, of which the first has this position. The account has those that cannot be read.
+/// The texts of these files. The account has those that cannot be read.
 fn text_files<R: Files + AllocGlobal, I: Read, F: Write>(
     rt: &R,
     paths: &[&str],
-    first: usize,
     account: &mut Account<'_>,
     input: &mut I,
     faults: &mut F,
 ) -> Result<TextFiles, Fault> {
-    let ReadFiles { files, unreadable } = read_files(rt, paths, first, input, faults)?;
+    let ReadFiles {
+        files,
+        unreadable,
+        has_all_literals,
+    } = read_files(rt, paths, input, faults)?;
     let is_all = unreadable.is_empty();
     account.add_all_unreadable(unreadable)?;
-    Ok(TextFiles { files, is_all })
-}
-
-/// The texts of these files, of which the first has this position. What is wrong with those that have none is said.
-fn read_files<R: Files + AllocGlobal, I: Read, F: Write>(
-    rt: &R,
-    paths: &[&str],
-    first: usize,
-    input: &mut I,
-    faults: &mut F,
-) -> Result<ReadFiles, Fault> {
-    let mut files = Vec::new(rt.alloc());
-    let mut unreadable = Vec::new(rt.alloc());
-    for (position, path) in paths.iter().enumerate() {
-        match text_or_said(rt, path, input, faults)? {
-            Some(text) => files.push(ReadFile {
-                path: String::from_str(rt.alloc(), path)?,
-                position: position.saturating_add(first),
-                text,
-            })?,
-            None => unreadable.push(String::from_str(rt.alloc(), shown_path(path))?)?,
-        }
-    }
-    Ok(ReadFiles { files, unreadable })
-}
-
-/// Adds the texts of the files, with their paths.
-fn add_named<'a>(files: &'a [ReadFile], named: &mut Vec<NamedText<'a>>) -> Result<(), AllocError> {
-    for file in files {
-        named.push(named_text(file.position, file.path.as_str(), file.text.as_str()))?;
-    }
-    Ok(())
+    Ok(TextFiles {
+        files,
+        is_all,
+        has_all_literals,
+    })
 }
 
 /// What is reported of these texts together: of all files of the run, or of some.
@@ -353,12 +298,13 @@ fn reports_of(
     alloc: Global,
     schema: &Schema,
     project: Project<'_>,
-    sources: &[SourceText<'_>],
     bounds: Bounds,
 ) -> Result<ProjectReports, Fault>
     requires { IsUsable schema.now }
 {
-    let (own, lent) = sources.split_at(project.judged.min(sources.len()));
+    let (own, lent) = project
+        .read
+        .split_at(project.judged.min(project.read.len()));
     if project.is_whole {
         Ok(check_project(alloc, schema, own, lent, bounds)?)
     } else {

@@ -26,6 +26,12 @@ pub const NULL: &str = "null";
 
 pub const ONLY: &str = "only";
 
+pub const CONFIG: &str = "config";
+
+pub const NO_CONFIG: &str = "no-config";
+
+pub const PROJECT: &str = "project";
+
 pub const MAX_DEPTH: &str = "max-depth";
 
 pub const MAX_REACH: &str = "max-reach";
@@ -148,11 +154,12 @@ fn check<'a>(alloc: Global) -> Result<Command<'a>, Error> {
         .about("Validates documents against a schema")
         .after_help(STATUSES);
     let command = command.arg(schema_files(alloc))?;
+    let command = with_configuration(alloc, command)?;
     let command = with_reporting(alloc, command)?;
     let command = with_grouping(alloc, command)?;
     let command = with_lists(alloc, command)?;
     let command = with_limits(alloc, command, "64")?;
-    Ok(command.arg(documents(alloc)?)?)
+    Ok(command.arg(documents(alloc))?)
 }
 
 fn diff<'a>(alloc: Global) -> Result<Command<'a>, Error> {
@@ -194,7 +201,7 @@ fn serve<'a>(alloc: Global) -> Result<Command<'a>, Error> {
     let command = command.arg(max_line(alloc))?;
     let command = command.arg(max_reports_of_an_answer(alloc))?;
     let command = command.arg(lent_fragments(alloc))?;
-    Ok(command.arg(schema_files(alloc))?)
+    Ok(command.arg(schema_files(alloc).required(true))?)
 }
 
 fn syntax<'a>(alloc: Global) -> Result<Command<'a>, Error> {
@@ -216,6 +223,13 @@ fn with_reporting<'a>(alloc: Global, command: Command<'a>) -> Result<Command<'a>
     let command = command.arg(format(alloc))?;
     let command = command.arg(color(alloc))?;
     Ok(command.arg(max_reports(alloc))?)
+}
+
+/// Adds the options that choose the configuration.
+fn with_configuration<'a>(alloc: Global, command: Command<'a>) -> Result<Command<'a>, Error> {
+    let command = command.arg(config(alloc))?;
+    let command = command.arg(no_config(alloc)?)?;
+    Ok(command.arg(project(alloc))?)
 }
 
 /// Adds the options that choose which documents are validated together.
@@ -279,16 +293,15 @@ fn files<'a>(alloc: Global, name: &'a str, help: &'a str) -> Arg<'a> {
         .action(ArgAction::Append)
 }
 
-/// The documents: paths, unless a file has a list of them.
-fn documents<'a>(alloc: Global) -> Result<Arg<'a>, Error> {
-    let documents = Arg::new(alloc, FILES)
+/// The documents: paths, unless a file has a list of them, or the configuration names them.
+fn documents<'a>(alloc: Global) -> Arg<'a> {
+    Arg::new(alloc, FILES)
         .value_name("PATH")
         .help(
-            "Executable documents: files, folders, or quoted patterns such as 'src/**/*.graphql'; '!PATTERN' takes out",
+            "Executable documents: files, folders, or quoted patterns such as 'src/**/*.graphql'; '!PATTERN' takes out [default: those of the configuration]",
         )
         .num_args(1..)
-        .action(ArgAction::Append);
-    Ok(documents.required_unless_present(FILES_FROM)?)
+        .action(ArgAction::Append)
 }
 
 fn files_from<'a>(alloc: Global) -> Arg<'a> {
@@ -362,8 +375,33 @@ fn schema_files<'a>(alloc: Global) -> Arg<'a> {
         .long(SCHEMA)
         .value_name("FILE")
         .help("A file of the schema; repeat the option for each file")
-        .required(true)
         .action(ArgAction::Append)
+}
+
+fn config<'a>(alloc: Global) -> Arg<'a> {
+    Arg::new(alloc, CONFIG)
+        .long(CONFIG)
+        .value_name("FILE")
+        .help(
+            "The configuration, for what the command line does not name [default: the nearest .graphqlrc, upwards from the working folder]",
+        )
+        .action(ArgAction::Set)
+}
+
+fn no_config<'a>(alloc: Global) -> Result<Arg<'a>, Error> {
+    let no_config = Arg::new(alloc, NO_CONFIG)
+        .long(NO_CONFIG)
+        .help("Read no configuration")
+        .action(ArgAction::SetTrue);
+    Ok(no_config.conflicts_with(CONFIG)?.conflicts_with(PROJECT)?)
+}
+
+fn project<'a>(alloc: Global) -> Arg<'a> {
+    Arg::new(alloc, PROJECT)
+        .long(PROJECT)
+        .value_name("NAME")
+        .help("The project of the configuration [default: all]")
+        .action(ArgAction::Set)
 }
 
 fn format<'a>(alloc: Global) -> Arg<'a> {

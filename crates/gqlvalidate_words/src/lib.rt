@@ -7,6 +7,6 @@ pub mod requests;
 
 pub use reading::parse;
 pub use requests::{
-    ChangeFormat, Color, FailOn, Format, Grouping, Limits, PathEnds, PathList, Refusal, Reporting,
-    Request,
+    ChangeFormat, Color, Configuration, ConfigurationChoice, FailOn, Format, Grouping, Limits,
+    PathEnds, PathList, Refusal, Reporting, Request,
 };

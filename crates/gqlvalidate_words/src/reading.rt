@@ -1,14 +1,15 @@
 //! From words to a request.
 
 use crate::commands::{
-    ALWAYS, ANSWER, CHECK, CHECKSTYLE, COLOR, DANGEROUS, DIFF, EACH, EXPLAIN, FAIL_ON, FILES,
-    FILES_FROM, FORMAT, FRAGMENTS, GITHUB, GITLAB, JSON, JUNIT, LONE_FIELDS, MARKDOWN, MAX_DEPTH,
-    MAX_LINE, MAX_REACH, MAX_REPORTS, MAX_WORK, NEVER, NEW, NEW_SCHEMA, NULL, OLD, OLD_SCHEMA,
-    ONE_DOCUMENT, ONLY, OPERATIONS, PRINT_SCHEMA, RULE, SARIF, SCHEMA, SERVE, SYNTAX, program,
+    ALWAYS, ANSWER, CHECK, CHECKSTYLE, COLOR, CONFIG, DANGEROUS, DIFF, EACH, EXPLAIN, FAIL_ON,
+    FILES, FILES_FROM, FORMAT, FRAGMENTS, GITHUB, GITLAB, JSON, JUNIT, LONE_FIELDS, MARKDOWN,
+    MAX_DEPTH, MAX_LINE, MAX_REACH, MAX_REPORTS, MAX_WORK, NEVER, NEW, NEW_SCHEMA, NO_CONFIG, NULL,
+    OLD, OLD_SCHEMA, ONE_DOCUMENT, ONLY, OPERATIONS, PRINT_SCHEMA, PROJECT, RULE, SARIF, SCHEMA,
+    SERVE, SYNTAX, program,
 };
 use crate::requests::{
-    ChangeFormat, Color, FailOn, Format, Grouping, Limits, PathEnds, PathList, Refusal, Reporting,
-    Request, STANDARD_INPUT,
+    ChangeFormat, Color, Configuration, ConfigurationChoice, FailOn, Format, Grouping, Limits,
+    PathEnds, PathList, Refusal, Reporting, Request, STANDARD_INPUT,
 };
 use clap::error::ErrorKind;
 use clap::{ArgMatches, Error};
@@ -70,6 +71,7 @@ fn request_of<'a>(
     if command == CHECK {
         let schema = paths(alloc, given, SCHEMA)?;
         Ok(Request::Check {
+            choice: configuration_choice(given),
             schema,
             documents: files,
             files_from: path_list(given),
@@ -108,6 +110,19 @@ fn request_of<'a>(
             schema: files,
             reporting: reporting(given),
         })
+    }
+}
+
+/// Which configuration is read, and for which project.
+fn configuration_choice<'a>(given: &ArgMatches<'a>) -> ConfigurationChoice<'a> {
+    let configuration = match given.get_str(CONFIG) {
+        Some(file) => Configuration::File(file),
+        None if given.get_flag(NO_CONFIG) => Configuration::Nothing,
+        None => Configuration::Nearest,
+    };
+    ConfigurationChoice {
+        configuration,
+        project: given.get_str(PROJECT),
     }
 }
 

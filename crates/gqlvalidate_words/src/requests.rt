@@ -136,11 +136,30 @@ pub enum PathEnds {
     Null,
 }
 
+/// Which configuration names the files that the command line does not name.
+#[derive(Clone, Copy, Debug, PartialEq, Eq)]
+pub enum Configuration<'a> {
+    /// The nearest one, upwards from the working folder.
+    Nearest,
+    /// That of this file.
+    File(&'a str),
+    Nothing,
+}
+
+/// The configuration of a run.
+#[derive(Clone, Copy, Debug, PartialEq, Eq)]
+pub struct ConfigurationChoice<'a> {
+    pub configuration: Configuration<'a>,
+    /// The project of it; all, if none is named.
+    pub project: Option<&'a str>,
+}
+
 /// What a command line asks for. Paths are in the order of the command line.
 #[derive(Debug, Drop)]
 pub enum Request<'a> {
     /// To validate documents against the schema of these files.
     Check {
+        choice: ConfigurationChoice<'a>,
         schema: Vec<&'a str>,
         documents: Vec<&'a str>,
         /// The list of further documents.

@@ -1,11 +1,11 @@
 //! Parts of a text.
 
 ghost use Rattle.std.specs.Prelude.{◌≡◌, IfOk, IfSome, string_bytes};
-ghost use Rattle.graphql_text_parts.specs.Blanks.{part_text};
+ghost use Rattle.graphql_blanks.specs.Blanks.{part_text};
 
-use crate::blanks::blank;
 use crate::groups::{Group, first_groups};
 use crate::heads::part_starts;
+use graphql_blanks::{Part, blank};
 use graphql_nodes::{FileId, ValidationError};
 use graphql_parser::{Bounds, SyntaxError, parse_document};
 use graphql_tokens::{Stop, measure};
@@ -16,13 +16,6 @@ const NO_FILE: FileId = FileId(u32::MAX);
 
 /// As many texts are read at most to find the parts of one.
 const MOST_TRIES: usize = 96;
-
-/// A part of a text: from this byte up to that.
-#[derive(Clone, Copy, Debug, PartialEq, Eq)]
-pub struct Part {
-    pub start: usize,
-    pub end: usize,
-}
 
 /// What a part is by itself.
 enum Reading {

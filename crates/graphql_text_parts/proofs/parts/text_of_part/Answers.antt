@@ -1,6 +1,6 @@
 use Rattle.std.proofs.Common.{◌∙◌, ◌++◌, ap, map, take}
 use Rattle.std.specs.List.{slice_range}
-use Rattle.graphql_text_parts.specs.Blanks.{blank_byte}
+use Rattle.graphql_blanks.specs.Blanks.{blank_byte}
 use Rattle.graphql_text_parts.proofs.parts.text_of_part.Goals as goal
 
 pub returns-in-Ok : goal.returns-in-Ok

@@ -1,0 +1,213 @@
+//! Runs for which a configuration names the files that the command line does not name.
+
+use gqlvalidate_check::presentations::Presentation;
+use gqlvalidate_check::{Words, check_words};
+use gqlvalidate_inputs::faults::Fault;
+use gqlvalidate_inputs::printable::Printable;
+use gqlvalidate_inputs::statuses::Status;
+use gqlvalidate_inputs::word_paths::views;
+use gqlvalidate_settings::{
+    ProjectSettings, Settings, SettingsFault, find_settings, read_settings,
+};
+use gqlvalidate_words::{Configuration, ConfigurationChoice, Format, Grouping};
+use std::alloc::Global;
+use std::io::{Read, Write};
+use std::rt::Files;
+
+/// Validates the schema and the documents that these words name. What they do not name is that of the configuration: of the project that is
+/// chosen, or of each of its projects, one after another.
+pub fn check_configured<R: Files + AllocGlobal + Clone + Drop, I: Read, O: Write, F: Write>(
+    rt: &R,
+    words: Words<'_>,
+    choice: ConfigurationChoice<'_>,
+    presentation: Presentation,
+    input: &mut I,
+    output: &mut O,
+    faults: &mut F,
+) -> Result<Status, Fault> {
+    if words.is_complete()
+        && choice.configuration == Configuration::Nearest
+        && choice.project.is_none()
+    {
+        return check_words(rt, words, presentation, input, output, faults);
+    }
+    let settings = match settings_of(rt, choice.configuration) {
+        Ok(settings) => settings,
+        Err(fault) => return refuse(rt.alloc(), &fault, faults),
+    };
+    match settings {
+        Some(settings) => check_projects(
+            rt,
+            &settings,
+            words,
+            choice.project,
+            presentation,
+            input,
+            output,
+            faults,
+        ),
+        None if words.is_complete() => {
+            check_words(rt, words, presentation, input, output, faults)
+        }
+        None => Ok(say_incomplete(words, faults)),
+    }
+}
+
+/// The settings of the configuration that is chosen, if there is one.
+fn settings_of<R: Files + AllocGlobal>(
+    rt: &R,
+    configuration: Configuration<'_>,
+) -> Result<Option<Settings>, SettingsFault> {
+    match configuration {
+        Configuration::Nothing => Ok(None),
+        Configuration::Nearest => find_settings(rt),
+        Configuration::File(path) => Ok(Some(read_settings(rt, path)?)),
+    }
+}
+
+/// Says on standard error what is wrong with a configuration.
+fn refuse<F: Write>(alloc: Global, fault: &SettingsFault, faults: &mut F) -> Result<Status, Fault> {
+    if matches!(fault, SettingsFault::OutOfMemory) {
+        return Err(Fault::OutOfMemory);
+    }
+    let words = fault.to_string(alloc)?;
+    let words = Printable(words.as_str());
+    let _ = writeln!(faults, "{words}");
+    Ok(Status::BadArguments)
+}
+
+/// Says on standard error what the words do not name.
+fn say_incomplete<F: Write>(words: Words<'_>, faults: &mut F) -> Status {
+    let missing = if words.schema.is_empty() {
+        "schema"
+    } else {
+        "document"
+    };
+    let _ = writeln!(
+        faults,
+        "error: no {missing} is named, neither by the command line nor by a configuration such as .graphqlrc.json\n\nFor more information, try '--help'."
+    );
+    Status::BadArguments
+}
+
+/// Validates the projects of a configuration, or the one that is chosen.
+fn check_projects<R: Files + AllocGlobal + Clone + Drop, I: Read, O: Write, F: Write>(
+    rt: &R,
+    settings: &Settings,
+    words: Words<'_>,
+    chosen: Option<&str>,
+    presentation: Presentation,
+    input: &mut I,
+    output: &mut O,
+    faults: &mut F,
+) -> Result<Status, Fault> {
+    if !has_chosen(settings, chosen, presentation, faults) {
+        return Ok(Status::BadArguments);
+    }
+    let mut status = Status::Accepted;
+    for project in &settings.projects {
+        if is_chosen(project, chosen) {
+            say_name(project, faults);
+            let checked = check_project(rt, project, words, presentation, input, output, faults)?;
+            status = status.with(checked);
+        }
+    }
+    Ok(status)
+}
+
+fn is_chosen(project: &ProjectSettings, chosen: Option<&str>) -> bool {
+    match chosen {
+        Some(name) => project
+            .name
+            .as_ref()
+            .is_some_and(|own| own.as_str() == name),
+        None => true,
+    }
+}
+
+/// Whether the configuration has the project that is chosen, and the format can have what is found in all of the projects. If not, standard error
+/// says so.
+fn has_chosen<F: Write>(
+    settings: &Settings,
+    chosen: Option<&str>,
+    presentation: Presentation,
+    faults: &mut F,
+) -> bool {
+    let file = Printable(settings.file.as_str());
+    let count = settings
+        .projects
+        .iter()
+        .filter(|project| is_chosen(project, chosen))
+        .count();
+    if count == 0 {
+        let name = Printable(chosen.unwrap_or(""));
+        let _ = writeln!(faults, "{file}: error: no project has the name `{name}`");
+        return false;
+    }
+    let is_of_lines = matches!(presentation.reporting.format, Format::Text | Format::Github);
+    if count > 1 && !is_of_lines {
+        let _ = writeln!(
+            faults,
+            "{file}: error: this format is for one project: choose it by `--project`"
+        );
+        return false;
+    }
+    true
+}
+
+/// Says on standard error which project is validated, if the configuration has names.
+fn say_name<F: Write>(project: &ProjectSettings, faults: &mut F) {
+    if let Some(name) = &project.name {
+        let name = Printable(name.as_str());
+        let _ = writeln!(faults, "project `{name}`:");
+    }
+}
+
+/// Validates a project of a configuration.
+fn check_project<R: Files + AllocGlobal + Clone + Drop, I: Read, O: Write, F: Write>(
+    rt: &R,
+    project: &ProjectSettings,
+    words: Words<'_>,
+    presentation: Presentation,
+    input: &mut I,
+    output: &mut O,
+    faults: &mut F,
+) -> Result<Status, Fault> {
+    let schema = views(rt.alloc(), &project.schema)?;
+    let documents = views(rt.alloc(), &project.documents)?;
+    let fragments = views(rt.alloc(), &project.fragments)?;
+    let words = completed(words, &schema, &documents, &fragments);
+    if words.is_complete() {
+        check_words(rt, words, presentation, input, output, faults)
+    } else {
+        Ok(say_incomplete(words, faults))
+    }
+}
+
+/// The words, with these for what they do not name. Only documents that are validated together have fragments of others.
+fn completed<'a>(
+    words: Words<'a>,
+    schema: &'a [&'a str],
+    documents: &'a [&'a str],
+    fragments: &'a [&'a str],
+) -> Words<'a> {
+    let takes_fragments = words.fragments.is_empty() && words.grouping == Grouping::Project;
+    Words {
+        schema: if words.schema.is_empty() {
+            schema
+        } else {
+            words.schema
+        },
+        documents: if words.names_documents() {
+            words.documents
+        } else {
+            documents
+        },
+        fragments: if takes_fragments {
+            fragments
+        } else {
+            words.fragments
+        },
+        ..words
+    }
+}

@@ -1,0 +1,3 @@
+mod ConfigurationLemmas
+mod ListLemmas
+mod PathLemmas

@@ -1,0 +1,6 @@
+pub mod Configurations
+pub mod Keys
+pub mod Paths
+pub mod Projects
+pub mod Refusals
+pub mod Settings

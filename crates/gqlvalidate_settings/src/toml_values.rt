@@ -1,0 +1,116 @@
+//! Configurations in TOML.
+
+use crate::setting::Setting;
+use std::alloc::{AllocError, Global};
+use toml::{Table, Value};
+
+/// In a longer text, the places of keys are not searched.
+const MAX_SEARCHED: usize = 65_536;
+
+/// Why a text has no table in TOML.
+#[derive(Debug, Drop)]
+pub(crate) enum TomlFault {
+    OutOfMemory,
+    /// The text is not TOML from this byte on.
+    Invalid(usize, String),
+}
+
+impl From<AllocError> for TomlFault {
+    fn from(_refusal: AllocError) -> TomlFault {
+        TomlFault::OutOfMemory
+    }
+}
+
+/// The table that the text writes.
+pub(crate) fn toml_setting(alloc: Global, text: &str) -> Result<Setting, TomlFault> {
+    match toml::table_from_str(alloc, text) {
+        Ok(table) => Ok(table_of(alloc, &table)?),
+        Err(error) => match error.span() {
+            Some(span) => Err(TomlFault::Invalid(
+                span.start,
+                String::from_str(alloc, error.message())?,
+            )),
+            None => Err(TomlFault::OutOfMemory),
+        },
+    }
+}
+
+/// The value, as that of a configuration.
+#[cycle(toml)]
+fn setting_of(alloc: Global, value: &Value) -> Result<Setting, AllocError> {
+    match value {
+        Value::String(text) => Ok(Setting::Text(String::from_str(alloc, text.as_str())?)),
+        Value::Array(items) => list_of(alloc, items),
+        Value::Table(table) => table_of(alloc, table),
+        Value::Integer(_) | Value::Float(_) | Value::Boolean(_) | Value::Datetime(_) => {
+            Ok(Setting::Other)
+        }
+    }
+}
+
+/// The items, as a list of a configuration.
+#[cycle(toml)]
+fn list_of(alloc: Global, items: &[Value]) -> Result<Setting, AllocError> {
+    let mut list = Vec::new(alloc);
+    for item in items {
+        list.push(setting_of(alloc, item)?)?;
+    }
+    Ok(Setting::List(list))
+}
+
+/// The table, as that of a configuration: in the order of the bytes of its keys.
+#[cycle(toml)]
+fn table_of(alloc: Global, table: &Table) -> Result<Setting, AllocError> {
+    let mut members = Vec::new(alloc);
+    for (key, value) in table {
+        let value = setting_of(alloc, value)?;
+        members.push((String::from_str(alloc, key.as_str())?, value))?;
+    }
+    Ok(Setting::Table(members))
+}
+
+/// The byte where the expression begins, a pair of a key and a value or the header of a table, that makes the last of these keys, which is
+/// reached by the others, in order. The text up to the end of an expression is TOML itself. So the expression is the one behind which the
+/// text has the key, and before which it has not. None, if the text is longer than 65,536 bytes, or memory is lacking.
+pub(crate) fn toml_place(alloc: Global, text: &str, keys: &[&str]) -> Option<usize> {
+    if text.len() > MAX_SEARCHED {
+        return None;
+    }
+    let mut begin: usize = 0;
+    let mut end: usize = 0;
+    for line in text.split_inclusive('\n') {
+        end = end.saturating_add(line.len());
+        match toml::table_from_str(alloc, text.get(..end)?) {
+            Ok(table) if has_key(&table, keys) => return expression_from(text, begin),
+            Ok(_) => begin = end,
+            Err(error) if error.is_memory() => return None,
+            Err(_) => {}
+        }
+    }
+    None
+}
+
+/// Whether the last of these keys is reached from a table by the others, in order.
+fn has_key(table: &Table, keys: &[&str]) -> bool {
+    let [key, inner @ ..] = keys else {
+        return true;
+    };
+    match table.get(*key) {
+        Some(Value::Table(table)) => has_key(table, inner),
+        Some(_) => inner.is_empty(),
+        None => false,
+    }
+}
+
+/// The byte where the first expression begins from this byte on, where a line begins: after blanks, empty lines and comments.
+fn expression_from(text: &str, begin: usize) -> Option<usize> {
+    let mut byte = begin;
+    for line in text.get(begin..)?.split_inclusive('\n') {
+        let expression = line.trim_start();
+        if !expression.is_empty() && !expression.starts_with('#') {
+            return Some(byte.saturating_add(line.len().saturating_sub(expression.len())));
+        }
+        byte = byte.saturating_add(line.len());
+    }
+    None
+}
