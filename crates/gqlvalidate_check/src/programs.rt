@@ -93,7 +93,7 @@ impl ProgramTexts {
 /// Says on standard error why a literal is skipped. That this fails changes nothing.
 fn explain_skipped<F: Write>(path: &str, program: &str, skipped: Skipped, faults: &mut F) {
     let path = Printable(shown_path(path));
-    let Place { line, column } = Place::of_byte(program, skipped.part.start);
+    let Place { line, column } = Place::of_byte(program, skipped.part.start.min(program.len()));
     let why = match skipped.reason {
         SkipReason::Interpolation => {
             "the literal is not checked, as this is inserted into a definition"

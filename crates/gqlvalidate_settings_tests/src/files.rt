@@ -31,6 +31,7 @@ fn as_found(read: Result<Settings, SettingsFault>) -> Result<Option<Settings>, S
 
 #[test]
 fn the_first_file_of_a_folder_counts(rt: HostRuntime) {
+    let _ = fs::remove_dir_all(&rt, FOLDER);
     fs::create_dir_all(&rt, FOLDER).expect(&rt, "a folder");
     assert_eq!(rt; found(&rt).as_str(), "none");
     write(&rt, "graphql.config.ts", "export default {}");
