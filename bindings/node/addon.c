@@ -56,10 +56,15 @@ static void set_number(napi_env env, napi_value object, const char *name, uint32
   napi_set_named_property(env, object, name, value);
 }
 
-/* An object with the status, what is reported, and the whole answer, of which the beginning is in `out`. */
+/* An object with the status, and if something is reported, what, and the whole answer, of which the beginning is in `out`. */
 static napi_value answer_of(napi_env env, graphql_schema *schema, graphql_outcome outcome, const uint8_t *out) {
   napi_value object, json;
   uint8_t *whole = NULL;
+  if (outcome.status == GRAPHQL_ACCEPTED) {
+    napi_create_object(env, &object);
+    set_number(env, object, "status", outcome.status);
+    return object;
+  }
   if (outcome.length > ROOM) {
     whole = malloc(outcome.length);
     if (!whole)

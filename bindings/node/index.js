@@ -2,6 +2,7 @@
 
 const library = require("./graphql_validation.node");
 
+const ACCEPTED = 0;
 const REPORTED = 1;
 const OUT_OF_MEMORY = 3;
 
@@ -23,6 +24,7 @@ function reportOf(error, inSchema) {
 }
 
 function reportsOf(answer, inSchema) {
+  if (answer.status === ACCEPTED) return [];
   if (answer.status === OUT_OF_MEMORY) throw new RangeError("graphql-validation: out of memory");
   if (answer.status > REPORTED) throw new Error(`graphql-validation: status ${answer.status}`);
   return JSON.parse(answer.json).errors.map((error) => reportOf(error, inSchema));

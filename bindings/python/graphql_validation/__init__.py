@@ -26,7 +26,7 @@ __all__ = [
 
 _VERSION = 2
 _REPORTED_IN_SCHEMA = 1
-_STATUS_REPORTED, _STATUS_NO_MEMORY = 1, 3
+_STATUS_ACCEPTED, _STATUS_REPORTED, _STATUS_NO_MEMORY = 0, 1, 3
 _ROOM = 4096
 
 
@@ -256,7 +256,9 @@ class _Kept:
 
     def _answer(self, outcome: _Outcome) -> list[Report]:
         _check(outcome.status)
-        written = self._out.raw[: outcome.length]
+        if outcome.status == _STATUS_ACCEPTED:
+            return []
+        written = ctypes.string_at(self._out, min(outcome.length, _ROOM))
         if outcome.length > _ROOM:
             rest = ctypes.create_string_buffer(outcome.length - _ROOM)
             _library.graphql_schema_answer(self._handle, _ROOM, rest, len(rest))

@@ -8,6 +8,8 @@ use std::ptr::null_mut;
 const VERSION: u32 = 2;
 
 const IN_SCHEMA: u32 = 1;
+/// The status of a call that reports nothing.
+const ACCEPTED: u32 = 0;
 
 /// How many bytes an answer has, before more room is asked for.
 const ROOM: usize = 4096;
@@ -145,8 +147,23 @@ impl Kept {
     /// Validates a document against the schema that is kept.
     pub(crate) fn validate(&mut self, document: &str, options: &Options) -> Result<Answer, Error> {
         let mut out = [0; ROOM];
+        let outcome = self.call(document, options, &mut out);
+        self.answer(outcome, &out)
+    }
+
+    /// The answer on a document, if something is reported of it.
+    pub(crate) fn reported(&mut self, document: &str, options: &Options) -> Result<Option<Answer>, Error> {
+        let mut out = [0; ROOM];
+        let outcome = self.call(document, options, &mut out);
+        if outcome.status == ACCEPTED {
+            return Ok(None);
+        }
+        self.answer(outcome, &out).map(Some)
+    }
+
+    fn call(&mut self, document: &str, options: &Options, out: &mut [u8]) -> Outcome {
         // SAFETY: as in `read`; the handle is borrowed for this call alone.
-        let outcome = unsafe {
+        unsafe {
             graphql_schema_validate(
                 &mut self.handle,
                 document.as_ptr(),
@@ -155,8 +172,7 @@ impl Kept {
                 out.as_mut_ptr(),
                 out.len(),
             )
-        };
-        self.answer(outcome, &out)
+        }
     }
 
     /// The whole answer of the last call, of which the beginning was written to `out`.

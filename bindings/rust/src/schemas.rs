@@ -2,7 +2,7 @@
 
 use crate::calls::Kept;
 use crate::{read, reports, Error, Report};
-use std::sync::{Arc, Mutex, PoisonError};
+use std::sync::{Arc, Mutex, MutexGuard, PoisonError};
 
 /// A schema that is read once, and documents against it.
 ///
@@ -25,9 +25,16 @@ use std::sync::{Arc, Mutex, PoisonError};
 /// ```
 #[derive(Clone)]
 pub struct Schema {
-    /// Each call has a handle of its own over the schema. The lock is held to share this one alone.
-    root: Arc<Mutex<Kept>>,
+    handles: Arc<Mutex<Handles>>,
     options: Options,
+}
+
+/// Handles over one schema. Each call has one of its own.
+struct Handles {
+    /// The others share its schema.
+    root: Kept,
+    /// Those that no call has.
+    idle: Vec<Kept>,
 }
 
 /// A file of a schema.
@@ -66,8 +73,12 @@ impl Schema {
         if in_schema {
             return Err(Error::SchemaReported(reports(&read(&answer)?, true)?));
         }
+        let handles = Handles {
+            root: kept,
+            idle: Vec::new(),
+        };
         Ok(Schema {
-            root: Arc::new(Mutex::new(kept)),
+            handles: Arc::new(Mutex::new(handles)),
             options: *options,
         })
     }
@@ -79,18 +90,36 @@ impl Schema {
 
     /// What is reported of a document within these bounds.
     pub fn validate_within(&self, document: &str, options: &Options) -> Result<Vec<Report>, Error> {
-        let (answer, _) = self.handle()?.validate(document, options)?;
-        reports(&read(&answer)?, false)
+        match self.by_handle(|kept| kept.reported(document, options))? {
+            Some((answer, _)) => reports(&read(&answer)?, false),
+            None => Ok(Vec::new()),
+        }
     }
 
     /// The answer on a document as it is: a JSON object, `{"errors":[..]}`.
     pub fn validate_json(&self, document: &str) -> Result<String, Error> {
-        let (answer, _) = self.handle()?.validate(document, &self.options)?;
+        let (answer, _) = self.by_handle(|kept| kept.validate(document, &self.options))?;
         Ok(answer)
     }
 
-    fn handle(&self) -> Result<Kept, Error> {
-        let mut root = self.root.lock().unwrap_or_else(PoisonError::into_inner);
-        root.share()
+    /// Calls with a handle that no other call has. The lock is held to take it and to give it back, and not for the call.
+    fn by_handle<T>(&self, call: impl FnOnce(&mut Kept) -> Result<T, Error>) -> Result<T, Error> {
+        let mut kept = self.handles().take()?;
+        let result = call(&mut kept);
+        self.handles().idle.push(kept);
+        result
+    }
+
+    fn handles(&self) -> MutexGuard<'_, Handles> {
+        self.handles.lock().unwrap_or_else(PoisonError::into_inner)
+    }
+}
+
+impl Handles {
+    fn take(&mut self) -> Result<Kept, Error> {
+        match self.idle.pop() {
+            Some(kept) => Ok(kept),
+            None => self.root.share(),
+        }
     }
 }

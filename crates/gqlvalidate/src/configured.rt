@@ -193,21 +193,14 @@ fn completed<'a>(
 ) -> Words<'a> {
     let takes_fragments = words.fragments.is_empty() && words.grouping == Grouping::Project;
     Words {
-        schema: if words.schema.is_empty() {
-            schema
-        } else {
-            words.schema
-        },
-        documents: if words.names_documents() {
-            words.documents
-        } else {
-            documents
-        },
-        fragments: if takes_fragments {
-            fragments
-        } else {
-            words.fragments
-        },
+        schema: one_of(words.schema.is_empty(), schema, words.schema),
+        documents: one_of(!words.names_documents(), documents, words.documents),
+        fragments: one_of(takes_fragments, fragments, words.fragments),
         ..words
     }
+}
+
+/// The first one if this is so, else the other one.
+fn one_of<'a>(is_first: bool, first: &'a [&'a str], other: &'a [&'a str]) -> &'a [&'a str] {
+    if is_first { first } else { other }
 }
