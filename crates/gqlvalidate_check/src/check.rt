@@ -191,30 +191,71 @@ fn check_each<R: Files + AllocGlobal, I: Read, O: Write, F: Write>(
 {
     let mut status = Status::Accepted;
     for (position, path) in paths.documents.iter().enumerate() {
-        let checked = if is_program(path) {
-            let documents = [*path];
-            let paths = Paths {
-                documents: documents.as_slice(),
-                ..paths
-            };
-            check_files(rt, schema, paths, account, input, output, faults)?
-        } else {
-            let position = position.saturating_add(paths.schema.len());
-            check_file(
-                rt,
-                schema,
-                position,
-                path,
-                paths.bounds,
-                account,
-                input,
-                output,
-                faults,
-            )?
-        };
+        let position = position.saturating_add(paths.schema.len());
+        let checked = check_path(
+            rt, schema, position, path, paths, account, input, output, faults,
+        )?;
         status = status.with(checked);
     }
     Ok(status)
+}
+
+/// Validates the document of a file, which has this position in the run, or the documents of a program.
+fn check_path<R: Files + AllocGlobal, I: Read, O: Write, F: Write>(
+    rt: &R,
+    schema: &Schema,
+    position: usize,
+    path: &str,
+    paths: Paths<'_>,
+    account: &mut Account<'_>,
+    input: &mut I,
+    output: &mut O,
+    faults: &mut F,
+) -> Result<Status, Fault>
+    requires { IsUsable schema.now }
+{
+    if is_program(path) {
+        let program = [path];
+        check_alone(
+            rt,
+            schema,
+            program.as_slice(),
+            paths,
+            account,
+            input,
+            output,
+            faults,
+        )
+    } else {
+        check_file(
+            rt,
+            schema,
+            position,
+            path,
+            paths.bounds,
+            account,
+            input,
+            output,
+            faults,
+        )
+    }
+}
+
+/// Validates these documents together, and none besides.
+fn check_alone<'a, R: Files + AllocGlobal, I: Read, O: Write, F: Write>(
+    rt: &R,
+    schema: &Schema,
+    documents: &'a [&'a str],
+    paths: Paths<'a>,
+    account: &mut Account<'_>,
+    input: &mut I,
+    output: &mut O,
+    faults: &mut F,
+) -> Result<Status, Fault>
+    requires { IsUsable schema.now }
+{
+    let paths = Paths { documents, ..paths };
+    check_files(rt, schema, paths, account, input, output, faults)
 }
 
 /// Validates the document of a file, which has this position in the run.
