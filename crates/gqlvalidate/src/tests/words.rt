@@ -13,7 +13,7 @@ const READ: &[(&[&str], &str)] = &[
     (&["explain", "Syntax"], "Explain { rule: Some(\"Syntax\") }"),
     (
         &["check", "--schema", "s", "a", "--schema=t", "b"],
-        "Check { schema: [\"s\", \"t\"], documents: [\"a\", \"b\"], files_from: None, fragments: [], only: [], grouping: Project, limits: Limits { depth: 500, reach: 64, work: 160000000 }, reporting: Reporting { format: Text, color: Auto, max_reports: 100 } }",
+        "Check { choice: ConfigurationChoice { configuration: Nearest, project: None }, schema: [\"s\", \"t\"], documents: [\"a\", \"b\"], files_from: None, fragments: [], only: [], grouping: Project, limits: Limits { depth: 500, reach: 64, work: 160000000 }, reporting: Reporting { format: Text, color: Auto, max_reports: 100 } }",
     ),
     (
         &["schema", "--format", "json", "--max-reports", "7", "s"],
@@ -54,7 +54,7 @@ const READ: &[(&[&str], &str)] = &[
             "s",
             "a",
         ],
-        "Check { schema: [\"s\"], documents: [\"a\"], files_from: None, fragments: [], only: [], grouping: OneDocument, limits: Limits { depth: 7, reach: 5, work: 6 }, reporting: Reporting { format: Text, color: Always, max_reports: 100 } }",
+        "Check { choice: ConfigurationChoice { configuration: Nearest, project: None }, schema: [\"s\"], documents: [\"a\"], files_from: None, fragments: [], only: [], grouping: OneDocument, limits: Limits { depth: 7, reach: 5, work: 6 }, reporting: Reporting { format: Text, color: Always, max_reports: 100 } }",
     ),
     (
         &[
@@ -66,11 +66,19 @@ const READ: &[(&[&str], &str)] = &[
             "s",
             "--fragments=g",
         ],
-        "Check { schema: [\"s\"], documents: [], files_from: Some(PathList { file: \"l\", ends: Lines }), fragments: [\"f\", \"g\"], only: [], grouping: Project, limits: Limits { depth: 500, reach: 64, work: 160000000 }, reporting: Reporting { format: Text, color: Auto, max_reports: 100 } }",
+        "Check { choice: ConfigurationChoice { configuration: Nearest, project: None }, schema: [\"s\"], documents: [], files_from: Some(PathList { file: \"l\", ends: Lines }), fragments: [\"f\", \"g\"], only: [], grouping: Project, limits: Limits { depth: 500, reach: 64, work: 160000000 }, reporting: Reporting { format: Text, color: Auto, max_reports: 100 } }",
     ),
     (
         &["check", "--each", "--schema", "s", "a"],
-        "Check { schema: [\"s\"], documents: [\"a\"], files_from: None, fragments: [], only: [], grouping: Each, limits: Limits { depth: 500, reach: 64, work: 160000000 }, reporting: Reporting { format: Text, color: Auto, max_reports: 100 } }",
+        "Check { choice: ConfigurationChoice { configuration: Nearest, project: None }, schema: [\"s\"], documents: [\"a\"], files_from: None, fragments: [], only: [], grouping: Each, limits: Limits { depth: 500, reach: 64, work: 160000000 }, reporting: Reporting { format: Text, color: Auto, max_reports: 100 } }",
+    ),
+    (
+        &["check", "--config", "c", "--project=p"],
+        "Check { choice: ConfigurationChoice { configuration: File(\"c\"), project: Some(\"p\") }, schema: [], documents: [], files_from: None, fragments: [], only: [], grouping: Project, limits: Limits { depth: 500, reach: 64, work: 160000000 }, reporting: Reporting { format: Text, color: Auto, max_reports: 100 } }",
+    ),
+    (
+        &["check", "--no-config", "--schema", "s", "a"],
+        "Check { choice: ConfigurationChoice { configuration: Nothing, project: None }, schema: [\"s\"], documents: [\"a\"], files_from: None, fragments: [], only: [], grouping: Project, limits: Limits { depth: 500, reach: 64, work: 160000000 }, reporting: Reporting { format: Text, color: Auto, max_reports: 100 } }",
     ),
     (
         &["serve", "--schema", "s"],
