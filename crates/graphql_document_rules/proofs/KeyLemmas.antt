@@ -17,7 +17,7 @@ use Rattle.graphql_specification.specs.CollectFields.{CollectedFrom, CollectsFro
 use Rattle.graphql_specification.specs.MergedSets.{key_of, keys_of, under_key}
 use Rattle.graphql_specification.specs.Merging.{FieldSelection, SameKey}
 use Rattle.graphql_merging.specs.Groups.{by_keys, named_fields}
-use Rattle.graphql_merging.specs.declared.field_selections.FieldSelection.{FieldSelection as Field}
+use Rattle.graphql_field_conflicts.specs.declared.field_selections.FieldSelection.{FieldSelection as Field}
 use Rattle.graphql_variables.proofs.UseLemmas.{any_has, has_any}
 use Rattle.graphql_validation.proofs.CollectingLemmas.{lists_what_is_collected}
 use Rattle.graphql_document_rules.specs.SingleRootField.{HasOneResponseKey}

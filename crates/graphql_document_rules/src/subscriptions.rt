@@ -18,8 +18,8 @@ use graphql_diagnostics::{BuildError, Details, DiagnosticData, DiagnosticList};
 use graphql_documents::documents::{
     Directive, ExecutableDocument, Operation, Schema, Selection, SelectionSet,
 };
+use graphql_field_conflicts::field_selections::FieldSelection;
 use graphql_hash_seeds::HashSeed;
-use graphql_merging::field_selections::FieldSelection;
 use graphql_nodes::{Name, Node, OperationType, ValidationError};
 use graphql_validation::collect::collect_fields;
 use graphql_variables::conditions::{INCLUDE_DIRECTIVE_NAME, SKIP_DIRECTIVE_NAME, directives_of};

@@ -6,13 +6,13 @@ ghost use Rattle.graphql_nodes.specs.Names.{NameText};
 ghost use Rattle.graphql_documents.specs.Selections.{selections_of};
 ghost use Rattle.graphql_documents.specs.declared.documents.executables.Selection.TheVariants as kind;
 ghost use Rattle.graphql_merging.specs.ExpansionSteps.{Expands, fragments_in};
-ghost use Rattle.graphql_merging.specs.FieldSelections.{listed};
+ghost use Rattle.graphql_field_conflicts.specs.FieldSelections.{listed};
 ghost use Rattle.graphql_lone_fields.specs.CountedExpansions.{expanding};
 ghost use Rattle.graphql_lone_fields.specs.CountedSteps.{Paid};
 
 use graphql_documents::documents::{Fragment, FragmentSpread, Selection, SelectionSet};
+use graphql_field_conflicts::field_selections::FieldSelection;
 use graphql_hash_seeds::HashSeed;
-use graphql_merging::field_selections::FieldSelection;
 use graphql_nodes::{Name, NamedType, Node, ValidationError};
 use graphql_steps::Steps;
 use indexmap::{IndexMap, IndexSet};

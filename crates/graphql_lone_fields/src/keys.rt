@@ -4,11 +4,11 @@ ghost use Rattle.std.specs.List.{list_any};
 ghost use Rattle.std.specs.Prelude.{◌≡◌, ◌+◌, ◌*◌, ◌≤◌, ◌++◌, ◌∷◌, [], AllPairs, IfOk, IsFalse, IsTrue, List, OnOk, length, map, not};
 ghost use Rattle.graphql_nodes.specs.Names.{same_name, stands_on, with_name};
 ghost use Rattle.graphql_specification.specs.MergedSets.{key_of};
-ghost use Rattle.graphql_merging.specs.FieldSelections.{listed, selection_of};
+ghost use Rattle.graphql_field_conflicts.specs.FieldSelections.{listed, selection_of};
 ghost use Rattle.graphql_lone_fields.specs.LoneFields.{HaveOtherKeys};
 
+use graphql_field_conflicts::field_selections::FieldSelection;
 use graphql_hash_seeds::HashSeed;
-use graphql_merging::field_selections::FieldSelection;
 use graphql_nodes::{Name, ValidationError};
 use graphql_steps::Steps;
 use indexmap::IndexSet;

@@ -3,14 +3,14 @@
 ghost use Rattle.std.specs.Prelude.{◌≡◌, ◌+◌, ◌*◌, ◌<◌, ◌≤◌, ◌∷◌, [], All, IfOk, IsTrue, length};
 ghost use Rattle.graphql_documents.specs.Selections.{fragments_of};
 ghost use Rattle.graphql_specification.specs.Merging.{set_of};
-ghost use Rattle.graphql_merging.specs.FieldSelections.{listed, selection_of};
+ghost use Rattle.graphql_field_conflicts.specs.FieldSelections.{listed, selection_of};
 ghost use Rattle.graphql_lone_fields.specs.CountedSteps.{Paid};
 ghost use Rattle.graphql_lone_fields.specs.LoneFields.{HasLoneFields, HasLoneFieldsWithin};
 
 use crate::counted_expansion::expand_within;
 use crate::keys::have_different_keys;
 use graphql_documents::documents::{ExecutableDocument, Operation, SelectionSet};
-use graphql_merging::field_selections::FieldSelection;
+use graphql_field_conflicts::field_selections::FieldSelection;
 use graphql_nodes::{Node, ValidationError};
 use graphql_steps::Steps;
 use std::alloc::Global;

@@ -1,12 +1,6 @@
-pub mod ArgumentComparisonLemmas
-pub mod ByNameLemmas
 pub mod ConflictLemmas
-pub mod ConflictReportLemmas
-pub mod DisagreementLemmas
 pub mod ExpansionSizeLemmas
 pub mod ExpansionStepLemmas
-pub mod FirstFieldLemmas
-pub mod FirstNamedLemmas
 pub mod GroupLemmas
 pub mod MergedOperationLemmas
 pub mod MergingReportLemmas
@@ -15,5 +9,3 @@ pub mod NumberedFieldLemmas
 pub mod NumberedGroupLemmas
 pub mod PassLemmas
 pub mod PassStepLemmas
-pub mod PositionLemmas
-pub mod ValueComparisonLemmas

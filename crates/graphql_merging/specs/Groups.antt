@@ -10,8 +10,8 @@ use Rattle.graphql_specification.specs.Merging as merging
 use Rattle.graphql_nodes.specs.Names.{NameText, same_name}
 use Rattle.graphql_documents.specs.Schemas.{type_definition}
 use Rattle.graphql_documents.specs.declared.documents.schemas.Schema.{Schema}
-use Rattle.graphql_merging.specs.FieldSelections.{listed}
-use Rattle.graphql_merging.specs.declared.field_selections.FieldSelection.{FieldSelection}
+use Rattle.graphql_field_conflicts.specs.FieldSelections.{listed}
+use Rattle.graphql_field_conflicts.specs.declared.field_selections.FieldSelection.{FieldSelection}
 use Rattle.graphql_merging.specs.declared.groups.Pass.{Pass}
 use Rattle.graphql_merging.specs.declared.groups.Pass.TheVariants.{Shapes, NamesAndArguments}
 

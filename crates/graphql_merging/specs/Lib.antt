@@ -1,10 +1,4 @@
-pub mod Comparisons
-pub mod Conflicts
 pub mod ExpansionSteps
-pub mod FieldEquality
-pub mod FieldSelections
-pub mod FirstFields
-pub mod FirstPlaces
 pub mod Groups
 pub mod MergedOperations
 pub mod Mergers

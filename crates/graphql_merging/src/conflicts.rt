@@ -5,21 +5,21 @@ ghost use Rattle.graphql_diagnostics.specs.Diagnostics.{entries};
 ghost use Rattle.graphql_specification.specs.Merging.{shape_pass, SameResponseShape, type_of};
 ghost use Rattle.graphql_specification.specs.MergedSets.{AreConflicts};
 ghost use Rattle.graphql_diagnostics.specs.Reports.{Appends, KeepsReports};
-ghost use Rattle.graphql_merging.specs.Conflicts.{ComparesField};
-ghost use Rattle.graphql_merging.specs.FirstFields.{HasRead};
+ghost use Rattle.graphql_field_conflicts.specs.Conflicts.{ComparesField};
+ghost use Rattle.graphql_field_conflicts.specs.FirstFields.{HasRead};
 ghost use Rattle.graphql_merging.specs.NumberedFields.{listed, lists_of};
-ghost use Rattle.graphql_merging.specs.FieldSelections as plain;
+ghost use Rattle.graphql_field_conflicts.specs.FieldSelections as plain;
 ghost use Rattle.graphql_merging.specs.Groups.{pass_of};
 ghost use Rattle.graphql_merging.specs.Passes.{IsConflictAmong, counted};
 
-use super::comparisons::{FirstField, same_output_type_shape};
-use super::conflict_reports::{report_conflict, report_types};
 use super::examined::Examined;
-use super::field_selections::FieldSelection;
 use super::groups::Pass;
 use super::numbered_fields::NumberedField;
 use graphql_diagnostics::DiagnosticList;
 use graphql_documents::documents::Schema;
+use graphql_field_conflicts::comparisons::{FirstField, same_output_type_shape};
+use graphql_field_conflicts::conflict_reports::{report_conflict, report_types};
+use graphql_field_conflicts::field_selections::FieldSelection;
 use graphql_nodes::ValidationError;
 
 /// Compares the first field of each group with the rest, and reports each that does not agree with it.

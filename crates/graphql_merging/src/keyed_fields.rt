@@ -1,10 +1,10 @@
 //! Fields by their response keys.
 
 ghost use Rattle.std.specs.Prelude.{◌≡◌, IfOk, OnOk};
-ghost use Rattle.graphql_merging.specs.FieldSelections.{listed, selection_of};
+ghost use Rattle.graphql_field_conflicts.specs.FieldSelections.{listed, selection_of};
 ghost use Rattle.graphql_merging.specs.Groups.{by_keys, named_fields, with_field};
 
-use super::field_selections::FieldSelection;
+use graphql_field_conflicts::field_selections::FieldSelection;
 use graphql_hash_seeds::HashSeed;
 use graphql_nodes::{Name, ValidationError};
 use indexmap::IndexMap;

@@ -1,15 +1,11 @@
-//! Laws of the operations that were merged, and of the equality of fields.
+//! Laws of the operations that were merged.
 
-ghost use Rattle.std.specs.Prelude.{◌≡◌, ◌↔◌, All, Contains, IsFalse, IsTrue};
+ghost use Rattle.std.specs.Prelude.{◌↔◌, All, Contains, IsFalse};
 ghost use Rattle.graphql_documents.specs.Built.{IsBuilt};
-ghost use Rattle.graphql_documents.specs.Contents.{SameField};
 ghost use Rattle.graphql_documents.specs.Executables.{operations_of};
 ghost use Rattle.graphql_specification.specs.Merging.{FieldsCanMerge};
 ghost use Rattle.graphql_documents.specs.Selections.{fragments_of};
-ghost use Rattle.graphql_nodes.specs.Names.{SameName};
-ghost use Rattle.graphql_merging.specs.FieldEquality.{hash_input, selection_equality};
 ghost use Rattle.graphql_merging.specs.Mergers.{IsSound, document_of, has_refused, merging_of, schema_of};
-ghost use Rattle.graphql_merging.specs.declared.field_selections.FieldSelection.{FieldSelection};
 ghost use Rattle.graphql_merging.specs.declared.merging.FieldsInSetCanMerge.{FieldsInSetCanMerge};
 
 /// Whatever operations of a document that was built against its schema were handed to
@@ -23,14 +19,4 @@ pub fn conflicts_decide_whether_operations_merge()
         IsSound m → IsFalse (has_refused m) → IsFalse (merging_of m).too_deep →
         IsFalse (merging_of m).conflicting ↔
         All (λ o. FieldsCanMerge (schema_of m) (fragments_of (document_of m)) o.value.value.selection_set) (merging_of m).operations }
-{}
-
-/// `==` takes two fields for equal exactly when the types of their sets have one name and the fields have the same contents, places
-/// apart; and equal ones are hashed alike.
-///
-/// Specification: 5.3.2 Field Selection Merging.
-pub fn equality_of_fields_is_of_contents()
-    ensures equality { (x y : FieldSelection) → IsTrue (selection_equality x y) ↔
-        (SameName x.parent_type.now y.parent_type.now × SameField x.field.now.value.value y.field.now.value.value) }
-    ensures hash { (x y : FieldSelection) → IsTrue (selection_equality x y) → hash_input x ≡ hash_input y }
 {}

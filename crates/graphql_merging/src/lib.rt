@@ -3,12 +3,9 @@
 #![tactic(auto)]
 
 pub mod bounded;
-pub mod comparisons;
-pub mod conflict_reports;
 mod conflicts;
 mod examined;
 pub mod expansion;
-pub mod field_selections;
 pub mod groups;
 mod keyed_fields;
 pub mod laws;

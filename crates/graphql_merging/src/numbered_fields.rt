@@ -1,11 +1,11 @@
 //! Fields with the numbers of their contents, and lists of them.
 
 ghost use Rattle.std.specs.Prelude.{◌≡◌};
-ghost use Rattle.graphql_merging.specs.FieldSelections.{selection_of};
+ghost use Rattle.graphql_field_conflicts.specs.FieldSelections.{selection_of};
 ghost use Rattle.graphql_merging.specs.NumberedFields as numbered;
 
-use super::field_selections::FieldSelection;
 use graphql_documents::documents::Field;
+use graphql_field_conflicts::field_selections::FieldSelection;
 use graphql_nodes::{NamedType, Node};
 
 /// A field, with the type of the set in which it is and the number of its contents. Two are compared and hashed by the text of

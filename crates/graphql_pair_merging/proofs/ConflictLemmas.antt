@@ -10,7 +10,7 @@ use Rattle.graphql_documents.specs.declared.documents.executables.SelectionSet.{
 use Rattle.graphql_documents.specs.declared.documents.schemas.Schema.{Schema}
 use Rattle.graphql_specification.specs.MergedSets.{Meet, MeetingFieldsAgree}
 use Rattle.graphql_specification.specs.Merging.{Pass, field_pass, set_of, shape_pass}
-use Rattle.graphql_merging.specs.FieldSelections.{selection_of}
+use Rattle.graphql_field_conflicts.specs.FieldSelections.{selection_of}
 use Rattle.graphql_pair_merging.specs.Disagreements.{Disagrees}
 use Rattle.graphql_pair_merging.specs.Meetings.{IsMetConflict}
 use Rattle.graphql_pair_merging.specs.NumberedSets.{AreNumbered, Describes, field_of, fragment_set, sets_of}

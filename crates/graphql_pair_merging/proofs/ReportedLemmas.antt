@@ -21,7 +21,7 @@ use Rattle.graphql_documents.specs.declared.documents.schemas.Schema.{Schema}
 use Rattle.graphql_specification.specs.MergedSets.{Agree, ConflictReport, Meet, MeetingFieldsAgree, meet_below, meet_here}
 use Rattle.graphql_specification.specs.Merging.{Chain, ComeTogether, FieldSelection, FieldsCanMerge, MergingReport, ParentsMayOverlap, Pass, SameKey, chain_of_more, chain_of_one, field_pass, of_conflict, shape_pass}
 use Rattle.graphql_laws.proofs.MeetingLaws.{merges_by_meeting}
-use Rattle.graphql_merging.specs.FieldSelections.{selection_of}
+use Rattle.graphql_field_conflicts.specs.FieldSelections.{selection_of}
 use Rattle.graphql_pair_merging.specs.Meetings.{IsMetConflict}
 use Rattle.graphql_pair_merging.specs.NumberedSets.{operation_sets}
 use Rattle.graphql_pair_merging.specs.declared.disagreements.Conflict.{Conflict}

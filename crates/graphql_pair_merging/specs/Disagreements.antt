@@ -6,7 +6,7 @@ use Rattle.graphql_documents.specs.declared.documents.schemas.ExtendedType.{Exte
 use Rattle.graphql_documents.specs.declared.documents.type_references.Type.{«Type»}
 use Rattle.graphql_specification.specs.Merging.{FieldSelection, Pass, SameResponseShape, field_pass, shape_pass, type_of}
 use Rattle.graphql_documents.specs.declared.documents.schemas.Schema.{Schema}
-use Rattle.graphql_merging.specs.Comparisons.{Conflicts}
+use Rattle.graphql_field_conflicts.specs.Comparisons.{Conflicts}
 use Rattle.graphql_pair_merging.specs.declared.disagreements.Disagreement.{Disagreement}
 use Rattle.graphql_pair_merging.specs.declared.disagreements.Disagreement.TheVariants.{NamesOrArguments, Shapes}
 

@@ -5,7 +5,7 @@ use Rattle.graphql_documents.specs.declared.documents.executables.SelectionSet.{
 use Rattle.graphql_documents.specs.declared.documents.schemas.Schema.{Schema}
 use Rattle.graphql_specification.specs.MergedSets.{Meet}
 use Rattle.graphql_specification.specs.Merging.{Pass}
-use Rattle.graphql_merging.specs.FieldSelections.{selection_of}
+use Rattle.graphql_field_conflicts.specs.FieldSelections.{selection_of}
 use Rattle.graphql_pair_merging.specs.Disagreements.{Disagrees}
 use Rattle.graphql_pair_merging.specs.declared.disagreements.Conflict.{Conflict}
 

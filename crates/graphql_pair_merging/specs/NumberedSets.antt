@@ -13,7 +13,7 @@ use Rattle.graphql_documents.specs.declared.documents.executables.Selection.TheO
 use Rattle.graphql_documents.specs.declared.documents.executables.SelectionSet.{SelectionSet}
 use Rattle.graphql_specification.specs.MergedSets.{as_field}
 use Rattle.graphql_specification.specs.Merging.{FieldSelection, set_of}
-use Rattle.graphql_merging.specs.FieldSelections.{selection_of}
+use Rattle.graphql_field_conflicts.specs.FieldSelections.{selection_of}
 use Rattle.graphql_value_numbers.specs.Arguments.{HaveNumber}
 use Rattle.graphql_value_numbers.specs.declared.shapes.Shape.{Shape}
 use Rattle.graphql_pair_merging.specs.declared.numbered_sets.NumberedField.{NumberedField}

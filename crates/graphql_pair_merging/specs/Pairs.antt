@@ -5,7 +5,7 @@ use Rattle.graphql_documents.specs.Selections.{selections_of}
 use Rattle.graphql_documents.specs.declared.documents.schemas.Schema.{Schema}
 use Rattle.graphql_specification.specs.MergedSets.{Agree, ArePutTogether}
 use Rattle.graphql_specification.specs.Merging.{FieldSelection, Pass, SameKey, field_pass, set_of, shape_pass, type_of}
-use Rattle.graphql_merging.specs.FieldSelections.{selection_of}
+use Rattle.graphql_field_conflicts.specs.FieldSelections.{selection_of}
 use Rattle.graphql_number_sets.specs.NumberSets.{ArePaired}
 use Rattle.graphql_number_sets.specs.declared.pair_sets.PairSet.{PairSet}
 use Rattle.graphql_pair_merging.specs.Disagreements.{Disagrees, HasDefinition}

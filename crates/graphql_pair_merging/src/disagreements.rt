@@ -6,9 +6,9 @@ ghost use Rattle.graphql_documents.specs.declared.documents.schemas.Schema.{Sche
 ghost use Rattle.graphql_specification.specs.MergedSets.{Agree};
 ghost use Rattle.graphql_specification.specs.Merging as merging;
 ghost use Rattle.graphql_specification.specs.Merging.{MayOverlap, ParentsMayOverlap, SameNameAndArguments, type_of};
-ghost use Rattle.graphql_merging.specs.Comparisons.{Conflicts};
-ghost use Rattle.graphql_merging.specs.Conflicts.{ConflictEntryReport};
-ghost use Rattle.graphql_merging.specs.FieldSelections.{selection_of};
+ghost use Rattle.graphql_field_conflicts.specs.Comparisons.{Conflicts};
+ghost use Rattle.graphql_field_conflicts.specs.Conflicts.{ConflictEntryReport};
+ghost use Rattle.graphql_field_conflicts.specs.FieldSelections.{selection_of};
 ghost use Rattle.graphql_merging.specs.Groups.{pass_of};
 ghost use Rattle.graphql_pair_merging.specs.Disagreements.{Disagrees, HasDefinition};
 ghost use Rattle.graphql_pair_merging.specs.NumberedSets.{HaveNumbers, field_of};
@@ -17,10 +17,12 @@ ghost use Rattle.graphql_pair_merging.specs.Parents.{may_overlap_others};
 use super::numbered_sets::NumberedField;
 use graphql_diagnostics::DiagnosticList;
 use graphql_documents::documents::{ExtendedType, Schema, Type};
+use graphql_field_conflicts::comparisons::{
+    FieldConflict, find_field_conflict, same_output_type_shape,
+};
+use graphql_field_conflicts::conflict_reports::{report_conflict, report_types};
+use graphql_field_conflicts::field_selections::FieldSelection;
 use graphql_hash_seeds::HashSeed;
-use graphql_merging::comparisons::{FieldConflict, find_field_conflict, same_output_type_shape};
-use graphql_merging::conflict_reports::{report_conflict, report_types};
-use graphql_merging::field_selections::FieldSelection;
 use graphql_merging::groups::Pass;
 use graphql_nodes::{Name, ValidationError};
 use std::alloc::Global;

@@ -9,8 +9,8 @@ ghost use Rattle.graphql_value_numbers.specs.Numbers.{Grows};
 ghost use Rattle.graphql_value_numbers.specs.Tables.{shapes_of};
 
 use graphql_documents::documents::{Fragment, Operation, Selection, SelectionSet};
+use graphql_field_conflicts::field_selections::FieldSelection;
 use graphql_hash_seeds::HashSeed;
-use graphql_merging::field_selections::FieldSelection;
 use graphql_nodes::{Name, Node, ValidationError};
 use graphql_value_numbers::ValueNumbers;
 use indexmap::IndexMap;

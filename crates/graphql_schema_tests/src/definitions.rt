@@ -4,13 +4,13 @@ use graphql_cycles::directives::validate_directive_cycles;
 use graphql_cycles::input_objects::validate_input_object_cycles;
 use graphql_diagnostics::DiagnosticList;
 use graphql_documents::documents::{ExtendedType, ExtensionId, ObjectType, Schema};
-use graphql_implementations::validate_interface_fields;
-use graphql_nodes::{DirectiveLocation, Name, ValidationError};
-use graphql_schemas::built_in_scalars::BuiltInScalars;
-use graphql_schemas::default_values::validate_default_values;
-use graphql_schemas::definition_directives::{
+use graphql_field_definitions::built_in_scalars::BuiltInScalars;
+use graphql_field_definitions::definition_directives::{
     validate_component_directives, validate_definition_directives,
 };
+use graphql_implementations::validate_interface_fields;
+use graphql_nodes::{DirectiveLocation, Name, ValidationError};
+use graphql_schemas::default_values::validate_default_values;
 use graphql_schemas::extensions::{
     enum_extensions, input_object_extensions, interface_extensions, locations_of,
     object_extensions, union_extensions,

@@ -3,24 +3,24 @@ use graphql_diagnostics::{Details, DiagnosticData, DiagnosticList};
 use graphql_documents::documents::{
     ExtendedType, FieldDefinition, InputValueDefinition, ObjectType, Schema,
 };
+use graphql_field_definitions::built_in_scalars::BuiltInScalars;
+use graphql_field_definitions::fields::{validate_field_definition, validate_field_definitions};
+use graphql_field_definitions::input_values::{
+    validate_argument_definitions, validate_input_value_definitions,
+};
+use graphql_field_definitions::names::validate_type_system_name;
 use graphql_implementations::{
     validate_implementation_field_arguments, validate_implementation_field_types,
     validate_implements_interfaces,
 };
 use graphql_nodes::{DirectiveLocation, FileId, Name, Node, SourceSpan, ValidationError};
-use graphql_schemas::built_in_scalars::BuiltInScalars;
 use graphql_schemas::directive_definitions::{
     validate_directive_definition, validate_directive_definitions,
 };
 use graphql_schemas::enums::{validate_enum_definition, validate_enum_value};
 use graphql_schemas::extensions::extensions;
-use graphql_schemas::fields::{validate_field_definition, validate_field_definitions};
 use graphql_schemas::input_objects::validate_input_object_definition;
-use graphql_schemas::input_values::{
-    validate_argument_definitions, validate_input_value_definitions,
-};
 use graphql_schemas::interfaces::validate_interface_definition;
-use graphql_schemas::names::validate_type_system_name;
 use graphql_schemas::objects::validate_object_type_definition;
 use graphql_schemas::scalars::validate_scalar_definition;
 use graphql_schemas::schema_definition::{

@@ -1,12 +1,8 @@
-pub mod BuiltInScalarLemmas
 pub mod DefaultValueLemmas
 pub mod DirectiveDefinitionLemmas
 pub mod ExtensionLemmas
-pub mod FieldDefinitionLemmas
-pub mod InputValueLemmas
 pub mod NamedTypeLemmas
 pub mod RootLemmas
 pub mod SchemaLemmas
 pub mod TypeLemmas
 pub mod TypeMapLemmas
-pub mod TypeNameLemmas

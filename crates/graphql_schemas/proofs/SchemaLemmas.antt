@@ -26,10 +26,10 @@ use Rattle.graphql_nodes.specs.declared.spans.SourceSpan.{SourceSpan}
 use Rattle.graphql_diagnostics.proofs.DiagnosticLemmas.{diagnostic_wider}
 use Rattle.graphql_diagnostics.proofs.ReportWithinLemmas.{ChecksListWithin, both_within, checks_after_within, checks_words_within, wider_within, within}
 use Rattle.graphql_schemas.proofs.TypeLemmas.{checks_wider_within}
-use Rattle.graphql_schemas.specs.BuiltInScalarUses.{Records, holds_text}
+use Rattle.graphql_field_definitions.specs.BuiltInScalarUses.{Records, holds_text}
 use Rattle.graphql_schemas.specs.SchemaChecks.{SchemaEntryReport}
 use Rattle.graphql_schemas.specs.TypeMapChanges.{Retains, is_unused}
-use Rattle.graphql_schemas.specs.declared.built_in_scalars.BuiltInScalars.{BuiltInScalars}
+use Rattle.graphql_field_definitions.specs.declared.built_in_scalars.BuiltInScalars.{BuiltInScalars}
 use Rattle.graphql_schemas.specs.declared.type_map.TypeMapChanges.{TypeMapChanges}
 
 -- ---- what is reported of parts of a schema is reported of it

@@ -41,10 +41,10 @@ use Rattle.graphql_documents.proofs.ListLemmas.{All-append_left, All-append_righ
 use Rattle.graphql_diagnostics.proofs.ReportLemmas.{kept_wider, wider}
 use Rattle.graphql_diagnostics.proofs.ReportWithinLemmas.{ChecksListWithin, both_within, in_words_within, wider_within}
 use Rattle.graphql_documents.proofs.SubtypeLemmas.{listed_asked}
-use Rattle.graphql_schemas.specs.BuiltInScalarUses.{Records}
+use Rattle.graphql_field_definitions.specs.BuiltInScalarUses.{Records}
 use Rattle.graphql_schemas.specs.TypeSteps.{AreOf}
-use Rattle.graphql_schemas.specs.declared.built_in_scalars.BuiltInScalars.{BuiltInScalars}
-use Rattle.graphql_schemas.proofs.BuiltInScalarLemmas.{records_as}
+use Rattle.graphql_field_definitions.specs.declared.built_in_scalars.BuiltInScalars.{BuiltInScalars}
+use Rattle.graphql_field_definitions.proofs.BuiltInScalarLemmas.{records_as}
 
 -- whether a list is empty, by its length
 pub is_filled : {X : Type 0} (xs : List X) (answer : Bool) → IsTrue answer ↔ (length xs ≡ 0) → answer ≡ false → xs ≢ []

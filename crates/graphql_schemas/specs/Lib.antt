@@ -1,6 +1,4 @@
-pub mod BuiltInScalarUses
 pub mod DefaultValueReports
-pub mod FieldDefinitionSteps
 pub mod FoundExtensions
 pub mod RootSteps
 pub mod SchemaChecks

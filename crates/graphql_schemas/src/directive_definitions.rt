@@ -4,14 +4,14 @@ ghost use Rattle.graphql_specification.specs.DirectiveCycles.{DirectiveLimit, Di
 ghost use Rattle.graphql_diagnostics.specs.Reports.{ChecksWithin};
 ghost use Rattle.graphql_specification.specs.DirectiveDefinitions.{DirectiveDefinitionReport, DirectiveDefinitionsReport, DirectiveDefinitionHolds};
 ghost use Rattle.graphql_specification.specs.BuiltInScalars.{argument_types};
-ghost use Rattle.graphql_schemas.specs.BuiltInScalarUses.{Keeps, Records};
+ghost use Rattle.graphql_field_definitions.specs.BuiltInScalarUses.{Keeps, Records};
 
-use crate::built_in_scalars::BuiltInScalars;
-use crate::input_values::{each_argument, validate_argument_definitions};
-use crate::names::validate_type_system_name;
 use graphql_cycles::directive_levels::{DirectiveLevels, validate_directive_cycles_by_levels};
 use graphql_diagnostics::DiagnosticList;
 use graphql_documents::documents::{DirectiveDefinition, Schema};
+use graphql_field_definitions::built_in_scalars::BuiltInScalars;
+use graphql_field_definitions::input_values::{each_argument, validate_argument_definitions};
+use graphql_field_definitions::names::validate_type_system_name;
 use graphql_nodes::{DirectiveLocation, Node, ValidationError};
 
 /// Validates a directive definition: its name, its arguments, and that it does not lead back to itself. Where

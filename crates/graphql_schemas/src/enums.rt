@@ -5,11 +5,13 @@ ghost use Rattle.graphql_specification.specs.Types.{EnumHolds, EnumValueHolds, E
 ghost use Rattle.graphql_documents.specs.declared.documents.schemas.ExtendedType.TheVariants as types;
 ghost use Rattle.graphql_documents.specs.declared.documents.schemas.Schema.{Schema};
 
-use crate::definition_directives::{validate_component_directives, validate_definition_directives};
 use crate::extensions::{enum_extensions, locations_of};
-use crate::names::validate_type_system_name;
 use graphql_diagnostics::{Details, DiagnosticData, DiagnosticList};
 use graphql_documents::documents::{EnumType, EnumValueDefinition, Schema};
+use graphql_field_definitions::definition_directives::{
+    validate_component_directives, validate_definition_directives,
+};
+use graphql_field_definitions::names::validate_type_system_name;
 use graphql_nodes::{DirectiveLocation, Node, ValidationError};
 
 /// Validates an enum: the directives on it, its values, and that there is one. The only error is a failed

@@ -8,17 +8,17 @@ ghost use Rattle.graphql_specification.specs.BuiltInScalars.{types_referred_by};
 ghost use Rattle.graphql_nodes.specs.declared.directive_locations.DirectiveLocation.TheVariants as at;
 ghost use Rattle.graphql_documents.specs.declared.documents.schemas.ExtendedType.TheVariants as types;
 ghost use Rattle.graphql_documents.specs.declared.documents.schemas.Schema.{Schema};
-ghost use Rattle.graphql_schemas.specs.BuiltInScalarUses.{Keeps, Records};
+ghost use Rattle.graphql_field_definitions.specs.BuiltInScalarUses.{Keeps, Records};
 
-use crate::built_in_scalars::BuiltInScalars;
-use crate::definition_directives::validate_component_directives;
 use crate::extensions::{input_object_extensions, locations_of};
-use crate::input_values::validate_input_value_definitions;
 use graphql_cycles::input_object_levels::{
     InputObjectLevels, validate_input_object_cycles_by_levels,
 };
 use graphql_diagnostics::{Details, DiagnosticData, DiagnosticList};
 use graphql_documents::documents::{Component, InputObjectType, InputValueDefinition, Schema};
+use graphql_field_definitions::built_in_scalars::BuiltInScalars;
+use graphql_field_definitions::definition_directives::validate_component_directives;
+use graphql_field_definitions::input_values::validate_input_value_definitions;
 use graphql_hash_seeds::HashSeed;
 use graphql_nodes::{DirectiveLocation, Name, Node, ValidationError};
 use indexmap::IndexMap;

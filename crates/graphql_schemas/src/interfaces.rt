@@ -6,15 +6,15 @@ ghost use Rattle.graphql_specification.specs.Types.{InterfaceHolds, TypeReport};
 ghost use Rattle.graphql_specification.specs.BuiltInScalars.{types_referred_by};
 ghost use Rattle.graphql_documents.specs.declared.documents.schemas.ExtendedType.TheVariants as types;
 ghost use Rattle.graphql_documents.specs.declared.documents.schemas.Schema.{Schema};
-ghost use Rattle.graphql_schemas.specs.BuiltInScalarUses.{Keeps, Records};
+ghost use Rattle.graphql_field_definitions.specs.BuiltInScalarUses.{Keeps, Records};
 
-use crate::built_in_scalars::BuiltInScalars;
-use crate::definition_directives::validate_component_directives;
 use crate::extensions::{interface_extensions, locations_of};
-use crate::fields::validate_field_definitions;
 use crate::implementing_types::validate_implementations;
 use graphql_diagnostics::{Details, DiagnosticData, DiagnosticList};
 use graphql_documents::documents::{InterfaceType, Schema};
+use graphql_field_definitions::built_in_scalars::BuiltInScalars;
+use graphql_field_definitions::definition_directives::validate_component_directives;
+use graphql_field_definitions::fields::validate_field_definitions;
 use graphql_nodes::{DirectiveLocation, Node, ValidationError};
 
 /// Validates an interface: the directives on it, that it does not list itself, its fields, that there is one,

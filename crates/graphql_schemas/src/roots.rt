@@ -12,9 +12,9 @@ ghost use Rattle.graphql_documents.specs.declared.documents.schemas.SchemaDefini
 ghost use Rattle.graphql_schemas.specs.RootSteps.{FollowsWell, RootReport, lent_root, root_named};
 ghost use Rattle.graphql_variables.specs.FirstPlaces.{IsNext};
 
-use crate::referred_types::report_undefined_type;
 use graphql_diagnostics::{Details, DiagnosticData, DiagnosticList};
 use graphql_documents::documents::{ComponentName, ExtendedType, Schema};
+use graphql_field_definitions::referred_types::report_undefined_type;
 use graphql_nodes::{Name, NamedType, OperationType, ValidationError};
 
 /// A root of a schema, with the kind of its operations.

@@ -3,10 +3,10 @@ ghost use Rattle.graphql_diagnostics.specs.Reports.{Checks};
 ghost use Rattle.graphql_specification.specs.Types.{ScalarHolds, TypeReport};
 ghost use Rattle.graphql_documents.specs.declared.documents.schemas.ExtendedType.TheVariants as types;
 
-use crate::definition_directives::validate_component_directives;
-use crate::names::is_built_in;
 use graphql_diagnostics::DiagnosticList;
 use graphql_documents::documents::{ScalarType, Schema};
+use graphql_field_definitions::definition_directives::validate_component_directives;
+use graphql_field_definitions::names::is_built_in;
 use graphql_nodes::{DirectiveLocation, Node, ValidationError};
 
 /// Validates a scalar: the directives on it, unless it is one that every schema has. The only error is a

@@ -4,10 +4,9 @@ ghost use Rattle.graphql_diagnostics.specs.Diagnostics.{IsDiagnostic, IsLimitEnt
 ghost use Rattle.graphql_specification.specs.Schemas.{SchemaLimit, SchemaReport, SchemaHolds};
 ghost use Rattle.graphql_diagnostics.specs.Reports.{ChecksWithin, KeepsReports, ReportsWithin};
 ghost use Rattle.graphql_specification.specs.BuiltInScalars.{SchemaRetainsUsedBuiltInScalars, types_referred};
-ghost use Rattle.graphql_schemas.specs.BuiltInScalarUses.{Records};
+ghost use Rattle.graphql_field_definitions.specs.BuiltInScalarUses.{Records};
 ghost use Rattle.graphql_schemas.specs.SchemaChecks.{IsSameSchema, SchemaEntryReport};
 
-use crate::built_in_scalars::BuiltInScalars;
 use crate::default_values::validate_default_values;
 use crate::directive_definitions::validate_directive_definitions;
 use crate::schema_definition::validate_schema_definition;
@@ -15,6 +14,7 @@ use crate::type_map::retain_used_built_in_scalars;
 use crate::types::validate_types;
 use graphql_diagnostics::DiagnosticList;
 use graphql_documents::documents::Schema;
+use graphql_field_definitions::built_in_scalars::BuiltInScalars;
 use graphql_nodes::ValidationError;
 
 /// Validates a schema and retains its types: what it says of itself, its directive definitions and its types,

@@ -3,10 +3,10 @@ ghost use Rattle.graphql_diagnostics.specs.Diagnostics.{IsDiagnostic};
 ghost use Rattle.graphql_diagnostics.specs.Reports.{Checks};
 ghost use Rattle.graphql_specification.specs.SchemaDefinitions.{RootsReport, SchemaDefinitionReport, RootsHold, SchemaDefinitionHolds};
 
-use crate::definition_directives::validate_component_directives;
 use crate::roots::{Root, validate_root};
 use graphql_diagnostics::{Details, DiagnosticData, DiagnosticList};
 use graphql_documents::documents::Schema;
+use graphql_field_definitions::definition_directives::validate_component_directives;
 use graphql_nodes::{DirectiveLocation, ValidationError};
 
 /// Validates what a schema says of itself: that it has a query root, its roots in order, and the directives

@@ -9,11 +9,11 @@ ghost use Rattle.indexmap.specs.IndexMap.{index_map_len, spare};
 ghost use Rattle.graphql_nodes.specs.Names.{NameText, is_name, same_name};
 ghost use Rattle.graphql_specification.specs.BuiltInScalars.{IsAddedScalar, built_in_scalar_names};
 ghost use Rattle.graphql_documents.specs.declared.documents.schemas.ExtendedType.{ExtendedType as Definition};
-ghost use Rattle.graphql_schemas.specs.BuiltInScalarUses.{holds_text};
+ghost use Rattle.graphql_field_definitions.specs.BuiltInScalarUses.{holds_text};
 ghost use Rattle.graphql_schemas.specs.TypeMapChanges.{AddsMissing, CanUndo, FitBack, Retains, is_unused, restored};
 
-use crate::built_in_scalars::BuiltInScalars;
 use graphql_documents::documents::{ExtendedType, ScalarType};
+use graphql_field_definitions::built_in_scalars::BuiltInScalars;
 use graphql_hash_seeds::HashSeed;
 use graphql_nodes::{FileId, Name, Node, SourceSpan, ValidationError};
 use indexmap::IndexMap;

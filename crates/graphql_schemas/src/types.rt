@@ -6,20 +6,20 @@ ghost use Rattle.graphql_specification.specs.Types.{TypesLimit, TypesReport, Typ
 ghost use Rattle.graphql_nodes.specs.Names.{IsFreeName};
 ghost use Rattle.graphql_diagnostics.specs.Reports.{ChecksWithin};
 ghost use Rattle.graphql_specification.specs.BuiltInScalars.{types_referred_by};
-ghost use Rattle.graphql_schemas.specs.BuiltInScalarUses.{Keeps, Records};
+ghost use Rattle.graphql_field_definitions.specs.BuiltInScalarUses.{Keeps, Records};
 ghost use Rattle.graphql_schemas.specs.TypeSteps.{NamedTypeReport, TypeLimit};
 
-use crate::built_in_scalars::BuiltInScalars;
 use crate::enums::validate_enum_definition;
 use crate::input_objects::validate_input_object_by_levels;
 use crate::interfaces::validate_interface_definition;
-use crate::names::validate_type_system_name;
 use crate::objects::validate_object_type_definition;
 use crate::scalars::validate_scalar_definition;
 use crate::unions::validate_union_definition;
 use graphql_cycles::input_object_levels::InputObjectLevels;
 use graphql_diagnostics::DiagnosticList;
 use graphql_documents::documents::{ExtendedType, Schema};
+use graphql_field_definitions::built_in_scalars::BuiltInScalars;
+use graphql_field_definitions::names::validate_type_system_name;
 use graphql_nodes::{Name, ValidationError};
 
 /// Validates the types of a schema, in order. Types that they refer to are recorded.

@@ -8,11 +8,11 @@ ghost use Rattle.graphql_documents.specs.declared.documents.schemas.ExtendedType
 ghost use Rattle.graphql_documents.specs.declared.documents.schemas.Schema.{Schema};
 ghost use Rattle.graphql_documents.specs.declared.documents.schemas.UnionType.{UnionType};
 
-use crate::definition_directives::validate_component_directives;
 use crate::extensions::{locations_of, union_extensions};
-use crate::referred_types::report_undefined_type;
 use graphql_diagnostics::{Details, DiagnosticData, DiagnosticList};
 use graphql_documents::documents::{ComponentName, ExtendedType, Schema, UnionType};
+use graphql_field_definitions::definition_directives::validate_component_directives;
+use graphql_field_definitions::referred_types::report_undefined_type;
 use graphql_nodes::{DirectiveLocation, Node, ValidationError};
 
 /// Validates a union: the directives on it, its members, which are defined object types, and that there is

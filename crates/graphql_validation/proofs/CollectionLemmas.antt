@@ -20,8 +20,8 @@ use Rattle.graphql_documents.specs.declared.documents.schemas.ExtendedType.TheVa
 use Rattle.graphql_documents.specs.declared.documents.schemas.ExtendedType.{ExtendedType}
 use Rattle.graphql_documents.specs.declared.documents.schemas.ObjectType.{ObjectType}
 use Rattle.graphql_documents.specs.declared.documents.schemas.Schema.{Schema}
-use Rattle.graphql_merging.specs.FieldSelections.{listed}
-use Rattle.graphql_merging.specs.declared.field_selections.FieldSelection as Code
+use Rattle.graphql_field_conflicts.specs.FieldSelections.{listed}
+use Rattle.graphql_field_conflicts.specs.declared.field_selections.FieldSelection as Code
 use Rattle.std.specs.declared.alloc.Global.{Global}
 use Rattle.graphql_validation.specs.CollectionSteps.{CollectsMore, WalksAmong, WalksIn, WalksOver, visited_of, walks_none, walks_next}
 use Rattle.graphql_validation.specs.declared.collect.CollectedFields.{CollectedFields}

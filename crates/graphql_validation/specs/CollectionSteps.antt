@@ -6,7 +6,7 @@ use Rattle.graphql_nodes.specs.Names.{NameText}
 use Rattle.graphql_documents.specs.Selections.{fragments_of}
 use Rattle.graphql_documents.specs.declared.documents.executables.Selection.{Selection}
 use Rattle.graphql_documents.specs.declared.documents.executables.SelectionSet.{SelectionSet}
-use Rattle.graphql_merging.specs.FieldSelections.{listed}
+use Rattle.graphql_field_conflicts.specs.FieldSelections.{listed}
 use Rattle.graphql_validation.specs.declared.collect.CollectedFields.{CollectedFields}
 use Rattle.graphql_validation.specs.declared.collect.FieldCollection.{FieldCollection}
 

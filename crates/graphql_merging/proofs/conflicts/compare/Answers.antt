@@ -5,11 +5,11 @@ use Rattle.graphql_specification.specs.Merging.{SameNameAndArguments, field_pass
 use Rattle.graphql_specification.specs.MergedSets.{ConflictsWith}
 use Rattle.graphql_diagnostics.specs.Reports.{Appends}
 use Rattle.graphql_merging.proofs.ConflictLemmas.{compared_alike, compared_apart}
-use Rattle.graphql_merging.specs.Comparisons.{Conflicts}
-use Rattle.graphql_merging.specs.Conflicts.{ComparesField}
-use Rattle.graphql_merging.specs.FieldSelections.{selection_of}
+use Rattle.graphql_field_conflicts.specs.Comparisons.{Conflicts}
+use Rattle.graphql_field_conflicts.specs.Conflicts.{ComparesField}
+use Rattle.graphql_field_conflicts.specs.FieldSelections.{selection_of}
 use Rattle.graphql_merging.specs.Groups.{pass_of}
-use Rattle.graphql_merging.specs.declared.field_selections.FieldSelection.{FieldSelection}
+use Rattle.graphql_field_conflicts.specs.declared.field_selections.FieldSelection.{FieldSelection}
 use Rattle.graphql_merging.proofs.conflicts.compare.Goals as goal
 
 pub report_types-requires : goal.report_types-requires

@@ -7,7 +7,7 @@ use Rattle.graphql_specification.specs.MergedSets.{AreConflicts, ConflictsWith}
 use Rattle.graphql_diagnostics.specs.Reports.{Appends, KeepsReports}
 use Rattle.graphql_merging.proofs.ConflictLemmas.{compared_none, compared_then, empty_compared, group_compared, truly_compared}
 use Rattle.graphql_merging.proofs.PassLemmas.{counted_none, counted_then}
-use Rattle.graphql_merging.specs.FieldSelections as plain
+use Rattle.graphql_field_conflicts.specs.FieldSelections as plain
 use Rattle.graphql_merging.specs.NumberedFields.{listed, selection_of}
 use Rattle.graphql_merging.specs.Groups.{pass_of}
 use Rattle.graphql_merging.specs.Passes.{IsConflictAmong, counted}

@@ -2,8 +2,8 @@ use Rattle.std.proofs.Common.{◌≡◌, length, take}
 use Rattle.graphql_diagnostics.specs.Diagnostics.{entries}
 use Rattle.graphql_specification.specs.MergedSets.{ConflictsWith}
 use Rattle.graphql_diagnostics.specs.Reports.{Appends}
-use Rattle.graphql_merging.specs.FieldSelections as plain
-use Rattle.graphql_merging.specs.FirstFields.{HasRead}
+use Rattle.graphql_field_conflicts.specs.FieldSelections as plain
+use Rattle.graphql_field_conflicts.specs.FirstFields.{HasRead}
 use Rattle.graphql_merging.specs.NumberedFields.{listed}
 use Rattle.graphql_merging.specs.Groups.{pass_of}
 use Rattle.graphql_merging.specs.Passes.{counted}

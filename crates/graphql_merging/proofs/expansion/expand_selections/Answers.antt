@@ -5,7 +5,7 @@ use Rattle.graphql_specification.specs.Merging.{FieldSelection}
 use Rattle.graphql_documents.specs.declared.documents.executables.SelectionSet.{SelectionSet}
 use Rattle.graphql_laws.proofs.SizeLemmas.{size_of_set}
 use Rattle.graphql_merging.specs.ExpansionSteps.{expanding, fragments_in}
-use Rattle.graphql_merging.specs.FieldSelections.{listed}
+use Rattle.graphql_field_conflicts.specs.FieldSelections.{listed}
 use Rattle.graphql_merging.specs.declared.expansion.FieldExpansion.{FieldExpansion}
 use Rattle.graphql_merging.proofs.ExpansionSizeLemmas.{left, less_left, room}
 use Rattle.graphql_merging.proofs.ExpansionStepLemmas.{still_expands}

@@ -3,7 +3,7 @@ use Rattle.std.proofs.Common.{◌≡◌, ◌++◌, List, map}
 use Rattle.graphql_specification.specs.MergedSets.{Expansion, ExpandsFrom}
 use Rattle.graphql_specification.specs.Merging.{FieldSelection}
 use Rattle.graphql_merging.specs.ExpansionSteps.{expanding, fragments_in}
-use Rattle.graphql_merging.specs.FieldSelections.{listed}
+use Rattle.graphql_field_conflicts.specs.FieldSelections.{listed}
 use Rattle.graphql_merging.proofs.ExpansionSizeLemmas.{left}
 use Rattle.graphql_merging.proofs.expansion.expand_selections.Given as goal
 

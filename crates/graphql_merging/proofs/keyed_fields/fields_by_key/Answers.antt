@@ -1,6 +1,6 @@
 use Rattle.std.proofs.Common.{ap, fold, [], ◌∙◌}
 use Rattle.std.proofs.lemmas.List.{take_all}
-use Rattle.graphql_merging.specs.FieldSelections.{listed}
+use Rattle.graphql_field_conflicts.specs.FieldSelections.{listed}
 use Rattle.graphql_merging.specs.Groups.{with_keyed}
 use Rattle.graphql_merging.proofs.GroupLemmas.{keyed}
 use Rattle.graphql_merging.proofs.keyed_fields.fields_by_key.Goals as goal

@@ -1,5 +1,5 @@
 use Rattle.std.proofs.Common.{◌≡◌, [], fold, take}
-use Rattle.graphql_merging.specs.FieldSelections.{listed}
+use Rattle.graphql_field_conflicts.specs.FieldSelections.{listed}
 use Rattle.graphql_merging.specs.Groups.{named_fields, with_keyed}
 use Rattle.graphql_merging.proofs.keyed_fields.fields_by_key.Given as goal
 

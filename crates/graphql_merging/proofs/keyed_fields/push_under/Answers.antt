@@ -1,7 +1,7 @@
 use Rattle.std.proofs.Common.{ap, rules, ◌∙◌}
 use Rattle.std.specs.Prelude.{unwrap_or}
 use Rattle.graphql_merging.specs.Groups.{named_fields}
-use Rattle.graphql_merging.specs.FieldSelections.{selection_of}
+use Rattle.graphql_field_conflicts.specs.FieldSelections.{selection_of}
 use Rattle.graphql_merging.proofs.GroupLemmas.{put_as_fields}
 use Rattle.graphql_merging.proofs.keyed_fields.push_under.Goals as goal
 

@@ -1,5 +1,5 @@
 use Rattle.std.proofs.Common.{sym}
-use Rattle.graphql_merging.specs.FieldSelections.{selection_of}
+use Rattle.graphql_field_conflicts.specs.FieldSelections.{selection_of}
 use Rattle.graphql_pair_merging.proofs.DisagreementLemmas.{parents_overlap}
 use Rattle.graphql_pair_merging.proofs.disagreements.parents_may_overlap.Goals as goal
 

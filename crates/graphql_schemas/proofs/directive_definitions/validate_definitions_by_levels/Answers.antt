@@ -10,8 +10,8 @@ use Rattle.graphql_documents.proofs.ListLemmas.{done_next, stands_next}
 use Rattle.graphql_diagnostics.proofs.ReportWithinLemmas.{checks_refused_within, kept_within, wider_within}
 use Rattle.graphql_documents.specs.declared.documents.definitions.DirectiveDefinition.{DirectiveDefinition}
 use Rattle.graphql_nodes.specs.declared.nodes.Node.{Node}
-use Rattle.graphql_schemas.specs.BuiltInScalarUses.{Records}
-use Rattle.graphql_schemas.proofs.BuiltInScalarLemmas.{keeps_by, keeps_then, records_done}
+use Rattle.graphql_field_definitions.specs.BuiltInScalarUses.{Records}
+use Rattle.graphql_field_definitions.proofs.BuiltInScalarLemmas.{keeps_by, keeps_then, records_done}
 use Rattle.graphql_schemas.proofs.DirectiveDefinitionLemmas.{NamesDefinitions, done_more_within, names_one}
 use Rattle.graphql_schemas.proofs.directive_definitions.validate_definitions_by_levels.Goals as goal
 

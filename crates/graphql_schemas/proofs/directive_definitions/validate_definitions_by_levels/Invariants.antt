@@ -8,7 +8,7 @@ use Rattle.graphql_specification.specs.BuiltInScalars.{argument_types}
 use Rattle.graphql_documents.specs.declared.documents.definitions.DirectiveDefinition.{DirectiveDefinition}
 use Rattle.graphql_nodes.specs.declared.nodes.Node.{Node}
 use Rattle.graphql_schemas.proofs.DirectiveDefinitionLemmas.{NamesDefinitions}
-use Rattle.graphql_schemas.specs.BuiltInScalarUses.{Records}
+use Rattle.graphql_field_definitions.specs.BuiltInScalarUses.{Records}
 use Rattle.graphql_schemas.proofs.directive_definitions.validate_definitions_by_levels.Given as goal
 
 abbrev pub invariant-loop-definition : goal.invariant-loop-definition

@@ -3,7 +3,7 @@ use Rattle.graphql_documents.specs.declared.documents.definitions.InputValueDefi
 use Rattle.graphql_nodes.specs.declared.nodes.Node.{Node}
 use Rattle.graphql_documents.specs.declared.documents.schemas.InputObjectType.{InputObjectType}
 use Rattle.graphql_diagnostics.proofs.ReportLemmas.{checks_words, on_ok}
-use Rattle.graphql_schemas.proofs.BuiltInScalarLemmas.{keeps_itself, records_as}
+use Rattle.graphql_field_definitions.proofs.BuiltInScalarLemmas.{keeps_itself, records_as}
 use Rattle.graphql_schemas.proofs.TypeLemmas.{input_fields_decide, input_types, names_input_fields}
 use Rattle.graphql_schemas.proofs.input_objects.validate_input_fields.Goals as goal
 

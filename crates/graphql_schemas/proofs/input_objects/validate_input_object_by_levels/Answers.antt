@@ -8,7 +8,7 @@ use Rattle.graphql_documents.specs.declared.documents.schemas.ExtendedType.TheVa
 use Rattle.graphql_documents.specs.declared.documents.schemas.InputObjectType.{InputObjectType}
 use Rattle.graphql_diagnostics.proofs.ReportLemmas.{kept_then, kept_wider, wider}
 use Rattle.graphql_diagnostics.proofs.ReportWithinLemmas.{both_within, checks_after_within, checks_refused_within, checks_within, kept_within, wider_within, within}
-use Rattle.graphql_schemas.proofs.BuiltInScalarLemmas.{keeps_itself}
+use Rattle.graphql_field_definitions.proofs.BuiltInScalarLemmas.{keeps_itself}
 use Rattle.graphql_schemas.proofs.NamedTypeLemmas.{KindEntryReport, names_input_object_cycle}
 use Rattle.graphql_schemas.proofs.TypeLemmas.{checks_iff_within, directives_checked, directives_kept, input_object_decides, on_ok_known}
 use Rattle.graphql_schemas.proofs.input_objects.validate_input_object_by_levels.Goals as goal

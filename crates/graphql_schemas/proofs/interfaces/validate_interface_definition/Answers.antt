@@ -8,7 +8,7 @@ use Rattle.graphql_documents.specs.declared.documents.directives.Directive.{Dire
 use Rattle.graphql_documents.specs.declared.documents.schemas.ExtendedType.TheVariants as types
 use Rattle.graphql_documents.specs.declared.documents.schemas.InterfaceType.{InterfaceType}
 use Rattle.graphql_diagnostics.proofs.ReportLemmas.{both, checks-err, checks_after, checks_words, kept_by, kept_then}
-use Rattle.graphql_schemas.proofs.BuiltInScalarLemmas.{keeps_itself}
+use Rattle.graphql_field_definitions.proofs.BuiltInScalarLemmas.{keeps_itself}
 use Rattle.graphql_schemas.proofs.TypeLemmas.{directives_checked, directives_kept, fields_checked, fields_kept, implementations_same, names_implementation, interface_decides, on_ok_known, records_fields}
 use Rattle.graphql_schemas.specs.TypeSteps.{AreOf}
 use Rattle.graphql_schemas.proofs.interfaces.validate_interface_definition.Goals as goal

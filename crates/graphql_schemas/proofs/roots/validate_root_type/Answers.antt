@@ -3,7 +3,7 @@ use Rattle.graphql_documents.specs.Schemas.{is_object_type, type_definition}
 use Rattle.graphql_diagnostics.proofs.ReportLemmas.{checks-push, holds}
 use Rattle.graphql_documents.specs.declared.documents.schemas.ExtendedType.TheVariants as types
 use Rattle.graphql_schemas.specs.RootSteps.{of_undefined_root}
-use Rattle.graphql_schemas.proofs.TypeNameLemmas.{of_no_type}
+use Rattle.graphql_field_definitions.proofs.TypeNameLemmas.{of_no_type}
 use Rattle.graphql_schemas.proofs.roots.validate_root_type.Goals as goal
 
 pub returns-in-Some-Object : goal.returns-in-Some-Object

@@ -1,7 +1,7 @@
 use Rattle.graphql_diagnostics.specs.Diagnostics.{IsLimitEntry}
 use Rattle.graphql_diagnostics.proofs.ReportLemmas.{kept_by, kept_then, kept_wider}
 use Rattle.graphql_diagnostics.proofs.ReportWithinLemmas.{checks_refused_within}
-use Rattle.graphql_schemas.proofs.BuiltInScalarLemmas.{records_on_ok}
+use Rattle.graphql_field_definitions.proofs.BuiltInScalarLemmas.{records_on_ok}
 use Rattle.graphql_schemas.proofs.SchemaLemmas.{definition_breaks, directives_break, parts_checked}
 use Rattle.graphql_schemas.proofs.schema.validate_definitions.Goals as goal
 

@@ -2,7 +2,7 @@ use Rattle.std.proofs.Common.{◌≡◌, true, false, not, ◌&&◌, ap, sym, �
 use Rattle.std.specs.List.{list_any}
 use Rattle.std.specs.Str.{bytes_eq}
 use Rattle.graphql_schemas.proofs.TypeMapLemmas.{adds_none, adds_one, stands_under}
-use Rattle.graphql_schemas.specs.BuiltInScalarUses.{holds_text}
+use Rattle.graphql_field_definitions.specs.BuiltInScalarUses.{holds_text}
 use Rattle.graphql_schemas.proofs.type_map.add_if_missing.Goals as goal
 
 pub returns-then-contains_key : goal.returns-then-contains_key

@@ -1,7 +1,7 @@
 use Rattle.std.proofs.Common.{subst}
 use Rattle.graphql_specification.specs.BuiltInScalars.{built_in_scalar_names}
 use Rattle.graphql_schemas.proofs.TypeMapLemmas.{adds_more}
-use Rattle.graphql_schemas.specs.BuiltInScalarUses.{holds_text}
+use Rattle.graphql_field_definitions.specs.BuiltInScalarUses.{holds_text}
 use Rattle.graphql_schemas.specs.TypeMapChanges.{AddsMissing}
 use Rattle.graphql_schemas.proofs.type_map.missing_scalars.Goals as goal
 

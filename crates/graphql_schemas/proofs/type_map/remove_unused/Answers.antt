@@ -1,7 +1,7 @@
 use Rattle.std.proofs.Common.{arith, refl, sym, ◌∙◌}
 use Rattle.std.specs.Prelude.{remove}
 use Rattle.graphql_schemas.proofs.TypeMapLemmas.{none_counted, none_left, takes_first_out}
-use Rattle.graphql_schemas.specs.BuiltInScalarUses.{holds_text}
+use Rattle.graphql_field_definitions.specs.BuiltInScalarUses.{holds_text}
 use Rattle.graphql_schemas.specs.TypeMapChanges.{is_unused}
 use Rattle.graphql_schemas.proofs.type_map.remove_unused.Goals as goal
 

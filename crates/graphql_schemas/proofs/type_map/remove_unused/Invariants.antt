@@ -1,7 +1,7 @@
 use Rattle.std.proofs.Common.{◌≡◌, ◌≤◌, ◌+◌, count_by, filter, length, not}
 use Rattle.std.specs.Vec.{vec_capacity}
 use Rattle.indexmap.specs.IndexMap.{spare}
-use Rattle.graphql_schemas.specs.BuiltInScalarUses.{holds_text}
+use Rattle.graphql_field_definitions.specs.BuiltInScalarUses.{holds_text}
 use Rattle.graphql_schemas.specs.TypeMapChanges.{FitBack, is_unused, restored}
 use Rattle.graphql_schemas.proofs.type_map.remove_unused.Given as goal
 

@@ -4,7 +4,7 @@ use Rattle.std.specs.Map.{keys_of}
 use Rattle.std.specs.Prelude.{count_by, filter, not}
 use Rattle.graphql_nodes.specs.Names.{same_name}
 use Rattle.graphql_schemas.proofs.TypeMapLemmas.{all_added, retained_apart, retains}
-use Rattle.graphql_schemas.specs.BuiltInScalarUses.{holds_text}
+use Rattle.graphql_field_definitions.specs.BuiltInScalarUses.{holds_text}
 use Rattle.graphql_schemas.specs.TypeMapChanges.{is_unused}
 use Rattle.graphql_schemas.specs.declared.type_map.TypeMapChanges.{TypeMapChanges}
 use Rattle.graphql_schemas.proofs.type_map.retain_used_built_in_scalars.Goals as goal

@@ -1,7 +1,7 @@
 use Rattle.std.proofs.Common.{inl}
 use Rattle.graphql_diagnostics.specs.Diagnostics.{IsLimitEntry}
 use Rattle.graphql_diagnostics.proofs.ReportWithinLemmas.{checks_within}
-use Rattle.graphql_schemas.proofs.BuiltInScalarLemmas.{keeps_itself, records_none}
+use Rattle.graphql_field_definitions.proofs.BuiltInScalarLemmas.{keeps_itself, records_none}
 use Rattle.graphql_schemas.proofs.TypeLemmas.{on_ok_known}
 use Rattle.graphql_schemas.proofs.types.validate_by_kind.Goals as goal
 

@@ -1,7 +1,7 @@
 use Rattle.graphql_diagnostics.specs.Diagnostics.{IsLimitEntry}
 use Rattle.graphql_diagnostics.proofs.ReportLemmas.{kept_wider}
 use Rattle.graphql_diagnostics.proofs.ReportWithinLemmas.{checks_refused_within}
-use Rattle.graphql_schemas.proofs.BuiltInScalarLemmas.{keeps_itself}
+use Rattle.graphql_field_definitions.proofs.BuiltInScalarLemmas.{keeps_itself}
 use Rattle.graphql_schemas.proofs.NamedTypeLemmas.{names_key, type_checked}
 use Rattle.graphql_schemas.proofs.types.validate_type_definition.Goals as goal
 

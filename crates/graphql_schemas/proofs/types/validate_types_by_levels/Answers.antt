@@ -11,8 +11,8 @@ use Rattle.graphql_documents.specs.declared.documents.schemas.ExtendedType.{Exte
 use Rattle.graphql_diagnostics.proofs.ReportLemmas.{holds, kept_then, kept_wider}
 use Rattle.graphql_documents.proofs.ListLemmas.{done_next, stands_next}
 use Rattle.graphql_diagnostics.proofs.ReportWithinLemmas.{checks_refused_within, kept_within, wider_within, within}
-use Rattle.graphql_schemas.specs.BuiltInScalarUses.{Records}
-use Rattle.graphql_schemas.proofs.BuiltInScalarLemmas.{keeps_by, keeps_then, records_done, records_none}
+use Rattle.graphql_field_definitions.specs.BuiltInScalarUses.{Records}
+use Rattle.graphql_field_definitions.proofs.BuiltInScalarLemmas.{keeps_by, keeps_then, records_done, records_none}
 use Rattle.graphql_schemas.proofs.NamedTypeLemmas.{TypesEntryReport, names_type}
 use Rattle.graphql_schemas.proofs.TypeLemmas.{done_more_within}
 use Rattle.graphql_schemas.proofs.types.validate_types_by_levels.Goals as goal

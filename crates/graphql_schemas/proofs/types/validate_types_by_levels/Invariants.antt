@@ -6,7 +6,7 @@ use Rattle.graphql_nodes.specs.Names.{IsFreeName, NameText}
 use Rattle.graphql_diagnostics.specs.Reports.{ReportsWithin}
 use Rattle.graphql_specification.specs.BuiltInScalars.{types_referred_by}
 use Rattle.graphql_documents.specs.declared.documents.schemas.ExtendedType.{ExtendedType}
-use Rattle.graphql_schemas.specs.BuiltInScalarUses.{Records}
+use Rattle.graphql_field_definitions.specs.BuiltInScalarUses.{Records}
 use Rattle.graphql_schemas.proofs.types.validate_types_by_levels.Given as goal
 
 -- the types so far

@@ -5,7 +5,7 @@ use Rattle.graphql_documents.specs.Schemas.{is_object_type, type_definition}
 use Rattle.graphql_specification.specs.Types.{TypeReport, member_is_undefined}
 use Rattle.graphql_documents.specs.declared.documents.schemas.ExtendedType.TheVariants as types
 use Rattle.graphql_diagnostics.proofs.ReportLemmas.{checks-push, checks_words, holds}
-use Rattle.graphql_schemas.proofs.TypeNameLemmas.{of_no_kind, of_no_type}
+use Rattle.graphql_field_definitions.proofs.TypeNameLemmas.{of_no_kind, of_no_type}
 use Rattle.graphql_schemas.proofs.unions.validate_member.Goals as goal
 
 pub returns-in-Some-Object : goal.returns-in-Some-Object

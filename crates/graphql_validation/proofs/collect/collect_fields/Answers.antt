@@ -3,7 +3,7 @@ use Rattle.std.proofs.lemmas.List.{map-append, take_all}
 use Rattle.std.proofs.lemmas.Result.{MatchResult-weaker}
 use Rattle.graphql_documents.specs.declared.documents.executables.SelectionSet.{SelectionSet}
 use Rattle.graphql_documents.proofs.ListLemmas.{more_is}
-use Rattle.graphql_merging.specs.FieldSelections.{listed}
+use Rattle.graphql_field_conflicts.specs.FieldSelections.{listed}
 use Rattle.graphql_merging.specs.Groups.{by_keys}
 use Rattle.graphql_validation.specs.declared.collect.FieldCollection.{FieldCollection}
 use Rattle.graphql_validation.specs.CollectionSteps.{WalksOver, visited_of, walks_none}

@@ -1,7 +1,7 @@
 -- What was collected so far is what is in the first sets.
 use Rattle.std.proofs.Common.{◌≡◌, [], List, map, take}
 use Rattle.graphql_specification.specs.Merging.{FieldSelection}
-use Rattle.graphql_merging.specs.FieldSelections.{listed}
+use Rattle.graphql_field_conflicts.specs.FieldSelections.{listed}
 use Rattle.graphql_validation.specs.CollectionSteps.{WalksOver, visited_of}
 use Rattle.graphql_validation.proofs.collect.collect_fields.Given as goal
 

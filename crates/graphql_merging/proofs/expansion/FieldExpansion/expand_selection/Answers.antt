@@ -3,7 +3,7 @@ use Rattle.std.proofs.lemmas.List.{map-append}
 use Rattle.graphql_documents.specs.declared.documents.executables.InlineFragment.{InlineFragment}
 use Rattle.graphql_documents.specs.declared.documents.executables.SelectionSet.{SelectionSet}
 use Rattle.graphql_merging.specs.ExpansionSteps.{expanding}
-use Rattle.graphql_merging.specs.FieldSelections.{listed, selection_of}
+use Rattle.graphql_field_conflicts.specs.FieldSelections.{listed, selection_of}
 use Rattle.graphql_merging.proofs.ExpansionStepLemmas.{field_expands, inline_expands}
 use Rattle.graphql_merging.proofs.expansion.FieldExpansion.expand_selection.Goals as goal
 

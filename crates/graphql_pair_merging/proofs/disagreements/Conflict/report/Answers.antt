@@ -1,9 +1,9 @@
 use Rattle.std.proofs.Common.{subst}
 use Rattle.graphql_documents.specs.declared.documents.schemas.Schema.{Schema}
 use Rattle.graphql_specification.specs.Merging.{FieldSelection, Pass, SameResponseShape, field_pass, shape_pass, type_of}
-use Rattle.graphql_merging.specs.Comparisons.{Conflicts}
-use Rattle.graphql_merging.specs.FieldSelections.{selection_of}
-use Rattle.graphql_merging.specs.declared.comparisons.FieldConflict.{FieldConflict}
+use Rattle.graphql_field_conflicts.specs.Comparisons.{Conflicts}
+use Rattle.graphql_field_conflicts.specs.FieldSelections.{selection_of}
+use Rattle.graphql_field_conflicts.specs.declared.comparisons.FieldConflict.{FieldConflict}
 use Rattle.graphql_pair_merging.specs.Disagreements.{Disagrees}
 use Rattle.graphql_pair_merging.specs.declared.disagreements.Disagreement.TheVariants.{NamesOrArguments, Shapes}
 use Rattle.graphql_pair_merging.proofs.disagreements.Conflict.report.Goals as goal

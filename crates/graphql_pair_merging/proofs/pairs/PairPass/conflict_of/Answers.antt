@@ -1,7 +1,7 @@
 use Rattle.std.proofs.Common.{[], refl, subst}
 use Rattle.std.specs.Prelude.{MatchOption}
 use Rattle.graphql_documents.proofs.ListLemmas.{stands_first}
-use Rattle.graphql_merging.specs.FieldSelections.{selection_of}
+use Rattle.graphql_field_conflicts.specs.FieldSelections.{selection_of}
 use Rattle.graphql_merging.specs.Groups.{pass_of}
 use Rattle.graphql_specification.specs.MergedSets.{Agree}
 use Rattle.graphql_pair_merging.specs.Disagreements.{Disagrees}

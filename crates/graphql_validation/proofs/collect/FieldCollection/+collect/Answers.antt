@@ -14,8 +14,8 @@ use Rattle.graphql_documents.specs.declared.documents.executables.SelectionSet.{
 use Rattle.graphql_nodes.proofs.NameLemmas.{same_name_itself}
 use Rattle.graphql_diagnostics.proofs.ReportLemmas.{on_ok}
 use Rattle.graphql_documents.proofs.ListLemmas.{more_is}
-use Rattle.graphql_merging.specs.FieldSelections.{listed, selection_of}
-use Rattle.graphql_merging.specs.declared.field_selections.FieldSelection as Code
+use Rattle.graphql_field_conflicts.specs.FieldSelections.{listed, selection_of}
+use Rattle.graphql_field_conflicts.specs.declared.field_selections.FieldSelection as Code
 use Rattle.graphql_operations.proofs.MeasureLemmas.{room_falls, room_stays, selection_is_smaller}
 use Rattle.graphql_cycles.proofs.SeenNameLemmas.{marked_grows, marked_is_seen, was_marked, was_seen}
 use Rattle.graphql_validation.specs.CollectionSteps.{CollectsMore, WalksAmong, WalksIn, visited_of}

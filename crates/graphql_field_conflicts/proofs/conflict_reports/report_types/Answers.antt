@@ -1,0 +1,20 @@
+use Rattle.std.proofs.Common.{◌∙◌, ap, refl}
+use Rattle.graphql_specification.specs.Merging.{shape_pass}
+use Rattle.graphql_documents.specs.Selections.{response_key}
+use Rattle.graphql_field_conflicts.proofs.ConflictReportLemmas.{conflict_pushed, copied_name}
+use Rattle.graphql_field_conflicts.specs.FieldSelections.{selection_of}
+use Rattle.graphql_field_conflicts.proofs.conflict_reports.report_types.Goals as goal
+
+pub returns : goal.returns
+returns c = λ schema differ.
+    conflict_pushed _ schema shape_pass (selection_of c.args.first) (selection_of c.args.field) _ _ _ c.push.ensures.ok c.push.ensures.err (record {
+      differ = differ;
+      alias_is = copied_name _ _ (c.in_ok-alias.ensures.cases ∙ c.response_key.ensures ∙ ap response_key c.deref.ensures);
+      original_location_is = refl;
+      original_is = c.in_ok-original_coordinate.ensures.coordinate;
+      original_type_is = c.in_ok-original_coordinate.ensures.written;
+      conflicting_location_is = refl;
+      conflicting_is = c.in_ok-conflicting_coordinate.ensures.coordinate;
+      conflicting_type_is = c.in_ok-conflicting_coordinate.ensures.written;
+      at_is = refl;
+    })

@@ -1,0 +1,6 @@
+pub mod Comparisons
+pub mod Conflicts
+pub mod FieldEquality
+pub mod FieldSelections
+pub mod FirstFields
+pub mod FirstPlaces

@@ -1,0 +1,4 @@
+pub mod BuiltInScalarLemmas
+pub mod FieldDefinitionLemmas
+pub mod InputValueLemmas
+pub mod TypeNameLemmas

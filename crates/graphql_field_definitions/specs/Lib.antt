@@ -1,0 +1,2 @@
+pub mod BuiltInScalarUses
+pub mod FieldDefinitionSteps
