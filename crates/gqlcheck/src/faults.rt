@@ -1,6 +1,6 @@
 use crate::statuses::Status;
-use graphql_examples::ExampleError;
 use graphql_nodes::ValidationError;
+use graphql_notation::ExampleError;
 use std::io;
 use std::io::Write;
 use thiserror::Error;

@@ -4,9 +4,8 @@
 mod lines;
 
 use crate::faults::Fault;
-use graphql_examples::build::written_out;
-use graphql_examples::{Example, Subject};
-use graphql_more_examples::tables;
+use graphql_examples::{Example, Subject, tables};
+use graphql_notation::build::written_out;
 use lines::{Places, document_lines, schema_lines};
 use std::alloc::Global;
 use std::io::Write;

@@ -1,7 +1,7 @@
 //! What tests build and print. Where memory is refused, the test ends.
 use graphql_documents::documents::{InputValueDefinition, Schema, Valid};
-use graphql_examples::build::{inputs, schema};
 use graphql_nodes::{Name, Node};
+use graphql_notation::build::{inputs, schema};
 use std::alloc::Global;
 use std::process::Abort;
 

@@ -2,9 +2,9 @@ use super::fixtures::{name, query_of_itself, schema_of};
 use graphql_documents::documents::{
     ComponentOrigin, DirectiveDefinition, ExtendedType, ObjectType, Schema,
 };
-use graphql_examples::ExampleError;
-use graphql_examples::build::{document, schema};
 use graphql_nodes::{DirectiveLocation, FileId};
+use graphql_notation::ExampleError;
+use graphql_notation::build::{document, schema};
 use std::alloc::Global;
 use std::process::Abort;
 

@@ -1,10 +1,10 @@
-use crate::build::{
-    both, document, document_in_file, field_set, schema as build_schema, schema_in_file,
-};
-use crate::errors::ExampleError;
 use crate::examples::{Example, Subject};
 use graphql_documents::documents::{ExecutableDocument, FieldSet, Schema, Valid};
 use graphql_nodes::FileId;
+use graphql_notation::ExampleError;
+use graphql_notation::build::{
+    document, document_in_file, field_set, schema as build_schema, schema_in_file,
+};
 use std::alloc::Global;
 
 /// The file of a text that has a location.
@@ -29,8 +29,7 @@ pub enum Validated {
 /// The example that the example writes.
 pub fn build_example(alloc: Global, example: &Example) -> Result<BuiltExample, ExampleError> {
     let schema = schema_of(alloc, example)?;
-    let validated = built(alloc, &schema.0, example.subject);
-    let (schema, validated) = both(Ok(schema), validated)?;
+    let validated = built(alloc, &schema.0, example.subject)?;
     Ok(BuiltExample { schema, validated })
 }
 

@@ -6,12 +6,18 @@ ghost use Rattle.graphql_examples.specs.Examples.{example_named};
 pub mod up_to_12;
 pub mod up_to_19;
 pub mod up_to_26;
+pub mod up_to_28;
+pub mod up_to_31;
+pub mod up_to_35;
+pub mod up_to_37;
+pub mod up_to_38;
+pub mod up_to_39;
 
 /// A worked example: what is validated, and the lines that it brings.
 #[derive(Clone, Copy)]
 pub struct Example {
     pub id: &'static str,
-    /// The schema, as `build::schema` reads it.
+    /// The schema, as `graphql_notation` reads it.
     pub schema: &'static str,
     pub subject: Subject,
     /// Each report with its place, and the types where they are shown, each on a line.

@@ -1,4 +1,4 @@
-use crate::documents::{reported, sources};
+use crate::documents::{reported, sources, texts_of_schema};
 use graphql_frontend::{
     BUILT_IN_DEFINITIONS, Reports, SchemaReading, SourceText, read_schema,
     validate_standalone_document,
@@ -184,16 +184,7 @@ fn names_of_a_schema_are_hashed_by_a_seed_of_its_texts(rt: HostRuntime) {
     for text in &["type Query { a: Int }", "type Query { b: Int }"] {
         let mut both = String::new(alloc);
         write!(both, "{BUILT_IN_DEFINITIONS}{text}").expect(&rt, "memory for a text");
-        let sources = [
-            SourceText {
-                file_id: FileId::BUILT_IN,
-                text: BUILT_IN_DEFINITIONS,
-            },
-            SourceText {
-                file_id: FileId(1),
-                text: *text,
-            },
-        ];
+        let sources = texts_of_schema(FileId(1), text);
         match read_schema(alloc, &sources, Bounds::DEFAULT).expect(&rt, "memory for a schema") {
             SchemaReading::Accepted(schema) => {
                 let expected = HashSeed::of_text(&both);

@@ -53,6 +53,15 @@ pub(crate) fn sources<'a>(
     sources
 }
 
+/// The texts of a schema that is written in one file.
+pub(crate) fn texts_of_schema(file_id: FileId, text: &str) -> [SourceText<'_>; 2] {
+    let built_in = SourceText {
+        file_id: FileId::BUILT_IN,
+        text: BUILT_IN_DEFINITIONS,
+    };
+    [built_in, SourceText { file_id, text }]
+}
+
 /// What is reported of the texts of the schema, or else of those of the document.
 pub(crate) fn reported(
     rt: &impl Abort,
@@ -61,16 +70,7 @@ pub(crate) fn reported(
     sources: &[SourceText<'_>],
     bounds: Bounds,
 ) -> String {
-    let schema = [
-        SourceText {
-            file_id: FileId::BUILT_IN,
-            text: BUILT_IN_DEFINITIONS,
-        },
-        SourceText {
-            file_id: FileId(9),
-            text: schema,
-        },
-    ];
+    let schema = texts_of_schema(FileId(9), schema);
     match read_schema(alloc, &schema, bounds).expect(rt, "memory for a schema") {
         SchemaReading::Accepted(schema) => reported_against(rt, alloc, &schema, sources, bounds),
         SchemaReading::Rejected(reports) => lines(rt, alloc, &reports, &schema),

@@ -1,22 +1,13 @@
+use crate::documents::texts_of_schema;
 use graphql_frontend::{SourceText, Verdict, validate};
 use graphql_nodes::FileId;
 use graphql_parser::Bounds;
-use graphql_schema_building::BUILT_IN_DEFINITIONS;
 use std::alloc::Global;
 use std::process::Abort;
 
 /// The verdict on a document against a schema.
 fn verdict(rt: &impl Abort, alloc: Global, schema: &str, document: &str) -> Verdict {
-    let schema = [
-        SourceText {
-            file_id: FileId::BUILT_IN,
-            text: BUILT_IN_DEFINITIONS,
-        },
-        SourceText {
-            file_id: FileId(1),
-            text: schema,
-        },
-    ];
+    let schema = texts_of_schema(FileId(1), schema);
     let document = SourceText {
         file_id: FileId(2),
         text: document,

@@ -1,7 +1,7 @@
 use graphql_diagnostics::{BuildError, Details, DiagnosticList};
 use graphql_documents::documents::{ExecutableDocument, Schema};
-use graphql_examples::build::{document_in_file, schema};
 use graphql_nodes::FileId;
+use graphql_notation::build::{document_in_file, schema};
 use graphql_validation::entry::{
     validate_executable_document, validate_executable_document_within,
 };

@@ -1,10 +1,10 @@
 use graphql_contents::NumberedDocument;
 use graphql_documents::documents::{ExecutableDocument, SelectionSet};
-use graphql_examples::build::{document_in_file, schema};
 use graphql_field_conflicts::comparisons::{FieldConflict, find_field_conflict, is_same_value};
 use graphql_field_conflicts::field_selections::FieldSelection;
 use graphql_merging::expansion::expand_selections;
 use graphql_nodes::FileId;
+use graphql_notation::build::{document_in_file, schema};
 use graphql_operations::operations_of;
 use std::alloc::Global;
 use std::process::Abort;

@@ -1,7 +1,7 @@
 use graphql_diagnostics::DiagnosticList;
 use graphql_documents::documents::Schema;
-use graphql_examples::build::{document_in_file, schema};
 use graphql_nodes::FileId;
+use graphql_notation::build::{document_in_file, schema};
 use graphql_validation::entry::validate_executable_document_within;
 use std::alloc::{AllocError, Global};
 use std::fmt::Write;

@@ -1,6 +1,6 @@
-use graphql_examples::build::{document_in_file, schema};
 use graphql_lone_fields::lone_fields::have_lone_fields;
 use graphql_nodes::FileId;
+use graphql_notation::build::{document_in_file, schema};
 use graphql_operations::operations_of;
 
 /// The schema of all documents.

@@ -1,6 +1,6 @@
 use graphql_diagnostics::{BuildError, Details, DiagnosticList};
 use graphql_documents::documents::Schema;
-use graphql_examples::build::{document, schema};
+use graphql_notation::build::{document, schema};
 use graphql_pair_merging::merging::merge_by_pairs;
 use std::alloc::Global;
 use std::process::Abort;

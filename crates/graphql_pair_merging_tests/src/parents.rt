@@ -1,5 +1,5 @@
 use super::pairs::reports;
-use graphql_examples::build::schema;
+use graphql_notation::build::schema;
 
 /// The schema of all documents. Under the name `D` is a second definition of `A`.
 const SCHEMA: &str = "

@@ -1,9 +1,9 @@
 use super::fixtures::{query_of_itself, reports};
 use graphql_diagnostics::DiagnosticList;
 use graphql_documents::documents::Schema;
-use graphql_examples::build::directives;
 use graphql_hash_seeds::HashSeed;
 use graphql_nodes::DirectiveLocation;
+use graphql_notation::build::directives;
 use graphql_values::directive::{check_directives, check_each_directive, validate_directives};
 use graphql_variables::VariablesByName;
 use std::alloc::Global;

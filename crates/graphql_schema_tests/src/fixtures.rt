@@ -1,8 +1,8 @@
 //! What tests build and print. Where memory is refused, the test ends.
 use graphql_diagnostics::DiagnosticList;
 use graphql_documents::documents::{Schema, Valid};
-use graphql_examples::build::schema;
 use graphql_nodes::Name;
+use graphql_notation::build::schema;
 use std::alloc::Global;
 use std::fmt::Write;
 use std::process::Abort;

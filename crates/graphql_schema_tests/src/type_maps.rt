@@ -1,7 +1,7 @@
 use super::fixtures::{is_text, reports, schema_of};
 use graphql_diagnostics::DiagnosticList;
 use graphql_documents::documents::{Schema, Valid};
-use graphql_more_examples::find;
+use graphql_examples::find;
 use graphql_schemas::schema::validate_schema;
 use std::alloc::Global;
 use std::fmt::Write;

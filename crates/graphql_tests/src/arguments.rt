@@ -5,7 +5,7 @@ use graphql_coordinates::{
 };
 use graphql_diagnostics::DiagnosticList;
 use graphql_documents::documents::Schema;
-use graphql_examples::build::{arguments, inputs};
+use graphql_notation::build::{arguments, inputs};
 use graphql_values::argument::{
     ArgumentOwner, GivenArguments, validate_arguments, validate_given_arguments,
     validate_required_arguments,

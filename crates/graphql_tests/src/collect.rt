@@ -1,11 +1,11 @@
 use super::fixtures::{is_text, name, schema_of};
 use graphql_diagnostics::DiagnosticList;
 use graphql_documents::documents::{ExecutableDocument, Schema, Selection, SelectionSet};
-use graphql_examples::build::document;
 use graphql_field_conflicts::field_selections::FieldSelection;
 use graphql_hash_seeds::HashSeed;
 use graphql_merging::expansion::expand_selections;
 use graphql_merging::groups::fields_by_key;
+use graphql_notation::build::document;
 use graphql_validation::collect::collect_fields;
 use graphql_validation::entry::validate_executable_document;
 use indexmap::IndexMap;

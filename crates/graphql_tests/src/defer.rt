@@ -1,9 +1,9 @@
 use super::fixtures::{reports_in_full, schema_of};
 use graphql_diagnostics::DiagnosticList;
 use graphql_documents::documents::Schema;
-use graphql_examples::build::document_in_file;
 use graphql_examples::examples::up_to_26::DEFER;
 use graphql_nodes::FileId;
+use graphql_notation::build::document_in_file;
 use graphql_operations::validate_defer;
 use std::alloc::Global;
 use std::process::Abort;

@@ -1,5 +1,4 @@
-use graphql_examples::{Example, build_example};
-use graphql_more_examples::tables;
+use graphql_examples::{Example, build_example, tables};
 use indexmap::IndexSet;
 use std::alloc::Global;
 use std::process::Abort;

@@ -2,8 +2,7 @@ use super::fixtures::reports;
 use graphql_built::built_against;
 use graphql_diagnostics::DiagnosticList;
 use graphql_examples::examples::up_to_19::SUBSCRIPTION;
-use graphql_examples::{BuiltExample, Example, Subject, Validated, build_example};
-use graphql_more_examples::find;
+use graphql_examples::{BuiltExample, Example, Subject, Validated, build_example, find};
 use graphql_validation::entry::{
     validate_executable_document, validate_field_set, validate_standalone_executable,
 };

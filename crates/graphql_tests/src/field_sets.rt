@@ -1,8 +1,7 @@
 use super::fixtures::{reports, schema_of};
 use graphql_diagnostics::DiagnosticList;
-use graphql_examples::build::field_set;
-use graphql_examples::{Example, Subject};
-use graphql_more_examples::find;
+use graphql_examples::{Example, Subject, find};
+use graphql_notation::build::field_set;
 use graphql_validation::entry::validate_field_set;
 use std::alloc::Global;
 use std::process::Abort;

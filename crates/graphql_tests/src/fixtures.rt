@@ -1,8 +1,8 @@
 //! What tests build and print. Where memory is refused, the test ends.
 use graphql_diagnostics::{BuildError, Details, DiagnosticList};
 use graphql_documents::documents::{InputValueDefinition, Schema, Valid};
-use graphql_examples::build::{inputs, schema};
 use graphql_nodes::{Name, Node, SourceSpan};
+use graphql_notation::build::{inputs, schema};
 use std::alloc::Global;
 use std::fmt::Write;
 use std::process::Abort;

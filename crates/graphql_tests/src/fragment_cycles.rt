@@ -2,7 +2,7 @@ use super::fixtures::{is_text, query_of_itself, reports};
 use graphql_cycles::fragments::validate_fragment_cycles;
 use graphql_diagnostics::{Details, DiagnosticData, DiagnosticEntry, DiagnosticList};
 use graphql_documents::documents::ExecutableDocument;
-use graphql_examples::build::document;
+use graphql_notation::build::document;
 use std::alloc::Global;
 use std::process::Abort;
 

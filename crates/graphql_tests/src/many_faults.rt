@@ -1,7 +1,6 @@
 use super::fixtures::reports_as_lines;
 use graphql_diagnostics::DiagnosticList;
-use graphql_examples::{BuiltExample, Example, Validated, build_example};
-use graphql_more_examples::many_faults;
+use graphql_examples::{BuiltExample, Example, Validated, build_example, many_faults};
 use graphql_nodes::ValidationError;
 use graphql_schemas::schema::validate_schema;
 use graphql_validation::entry::{

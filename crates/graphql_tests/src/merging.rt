@@ -1,10 +1,9 @@
 use super::fixtures::reports_in_full;
 use graphql_diagnostics::DiagnosticList;
 use graphql_documents::documents::{ExecutableDocument, Schema};
-use graphql_examples::build::{document, schema};
-use graphql_examples::{BuiltExample, Example, Subject, Validated, build_example};
+use graphql_examples::{BuiltExample, Example, Subject, Validated, build_example, find};
 use graphql_merging::merging::FieldsInSetCanMerge;
-use graphql_more_examples::find;
+use graphql_notation::build::{document, schema};
 use graphql_operations::operations_of;
 use graphql_validation::entry::validate_executable_document;
 use std::alloc::Global;

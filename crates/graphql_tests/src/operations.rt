@@ -4,9 +4,9 @@ use graphql_diagnostics::DiagnosticList;
 use graphql_documents::documents::{
     ExecutableDocument, Fragment, Operation, Schema, Selection, SelectionSet,
 };
-use graphql_examples::build::document;
 use graphql_hash_seeds::HashSeed;
 use graphql_nodes::{NamedType, Node, ValidationError};
+use graphql_notation::build::document;
 use graphql_operations::{
     FragmentUse, OperationValidationContext, validate_fragment_spread_type,
     validate_fragment_type_condition, validate_fragments_used,

@@ -1,9 +1,9 @@
 use super::fixtures::{argument_definition, reports, schema_of};
 use graphql_diagnostics::DiagnosticList;
 use graphql_documents::documents::{Argument, Schema, Type, VariableDefinition};
-use graphql_examples::build::{arguments, variables};
 use graphql_hash_seeds::HashSeed;
 use graphql_nodes::Node;
+use graphql_notation::build::{arguments, variables};
 use graphql_values::value::{check_value_of_type, validate_values};
 use graphql_variables::{
     VariablesByName, check_variable_usage, is_variable_usage_allowed, validate_variable_usage,

@@ -1,8 +1,8 @@
 use super::fixtures::{name, node, reports, schema_of, text};
 use graphql_diagnostics::DiagnosticList;
 use graphql_documents::documents::{Type, Value};
-use graphql_examples::build::arguments;
 use graphql_nodes::Node;
+use graphql_notation::build::arguments;
 use graphql_numbers::IntValue;
 use graphql_values::value::value_of_correct_type;
 use std::alloc::Global;

@@ -1,8 +1,8 @@
 use super::fixtures::{is_text, query_of_itself, reports};
 use graphql_diagnostics::DiagnosticList;
 use graphql_documents::documents::{ExecutableDocument, Schema, Value};
-use graphql_examples::build::{arguments, document, document_in_file, schema, variables};
 use graphql_nodes::{FileId, SourceSpan};
+use graphql_notation::build::{arguments, document, document_in_file, schema, variables};
 use graphql_values::directive::validate_variable_definitions;
 use graphql_variables::{validate_unused_variables, variables_in_value};
 use std::alloc::Global;

@@ -1,7 +1,7 @@
 use super::fixtures::{is_text, name, query_of_itself};
 use graphql_documents::documents::{ExecutableDocument, Selection, SelectionSet};
-use graphql_examples::build::document;
 use graphql_hash_seeds::HashSeed;
+use graphql_notation::build::document;
 use graphql_variables::first_places::{FirstPlaces, first_place};
 use graphql_variables::{
     Walked, walk_open_selections, walk_selections, walk_selections_with_deduped_fragments,

@@ -1,11 +1,11 @@
 ghost use Rattle.graphql_frontend.specs.Schemas.{IsUsable};
 
+use crate::documents::texts_of_schema;
 use graphql_documents::documents::Schema;
 use graphql_findings::{Finding, findings_of};
 use graphql_frontend::{Reports, SchemaReading, SourceText, read_schema, validate_document};
 use graphql_nodes::{FileId, SourceSpan};
 use graphql_parser::Bounds;
-use graphql_schema_building::BUILT_IN_DEFINITIONS;
 use std::alloc::Global;
 use std::fmt::Write;
 use std::process::Abort;
@@ -81,20 +81,6 @@ const FOUND: &[(&str, &[(u32, &str)], usize, &str)] = &[
     ),
 ];
 
-/// The texts of a schema.
-fn texts_of(schema: &str) -> [SourceText<'_>; 2] {
-    [
-        SourceText {
-            file_id: FileId::BUILT_IN,
-            text: BUILT_IN_DEFINITIONS,
-        },
-        SourceText {
-            file_id: FileId(9),
-            text: schema,
-        },
-    ]
-}
-
 /// The lines of what is shown of the schema, or else of the documents, each of which has a list of reports of its own.
 fn lines_of(
     rt: &impl Abort,
@@ -105,7 +91,10 @@ fn lines_of(
 ) -> String {
     let sources = sources_of(rt, alloc, schema, documents);
     let mut reports = Vec::new(alloc);
-    match read_schema(alloc, &texts_of(schema), Bounds::DEFAULT).expect(rt, "memory for a schema") {
+    match read_schema(alloc, &texts_of_schema(FileId(9), schema), Bounds::DEFAULT).expect(
+        rt,
+        "memory for a schema",
+    ) {
         SchemaReading::Accepted(schema) => {
             push_reports(rt, alloc, &schema, documents, &mut reports);
             shown_lines(rt, alloc, Some(&schema), &reports, &sources, most)
@@ -126,7 +115,7 @@ fn sources_of<'a>(
     documents: &[(u32, &'a str)],
 ) -> Vec<SourceText<'a>> {
     let mut sources = Vec::new(alloc);
-    for source in texts_of(schema) {
+    for source in texts_of_schema(FileId(9), schema) {
         sources.push(source).expect(rt, "memory for texts");
     }
     for (number, text) in documents {

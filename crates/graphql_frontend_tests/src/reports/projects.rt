@@ -1,7 +1,7 @@
+use crate::documents::texts_of_schema;
 use graphql_frontend::{FileId, Reports, SchemaReading, SourceText, read_schema};
 use graphql_parser::Bounds;
 use graphql_project_checking::{check_part_of_project, check_project};
-use graphql_schema_building::BUILT_IN_DEFINITIONS;
 use graphql_shown_reports::shown_reports;
 use std::alloc::Global;
 use std::fmt::Write;
@@ -285,16 +285,7 @@ fn reported<'a>(
     lent: &[&'a str],
     is_all: bool,
 ) -> String {
-    let schema = [
-        SourceText {
-            file_id: FileId::BUILT_IN,
-            text: BUILT_IN_DEFINITIONS,
-        },
-        SourceText {
-            file_id: FileId(99),
-            text: SCHEMA,
-        },
-    ];
+    let schema = texts_of_schema(FileId(99), SCHEMA);
     let mut own = sources(rt, alloc, own, 1);
     let lent = sources(rt, alloc, lent, 11);
     match read_schema(alloc, &schema, Bounds::DEFAULT).expect(rt, "memory for a schema") {

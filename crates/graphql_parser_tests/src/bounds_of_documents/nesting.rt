@@ -1,8 +1,8 @@
 use super::texts::{SCHEMA, document, line};
 use graphql_documents::documents::Schema;
-use graphql_examples::build::schema;
 use graphql_nesting::{DocumentLevels, check_nesting};
 use graphql_nodes::Name;
+use graphql_notation::build::schema;
 use std::alloc::Global;
 use std::process::Abort;
 

@@ -1,6 +1,6 @@
 use super::texts::{SCHEMA, document, line};
 use graphql_documents::documents::Schema;
-use graphql_examples::build::schema;
+use graphql_notation::build::schema;
 use graphql_reach::check_reach;
 use std::alloc::Global;
 use std::process::Abort;

@@ -1,5 +1,5 @@
 use super::texts::{SCHEMA, document};
-use graphql_examples::build::schema;
+use graphql_notation::build::schema;
 use graphql_reach::reached_fragments;
 use std::alloc::Global;
 use std::process::Abort;

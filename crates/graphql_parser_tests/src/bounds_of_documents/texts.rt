@@ -1,6 +1,6 @@
 use graphql_documents::documents::{ExecutableDocument, Schema};
-use graphql_examples::build::document_in_file;
 use graphql_nodes::{FileId, SourceSpan};
+use graphql_notation::build::document_in_file;
 use std::alloc::Global;
 use std::process::Abort;
 

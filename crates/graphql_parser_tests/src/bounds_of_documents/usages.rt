@@ -1,6 +1,6 @@
 use graphql_documents::documents::Schema;
-use graphql_examples::build::{document_in_file, schema};
 use graphql_nodes::FileId;
+use graphql_notation::build::{document_in_file, schema};
 use graphql_reporting::ReportList;
 use graphql_usage_rules::{VariableMisuse, check_variable_usages};
 use std::alloc::Global;

@@ -1,6 +1,6 @@
 use graphql_documents::documents::Schema;
-use graphql_examples::build::schema;
 use graphql_nodes::Name;
+use graphql_notation::build::schema;
 use graphql_suggestions::{
     Suggestion, like_argument, like_directive, like_directive_argument, like_enum_value,
     like_field, like_input_field, like_type,

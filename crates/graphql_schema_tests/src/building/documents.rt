@@ -2,7 +2,7 @@ use super::texts::{lines, tree};
 use graphql_building_reports::BuildingReportList;
 use graphql_document_checking::check_document;
 use graphql_documents::documents::Schema;
-use graphql_examples::build;
+use graphql_notation::build;
 use std::alloc::Global;
 use std::process::Abort;
 

@@ -1,7 +1,7 @@
 //! Schemas and documents with many faults each.
-use graphql_examples::examples::up_to_19::SUBSCRIPTION;
-use graphql_examples::examples::up_to_26::DEFER;
-use graphql_examples::{Example, Subject};
+use crate::examples::up_to_19::SUBSCRIPTION;
+use crate::examples::up_to_26::DEFER;
+use crate::{Example, Subject};
 
 /// Schemas and documents with many faults each: wherever a check goes on behind a diagnostic, one of them
 /// brings a diagnostic before it and one behind it.

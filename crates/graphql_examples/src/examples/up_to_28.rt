@@ -1,4 +1,4 @@
-use graphql_examples::{Example, Subject};
+use crate::{Example, Subject};
 
 /// A query below the query.
 pub const QUERY_OF_ITSELF: &str = "type Query { q: Query a: Int b: Int }";

@@ -1,7 +1,7 @@
+use crate::examples::up_to_19::SUBSCRIPTION;
+use crate::examples::up_to_26::DEFER;
 use crate::up_to_28::QUERY_OF_ITSELF;
-use graphql_examples::examples::up_to_19::SUBSCRIPTION;
-use graphql_examples::examples::up_to_26::DEFER;
-use graphql_examples::{Example, Subject};
+use crate::{Example, Subject};
 
 /// An interface with two objects.
 const INTERFACE_AND_OBJECTS: &str =

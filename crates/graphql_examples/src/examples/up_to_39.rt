@@ -1,4 +1,4 @@
-use graphql_examples::{Example, Subject};
+use crate::{Example, Subject};
 
 /// The examples 39.
 pub const EXAMPLES: &[Example] = &[

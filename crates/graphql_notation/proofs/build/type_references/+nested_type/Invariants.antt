@@ -1,4 +1,4 @@
-use Rattle.graphql_examples.proofs.build.type_references.+nested_type.Given as goal
+use Rattle.graphql_notation.proofs.build.type_references.+nested_type.Given as goal
 
 abbrev pub decreases-nested_type : goal.decreases-nested_type
 decreases-nested_type l = l.depth

@@ -1,6 +1,6 @@
+use crate::examples::up_to_19::SUBSCRIPTION;
 use crate::up_to_28::QUERY_OF_ITSELF;
-use graphql_examples::examples::up_to_19::SUBSCRIPTION;
-use graphql_examples::{Example, Subject};
+use crate::{Example, Subject};
 
 /// The examples 36 to 37.
 pub const EXAMPLES: &[Example] = &[

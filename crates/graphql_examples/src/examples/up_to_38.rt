@@ -1,5 +1,5 @@
 use crate::up_to_28::QUERY_OF_ITSELF;
-use graphql_examples::{Example, Subject};
+use crate::{Example, Subject};
 
 /// The examples 38.
 pub const EXAMPLES: &[Example] = &[

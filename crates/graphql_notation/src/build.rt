@@ -27,7 +27,6 @@ mod types;
 pub use applications::{arguments, directives};
 pub use definitions::{inputs, variables};
 pub use documents::{document, document_in_file};
-pub(crate) use parts::both;
 pub use repetitions::written_out;
 pub use schemas::{schema, schema_in_file};
 pub use selections::field_set;

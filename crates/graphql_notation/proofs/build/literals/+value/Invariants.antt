@@ -1,5 +1,5 @@
 use Rattle.std.proofs.Common.{◌+◌, ◌*◌}
-use Rattle.graphql_examples.proofs.build.literals.+value.Given as goal
+use Rattle.graphql_notation.proofs.build.literals.+value.Given as goal
 
 abbrev pub decreases-nested_value : goal.decreases-nested_value
 decreases-nested_value l = 2 * l.depth

@@ -1,5 +1,5 @@
 use Rattle.std.proofs.Common.{◌+◌, ◌*◌}
-use Rattle.graphql_examples.proofs.build.selections.+selection.Given as goal
+use Rattle.graphql_notation.proofs.build.selections.+selection.Given as goal
 
 abbrev pub decreases-fill : goal.decreases-fill
 decreases-fill l = 2 * l.depth
