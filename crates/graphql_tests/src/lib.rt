@@ -7,8 +7,6 @@ mod arguments;
 #[cfg(test)]
 mod collect;
 #[cfg(test)]
-mod defer;
-#[cfg(test)]
 mod examples;
 #[cfg(test)]
 mod executables;
@@ -21,11 +19,7 @@ mod fragment_cycles;
 #[cfg(test)]
 mod many_faults;
 #[cfg(test)]
-mod merging;
-#[cfg(test)]
 mod operations;
-#[cfg(test)]
-mod subscriptions;
 #[cfg(test)]
 mod usages;
 #[cfg(test)]

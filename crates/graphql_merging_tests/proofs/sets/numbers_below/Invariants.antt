@@ -1,6 +1,6 @@
 use Rattle.std.proofs.Common.{◌<◌, All}
 use Rattle.graphql_number_sets.specs.NumberSets.{AreExact, numbers_of}
-use Rattle.graphql_pair_merging_tests.proofs.sets.numbers_below.Given as goal
+use Rattle.graphql_merging_tests.proofs.sets.numbers_below.Given as goal
 
 abbrev pub invariant-loop-number : goal.invariant-loop-number
 invariant-loop-number l = record {

@@ -1,7 +1,7 @@
 use Rattle.std.proofs.Common.{◌<◌, ◌+◌, ℕ, All, arith, inl, inr, subst, sym}
 use Rattle.std.proofs.lemmas.List.Elements.{All-push, All-weaker}
 use Rattle.graphql_number_sets.specs.NumberSets.{numbers_of}
-use Rattle.graphql_pair_merging_tests.proofs.sets.numbers_below.Goals as goal
+use Rattle.graphql_merging_tests.proofs.sets.numbers_below.Goals as goal
 
 pub loop-number-preserved : goal.loop-number-preserved
 loop-number-preserved c =
