@@ -20,7 +20,7 @@ _gqlvalidate() {
   esac
   local options="--help"
   case "$command" in
-    check) options="--schema --config --no-config --project --fragments --only --each --one-document --files-from --null $reporting $limits" ;;
+    check) options="--schema --config --no-config --project --fragments --only --each --one-document --files-from --null --stdin-name --watch $reporting $limits" ;;
     diff) options="--old-schema --new-schema --operations --lone-fields --fail-on --format --help" ;;
     schema | syntax) options="$reporting" ;;
     serve) options="--schema --fragments --max-line --max-reports --help $limits" ;;

@@ -34,5 +34,7 @@ complete -c gqlvalidate -n '__fish_seen_subcommand_from check serve' -x -l max-d
 complete -c gqlvalidate -n '__fish_seen_subcommand_from check serve' -x -l max-reach -d 'Bytes to which operations may expand, for each byte'
 complete -c gqlvalidate -n '__fish_seen_subcommand_from check serve' -x -l max-work -d 'Steps to compare the fields that come together'
 complete -c gqlvalidate -n '__fish_seen_subcommand_from check' -l one-document -d 'All files are one document'
+complete -c gqlvalidate -n '__fish_seen_subcommand_from check' -r -l stdin-name -d 'The document whose text is on standard input'
+complete -c gqlvalidate -n '__fish_seen_subcommand_from check' -l watch -d 'Validate again whenever a file changes'
 complete -c gqlvalidate -n '__fish_seen_subcommand_from serve' -x -l max-line -d 'Bytes of a line at most'
 complete -c gqlvalidate -n '__fish_seen_subcommand_from explain' -f -a '(gqlvalidate explain 2> /dev/null | cut -d" " -f1)'

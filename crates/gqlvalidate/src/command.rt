@@ -1,6 +1,7 @@
 use crate::configured::check_configured;
 use crate::explain::{explain, list_rules};
 use crate::schemas::check_schema;
+use crate::watch::repeat;
 use gqlvalidate_check::bounds::{bounds_of, bounds_of_answers};
 use gqlvalidate_check::presentations::Presentation;
 use gqlvalidate_check::{Words, check_syntax};
@@ -16,10 +17,11 @@ use std::alloc::Global;
 use std::io;
 use std::io::{Read, Write};
 use std::rt::Files;
+use std::time::Clock;
 
 /// Runs the program on these words, without its own name. The status says how it ended; what is
 /// wrong, if anything, is said to `faults`.
-pub fn run<R: Files + AllocGlobal + Clone + Drop, I: Read, O: Write, F: Write>(
+pub fn run<R: Files + AllocGlobal + Clock + Clone + Drop, I: Read, O: Write, F: Write>(
     rt: &R,
     words: io::Result<Vec<String>>,
     terminal: Terminal,
@@ -40,7 +42,7 @@ pub fn run<R: Files + AllocGlobal + Clone + Drop, I: Read, O: Write, F: Write>(
     }
 }
 
-fn run_words<R: Files + AllocGlobal + Clone + Drop, I: Read, O: Write, F: Write>(
+fn run_words<R: Files + AllocGlobal + Clock + Clone + Drop, I: Read, O: Write, F: Write>(
     rt: &R,
     words: &[String],
     terminal: Terminal,
@@ -57,7 +59,7 @@ fn run_words<R: Files + AllocGlobal + Clone + Drop, I: Read, O: Write, F: Write>
 }
 
 /// Does what is asked for.
-fn answer<R: Files + AllocGlobal + Clone + Drop, I: Read, O: Write, F: Write>(
+fn answer<R: Files + AllocGlobal + Clock + Clone + Drop, I: Read, O: Write, F: Write>(
     rt: &R,
     request: &Request<'_>,
     terminal: Terminal,
@@ -73,9 +75,11 @@ fn answer<R: Files + AllocGlobal + Clone + Drop, I: Read, O: Write, F: Write>(
             files_from,
             fragments,
             only,
+            stdin_name,
             grouping,
             limits,
             reporting,
+            watch,
         } => {
             let words = Words {
                 schema,
@@ -83,10 +87,14 @@ fn answer<R: Files + AllocGlobal + Clone + Drop, I: Read, O: Write, F: Write>(
                 files_from: *files_from,
                 fragments,
                 only,
+                stdin_name: *stdin_name,
                 grouping: *grouping,
                 bounds: bounds_of(*limits),
             };
             let presentation = Presentation::new(*reporting, terminal);
+            if *watch {
+                return repeat(rt, words, *choice, presentation, input, output, faults);
+            }
             check_configured(rt, words, *choice, presentation, input, output, faults)
         }
         Request::Diff {

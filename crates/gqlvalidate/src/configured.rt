@@ -54,7 +54,7 @@ pub fn check_configured<R: Files + AllocGlobal + Clone + Drop, I: Read, O: Write
 }
 
 /// The settings of the configuration that is chosen, if there is one.
-fn settings_of<R: Files + AllocGlobal>(
+pub fn settings_of<R: Files + AllocGlobal>(
     rt: &R,
     configuration: Configuration<'_>,
 ) -> Result<Option<Settings>, SettingsFault> {

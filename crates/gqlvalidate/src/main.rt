@@ -5,8 +5,10 @@ mod command;
 mod configured;
 mod explain;
 mod schemas;
+mod snapshots;
 #[cfg(test)]
 mod tests;
+mod watch;
 
 use command::run;
 use gqlvalidate_inputs::terminals::Terminal;

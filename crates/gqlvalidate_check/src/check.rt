@@ -17,6 +17,7 @@ use gqlvalidate_runs::schema_files::{FileKind, ReadFiles, named_schema, named_te
 use gqlvalidate_runs::schema_reports::{end_unread, reject};
 use gqlvalidate_runs::schema_texts::{schema_subject, sources_of};
 use gqlvalidate_words::Grouping;
+use gqlvalidate_words::requests::STANDARD_INPUT;
 use graphql_documents::documents::Schema;
 use graphql_frontend::{
     ProjectReports, Reports, SchemaReading, abandon, read_schema, validate_document,
@@ -38,6 +39,8 @@ pub struct Paths<'a> {
     pub hidden: &'a [&'a str],
     /// No file of the run is missing, for all that is known before they are read.
     pub is_all: bool,
+    /// The document whose text is that of standard input.
+    pub from_stdin: Option<&'a str>,
     /// Which documents are validated together.
     pub grouping: Grouping,
     /// What a document may take.
@@ -60,6 +63,15 @@ impl Paths<'_> {
             && self.fragments.is_empty()
             && self.hidden.is_empty()
             && self.program().is_none()
+    }
+
+    /// What is read for a document: its file, unless standard input has its text.
+    pub fn source<'b>(&self, path: &'b str) -> &'b str {
+        if self.from_stdin == Some(path) {
+            STANDARD_INPUT
+        } else {
+            path
+        }
     }
 
     /// The first of the documents that is a program.
@@ -228,15 +240,7 @@ fn check_path<R: Files + AllocGlobal, I: Read, O: Write, F: Write>(
         )
     } else {
         check_file(
-            rt,
-            schema,
-            position,
-            path,
-            paths.bounds,
-            account,
-            input,
-            output,
-            faults,
+            rt, schema, position, path, paths, account, input, output, faults,
         )
     }
 }
@@ -264,7 +268,7 @@ fn check_file<R: Files + AllocGlobal, I: Read, O: Write, F: Write>(
     schema: &Schema,
     position: usize,
     path: &str,
-    bounds: Bounds,
+    paths: Paths<'_>,
     account: &mut Account<'_>,
     input: &mut I,
     output: &mut O,
@@ -272,10 +276,10 @@ fn check_file<R: Files + AllocGlobal, I: Read, O: Write, F: Write>(
 ) -> Result<Status, Fault>
     requires { IsUsable schema.now }
 {
-    match text_or_said(rt, path, input, faults)? {
+    match text_or_said(rt, paths.source(path), input, faults)? {
         Some(text) => {
             let document = named_text(position, path, text.as_str());
-            check_text(rt.alloc(), schema, document, bounds, account, output)
+            check_text(rt.alloc(), schema, document, paths.bounds, account, output)
         }
         None => {
             account.add_unreadable(rt.alloc(), shown_path(path))?;

@@ -5,6 +5,7 @@ use gqlvalidate_inputs::faults::Fault;
 use gqlvalidate_inputs::sources::text_or_said;
 use gqlvalidate_inputs::statuses::Status;
 use gqlvalidate_inputs::word_paths::{expanded, schema_paths, views};
+use gqlvalidate_paths::plain::plain;
 use gqlvalidate_paths::{Expansion, without};
 use gqlvalidate_runs::presentations::Presentation;
 use gqlvalidate_words::{Grouping, PathEnds, PathList};
@@ -23,6 +24,8 @@ pub struct Words<'a> {
     pub fragments: &'a [&'a str],
     /// The files whose reports are shown; all, if there are none.
     pub only: &'a [&'a str],
+    /// The document whose text is that of standard input.
+    pub stdin_name: Option<&'a str>,
     pub grouping: Grouping,
     pub bounds: Bounds,
 }
@@ -35,7 +38,7 @@ impl Words<'_> {
 
     /// Whether words name a schema and documents.
     pub fn is_complete(&self) -> bool {
-        !self.schema.is_empty() && self.names_documents()
+        !self.schema.is_empty() && (self.names_documents() || self.stdin_name.is_some())
     }
 }
 
@@ -47,6 +50,8 @@ struct FilesOfRun {
     fragments: Vec<String>,
     /// The documents and the files of fragments whose reports are not shown.
     hidden: Vec<String>,
+    /// The document whose text is that of standard input.
+    from_stdin: Option<String>,
     /// Each folder of documents and of fragments was read.
     is_all: bool,
 }
@@ -99,6 +104,7 @@ fn check_run<R: Files + AllocGlobal, I: Read, O: Write, F: Write>(
         fragments: &[],
         hidden: &[],
         is_all: files.is_all,
+        from_stdin: files.from_stdin.as_ref().map(|file| file.as_str()),
         grouping: words.grouping,
         bounds: words.bounds,
     };
@@ -158,7 +164,11 @@ fn files_of<R: Files + AllocGlobal + Clone + Drop, F: Write>(
     let all_words = with_further(rt.alloc(), words.documents, further, ends)?;
     let documents = found_files(rt, &all_words, &schema, faults);
     drop(all_words);
-    let documents = documents?;
+    let mut documents = documents?;
+    let from_stdin = match words.stdin_name {
+        Some(name) => Some(listed(rt.alloc(), name, &mut documents.files)?),
+        None => None,
+    };
     let lent = found_files(rt, words.fragments, &schema, faults)?;
     let is_all = documents.is_all && lent.is_all;
     if documents.files.is_empty() && is_all {
@@ -171,8 +181,21 @@ fn files_of<R: Files + AllocGlobal + Clone + Drop, F: Write>(
         documents: documents.files,
         fragments,
         hidden,
+        from_stdin,
         is_all,
     }))
+}
+
+/// The file among these that has this path. If there is none, the path is added.
+fn listed(alloc: Global, path: &str, files: &mut Vec<String>) -> Result<String, AllocError> {
+    let plain_path = plain(alloc, path)?;
+    for file in files.iter() {
+        if plain(alloc, file.as_str())? == plain_path {
+            return String::from_str(alloc, file.as_str());
+        }
+    }
+    files.push(String::from_str(alloc, path)?)?;
+    String::from_str(alloc, path)
 }
 
 /// The files that words name, without those of the schema.

@@ -54,8 +54,8 @@ pub fn check_files<R: Files + AllocGlobal, I: Read, O: Write, F: Write>(
 ) -> Result<Status, Fault>
     requires { IsUsable schema.now }
 {
-    let own = text_files(rt, paths.documents, account, input, faults)?;
-    let lent = text_files(rt, paths.fragments, account, input, faults)?;
+    let own = text_files(rt, paths, paths.documents, account, input, faults)?;
+    let lent = text_files(rt, paths, paths.fragments, account, input, faults)?;
     let is_all = own.is_all && lent.is_all;
     let has_all_literals = own.has_all_literals && lent.has_all_literals;
     count_files(account, &own.files);
@@ -271,9 +271,10 @@ fn files_among(
     Ok(files)
 }
 
-/// The texts of these files. The account has those that cannot be read.
+/// The texts of these files of a run. The account has those that cannot be read.
 fn text_files<R: Files + AllocGlobal, I: Read, F: Write>(
     rt: &R,
+    run: Paths<'_>,
     paths: &[&str],
     account: &mut Account<'_>,
     input: &mut I,
@@ -283,7 +284,7 @@ fn text_files<R: Files + AllocGlobal, I: Read, F: Write>(
         files,
         unreadable,
         has_all_literals,
-    } = read_files(rt, paths, input, faults)?;
+    } = read_files(rt, run, paths, input, faults)?;
     let is_all = unreadable.is_empty();
     account.add_all_unreadable(unreadable)?;
     Ok(TextFiles {

@@ -3,6 +3,7 @@
 ghost use Rattle.std.specs.Prelude.{IsTrue, []};
 ghost use Rattle.graphql_tokens.specs.Lexical.{AreTokens};
 
+use crate::check::Paths;
 use crate::programs::{ProgramTexts, texts_of_program};
 use gqlvalidate_inputs::faults::Fault;
 use gqlvalidate_inputs::sources::{shown_path, text_or_said};
@@ -96,9 +97,10 @@ impl ReadFiles {
     }
 }
 
-/// The texts of these files. What is wrong with those that have none is said.
+/// The texts of these files of a run. What is wrong with those that have none is said.
 pub fn read_files<R: Files + AllocGlobal, I: Read, F: Write>(
     rt: &R,
+    run: Paths<'_>,
     paths: &[&str],
     input: &mut I,
     faults: &mut F,
@@ -109,7 +111,7 @@ pub fn read_files<R: Files + AllocGlobal, I: Read, F: Write>(
         has_all_literals: true,
     };
     for path in paths {
-        match text_or_said(rt, path, input, faults)? {
+        match text_or_said(rt, run.source(path), input, faults)? {
             Some(text) => read.add(rt.alloc(), path, text, faults)?,
             None => read.push_unreadable(rt.alloc(), path)?,
         }

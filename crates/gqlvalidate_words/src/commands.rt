@@ -32,6 +32,10 @@ pub const NO_CONFIG: &str = "no-config";
 
 pub const PROJECT: &str = "project";
 
+pub const STDIN_NAME: &str = "stdin-name";
+
+pub const WATCH: &str = "watch";
+
 pub const MAX_DEPTH: &str = "max-depth";
 
 pub const MAX_REACH: &str = "max-reach";
@@ -159,6 +163,7 @@ fn check<'a>(alloc: Global) -> Result<Command<'a>, Error> {
     let command = with_grouping(alloc, command)?;
     let command = with_lists(alloc, command)?;
     let command = with_limits(alloc, command, "64")?;
+    let command = with_editing(alloc, command)?;
     Ok(command.arg(documents(alloc))?)
 }
 
@@ -244,6 +249,12 @@ fn with_lists<'a>(alloc: Global, command: Command<'a>) -> Result<Command<'a>, Er
     let command = command.arg(files_from(alloc))?;
     let command = command.arg(null(alloc))?;
     Ok(command.arg(only(alloc)?)?)
+}
+
+/// Adds the options for documents that are edited.
+fn with_editing<'a>(alloc: Global, command: Command<'a>) -> Result<Command<'a>, Error> {
+    let command = command.arg(stdin_name(alloc)?)?;
+    Ok(command.arg(watch(alloc)?)?)
 }
 
 /// Adds the options that bound a document.
@@ -402,6 +413,23 @@ fn project<'a>(alloc: Global) -> Arg<'a> {
         .value_name("NAME")
         .help("The project of the configuration [default: all]")
         .action(ArgAction::Set)
+}
+
+fn stdin_name<'a>(alloc: Global) -> Result<Arg<'a>, Error> {
+    let stdin_name = Arg::new(alloc, STDIN_NAME)
+        .long(STDIN_NAME)
+        .value_name("PATH")
+        .help("The document whose text is read from standard input instead of its file")
+        .action(ArgAction::Set);
+    Ok(stdin_name.conflicts_with(ONE_DOCUMENT)?)
+}
+
+fn watch<'a>(alloc: Global) -> Result<Arg<'a>, Error> {
+    let watch = Arg::new(alloc, WATCH)
+        .long(WATCH)
+        .help("Validate again whenever a file changes, until the program is interrupted")
+        .action(ArgAction::SetTrue);
+    Ok(watch.conflicts_with(STDIN_NAME)?)
 }
 
 fn format<'a>(alloc: Global) -> Arg<'a> {

@@ -5,7 +5,7 @@ use crate::commands::{
     FILES, FILES_FROM, FORMAT, FRAGMENTS, GITHUB, GITLAB, JSON, JUNIT, LONE_FIELDS, MARKDOWN,
     MAX_DEPTH, MAX_LINE, MAX_REACH, MAX_REPORTS, MAX_WORK, NEVER, NEW, NEW_SCHEMA, NO_CONFIG, NULL,
     OLD, OLD_SCHEMA, ONE_DOCUMENT, ONLY, OPERATIONS, PRINT_SCHEMA, PROJECT, RULE, SARIF, SCHEMA,
-    SERVE, SYNTAX, program,
+    SERVE, STDIN_NAME, SYNTAX, WATCH, program,
 };
 use crate::requests::{
     ChangeFormat, Color, Configuration, ConfigurationChoice, FailOn, Format, Grouping, Limits,
@@ -55,6 +55,9 @@ fn request<'a>(alloc: Global, matches: &ArgMatches<'a>) -> Result<Request<'a>, R
             "error: standard input, `-`, is named more than once\n",
         ));
     }
+    if watches_input(command, given) {
+        return Err(wrong(alloc, "error: standard input, `-`, cannot be watched\n"));
+    }
     match request_of(alloc, command, given) {
         Ok(request) => Ok(request),
         Err(_refused) => Err(Refusal::OutOfMemory),
@@ -77,9 +80,11 @@ fn request_of<'a>(
             files_from: path_list(given),
             fragments: paths(alloc, given, FRAGMENTS)?,
             only: paths(alloc, given, ONLY)?,
+            stdin_name: given.get_str(STDIN_NAME),
             grouping: grouping(given),
             limits: limits(given),
             reporting: reporting(given),
+            watch: given.get_flag(WATCH),
         })
     } else if command == SERVE {
         let schema = paths(alloc, given, SCHEMA)?;
@@ -252,10 +257,17 @@ fn add_paths<'a>(
     Ok(())
 }
 
-/// How often a command takes standard input: by a path, and `serve` for its questions.
+/// Whether files are watched, and standard input is one of them.
+fn watches_input(command: &str, given: &ArgMatches<'_>) -> bool {
+    command == CHECK && given.get_flag(WATCH) && inputs(command, given) > 0
+}
+
+/// How often a command takes standard input: by a path, `check` for a document that `--stdin-name` names, and `serve` for its questions.
 fn inputs(command: &str, given: &ArgMatches<'_>) -> usize {
     let questions = usize::from(command == SERVE);
+    let named = usize::from(command == CHECK && given.get_str(STDIN_NAME).is_some());
     questions
+        .saturating_add(named)
         .saturating_add(inputs_of(given, SCHEMA))
         .saturating_add(inputs_of(given, FILES))
         .saturating_add(inputs_of(given, FRAGMENTS))

@@ -168,9 +168,13 @@ pub enum Request<'a> {
         fragments: Vec<&'a str>,
         /// The files whose reports are shown; all, if there are none.
         only: Vec<&'a str>,
+        /// The document whose text is that of standard input.
+        stdin_name: Option<&'a str>,
         grouping: Grouping,
         limits: Limits,
         reporting: Reporting,
+        /// Files are validated again whenever one of them changes.
+        watch: bool,
     },
     /// To compare the schema of some files with that of others.
     Diff {

@@ -1,0 +1,100 @@
+//! Runs that begin again whenever a file changes.
+
+use crate::configured::{check_configured, settings_of};
+use crate::snapshots::Snapshot;
+use gqlvalidate_check::Words;
+use gqlvalidate_check::presentations::Presentation;
+use gqlvalidate_inputs::faults::{Fault, fault_of_output};
+use gqlvalidate_inputs::printable::Printable;
+use gqlvalidate_inputs::statuses::Status;
+use gqlvalidate_words::ConfigurationChoice;
+use std::alloc::AllocError;
+use std::io::{Read, Write};
+use std::rt::Files;
+use std::thread;
+use std::time::{Clock, Duration};
+
+/// So many milliseconds pass between two looks at the files.
+const PAUSE: u64 = 300;
+
+/// Validates what the words and the configuration name, and validates it again whenever a file of the run changes, comes or goes. Ends with
+/// the status of the last run if standard output cannot be written, or memory is refused; a run that ends for another reason is followed by
+/// the next one.
+pub fn repeat<R: Files + AllocGlobal + Clock + Clone + Drop, I: Read, O: Write, F: Write>(
+    rt: &R,
+    words: Words<'_>,
+    choice: ConfigurationChoice<'_>,
+    presentation: Presentation,
+    input: &mut I,
+    output: &mut O,
+    faults: &mut F,
+) -> Result<Status, Fault> {
+    let mut status = Status::Accepted;
+    for _ in 0..u64::MAX {
+        let before = snapshot(rt, words, choice)?;
+        let ended = check_configured(rt, words, choice, presentation, input, output, faults);
+        status = status_of(ended, faults)?;
+        output.flush().map_err(fault_of_output)?;
+        let _ = writeln!(faults, "waiting for changes");
+        wait(rt, words, choice, &before, faults)?;
+    }
+    Ok(status)
+}
+
+/// The status of a run. A fault of its words ends the run alone.
+fn status_of<F: Write>(ended: Result<Status, Fault>, faults: &mut F) -> Result<Status, Fault> {
+    match ended {
+        Err(fault) => match fault {
+            Fault::WordRefused | Fault::NoDocument => {
+                fault.explain(faults);
+                Ok(fault.status())
+            }
+            _ => Err(fault),
+        },
+        Ok(status) => Ok(status),
+    }
+}
+
+/// Waits until a file differs from this snapshot, and says on standard error which one does.
+fn wait<R: Files + AllocGlobal + Clock + Clone + Drop, F: Write>(
+    rt: &R,
+    words: Words<'_>,
+    choice: ConfigurationChoice<'_>,
+    before: &Snapshot,
+    faults: &mut F,
+) -> Result<(), AllocError> {
+    for _ in 0..u64::MAX {
+        thread::sleep(rt, Duration::from_millis(PAUSE));
+        let now = snapshot(rt, words, choice)?;
+        let changed = now
+            .first_difference(before)
+            .or_else(|| before.first_difference(&now));
+        if let Some(path) = changed {
+            let path = Printable(path);
+            let _ = writeln!(faults, "\n{path} changed");
+            return Ok(());
+        }
+    }
+    Ok(())
+}
+
+/// The files that the words and the configuration name.
+fn snapshot<R: Files + AllocGlobal + Clone + Drop>(
+    rt: &R,
+    words: Words<'_>,
+    choice: ConfigurationChoice<'_>,
+) -> Result<Snapshot, AllocError> {
+    let mut snapshot = Snapshot::new(rt.alloc());
+    snapshot.add_words(rt, words.schema)?;
+    snapshot.add_words(rt, words.documents)?;
+    snapshot.add_words(rt, words.fragments)?;
+    if let Some(list) = words.files_from {
+        snapshot.add_path(rt, list.file)?;
+    }
+    match settings_of(rt, choice.configuration) {
+        Ok(Some(settings)) => snapshot.add_settings(rt, &settings)?,
+        Ok(None) => {}
+        Err(fault) => snapshot.add_fault(rt, &fault)?,
+    }
+    Ok(snapshot)
+}
