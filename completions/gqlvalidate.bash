@@ -15,12 +15,15 @@ _gqlvalidate() {
       mapfile -t COMPREPLY < <(compgen -W "$formats" -- "$word")
       return ;;
     --fail-on) mapfile -t COMPREPLY < <(compgen -W "breaking dangerous never" -- "$word"); return ;;
+    --rule)
+      mapfile -t COMPREPLY < <(compgen -W "$(gqlvalidate explain 2> /dev/null | cut -d' ' -f1 | sed 's/.*/&=warning &=error/')" -- "$word")
+      return ;;
     --color) mapfile -t COMPREPLY < <(compgen -W "auto always never" -- "$word"); return ;;
     --max-*) return ;;
   esac
   local options="--help"
   case "$command" in
-    check) options="--schema --config --no-config --project --fragments --only --each --one-document --files-from --null --stdin-name --watch $reporting $limits" ;;
+    check) options="--schema --config --no-config --project --fragments --only --each --one-document --files-from --null --stdin-name --watch --rule --max-warnings $reporting $limits" ;;
     diff) options="--old-schema --new-schema --operations --lone-fields --fail-on --format --help" ;;
     schema | syntax) options="$reporting" ;;
     serve) options="--schema --fragments --max-line --max-reports --help $limits" ;;

@@ -27,6 +27,8 @@ complete -c gqlvalidate -n '__fish_seen_subcommand_from check' -x -l project -d 
 complete -c gqlvalidate -n '__fish_seen_subcommand_from check' -r -l files-from -d 'A file with further paths'
 complete -c gqlvalidate -n '__fish_seen_subcommand_from check' -s 0 -l null -d 'These paths end with null bytes'
 complete -c gqlvalidate -n '__fish_seen_subcommand_from check' -r -l only -d 'Files whose reports are shown'
+complete -c gqlvalidate -n '__fish_seen_subcommand_from check' -x -l rule -d 'The level of a rule: NAME=off, NAME=warning or NAME=error'
+complete -c gqlvalidate -n '__fish_seen_subcommand_from check' -x -l max-warnings -d 'Warnings at most'
 complete -c gqlvalidate -n '__fish_seen_subcommand_from check schema syntax' -x -l color -a 'auto always never' -d 'When to colour text'
 complete -c gqlvalidate -n '__fish_seen_subcommand_from check schema syntax serve' -x -l max-reports -d 'Reports at most'
 complete -c gqlvalidate -n '__fish_seen_subcommand_from check serve' -r -l schema -d 'A file of the schema'

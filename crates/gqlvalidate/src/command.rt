@@ -3,6 +3,7 @@ use crate::explain::{explain, list_rules};
 use crate::schemas::check_schema;
 use crate::watch::repeat;
 use gqlvalidate_check::bounds::{bounds_of, bounds_of_answers};
+use gqlvalidate_check::policies::Policy;
 use gqlvalidate_check::presentations::Presentation;
 use gqlvalidate_check::{Words, check_syntax};
 use gqlvalidate_diff::{Compared, compare, presentation_of};
@@ -80,6 +81,8 @@ fn answer<R: Files + AllocGlobal + Clock + Clone + Drop, I: Read, O: Write, F: W
             limits,
             reporting,
             watch,
+            levels,
+            max_warnings,
         } => {
             let words = Words {
                 schema,
@@ -90,6 +93,10 @@ fn answer<R: Files + AllocGlobal + Clock + Clone + Drop, I: Read, O: Write, F: W
                 stdin_name: *stdin_name,
                 grouping: *grouping,
                 bounds: bounds_of(*limits),
+                policy: Policy {
+                    levels,
+                    max_warnings: *max_warnings,
+                },
             };
             let presentation = Presentation::new(*reporting, terminal);
             if *watch {

@@ -1,11 +1,13 @@
 //! Runs for which a configuration names the files that the command line does not name.
 
+use gqlvalidate_check::policies::Policy;
 use gqlvalidate_check::presentations::Presentation;
 use gqlvalidate_check::{Words, check_words};
 use gqlvalidate_inputs::faults::Fault;
 use gqlvalidate_inputs::printable::Printable;
 use gqlvalidate_inputs::statuses::Status;
 use gqlvalidate_inputs::word_paths::views;
+use gqlvalidate_levels::Levels;
 use gqlvalidate_settings::{
     ProjectSettings, Settings, SettingsFault, find_settings, read_settings,
 };
@@ -105,10 +107,19 @@ fn check_projects<R: Files + AllocGlobal + Clone + Drop, I: Read, O: Write, F: W
         return Ok(Status::BadArguments);
     }
     let mut status = Status::Accepted;
-    for project in &settings.projects {
+    for (project, levels) in settings.projects.iter().zip(settings.levels.iter()) {
         if is_chosen(project, chosen) {
             say_name(project, faults);
-            let checked = check_project(rt, project, words, presentation, input, output, faults)?;
+            let checked = check_project(
+                rt,
+                project,
+                levels,
+                words,
+                presentation,
+                input,
+                output,
+                faults,
+            )?;
             status = status.with(checked);
         }
     }
@@ -163,20 +174,22 @@ fn say_name<F: Write>(project: &ProjectSettings, faults: &mut F) {
     }
 }
 
-/// Validates a project of a configuration.
+/// Validates a project of a configuration, which gives these levels to rules. Those of the words come before them.
 fn check_project<R: Files + AllocGlobal + Clone + Drop, I: Read, O: Write, F: Write>(
     rt: &R,
     project: &ProjectSettings,
+    levels: &Levels,
     words: Words<'_>,
     presentation: Presentation,
     input: &mut I,
     output: &mut O,
     faults: &mut F,
 ) -> Result<Status, Fault> {
+    let levels = levels.under(rt.alloc(), words.policy.levels)?;
     let schema = views(rt.alloc(), &project.schema)?;
     let documents = views(rt.alloc(), &project.documents)?;
     let fragments = views(rt.alloc(), &project.fragments)?;
-    let words = completed(words, &schema, &documents, &fragments);
+    let words = completed(words, &schema, &documents, &fragments, &levels);
     if words.is_complete() {
         check_words(rt, words, presentation, input, output, faults)
     } else {
@@ -184,18 +197,23 @@ fn check_project<R: Files + AllocGlobal + Clone + Drop, I: Read, O: Write, F: Wr
     }
 }
 
-/// The words, with these for what they do not name. Only documents that are validated together have fragments of others.
+/// The words, with these for what they do not name, and with these levels. Only documents that are validated together have fragments of others.
 fn completed<'a>(
     words: Words<'a>,
     schema: &'a [&'a str],
     documents: &'a [&'a str],
     fragments: &'a [&'a str],
+    levels: &'a Levels,
 ) -> Words<'a> {
     let takes_fragments = words.fragments.is_empty() && words.grouping == Grouping::Project;
     Words {
         schema: one_of(words.schema.is_empty(), schema, words.schema),
         documents: one_of(!words.names_documents(), documents, words.documents),
         fragments: one_of(takes_fragments, fragments, words.fragments),
+        policy: Policy {
+            levels,
+            max_warnings: words.policy.max_warnings,
+        },
         ..words
     }
 }

@@ -12,6 +12,7 @@ use gqlvalidate_inputs::statuses::Status;
 use gqlvalidate_runs::accounts::{Account, Extent, Whole};
 use gqlvalidate_runs::bounds::OF_SCHEMA;
 use gqlvalidate_runs::named_texts::{NamedText, Subject};
+use gqlvalidate_runs::policies::Policy;
 use gqlvalidate_runs::presentations::Presentation;
 use gqlvalidate_runs::schema_files::{FileKind, ReadFiles, named_schema, named_text, read_files};
 use gqlvalidate_runs::schema_reports::{end_unread, reject};
@@ -45,6 +46,8 @@ pub struct Paths<'a> {
     pub grouping: Grouping,
     /// What a document may take.
     pub bounds: Bounds,
+    /// Which reports are errors, and which are not shown.
+    pub policy: Policy<'a>,
 }
 
 impl Paths<'_> {
@@ -142,7 +145,8 @@ fn check_against<R: Files + AllocGlobal, I: Read, O: Write, F: Write>(
     }
 }
 
-/// Validates the documents against the schema of these texts, and says how many reports there are.
+/// Validates the documents against the schema of these texts, and says how many reports there are. The levels of their rules decide about the
+/// status.
 fn check_documents<'a, R: Files + AllocGlobal, I: Read, O: Write, F: Write>(
     rt: &R,
     schema: &'a Schema,
@@ -156,8 +160,10 @@ fn check_documents<'a, R: Files + AllocGlobal, I: Read, O: Write, F: Write>(
     requires { IsUsable schema.now }
 {
     let mut account = Account::new(rt.alloc(), presentation)?;
+    account.heed(rt.alloc(), paths.policy)?;
     account.add_schema(schema, texts);
-    let status = check_grouped(rt, schema, paths, &mut account, input, output, faults)?;
+    let found = check_grouped(rt, schema, paths, &mut account, input, output, faults)?;
+    let status = account.status(found);
     let extent = Extent {
         whole: Whole::Documents(paths.count()),
         schema_files: paths.schema.len(),
@@ -303,7 +309,7 @@ fn check_text<O: Write>(
 {
     match validate_document(alloc, schema, document.source, bounds)? {
         None => {
-            account.accept(document.path)?;
+            accept_document(alloc, document, bounds, account, output)?;
             Ok(Status::Accepted)
         }
         Some(reports) => {
@@ -324,6 +330,24 @@ fn check_text<O: Write>(
             Ok(Status::Reported)
         }
     }
+}
+
+/// Nothing is wrong with a document. Its comments are to ignore nothing.
+fn accept_document<O: Write>(
+    alloc: Global,
+    document: NamedText<'_>,
+    bounds: Bounds,
+    account: &mut Account<'_>,
+    output: &mut O,
+) -> Result<(), Fault> {
+    let texts = [document];
+    let sources = [document.source];
+    let subject = Subject {
+        path: document.path,
+        texts: texts.as_slice(),
+        sources: sources.as_slice(),
+    };
+    account.reject(alloc, &[], None, subject, bounds, output)
 }
 
 /// Reports what is wrong with a document. The operations on which reports depend are taken from what is reported of it as a project.

@@ -7,6 +7,7 @@ use gqlvalidate_inputs::statuses::Status;
 use gqlvalidate_inputs::word_paths::{expanded, schema_paths, views};
 use gqlvalidate_paths::plain::plain;
 use gqlvalidate_paths::{Expansion, without};
+use gqlvalidate_runs::policies::Policy;
 use gqlvalidate_runs::presentations::Presentation;
 use gqlvalidate_words::{Grouping, PathEnds, PathList};
 use graphql_parser::Bounds;
@@ -28,6 +29,8 @@ pub struct Words<'a> {
     pub stdin_name: Option<&'a str>,
     pub grouping: Grouping,
     pub bounds: Bounds,
+    /// Which reports are errors, and which are not shown.
+    pub policy: Policy<'a>,
 }
 
 impl Words<'_> {
@@ -107,6 +110,7 @@ fn check_run<R: Files + AllocGlobal, I: Read, O: Write, F: Write>(
         from_stdin: files.from_stdin.as_ref().map(|file| file.as_str()),
         grouping: words.grouping,
         bounds: words.bounds,
+        policy: words.policy,
     };
     let status = check_with_lent(rt, files, paths, presentation, input, output, faults)?;
     if files.is_all {

@@ -79,7 +79,7 @@ fn check_one<O: Write>(
     let subject = subject_of(&named, &sources);
     match reports_of(alloc, schema, &sources, paths.bounds)? {
         None => {
-            account.accept(subject.path)?;
+            account.reject(alloc, &[], None, subject, paths.bounds, output)?;
             Ok(Status::Accepted)
         }
         Some(reports) => {

@@ -1,7 +1,9 @@
 //! Findings as the XML of Checkstyle.
 
 use crate::helped::Helped;
+use crate::severities::Severity;
 use crate::xml::Escaped;
+use gqlvalidate_levels::Levels;
 use gqlvalidate_texts::{Finding, Run, Texts, UNREADABLE, UNREADABLE_RULE, file_of};
 use std::alloc::{AllocError, Global};
 
@@ -17,13 +19,15 @@ pub fn begin(alloc: Global) -> Result<String, AllocError> {
 pub fn elements_of(
     alloc: Global,
     findings: &[Finding<'_>],
+    levels: &Levels,
     texts: Texts<'_>,
 ) -> Result<String, AllocError> {
     let mut out = String::new(alloc);
     for finding in findings {
         let file = Escaped(file_of(finding, texts));
         writeln!(&mut out, "<file name=\"{file}\">")?;
-        push_error(&mut out, alloc, finding, texts)?;
+        let severity = Severity::of(levels, finding.report.rule);
+        push_error(&mut out, alloc, finding, severity, texts)?;
         writeln!(&mut out, "</file>")?;
     }
     Ok(out)
@@ -47,6 +51,7 @@ fn push_error(
     out: &mut String,
     alloc: Global,
     finding: &Finding<'_>,
+    severity: Severity,
     texts: Texts<'_>,
 ) -> Result<(), AllocError> {
     let (line, column) = match texts.locate(finding.report.location) {
@@ -56,8 +61,9 @@ fn push_error(
     let message = Helped(finding).to_string(alloc)?;
     let message = Escaped(message.as_str());
     let rule = Escaped(finding.report.rule);
+    let severity = severity.name();
     writeln!(
         out,
-        "<error line=\"{line}\" column=\"{column}\" severity=\"error\" message=\"{message}\" source=\"gqlvalidate.{rule}\"/>"
+        "<error line=\"{line}\" column=\"{column}\" severity=\"{severity}\" message=\"{message}\" source=\"gqlvalidate.{rule}\"/>"
     )
 }

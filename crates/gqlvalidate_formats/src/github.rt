@@ -1,6 +1,8 @@
 //! Findings as workflow commands of GitHub Actions, a line a finding, which become annotations.
 
+use crate::severities::Severity;
 use gqlvalidate_inputs::printable::printable_character;
+use gqlvalidate_levels::Levels;
 use gqlvalidate_texts::named_texts::{Located, shown_name};
 use gqlvalidate_texts::{
     Finding, FindingHelp, Note, ShownReport, Texts, UNREADABLE, UNREADABLE_RULE, operation_notes,
@@ -24,11 +26,13 @@ pub struct Annotation<'a> {
 pub fn annotations_of(
     alloc: Global,
     findings: &[Finding<'_>],
+    levels: &Levels,
     texts: Texts<'_>,
 ) -> Result<String, AllocError> {
     let mut out = String::new(alloc);
     for finding in findings {
-        push_report(&mut out, &finding.report, texts)?;
+        let severity = Severity::of(levels, finding.report.rule);
+        push_report(&mut out, &finding.report, severity, texts)?;
         push_notes(&mut out, &finding.notes, texts)?;
         push_notes(&mut out, &operation_notes(alloc, finding)?, texts)?;
         push_help(&mut out, alloc, finding.help.as_ref())?;
@@ -54,10 +58,11 @@ pub fn annotations_of_unreadable(alloc: Global, unreadable: &[&str]) -> Result<S
 fn push_report<'a>(
     out: &mut String,
     report: &'a ShownReport,
+    severity: Severity,
     texts: Texts<'a>,
 ) -> Result<(), AllocError> {
     let annotation = Annotation {
-        command: "error",
+        command: severity.name(),
         title: report.rule,
         message: report.message.as_str(),
         located: texts.locate(report.location),

@@ -2,6 +2,8 @@
 
 use crate::fingerprints::Fingerprints;
 use crate::helped::Helped;
+use crate::severities::Severity;
+use gqlvalidate_levels::Levels;
 use gqlvalidate_texts::{Finding, Run, Texts, UNREADABLE, UNREADABLE_RULE, file_of};
 use json::Writer;
 use std::alloc::{AllocError, Global};
@@ -19,6 +21,8 @@ struct Issue<'a> {
     file: &'a str,
     line: usize,
     rule: &'a str,
+    /// `major`, or `minor`.
+    severity: &'static str,
     message: &'a str,
     /// The message with what helps.
     description: &'a str,
@@ -40,6 +44,7 @@ impl Issues {
         &mut self,
         alloc: Global,
         findings: &[Finding<'_>],
+        levels: &Levels,
         texts: Texts<'_>,
     ) -> Result<(), AllocError> {
         for finding in findings {
@@ -52,6 +57,7 @@ impl Issues {
                 file: file_of(finding, texts),
                 line,
                 rule: finding.report.rule,
+                severity: severity_name(Severity::of(levels, finding.report.rule)),
                 message: finding.report.message.as_str(),
                 description: description.as_str(),
             };
@@ -67,6 +73,7 @@ impl Issues {
                 file: path,
                 line: 1,
                 rule: UNREADABLE_RULE,
+                severity: severity_name(Severity::Error),
                 message: UNREADABLE,
                 description: UNREADABLE,
             };
@@ -82,6 +89,7 @@ impl Issues {
             file,
             line,
             rule,
+            severity,
             message,
             description,
         } = issue;
@@ -91,7 +99,7 @@ impl Issues {
         add_text(json, "description", description)?;
         add_text(json, "check_name", rule)?;
         add_text(json, "fingerprint", fingerprint.as_str())?;
-        add_text(json, "severity", "major")?;
+        add_text(json, "severity", severity)?;
         json.key("location")?;
         json.begin_object()?;
         add_text(json, "path", file)?;
@@ -102,6 +110,14 @@ impl Issues {
         json.end_object()?;
         json.end_object()?;
         json.end_object()
+    }
+}
+
+/// The name that GitLab has for a severity.
+fn severity_name(severity: Severity) -> &'static str {
+    match severity {
+        Severity::Warning => "minor",
+        Severity::Error => "major",
     }
 }
 

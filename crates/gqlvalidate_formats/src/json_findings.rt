@@ -1,5 +1,7 @@
 //! Findings as one JSON object, version 1: `docs/report.schema.json` describes it.
 
+use crate::severities::Severity;
+use gqlvalidate_levels::Levels;
 use gqlvalidate_texts::named_texts::{Located, shown_name};
 use gqlvalidate_texts::{Finding, FindingHelp, Note, OperationMark, Run, Texts, file_of, place_of};
 use graphql_places::Place;
@@ -23,10 +25,12 @@ pub fn add_findings(
     json: &mut Writer,
     alloc: Global,
     findings: &[Finding<'_>],
+    levels: &Levels,
     texts: Texts<'_>,
 ) -> Result<(), AllocError> {
     for finding in findings {
-        add_finding(json, alloc, finding, texts)?;
+        let severity = Severity::of(levels, finding.report.rule);
+        add_finding(json, alloc, finding, severity, texts)?;
     }
     Ok(())
 }
@@ -35,6 +39,9 @@ pub fn add_findings(
 pub fn end(json: &mut Writer, run: Run<'_>) -> Result<(), AllocError> {
     json.end_array()?;
     add_number(json, "notShown", run.not_shown)?;
+    if run.ignored > 0 {
+        add_number(json, "ignored", run.ignored)?;
+    }
     json.key("checked")?;
     json.begin_object()?;
     add_number(json, "schemaFiles", run.schema_files)?;
@@ -59,6 +66,7 @@ fn add_finding(
     json: &mut Writer,
     alloc: Global,
     finding: &Finding<'_>,
+    severity: Severity,
     texts: Texts<'_>,
 ) -> Result<(), AllocError> {
     let report = &finding.report;
@@ -66,7 +74,7 @@ fn add_finding(
     json.begin_object()?;
     add_text(json, "file", file_of(finding, texts))?;
     add_text(json, "rule", report.rule)?;
-    add_text(json, "severity", "error")?;
+    add_text(json, "severity", severity.name())?;
     add_text(json, "message", report.message.as_str())?;
     if let Some(located) = located {
         add_span(json, located)?;

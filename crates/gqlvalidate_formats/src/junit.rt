@@ -1,6 +1,8 @@
-//! Findings as the XML of JUnit: a test case a file, which fails once for each finding.
+//! Findings as the XML of JUnit: a test case a file, which fails once for each error. Warnings are output of a test case.
 
+use crate::severities::Severity;
 use crate::xml::Escaped;
+use gqlvalidate_levels::Levels;
 use gqlvalidate_texts::named_texts::shown_name;
 use gqlvalidate_texts::{
     Finding, FindingHelp, Note, Run, Texts, UNREADABLE, UNREADABLE_RULE, file_of, of_first_file,
@@ -42,6 +44,7 @@ impl Suite {
         &mut self,
         alloc: Global,
         findings: &[Finding<'_>],
+        levels: &Levels,
         texts: Texts<'_>,
     ) -> Result<(), AllocError> {
         let mut at = 0_usize;
@@ -49,7 +52,7 @@ impl Suite {
             let (_, rest) = findings.split_at(at.min(findings.len()));
             let count = of_first_file(rest, texts);
             let (first, _) = rest.split_at(count.min(rest.len()));
-            self.add_file(alloc, first, texts)?;
+            self.add_file(alloc, first, levels, texts)?;
             at = at.saturating_add(count);
         }
         Ok(())
@@ -60,6 +63,7 @@ impl Suite {
         &mut self,
         alloc: Global,
         findings: &[Finding<'_>],
+        levels: &Levels,
         texts: Texts<'_>,
     ) -> Result<(), AllocError> {
         let Some(first) = findings.first() else {
@@ -70,10 +74,15 @@ impl Suite {
             &mut self.cases,
             "<testcase name=\"{name}\" classname=\"gqlvalidate\">"
         )?;
-        push_failures(&mut self.cases, alloc, findings, texts)?;
+        let failures = push_failures(&mut self.cases, alloc, findings, levels, texts)?;
+        if failures < findings.len() {
+            push_warnings(&mut self.cases, alloc, findings, levels, texts)?;
+        }
         writeln!(&mut self.cases, "</testcase>")?;
         self.tests = self.tests.saturating_add(1);
-        self.failures = self.failures.saturating_add(1);
+        if failures > 0 {
+            self.failures = self.failures.saturating_add(1);
+        }
         Ok(())
     }
 
@@ -110,25 +119,80 @@ fn push_unreadable(out: &mut String, unreadable: &[&str]) -> Result<(), AllocErr
     Ok(())
 }
 
+/// Adds the errors of these. The answer is how many there are.
 fn push_failures(
     out: &mut String,
     alloc: Global,
     findings: &[Finding<'_>],
+    levels: &Levels,
     texts: Texts<'_>,
-) -> Result<(), AllocError> {
+) -> Result<usize, AllocError> {
+    let mut failures = 0_usize;
     for finding in findings {
-        let message = Escaped(finding.report.message.as_str());
-        let rule = Escaped(finding.report.rule);
-        write!(out, "<failure message=\"{message}\" type=\"{rule}\">")?;
-        push_place(out, finding, texts)?;
-        push_notes(out, &finding.notes, texts)?;
-        push_notes(out, &operation_notes(alloc, finding)?, texts)?;
-        push_help(out, alloc, finding.help.as_ref())?;
-        writeln!(out, "</failure>")?;
+        if matches!(Severity::of(levels, finding.report.rule), Severity::Error) {
+            push_failure(out, alloc, finding, texts)?;
+            failures = failures.saturating_add(1);
+        }
     }
-    Ok(())
+    Ok(failures)
 }
 
+/// Adds the warnings of these, as the output of the test case.
+fn push_warnings(
+    out: &mut String,
+    alloc: Global,
+    findings: &[Finding<'_>],
+    levels: &Levels,
+    texts: Texts<'_>,
+) -> Result<(), AllocError> {
+    out.push_str("<system-out>")?;
+    for finding in findings {
+        if matches!(Severity::of(levels, finding.report.rule), Severity::Warning) {
+            push_warning(out, alloc, finding, texts)?;
+        }
+    }
+    out.push_str("</system-out>\n")
+}
+
+/// Adds a warning.
+fn push_warning(
+    out: &mut String,
+    alloc: Global,
+    finding: &Finding<'_>,
+    texts: Texts<'_>,
+) -> Result<(), AllocError> {
+    let rule = Escaped(finding.report.rule);
+    write!(out, "warning [{rule}]: ")?;
+    push_words(out, alloc, finding, texts)?;
+    writeln!(out)
+}
+
+/// Adds an error.
+fn push_failure(
+    out: &mut String,
+    alloc: Global,
+    finding: &Finding<'_>,
+    texts: Texts<'_>,
+) -> Result<(), AllocError> {
+    let message = Escaped(finding.report.message.as_str());
+    let rule = Escaped(finding.report.rule);
+    write!(out, "<failure message=\"{message}\" type=\"{rule}\">")?;
+    push_words(out, alloc, finding, texts)?;
+    writeln!(out, "</failure>")
+}
+
+/// Adds where it is and what is wrong, with notes and help.
+fn push_words(
+    out: &mut String,
+    alloc: Global,
+    finding: &Finding<'_>,
+    texts: Texts<'_>,
+) -> Result<(), AllocError> {
+    push_place(out, finding, texts)?;
+    push_notes(out, &finding.notes, texts)?;
+    push_notes(out, &operation_notes(alloc, finding)?, texts)?;
+    push_help(out, alloc, finding.help.as_ref())
+}
 /// Adds where it is, and what is wrong.
 fn push_place(out: &mut String, finding: &Finding<'_>, texts: Texts<'_>) -> Result<(), AllocError> {
     let message = Escaped(finding.report.message.as_str());

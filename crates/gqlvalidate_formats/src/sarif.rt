@@ -1,6 +1,8 @@
 //! Findings in the Static Analysis Results Interchange Format, version 2.1.0.
 
 use crate::helped::Helped;
+use crate::severities::Severity;
+use gqlvalidate_levels::Levels;
 use gqlvalidate_texts::named_texts::{Located, shown_name};
 use gqlvalidate_texts::{Finding, Note, Run, Texts, UNREADABLE, operation_notes};
 use graphql_places::Place;
@@ -36,10 +38,12 @@ pub fn add_findings(
     json: &mut Writer,
     alloc: Global,
     findings: &[Finding<'_>],
+    levels: &Levels,
     texts: Texts<'_>,
 ) -> Result<(), AllocError> {
     for finding in findings {
-        add_finding(json, alloc, finding, texts)?;
+        let severity = Severity::of(levels, finding.report.rule);
+        add_finding(json, alloc, finding, severity, texts)?;
     }
     Ok(())
 }
@@ -86,12 +90,13 @@ fn add_finding(
     json: &mut Writer,
     alloc: Global,
     finding: &Finding<'_>,
+    severity: Severity,
     texts: Texts<'_>,
 ) -> Result<(), AllocError> {
     let report = &finding.report;
     json.begin_object()?;
     add_text(json, "ruleId", report.rule)?;
-    add_text(json, "level", "error")?;
+    add_text(json, "level", severity.name())?;
     let message = Helped(finding).to_string(alloc)?;
     add_message(json, message.as_str())?;
     json.key("locations")?;

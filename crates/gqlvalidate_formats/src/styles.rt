@@ -5,6 +5,7 @@
 pub struct Style {
     pub strong: &'static str,
     pub error: &'static str,
+    pub warning: &'static str,
     pub note: &'static str,
     pub margin: &'static str,
     /// What ends each of them.
@@ -20,6 +21,7 @@ impl Style {
             Style {
                 strong: "\x1b[1m",
                 error: "\x1b[1;31m",
+                warning: "\x1b[1;33m",
                 note: "\x1b[1;32m",
                 margin: "\x1b[1;34m",
                 end: "\x1b[0m",
@@ -29,6 +31,7 @@ impl Style {
             Style {
                 strong: "",
                 error: "",
+                warning: "",
                 note: "",
                 margin: "",
                 end: "",

@@ -1,8 +1,10 @@
-//! Findings for people: `path:line:column: error: message [Rule]`, and the line of source; then each note with its own, and what helps.
+//! Findings for people: `path:line:column: error: message [Rule]`, or `warning:` in its place, and the line of source; then each note with its own, and what helps.
 
 use crate::excerpts::{Line, shown_beginning, shown_end};
+use crate::severities::Severity;
 use crate::styles::Style;
 use gqlvalidate_inputs::printable::Printable;
+use gqlvalidate_levels::Levels;
 use gqlvalidate_texts::named_texts::{Located, shown_name};
 use gqlvalidate_texts::{Finding, FindingHelp, Note, ShownReport, Texts, operation_notes};
 use std::alloc::{AllocError, Global};
@@ -18,12 +20,14 @@ const LEAST_SHOWN: usize = 20;
 pub fn text_of(
     alloc: Global,
     findings: &[Finding<'_>],
+    levels: &Levels,
     texts: Texts<'_>,
     style: Style,
 ) -> Result<String, AllocError> {
     let mut out = String::new(alloc);
     for finding in findings {
-        push_report(&mut out, &finding.report, texts, style, alloc)?;
+        let severity = Severity::of(levels, finding.report.rule);
+        push_report(&mut out, &finding.report, severity, texts, style, alloc)?;
         push_notes(&mut out, &finding.notes, texts, style, alloc)?;
         push_notes(
             &mut out,
@@ -41,6 +45,7 @@ pub fn text_of(
 fn push_report(
     out: &mut String,
     report: &ShownReport,
+    severity: Severity,
     texts: Texts<'_>,
     style: Style,
     alloc: Global,
@@ -48,14 +53,14 @@ fn push_report(
     match texts.locate(report.location) {
         Some(located) => {
             push_place(out, located, style)?;
-            push_error(out, report, style)?;
-            push_line(out, located, style.error, style, alloc)
+            push_message(out, report, severity, style)?;
+            push_line(out, located, color_of(severity, style), style, alloc)
         }
         None => {
             let Style { strong, end, .. } = style;
             let path = Printable(shown_name(texts.path()));
             write!(out, "{strong}{path}:{end}")?;
-            push_error(out, report, style)
+            push_message(out, report, severity, style)
         }
     }
 }
@@ -99,17 +104,27 @@ fn push_help(
     writeln!(out, "  {margin}={end} {strong}help:{end} {words}")
 }
 
-/// Adds what is wrong and which rule says so, behind its place.
-fn push_error(out: &mut String, report: &ShownReport, style: Style) -> Result<(), AllocError> {
-    let Style {
-        strong,
-        error,
-        end,
-        ..
-    } = style;
+/// The colour of reports of this severity.
+fn color_of(severity: Severity, style: Style) -> &'static str {
+    match severity {
+        Severity::Error => style.error,
+        Severity::Warning => style.warning,
+    }
+}
+
+/// Adds what is wrong, how grave it is, and which rule says so, after its place.
+fn push_message(
+    out: &mut String,
+    report: &ShownReport,
+    severity: Severity,
+    style: Style,
+) -> Result<(), AllocError> {
+    let Style { strong, end, .. } = style;
+    let color = color_of(severity, style);
+    let name = severity.name();
     let message = Printable(report.message.as_str());
     let rule = report.rule;
-    writeln!(out, " {error}error:{end} {strong}{message}{end} [{rule}]")
+    writeln!(out, " {color}{name}:{end} {strong}{message}{end} [{rule}]")
 }
 
 /// Adds what is at another place, behind that place.

@@ -2,6 +2,7 @@
 
 ghost use Rattle.std.specs.Prelude.{◌≡◌, IfSome};
 
+use crate::comments::comment_rules;
 use crate::definitions::definition_rules;
 use crate::limits::limits;
 use crate::selections::selection_rules;
@@ -14,7 +15,8 @@ use crate::values::value_rules;
 pub struct Explanation {
     /// The name of the rule, as reports have it.
     pub rule: &'static str,
-    /// The section of the specification of October 2021, or the proposal. Empty for a limit, which is no rule of these.
+    /// The section of the specification of October 2021, or the proposal. Empty for what is no rule of these: a limit, or a rule of
+    /// comments.
     pub section: &'static str,
     /// What the rule asks.
     pub asks: &'static str,
@@ -26,8 +28,8 @@ pub struct Explanation {
     pub right: &'static str,
 }
 
-/// All rules: first those of documents, then those of schemas, and limits.
-pub fn tables() -> [&'static [Explanation]; 6] {
+/// All rules: first those of documents, then those of schemas, limits, and those of comments.
+pub fn tables() -> [&'static [Explanation]; 7] {
     [
         selection_rules(),
         value_rules(),
@@ -35,6 +37,7 @@ pub fn tables() -> [&'static [Explanation]; 6] {
         definition_rules(),
         type_rules(),
         limits(),
+        comment_rules(),
     ]
 }
 

@@ -1,6 +1,7 @@
 //! What each rule asks, with a wrong and a right example.
 #![tactic(auto)]
 
+pub mod comments;
 pub mod definitions;
 pub mod explanations;
 pub mod limits;

@@ -1,10 +1,21 @@
 //! What a run reports, and how many.
 
+ghost use Rattle.std.specs.Prelude.{◌≡◌, ◌↔◌};
+ghost use Rattle.gqlvalidate_levels.specs.Levels.{Fails};
+ghost use Rattle.gqlvalidate_runs.specs.Runs.{IsFound};
+ghost use Rattle.gqlvalidate_inputs.specs.declared.statuses.Status.TheVariants as Status;
+
+use crate::comments::{Comments, UNUSED_IGNORE};
+use crate::files::{first_of, first_texts, place_in, sort};
+use crate::kept::{counts_of, keep_shown};
+use crate::policies::Policy;
 use crate::presentations::Presentation;
 use crate::sheets::Sheet;
 use gqlvalidate_formats::named_texts::{CountedSubject, NamedText, Subject};
 use gqlvalidate_formats::{Finding, ProjectReports, Reports, Run, Texts, findings_beside};
 use gqlvalidate_inputs::faults::{Fault, fault_of_output};
+use gqlvalidate_inputs::statuses::Status;
+use gqlvalidate_levels::{Counts, Levels};
 use graphql_documents::documents::Schema;
 use graphql_parser::Bounds;
 use std::alloc::{AllocError, Global};
@@ -17,6 +28,12 @@ pub struct Account<'a> {
     presentation: Presentation,
     sheet: Sheet,
     tally: Tally,
+    /// The levels of rules.
+    levels: Levels,
+    /// There may be so many warnings; any number, if none is given.
+    max_warnings: Option<usize>,
+    /// Comments ignore reports.
+    heeds_comments: bool,
     /// The schema against which documents are validated: help names what it defines.
     definitions: Option<&'a Schema>,
     /// Its texts, which notes may be about.
@@ -34,6 +51,9 @@ impl Drop for Account<'_> {
             presentation: _,
             sheet: _,
             tally: _,
+            levels: _,
+            max_warnings: _,
+            heeds_comments: _,
             definitions: _,
             schema: _,
             counted: _,
@@ -45,7 +65,10 @@ impl Drop for Account<'_> {
 /// How many reports there are.
 #[derive(Clone, Copy)]
 pub struct Tally {
-    pub reports: usize,
+    /// How many are errors, and how many are warnings.
+    pub counts: Counts,
+    /// How many others comments ignore.
+    pub ignored: usize,
     /// How many of them are printed.
     pub shown: usize,
     /// How many files they are about.
@@ -92,24 +115,57 @@ pub struct FilesOfProject<'a> {
 }
 
 impl<'a> Account<'a> {
-    /// Nothing is reported yet.
+    /// Nothing is reported yet. Rules have their usual levels, and no comment ignores a report.
     pub fn new(alloc: Global, presentation: Presentation) -> Result<Account<'a>, AllocError> {
         let Presentation { reporting, style } = presentation;
         Ok(Account {
             presentation,
             sheet: Sheet::new(alloc, reporting.format, style)?,
             tally: Tally {
-                reports: 0,
+                counts: Counts {
+                    errors: 0,
+                    warnings: 0,
+                },
+                ignored: 0,
                 shown: 0,
                 files: 0,
                 documents: 0,
                 empty: 0,
             },
+            levels: Levels::new(alloc),
+            max_warnings: None,
+            heeds_comments: false,
             definitions: None,
             schema: None,
             counted: None,
             unreadable: Vec::new(alloc),
         })
+    }
+
+    /// Rules have these levels, there may be so many warnings, and comments in documents ignore reports.
+    pub fn heed(&mut self, alloc: Global, policy: Policy<'_>) -> Result<(), AllocError> {
+        self.levels = policy.levels.copied(alloc)?;
+        self.max_warnings = policy.max_warnings;
+        self.heeds_comments = true;
+        Ok(())
+    }
+
+    /// The status of a run in which this was found: if nothing kept it from being validated, the levels of what is reported decide.
+    pub fn status(&self, found: Status) -> Status
+        ensures reported { IsFound found → result ≡ Status.Reported ↔ Fails self.now.tally.counts.errors self.now.tally.counts.warnings self.now.max_warnings }
+        ensures accepted { IsFound found → result ≡ Status.Accepted ↔ ¬ Fails self.now.tally.counts.errors self.now.tally.counts.warnings self.now.max_warnings }
+        ensures other { ¬ IsFound found → result ≡ found }
+    {
+        match found {
+            Status::Accepted | Status::Reported => {
+                if self.tally.counts.fails(self.max_warnings) {
+                    Status::Reported
+                } else {
+                    Status::Accepted
+                }
+            }
+            _ => found,
+        }
     }
 
     /// Documents are validated against this schema, which was read from these texts.
@@ -156,8 +212,8 @@ impl<'a> Account<'a> {
         }
     }
 
-    /// Reports what is wrong with one document, which was read within these bounds. The operations on which reports depend are taken from
-    /// what is reported of its texts as a project, if that is given.
+    /// Reports what is wrong with one document, if anything is, which was read within these bounds. The operations on which reports depend are
+    /// taken from what is reported of its texts as a project, if that is given.
     pub fn reject<O: Write>(
         &mut self,
         alloc: Global,
@@ -168,7 +224,59 @@ impl<'a> Account<'a> {
         output: &mut O,
     ) -> Result<(), Fault> {
         self.tally.documents = self.tally.documents.saturating_add(1);
-        self.report(alloc, reports, project, subject, bounds, output)
+        let mut findings = findings_beside(
+            alloc,
+            self.definitions,
+            reports,
+            project,
+            subject.sources,
+            bounds,
+            usize::MAX,
+        )?;
+        let reported = self.report_one(alloc, &mut findings.shown, subject, output);
+        drop(findings);
+        reported
+    }
+
+    /// Reports these findings on one document.
+    fn report_one<O: Write>(
+        &mut self,
+        alloc: Global,
+        shown: &mut Vec<Finding<'_>>,
+        subject: Subject<'_>,
+        output: &mut O,
+    ) -> Result<(), Fault> {
+        self.settle(alloc, shown, subject, subject.texts.len())?;
+        if shown.is_empty() {
+            return Ok(self.pass(subject.path)?);
+        }
+        let counts = counts_of(shown, &self.levels);
+        shown.truncate(self.room());
+        self.tally.add(counts, shown.len(), 1);
+        self.print_findings(alloc, shown, subject, output)
+    }
+
+    /// Takes out the findings that comments ignore, and those of rules that are off, and adds one for each name in a comment that ignores nothing,
+    /// in the order of places. So many texts come first whose comments are to ignore something.
+    fn settle(
+        &mut self,
+        alloc: Global,
+        shown: &mut Vec<Finding<'_>>,
+        subject: Subject<'_>,
+        judged: usize,
+    ) -> Result<(), AllocError> {
+        if !self.heeds_comments {
+            return Ok(());
+        }
+        let comments = Comments::of(alloc, subject, judged)?;
+        let heard = comments.heard(alloc, shown, subject)?;
+        keep_shown(shown, &self.levels);
+        let ignored = comments.take_out(alloc, shown, subject)?;
+        self.tally.ignored = self.tally.ignored.saturating_add(ignored);
+        if self.levels.shows(UNUSED_IGNORE) {
+            comments.add_unused(alloc, &heard, shown)?;
+        }
+        sort(alloc, shown, subject)
     }
 
     /// Reports what is wrong with documents that were read within these bounds, and validated together: each fault once, unless it is in a
@@ -205,16 +313,16 @@ impl<'a> Account<'a> {
         files: FilesOfProject<'_>,
         output: &mut O,
     ) -> Result<usize, Fault> {
-        let most = self.room();
+        self.settle(alloc, shown, subject, files.judged)?;
         shown.retain(|finding| is_in_none(finding, files.hidden));
         let count = shown.len();
         let firsts = first_texts(alloc, subject.texts)?;
         shown.sort_by(|a, b| place_in(a, &firsts).cmp(&place_in(b, &firsts)))?;
         let faulty = files_of(alloc, shown, subject, &firsts)?;
         drop(firsts);
-        shown.truncate(most);
-        self.tally
-            .add(shown.len(), count.saturating_sub(most), faulty.len());
+        let counts = counts_of(shown, &self.levels);
+        shown.truncate(self.room());
+        self.tally.add(counts, shown.len(), faulty.len());
         if count > 0 {
             self.print_findings(alloc, shown, subject, output)?;
         }
@@ -236,7 +344,10 @@ impl<'a> Account<'a> {
             subject: &counted,
             schema: self.counted.as_ref(),
         };
-        print(self.sheet.add(alloc, findings, texts)?, output)
+        print(
+            self.sheet.add(alloc, findings, &self.levels, texts)?,
+            output,
+        )
     }
 
     /// Nothing is reported of the other files that are judged and shown.
@@ -266,7 +377,7 @@ impl<'a> Account<'a> {
             .saturating_sub(self.tally.shown)
     }
 
-    /// Reports what is wrong with one subject, which was read within these bounds: each fault once.
+    /// Reports what is wrong with one subject, which was read within these bounds: each fault once, as an error, whatever comments say.
     pub fn report<O: Write>(
         &mut self,
         alloc: Global,
@@ -286,7 +397,11 @@ impl<'a> Account<'a> {
             bounds,
             most,
         )?;
-        self.tally.add(findings.shown.len(), findings.others, 1);
+        let counts = Counts {
+            errors: findings.shown.len().saturating_add(findings.others),
+            warnings: 0,
+        };
+        self.tally.add(counts, findings.shown.len(), 1);
         self.print_findings(alloc, &findings.shown, subject, output)
     }
 
@@ -312,6 +427,9 @@ impl<'a> Account<'a> {
             presentation: _,
             sheet,
             tally,
+            levels: _,
+            max_warnings: _,
+            heeds_comments: _,
             definitions: _,
             schema: _,
             counted: _,
@@ -320,13 +438,14 @@ impl<'a> Account<'a> {
         let views = views(alloc, &unreadable)?;
         let run = Run {
             not_shown: tally.left_out(),
+            ignored: tally.ignored,
             schema_files: extent.schema_files,
             documents: tally.documents,
             empty: tally.empty,
             unreadable: views.as_slice(),
         };
         print(sheet.end(alloc, run)?, output)?;
-        if tally.reports > 0 || extent.is_checked(tally) {
+        if tally.reports() > 0 || extent.is_checked(tally) {
             let whole = extent.whole;
             let summary = Summary { tally, whole };
             let _ = writeln!(faults, "{summary}");
@@ -361,33 +480,6 @@ fn files_of(
     Ok(files)
 }
 
-/// The number of the first text of the file of this text.
-fn first_of(file: u32, firsts: &BTreeMap<u32, u32>) -> u32 {
-    firsts.get(&file).copied().unwrap_or(file)
-}
-
-/// Where a finding is: its file, by the number of the first text, and the bytes at which it begins and ends. What has no place comes first.
-fn place_in(finding: &Finding<'_>, firsts: &BTreeMap<u32, u32>) -> Option<(u32, u32, u32)> {
-    let place = finding.report.location?;
-    Some((first_of(place.file_id.0, firsts), place.start, place.end))
-}
-
-/// The number of the first text of the same file, by the number of each text: the parts of a text come after it, under its path.
-fn first_texts(alloc: Global, texts: &[NamedText<'_>]) -> Result<BTreeMap<u32, u32>, AllocError> {
-    let mut firsts = BTreeMap::new(alloc);
-    let mut path = None;
-    let mut first = 0_u32;
-    for text in texts {
-        let number = text.source.file_id.0;
-        if text.path.is_none() || text.path != path {
-            path = text.path;
-            first = number;
-        }
-        firsts.insert(number, first)?;
-    }
-    Ok(firsts)
-}
-
 fn views(alloc: Global, paths: &[String]) -> Result<Vec<&str>, AllocError> {
     let mut views = Vec::new(alloc);
     for path in paths {
@@ -402,17 +494,21 @@ pub fn print<O: Write>(text: String, output: &mut O) -> Result<(), Fault> {
 }
 
 impl Tally {
-    /// Counts the reports of so many more files.
-    fn add(&mut self, shown: usize, others: usize, files: usize) {
-        let reports = shown.saturating_add(others);
-        self.reports = self.reports.saturating_add(reports);
+    /// How many reports there are.
+    fn reports(&self) -> usize {
+        self.counts.errors.saturating_add(self.counts.warnings)
+    }
+
+    /// Counts the reports of so many more files, of which so many are printed.
+    fn add(&mut self, counts: Counts, shown: usize, files: usize) {
+        self.counts = self.counts.and(counts);
         self.shown = self.shown.saturating_add(shown);
         self.files = self.files.saturating_add(files);
     }
 
     /// How many reports are not printed.
     fn left_out(&self) -> usize {
-        self.reports.saturating_sub(self.shown)
+        self.reports().saturating_sub(self.shown)
     }
 }
 
@@ -425,28 +521,52 @@ struct Summary {
 
 impl fmt::Display for Summary {
     fn fmt<W: fmt::Write>(&self, f: &mut fmt::Formatter<W>) -> fmt::Result {
-        if self.tally.reports == 0 {
-            return self.write_silence(f);
+        if self.tally.reports() == 0 {
+            self.write_silence(f)?;
+        } else {
+            self.write_reports(f)?;
+            self.write_empty(f)?;
         }
-        let reports = Counted(self.tally.reports, "report");
-        match self.whole {
-            Whole::Schema => write!(f, "{reports} in the schema")?,
-            Whole::Documents(count) => {
-                let files = self.tally.files;
-                let documents = Counted(count.saturating_sub(self.tally.empty), "document");
-                write!(f, "{reports} in {files} of {documents}")?;
-            }
-        }
-        self.write_empty(f)?;
-        let left_out = self.tally.left_out();
-        if left_out > 0 {
-            write!(f, ", {left_out} not shown")?;
-        }
-        Ok(())
+        write_part(self.tally.ignored, "ignored", f)?;
+        write_part(self.tally.left_out(), "not shown", f)
     }
 }
 
+/// Adds how many are so, if any are.
+fn write_part<W: fmt::Write>(
+    count: usize,
+    how: &'static str,
+    f: &mut fmt::Formatter<W>,
+) -> fmt::Result {
+    if count > 0 {
+        write!(f, ", {count} {how}")?;
+    }
+    Ok(())
+}
+
 impl Summary {
+    /// How many reports there are, and of how many files: with warnings, errors and warnings each.
+    fn write_reports<W: fmt::Write>(&self, f: &mut fmt::Formatter<W>) -> fmt::Result {
+        let Counts { errors, warnings } = self.tally.counts;
+        if warnings == 0 {
+            write!(f, "{}", Counted(errors, "report"))?;
+        } else if errors == 0 {
+            write!(f, "{}", Counted(warnings, "warning"))?;
+        } else {
+            let errors = Counted(errors, "error");
+            let warnings = Counted(warnings, "warning");
+            write!(f, "{errors}, {warnings}")?;
+        }
+        match self.whole {
+            Whole::Schema => f.write_str(" in the schema"),
+            Whole::Documents(count) => {
+                let files = self.tally.files;
+                let documents = Counted(count.saturating_sub(self.tally.empty), "document");
+                write!(f, " in {files} of {documents}")
+            }
+        }
+    }
+
     /// What was checked, if nothing is reported of it.
     fn write_silence<W: fmt::Write>(&self, f: &mut fmt::Formatter<W>) -> fmt::Result {
         match self.whole {

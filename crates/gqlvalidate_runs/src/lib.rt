@@ -3,7 +3,11 @@
 
 pub mod accounts;
 pub mod bounds;
+mod comments;
+mod files;
 pub mod json_lines;
+mod kept;
+pub mod policies;
 pub mod presentations;
 pub mod schema_files;
 pub mod schema_reports;

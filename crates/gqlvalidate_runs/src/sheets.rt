@@ -6,6 +6,7 @@ use gqlvalidate_formats::{
     Finding, Run, Style, Texts, checkstyle, github, json_findings, sarif, text,
 };
 use gqlvalidate_inputs::printable::PrintableJson;
+use gqlvalidate_levels::Levels;
 use gqlvalidate_words::Format;
 use json::Writer;
 use std::alloc::{AllocError, Global};
@@ -52,17 +53,18 @@ impl Sheet {
         &mut self,
         alloc: Global,
         findings: &[Finding<'_>],
+        levels: &Levels,
         texts: Texts<'_>,
     ) -> Result<String, AllocError> {
         match self {
-            Sheet::Text(style) => return text::text_of(alloc, findings, texts, *style),
-            Sheet::Github => return github::annotations_of(alloc, findings, texts),
-            Sheet::Json(json) => json_findings::add_findings(json, alloc, findings, texts)?,
-            Sheet::Sarif(json) => sarif::add_findings(json, alloc, findings, texts)?,
-            Sheet::Gitlab(issues) => issues.add(alloc, findings, texts)?,
-            Sheet::Junit(suite) => suite.add(alloc, findings, texts)?,
+            Sheet::Text(style) => return text::text_of(alloc, findings, levels, texts, *style),
+            Sheet::Github => return github::annotations_of(alloc, findings, levels, texts),
+            Sheet::Json(json) => json_findings::add_findings(json, alloc, findings, levels, texts)?,
+            Sheet::Sarif(json) => sarif::add_findings(json, alloc, findings, levels, texts)?,
+            Sheet::Gitlab(issues) => issues.add(alloc, findings, levels, texts)?,
+            Sheet::Junit(suite) => suite.add(alloc, findings, levels, texts)?,
             Sheet::Checkstyle(elements) => {
-                let more = checkstyle::elements_of(alloc, findings, texts)?;
+                let more = checkstyle::elements_of(alloc, findings, levels, texts)?;
                 elements.push_str(more.as_str())?;
             }
         }

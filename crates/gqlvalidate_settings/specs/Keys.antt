@@ -1,7 +1,7 @@
 -- The keys that are read.
 use Rattle.std.specs.Prelude.{ℕ, List, codes}
 use Rattle.gqlvalidate_settings.specs.declared.keys.Key.{Key}
-use Rattle.gqlvalidate_settings.specs.declared.keys.Key.TheVariants.{Schema, Documents, Include, Exclude, Projects, Extensions, Program, Fragments}
+use Rattle.gqlvalidate_settings.specs.declared.keys.Key.TheVariants.{Schema, Documents, Include, Exclude, Projects, Extensions, Program, Fragments, Rules}
 
 -- the key as it is written
 abbrev pub name_of : Key → List ℕ
@@ -13,3 +13,4 @@ name_of Projects = codes "projects"
 name_of Extensions = codes "extensions"
 name_of Program = codes "gqlvalidate"
 name_of Fragments = codes "fragments"
+name_of Rules = codes "rules"

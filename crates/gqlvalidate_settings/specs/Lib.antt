@@ -3,4 +3,5 @@ pub mod Keys
 pub mod Paths
 pub mod Projects
 pub mod Refusals
+pub mod Rules
 pub mod Settings

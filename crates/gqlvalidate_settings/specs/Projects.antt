@@ -38,9 +38,13 @@ pub record IsOwnTable (members : List Member) (own : Option (List Member)) : Typ
   pub has_extensions : TableAt key.Extensions members extensions
   pub is_own : MatchOption extensions (own ≡ None) (λ inner. TableAt key.Program inner own)
 
+-- this program has a setting of this name
+abbrev pub is_known : Text → Bool
+is_known name = bytes_eq name (name_of key.Fragments) || bytes_eq name (name_of key.Rules)
+
 -- the first member of what a configuration says of this program that this program does not know
 abbrev pub unknown_member : List Member → Option Member
-unknown_member own = find (λ member. not (bytes_eq (string_bytes member.0) (name_of key.Fragments))) own
+unknown_member own = find (λ member. not (is_known (string_bytes member.0))) own
 
 -- the fragments that a configuration lists where it says nothing unknown of this program
 abbrev pub KnownFragments : List Member → List Text → Type 0

@@ -150,7 +150,7 @@ fn named_project(
 }
 
 /// The refusal in the project of this name.
-fn refused_in(alloc: Global, name: &str, refusal: Refusal) -> Refused
+pub(crate) fn refused_in(alloc: Global, name: &str, refusal: Refusal) -> Refused
     ensures { (result.refusal ≡ refusal) ⊎ (result.refusal ≡ Refusal.OutOfMemory) }
 {
     match String::from_str(alloc, name) {

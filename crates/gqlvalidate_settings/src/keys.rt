@@ -16,12 +16,14 @@ pub enum Key {
     Program,
     /// The files of fragments that all documents may use, in what a configuration says of this program.
     Fragments,
+    /// The levels of rules, in what a configuration says of this program.
+    Rules,
 }
 
 /// The key that leads to `Key::Program`.
 const IN_EXTENSIONS: [&str; 1] = ["extensions"];
 
-/// The keys that lead to `Key::Fragments`.
+/// The keys that lead to `Key::Fragments` and `Key::Rules`.
 const IN_PROGRAM: [&str; 2] = ["extensions", "gqlvalidate"];
 
 impl Key {
@@ -38,6 +40,7 @@ impl Key {
             Key::Extensions => "extensions",
             Key::Program => "gqlvalidate",
             Key::Fragments => "fragments",
+            Key::Rules => "rules",
         }
     }
 
@@ -51,7 +54,7 @@ impl Key {
             | Key::Projects
             | Key::Extensions => &[],
             Key::Program => &IN_EXTENSIONS,
-            Key::Fragments => &IN_PROGRAM,
+            Key::Fragments | Key::Rules => &IN_PROGRAM,
         }
     }
 }

@@ -10,6 +10,7 @@ mod lists;
 mod paths;
 mod projects;
 mod refusals;
+mod rules;
 mod setting;
 mod texts;
 mod toml_values;
@@ -20,5 +21,6 @@ pub use files::{MAX_FOLDERS, find_settings, find_settings_from, read_settings, s
 pub use keys::Key;
 pub use projects::ProjectSettings;
 pub use refusals::{Problem, Refusal};
+pub use rules::levels_of;
 pub use setting::Setting;
 pub use texts::{Settings, settings_of_text};

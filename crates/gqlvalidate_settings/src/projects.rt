@@ -132,7 +132,9 @@ pub(crate) fn table_at(
 }
 
 /// What members say of this program, if they say anything.
-fn own_table(members: &[(String, Setting)]) -> Result<Option<&[(String, Setting)]>, Refusal>
+pub(crate) fn own_table(
+    members: &[(String, Setting)],
+) -> Result<Option<&[(String, Setting)]>, Refusal>
     ensures own { IfOk result (λ own. IsOwnTable members.now (option_copied own)) }
     ensures refused { IfErr result (RulesOut (IsOwnTable members.now)) }
 {
@@ -171,6 +173,7 @@ fn known_fragments(alloc: Global, own: &[(String, Setting)]) -> Result<Vec<Strin
 fn unknown_member(own: &[(String, Setting)]) -> Option<&(String, Setting)>
     ensures { option_copied result ≡ unknown_member own.now }
 {
-    let known = Key::Fragments.name();
-    own.iter().find(|member| member.0.as_str() != known)
+    let fragments = Key::Fragments.name();
+    let rules = Key::Rules.name();
+    own.iter().find(|member| !(member.0.as_str() == fragments || member.0.as_str() == rules))
 }

@@ -4,6 +4,7 @@ ghost use Rattle.std.specs.Prelude.{◌≡◌};
 ghost use Rattle.gqlvalidate_settings.specs.declared.refusals.Refusal.TheVariants.{OutOfMemory};
 
 use crate::keys::Key;
+use gqlvalidate_levels::LevelProblem;
 use std::alloc::{AllocError, AllocFailed};
 use thiserror::Error;
 
@@ -18,8 +19,10 @@ pub enum Problem {
     NotATable,
     #[error("must be a key of each project, if there are `projects`")]
     BesideProjects,
-    #[error("is not a setting of this program, which has only `fragments`")]
+    #[error("is not a setting of this program, which has only `fragments` and `rules`")]
     Unknown,
+    #[error("{0}")]
+    Level(LevelProblem),
 }
 
 /// Why a value is no configuration.
@@ -30,6 +33,8 @@ pub enum Refusal {
     Wrong(Key, Problem),
     /// The settings of this program have a key of this name, which they must not have.
     Unknown(String),
+    /// The rule of this name, in the settings of this program, cannot have the level that it has there.
+    WrongLevel(String, LevelProblem),
     /// The project of this name is no table.
     NotAProject,
 }

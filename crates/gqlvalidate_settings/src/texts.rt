@@ -6,8 +6,10 @@ use crate::json_values::{JsonFault, json_place, json_setting, json_setting_at};
 use crate::keys::Key;
 use crate::projects::ProjectSettings;
 use crate::refusals::{Problem, Refusal};
+use crate::rules::levels_of;
 use crate::setting::Setting;
 use crate::toml_values::{TomlFault, toml_place, toml_setting};
+use gqlvalidate_levels::Levels;
 use graphql_places::Place;
 use std::alloc::{AllocError, Global};
 
@@ -17,6 +19,8 @@ pub struct Settings {
     /// The path of the file of the configuration.
     pub file: String,
     pub projects: Vec<ProjectSettings>,
+    /// The levels of rules in each project, in the order of the projects.
+    pub levels: Vec<Levels>,
 }
 
 /// The key of a package that has the configuration.
@@ -75,12 +79,28 @@ pub fn settings_of_text(
     let Some(members) = whole.as_table() else {
         return Err(wrong(alloc, file, None, Why::NotAnObject));
     };
-    match projects_of(alloc, folder, members) {
-        Ok(projects) => Ok(Some(Settings {
-            file: String::from_str(alloc, file)?,
-            projects,
-        })),
+    match settings_of_members(alloc, file, folder, members) {
+        Ok(settings) => Ok(Some(settings)),
         Err(refused) => Err(fault_of_refused(alloc, file, language, text, &refused)),
+    }
+}
+
+/// The settings of a configuration in a file of a folder.
+fn settings_of_members(
+    alloc: Global,
+    file: &str,
+    folder: &str,
+    members: &[(String, Setting)],
+) -> Result<Settings, Refused> {
+    let projects = projects_of(alloc, folder, members)?;
+    let levels = levels_of(alloc, members)?;
+    match String::from_str(alloc, file) {
+        Ok(file) => Ok(Settings {
+            file,
+            projects,
+            levels,
+        }),
+        Err(AllocError) => Err(Refused::from(Refusal::OutOfMemory)),
     }
 }
 
@@ -176,6 +196,7 @@ fn problem_of(refusal: &Refusal) -> Option<Problem> {
         Refusal::Wrong(Key::Schema, Problem::NotTexts) => Some(Problem::NoFiles),
         Refusal::Wrong(_, problem) => Some(*problem),
         Refusal::Unknown(_) => Some(Problem::Unknown),
+        Refusal::WrongLevel(_, problem) => Some(Problem::Level(*problem)),
         Refusal::NotAProject => Some(Problem::NotATable),
     }
 }
@@ -228,6 +249,11 @@ fn keys_of<'a>(
         Refusal::Unknown(name) => {
             path.extend_from_slice(Key::Fragments.parents())?;
             path.push(name.as_str())?;
+        }
+        Refusal::WrongLevel(rule, _) => {
+            path.extend_from_slice(Key::Rules.parents())?;
+            path.push(Key::Rules.name())?;
+            path.push(rule.as_str())?;
         }
     }
     Ok(path)

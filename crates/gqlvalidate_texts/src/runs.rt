@@ -5,6 +5,8 @@
 pub struct Run<'a> {
     /// How many findings are not shown.
     pub not_shown: usize,
+    /// How many findings are not shown because comments ignore them.
+    pub ignored: usize,
     /// How many files the schema has.
     pub schema_files: usize,
     /// How many documents were checked.

@@ -46,6 +46,8 @@ pub const MAX_LINE: &str = "max-line";
 
 pub const RULE: &str = "rule";
 
+pub const MAX_WARNINGS: &str = "max-warnings";
+
 pub const ANSWER: &str = "answer";
 
 pub const OLD: &str = "old";
@@ -116,8 +118,8 @@ static COLORS: [&str; 3] = [AUTO, ALWAYS, NEVER];
 const STATUSES: &str = "`-` stands for standard input, and may be named once.
 
 Status:
-  0  nothing was reported
-  1  something was reported
+  0  nothing was reported, or only warnings
+  1  something was reported that is no warning, or too many warnings
   2  bad arguments
   3  out of memory
   4  standard output could not be written
@@ -160,6 +162,7 @@ fn check<'a>(alloc: Global) -> Result<Command<'a>, Error> {
     let command = command.arg(schema_files(alloc))?;
     let command = with_configuration(alloc, command)?;
     let command = with_reporting(alloc, command)?;
+    let command = with_rules(alloc, command)?;
     let command = with_grouping(alloc, command)?;
     let command = with_lists(alloc, command)?;
     let command = with_limits(alloc, command, "64")?;
@@ -228,6 +231,12 @@ fn with_reporting<'a>(alloc: Global, command: Command<'a>) -> Result<Command<'a>
     let command = command.arg(format(alloc))?;
     let command = command.arg(color(alloc))?;
     Ok(command.arg(max_reports(alloc))?)
+}
+
+/// Adds the options that say which reports are errors, and how many warnings there may be.
+fn with_rules<'a>(alloc: Global, command: Command<'a>) -> Result<Command<'a>, Error> {
+    let command = command.arg(level(alloc))?;
+    Ok(command.arg(max_warnings(alloc))?)
 }
 
 /// Adds the options that choose the configuration.
@@ -490,6 +499,25 @@ fn rule<'a>(alloc: Global) -> Arg<'a> {
     Arg::new(alloc, RULE)
         .value_name("RULE")
         .help("The name of the rule, as reports have it in brackets or as `rule`")
+        .action(ArgAction::Set)
+}
+
+fn level<'a>(alloc: Global) -> Arg<'a> {
+    Arg::new(alloc, RULE)
+        .long(RULE)
+        .value_name("NAME=LEVEL")
+        .help(
+            "The level of a rule: error, warning or, for rules on which no other check depends, off; may be repeated",
+        )
+        .action(ArgAction::Append)
+}
+
+fn max_warnings<'a>(alloc: Global) -> Arg<'a> {
+    Arg::new(alloc, MAX_WARNINGS)
+        .long(MAX_WARNINGS)
+        .value_name("N")
+        .help("End with status 1 if there are more warnings [default: no limit]")
+        .value_parser(value_parser!(usize))
         .action(ArgAction::Set)
 }
 

@@ -2,6 +2,7 @@
 #![tactic(auto)]
 
 mod commands;
+mod levels;
 pub mod reading;
 pub mod requests;
 

@@ -3,16 +3,18 @@
 use crate::commands::{
     ALWAYS, ANSWER, CHECK, CHECKSTYLE, COLOR, CONFIG, DANGEROUS, DIFF, EACH, EXPLAIN, FAIL_ON,
     FILES, FILES_FROM, FORMAT, FRAGMENTS, GITHUB, GITLAB, JSON, JUNIT, LONE_FIELDS, MARKDOWN,
-    MAX_DEPTH, MAX_LINE, MAX_REACH, MAX_REPORTS, MAX_WORK, NEVER, NEW, NEW_SCHEMA, NO_CONFIG, NULL,
-    OLD, OLD_SCHEMA, ONE_DOCUMENT, ONLY, OPERATIONS, PRINT_SCHEMA, PROJECT, RULE, SARIF, SCHEMA,
-    SERVE, STDIN_NAME, SYNTAX, WATCH, program,
+    MAX_DEPTH, MAX_LINE, MAX_REACH, MAX_REPORTS, MAX_WARNINGS, MAX_WORK, NEVER, NEW, NEW_SCHEMA,
+    NO_CONFIG, NULL, OLD, OLD_SCHEMA, ONE_DOCUMENT, ONLY, OPERATIONS, PRINT_SCHEMA, PROJECT, RULE,
+    SARIF, SCHEMA, SERVE, STDIN_NAME, SYNTAX, WATCH, program,
 };
+use crate::levels::levels_of;
 use crate::requests::{
     ChangeFormat, Color, Configuration, ConfigurationChoice, FailOn, Format, Grouping, Limits,
     PathEnds, PathList, Refusal, Reporting, Request, STANDARD_INPUT,
 };
 use clap::error::ErrorKind;
 use clap::{ArgMatches, Error};
+use gqlvalidate_levels::Levels;
 use std::alloc::{AllocError, Global};
 
 /// What the words behind the program's name ask for.
@@ -58,17 +60,19 @@ fn request<'a>(alloc: Global, matches: &ArgMatches<'a>) -> Result<Request<'a>, R
     if watches_input(command, given) {
         return Err(wrong(alloc, "error: standard input, `-`, cannot be watched\n"));
     }
-    match request_of(alloc, command, given) {
+    let levels = levels_of(alloc, command, given)?;
+    match request_of(alloc, command, given, levels) {
         Ok(request) => Ok(request),
         Err(_refused) => Err(Refusal::OutOfMemory),
     }
 }
 
-/// What a command with these arguments asks for.
+/// What a command with these arguments, and these levels of rules, asks for.
 fn request_of<'a>(
     alloc: Global,
     command: &str,
     given: &ArgMatches<'a>,
+    levels: Levels,
 ) -> Result<Request<'a>, AllocError> {
     let files = paths(alloc, given, FILES)?;
     if command == CHECK {
@@ -85,6 +89,8 @@ fn request_of<'a>(
             limits: limits(given),
             reporting: reporting(given),
             watch: given.get_flag(WATCH),
+            levels,
+            max_warnings: given.get_one::<usize>(MAX_WARNINGS),
         })
     } else if command == SERVE {
         let schema = paths(alloc, given, SCHEMA)?;

@@ -2,6 +2,8 @@
 
 ghost use Rattle.std.specs.Prelude.{◌≡◌, ℕ, None, Some};
 
+use gqlvalidate_levels::Levels;
+
 /// The path that stands for standard input.
 pub const STANDARD_INPUT: &str = "-";
 
@@ -175,6 +177,10 @@ pub enum Request<'a> {
         reporting: Reporting,
         /// Files are validated again whenever one of them changes.
         watch: bool,
+        /// The levels that the command line gives to rules.
+        levels: Levels,
+        /// There may be so many warnings; any number, if none is given.
+        max_warnings: Option<usize>,
     },
     /// To compare the schema of some files with that of others.
     Diff {

@@ -13,7 +13,7 @@ const READ: &[(&[&str], &str)] = &[
     (&["explain", "Syntax"], "Explain { rule: Some(\"Syntax\") }"),
     (
         &["check", "--schema", "s", "a", "--schema=t", "b"],
-        "Check { choice: ConfigurationChoice { configuration: Nearest, project: None }, schema: [\"s\", \"t\"], documents: [\"a\", \"b\"], files_from: None, fragments: [], only: [], stdin_name: None, grouping: Project, limits: Limits { depth: 500, reach: 64, work: 160000000 }, reporting: Reporting { format: Text, color: Auto, max_reports: 100 }, watch: false }",
+        "Check { choice: ConfigurationChoice { configuration: Nearest, project: None }, schema: [\"s\", \"t\"], documents: [\"a\", \"b\"], files_from: None, fragments: [], only: [], stdin_name: None, grouping: Project, limits: Limits { depth: 500, reach: 64, work: 160000000 }, reporting: Reporting { format: Text, color: Auto, max_reports: 100 }, watch: false, levels: Levels { given: [] }, max_warnings: None }",
     ),
     (
         &["schema", "--format", "json", "--max-reports", "7", "s"],
@@ -54,7 +54,7 @@ const READ: &[(&[&str], &str)] = &[
             "s",
             "a",
         ],
-        "Check { choice: ConfigurationChoice { configuration: Nearest, project: None }, schema: [\"s\"], documents: [\"a\"], files_from: None, fragments: [], only: [], stdin_name: None, grouping: OneDocument, limits: Limits { depth: 7, reach: 5, work: 6 }, reporting: Reporting { format: Text, color: Always, max_reports: 100 }, watch: false }",
+        "Check { choice: ConfigurationChoice { configuration: Nearest, project: None }, schema: [\"s\"], documents: [\"a\"], files_from: None, fragments: [], only: [], stdin_name: None, grouping: OneDocument, limits: Limits { depth: 7, reach: 5, work: 6 }, reporting: Reporting { format: Text, color: Always, max_reports: 100 }, watch: false, levels: Levels { given: [] }, max_warnings: None }",
     ),
     (
         &[
@@ -66,19 +66,34 @@ const READ: &[(&[&str], &str)] = &[
             "s",
             "--fragments=g",
         ],
-        "Check { choice: ConfigurationChoice { configuration: Nearest, project: None }, schema: [\"s\"], documents: [], files_from: Some(PathList { file: \"l\", ends: Lines }), fragments: [\"f\", \"g\"], only: [], stdin_name: None, grouping: Project, limits: Limits { depth: 500, reach: 64, work: 160000000 }, reporting: Reporting { format: Text, color: Auto, max_reports: 100 }, watch: false }",
+        "Check { choice: ConfigurationChoice { configuration: Nearest, project: None }, schema: [\"s\"], documents: [], files_from: Some(PathList { file: \"l\", ends: Lines }), fragments: [\"f\", \"g\"], only: [], stdin_name: None, grouping: Project, limits: Limits { depth: 500, reach: 64, work: 160000000 }, reporting: Reporting { format: Text, color: Auto, max_reports: 100 }, watch: false, levels: Levels { given: [] }, max_warnings: None }",
     ),
     (
         &["check", "--each", "--schema", "s", "a"],
-        "Check { choice: ConfigurationChoice { configuration: Nearest, project: None }, schema: [\"s\"], documents: [\"a\"], files_from: None, fragments: [], only: [], stdin_name: None, grouping: Each, limits: Limits { depth: 500, reach: 64, work: 160000000 }, reporting: Reporting { format: Text, color: Auto, max_reports: 100 }, watch: false }",
+        "Check { choice: ConfigurationChoice { configuration: Nearest, project: None }, schema: [\"s\"], documents: [\"a\"], files_from: None, fragments: [], only: [], stdin_name: None, grouping: Each, limits: Limits { depth: 500, reach: 64, work: 160000000 }, reporting: Reporting { format: Text, color: Auto, max_reports: 100 }, watch: false, levels: Levels { given: [] }, max_warnings: None }",
     ),
     (
         &["check", "--config", "c", "--project=p"],
-        "Check { choice: ConfigurationChoice { configuration: File(\"c\"), project: Some(\"p\") }, schema: [], documents: [], files_from: None, fragments: [], only: [], stdin_name: None, grouping: Project, limits: Limits { depth: 500, reach: 64, work: 160000000 }, reporting: Reporting { format: Text, color: Auto, max_reports: 100 }, watch: false }",
+        "Check { choice: ConfigurationChoice { configuration: File(\"c\"), project: Some(\"p\") }, schema: [], documents: [], files_from: None, fragments: [], only: [], stdin_name: None, grouping: Project, limits: Limits { depth: 500, reach: 64, work: 160000000 }, reporting: Reporting { format: Text, color: Auto, max_reports: 100 }, watch: false, levels: Levels { given: [] }, max_warnings: None }",
     ),
     (
         &["check", "--no-config", "--schema", "s", "a"],
-        "Check { choice: ConfigurationChoice { configuration: Nothing, project: None }, schema: [\"s\"], documents: [\"a\"], files_from: None, fragments: [], only: [], stdin_name: None, grouping: Project, limits: Limits { depth: 500, reach: 64, work: 160000000 }, reporting: Reporting { format: Text, color: Auto, max_reports: 100 }, watch: false }",
+        "Check { choice: ConfigurationChoice { configuration: Nothing, project: None }, schema: [\"s\"], documents: [\"a\"], files_from: None, fragments: [], only: [], stdin_name: None, grouping: Project, limits: Limits { depth: 500, reach: 64, work: 160000000 }, reporting: Reporting { format: Text, color: Auto, max_reports: 100 }, watch: false, levels: Levels { given: [] }, max_warnings: None }",
+    ),
+    (
+        &[
+            "check",
+            "--rule",
+            "UnusedVariable=off",
+            "--max-warnings=2",
+            "--rule=UnusedFragment=error",
+            "--rule",
+            "UnusedFragment=warning",
+            "--schema",
+            "s",
+            "a",
+        ],
+        "Check { choice: ConfigurationChoice { configuration: Nearest, project: None }, schema: [\"s\"], documents: [\"a\"], files_from: None, fragments: [], only: [], stdin_name: None, grouping: Project, limits: Limits { depth: 500, reach: 64, work: 160000000 }, reporting: Reporting { format: Text, color: Auto, max_reports: 100 }, watch: false, levels: Levels { given: [RuleLevel { rule: \"UnusedFragment\", level: Warning }, RuleLevel { rule: \"UnusedVariable\", level: Off }] }, max_warnings: Some(2) }",
     ),
     (
         &["serve", "--schema", "s"],
