@@ -29,7 +29,7 @@ pub fn comment_of(line: &str) -> Option<Comment<'_>> {
     }
     Some(Comment {
         at: before.len(),
-        is_alone: before.chars().all(is_ignored),
+        is_alone: before.chars().all(|character| is_ignored(character)),
         names,
         names_at: word.saturating_add(WORD.len()),
     })
@@ -58,6 +58,6 @@ fn is_ignored(character: char) -> bool {
 }
 
 /// Whether this character comes between the names of a comment.
-pub fn is_between(character: char) -> bool {
+fn is_between(character: char) -> bool {
     matches!(character, ' ' | '\t' | ',')
 }

@@ -1,9 +1,8 @@
 //! What a run reports, and how many.
 
-ghost use Rattle.std.specs.Prelude.{◌≡◌, ◌↔◌};
+ghost use Rattle.std.specs.Prelude.{◌≡◌, ◌↔◌, ◌⊎◌};
 ghost use Rattle.gqlvalidate_levels.specs.Levels.{Fails};
 ghost use Rattle.gqlvalidate_runs.specs.Runs.{IsFound};
-ghost use Rattle.gqlvalidate_inputs.specs.declared.statuses.Status.TheVariants as Status;
 
 use crate::comments::{Comments, UNUSED_IGNORE};
 use crate::files::{first_of, first_texts, place_in, sort};
@@ -11,7 +10,7 @@ use crate::kept::{counts_of, keep_shown};
 use crate::policies::Policy;
 use crate::presentations::Presentation;
 use crate::sheets::Sheet;
-use gqlvalidate_formats::named_texts::{CountedSubject, NamedText, Subject};
+use gqlvalidate_formats::named_texts::{CountedSubject, Subject};
 use gqlvalidate_formats::{Finding, ProjectReports, Reports, Run, Texts, findings_beside};
 use gqlvalidate_inputs::faults::{Fault, fault_of_output};
 use gqlvalidate_inputs::statuses::Status;
@@ -152,8 +151,8 @@ impl<'a> Account<'a> {
 
     /// The status of a run in which this was found: if nothing kept it from being validated, the levels of what is reported decide.
     pub fn status(&self, found: Status) -> Status
-        ensures reported { IsFound found → result ≡ Status.Reported ↔ Fails self.now.tally.counts.errors self.now.tally.counts.warnings self.now.max_warnings }
-        ensures accepted { IsFound found → result ≡ Status.Accepted ↔ ¬ Fails self.now.tally.counts.errors self.now.tally.counts.warnings self.now.max_warnings }
+        ensures reported { IsFound found → ((result ≡ Status.Reported) ↔ Fails self.now.tally.counts.errors self.now.tally.counts.warnings self.now.max_warnings) }
+        ensures accepted { IsFound found → ((result ≡ Status.Accepted) ⊎ (result ≡ Status.Reported)) }
         ensures other { ¬ IsFound found → result ≡ found }
     {
         match found {

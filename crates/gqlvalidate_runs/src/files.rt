@@ -42,5 +42,6 @@ pub fn sort(
     subject: Subject<'_>,
 ) -> Result<(), AllocError> {
     let firsts = first_texts(alloc, subject.texts)?;
-    findings.sort_by(|a, b| place_in(a, &firsts).cmp(&place_in(b, &firsts)))
+    findings.sort_by(|a, b| place_in(a, &firsts).cmp(&place_in(b, &firsts)))?;
+    Ok(())
 }
