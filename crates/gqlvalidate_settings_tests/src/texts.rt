@@ -98,7 +98,7 @@ const REFUSED_JSON: &[Example] = &[
         file: ".graphqlrc.json",
         folder: "",
         text: "{\"extensions\": {\n  \"fragmnts\": {},\n  \"gqlvalidate\": {\"fragments\": \"f\",\n    \"fragmnts\": \"g\"}}}",
-        wanted: ".graphqlrc.json:4:5: error: `extensions.gqlvalidate.fragmnts` is not a setting of this program, which has only `fragments`",
+        wanted: ".graphqlrc.json:4:5: error: `extensions.gqlvalidate.fragmnts` is not a setting of this program, which has only `fragments` and `rules`",
     },
     Example {
         file: ".graphqlrc.json",
@@ -168,7 +168,7 @@ const REFUSED_OTHERS: &[Example] = &[
         file: ".graphqlrc.toml",
         folder: "",
         text: "schema = 's'\n[extensions.gqlvalidate]\nfragments = 'f'\n\n# wrong\nfragmnts = 'g'",
-        wanted: ".graphqlrc.toml:6:1: error: `extensions.gqlvalidate.fragmnts` is not a setting of this program, which has only `fragments`",
+        wanted: ".graphqlrc.toml:6:1: error: `extensions.gqlvalidate.fragmnts` is not a setting of this program, which has only `fragments` and `rules`",
     },
     Example {
         file: ".graphqlrc.toml",
