@@ -1,5 +1,6 @@
 //! The commands and their arguments.
 
+use crate::dialects::{with_dialect, with_federation};
 use clap::{Arg, ArgAction, Command, Error, value_parser};
 use std::alloc::Global;
 
@@ -167,6 +168,7 @@ fn check<'a>(alloc: Global) -> Result<Command<'a>, Error> {
     let command = with_lists(alloc, command)?;
     let command = with_limits(alloc, command, "64")?;
     let command = with_editing(alloc, command)?;
+    let command = with_dialect(alloc, command)?;
     Ok(command.arg(documents(alloc))?)
 }
 
@@ -176,6 +178,7 @@ fn diff<'a>(alloc: Global) -> Result<Command<'a>, Error> {
         .after_help(STATUSES);
     let command = with_levels(alloc, command)?;
     let command = with_further_files(alloc, command)?;
+    let command = with_federation(alloc, command)?;
     let command = command.arg(one_file(alloc, OLD, "OLD", "The old schema"))?;
     Ok(command.arg(one_file(alloc, NEW, "NEW", "The new schema"))?)
 }
@@ -192,6 +195,7 @@ fn schema<'a>(alloc: Global) -> Result<Command<'a>, Error> {
         .about("Validates a schema")
         .after_help(STATUSES);
     let command = with_reporting(alloc, command)?;
+    let command = with_federation(alloc, command)?;
     Ok(command.arg(files(
         alloc,
         "FILE",
@@ -209,6 +213,7 @@ fn serve<'a>(alloc: Global) -> Result<Command<'a>, Error> {
     let command = command.arg(max_line(alloc))?;
     let command = command.arg(max_reports_of_an_answer(alloc))?;
     let command = command.arg(lent_fragments(alloc))?;
+    let command = with_federation(alloc, command)?;
     Ok(command.arg(schema_files(alloc).required(true))?)
 }
 

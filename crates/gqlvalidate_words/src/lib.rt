@@ -2,10 +2,12 @@
 #![tactic(auto)]
 
 mod commands;
+pub mod dialects;
 mod levels;
 pub mod reading;
 pub mod requests;
 
+pub use dialects::{ClientName, Dialect};
 pub use reading::parse;
 pub use requests::{
     ChangeFormat, Color, Configuration, ConfigurationChoice, FailOn, Format, Grouping, Limits,

@@ -7,6 +7,7 @@ use crate::commands::{
     NO_CONFIG, NULL, OLD, OLD_SCHEMA, ONE_DOCUMENT, ONLY, OPERATIONS, PRINT_SCHEMA, PROJECT, RULE,
     SARIF, SCHEMA, SERVE, STDIN_NAME, SYNTAX, WATCH, program,
 };
+use crate::dialects::{dialect_of, is_federation};
 use crate::levels::levels_of;
 use crate::requests::{
     ChangeFormat, Color, Configuration, ConfigurationChoice, FailOn, Format, Grouping, Limits,
@@ -91,6 +92,7 @@ fn request_of<'a>(
             watch: given.get_flag(WATCH),
             levels,
             max_warnings: given.get_one::<usize>(MAX_WARNINGS),
+            dialect: dialect_of(given),
         })
     } else if command == SERVE {
         let schema = paths(alloc, given, SCHEMA)?;
@@ -100,6 +102,7 @@ fn request_of<'a>(
             limits: limits(given),
             max_line: given.get_one::<u64>(MAX_LINE).unwrap_or(u64::MAX),
             max_reports: given.get_one::<usize>(MAX_REPORTS).unwrap_or(usize::MAX),
+            federation: is_federation(given),
         })
     } else if command == DIFF {
         diff(alloc, given)
@@ -120,6 +123,7 @@ fn request_of<'a>(
         Ok(Request::Schema {
             schema: files,
             reporting: reporting(given),
+            federation: is_federation(given),
         })
     }
 }
@@ -172,6 +176,7 @@ fn diff<'a>(alloc: Global, given: &ArgMatches<'a>) -> Result<Request<'a>, AllocE
         lone_fields: given.get_flag(LONE_FIELDS),
         fail_on: fail_on_of(given.get_str(FAIL_ON)),
         format: change_format_of(given.get_str(FORMAT)),
+        federation: is_federation(given),
     })
 }
 

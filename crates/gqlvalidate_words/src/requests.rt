@@ -2,6 +2,7 @@
 
 ghost use Rattle.std.specs.Prelude.{◌≡◌, ℕ, None, Some};
 
+use crate::dialects::Dialect;
 use gqlvalidate_levels::Levels;
 
 /// The path that stands for standard input.
@@ -181,6 +182,8 @@ pub enum Request<'a> {
         levels: Levels,
         /// There may be so many warnings; any number, if none is given.
         max_warnings: Option<usize>,
+        /// What the schema and the documents mean beyond the specification.
+        dialect: Dialect,
     },
     /// To compare the schema of some files with that of others.
     Diff {
@@ -192,6 +195,8 @@ pub enum Request<'a> {
         lone_fields: bool,
         fail_on: FailOn,
         format: ChangeFormat,
+        /// Both schemas are subgraphs of Federation.
+        federation: bool,
     },
     /// To print the schema that this answer to an introspection query describes.
     PrintSchema {
@@ -201,6 +206,8 @@ pub enum Request<'a> {
     Schema {
         schema: Vec<&'a str>,
         reporting: Reporting,
+        /// It is a subgraph of Federation.
+        federation: bool,
     },
     /// To answer lines of JSON on standard input, a document each, against the schema of these files.
     Serve {
@@ -212,6 +219,8 @@ pub enum Request<'a> {
         max_line: u64,
         /// As many reports an answer has at most.
         max_reports: usize,
+        /// The schema is a subgraph of Federation.
+        federation: bool,
     },
     /// To test whether these files are GraphQL documents, each for itself.
     Syntax {
