@@ -6,4 +6,4 @@ pub mod ignores;
 pub mod rules;
 
 pub use ignores::{Ignore, ignores_in};
-pub use rules::{Ignorable, ignorable};
+pub use rules::{Ignorable, meaning_of};

@@ -17,7 +17,7 @@ pub enum Ignorable {
 }
 
 /// What this name stands for: syntax errors and limits cannot be ignored, since after them less of a document is validated.
-pub fn ignorable(name: &str) -> Ignorable {
+pub fn meaning_of(name: &str) -> Ignorable {
     match explanation_of(name) {
         Some(explanation) if is_limit(explanation) => Ignorable::Never,
         Some(explanation) => Ignorable::Rule(explanation.rule),

@@ -3,7 +3,7 @@
 use crate::files::{first_of, first_texts};
 use gqlvalidate_formats::named_texts::{CountedSubject, Subject};
 use gqlvalidate_formats::{Finding, ShownReport, SourceText};
-use gqlvalidate_ignores::{Ignorable, Ignore, ignorable, ignores_in};
+use gqlvalidate_ignores::{Ignorable, Ignore, ignores_in, meaning_of};
 use graphql_nodes::{FileId, SourceSpan};
 use std::alloc::{AllocError, Global};
 use std::collections::{BTreeMap, BTreeSet};
@@ -72,7 +72,7 @@ impl<'a> Comments<'a> {
                 file: source.file_id,
                 first,
                 ignore,
-                meaning: ignorable(ignore.name),
+                meaning: meaning_of(ignore.name),
             };
             self.add(name, is_judged)?;
         }
