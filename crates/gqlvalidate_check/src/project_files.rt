@@ -12,8 +12,8 @@ use gqlvalidate_runs::depend_on_operations;
 use gqlvalidate_runs::named_texts::{NamedText, Subject};
 use graphql_documents::documents::Schema;
 use graphql_frontend::{ProjectReports, Reports, SourceText};
+use graphql_kept_projects::{Scope, add_further, check_project, reports_of};
 use graphql_parser::Bounds;
-use graphql_project_checking::{check_part_of_project, check_project};
 use std::alloc::{AllocError, Global};
 use std::collections::{BTreeMap, BTreeSet};
 use std::io::{Read, Write};
@@ -36,10 +36,7 @@ struct Project<'a> {
     shown: &'a [NamedText<'a>],
     /// The same texts as they are read.
     read: &'a [SourceText<'a>],
-    /// So many come first; the others lend fragments.
-    judged: usize,
-    /// No text of the run is missing.
-    is_whole: bool,
+    scope: Scope,
 }
 
 /// Validates these files together, with the fragments of those that are lent. One that cannot be read does not end the run.
@@ -92,8 +89,10 @@ fn check_text_files<O: Write>(
     let project = Project {
         shown: &texts.shown,
         read: &texts.read,
-        judged,
-        is_whole: is_all && paths.is_all,
+        scope: Scope {
+            judged,
+            is_whole: is_all && paths.is_all,
+        },
     };
     check_texts(alloc, schema, project, paths, account, output)
 }
@@ -109,12 +108,20 @@ fn check_texts<O: Write>(
 ) -> Result<usize, Fault>
     requires { IsUsable schema.now }
 {
-    let found = reports_of(alloc, schema, project, paths.bounds)?;
+    let mut found = reports_of(alloc, schema, project.read, project.scope, paths.bounds)?;
     let (own, _) = project
         .read
-        .split_at(project.judged.min(project.read.len()));
+        .split_at(project.scope.judged.min(project.read.len()));
     let cuts = cuts_of(alloc, own, &found, paths.bounds)?;
     if cuts.is_empty() {
+        add_further(
+            alloc,
+            schema,
+            project.read,
+            project.scope,
+            paths.bounds,
+            &mut found,
+        )?;
         return report_found(alloc, &found, project, paths, account, output);
     }
     drop(found);
@@ -139,10 +146,12 @@ fn check_cut<O: Write>(
     let project = Project {
         shown: &texts.shown,
         read: &texts.read,
-        judged: project.judged.saturating_add(count_of(cuts)),
-        is_whole: project.is_whole,
+        scope: Scope {
+            judged: project.scope.judged.saturating_add(count_of(cuts)),
+            is_whole: project.scope.is_whole,
+        },
     };
-    let found = reports_of(alloc, schema, project, paths.bounds)?;
+    let found = all_reports_of(alloc, schema, project, paths.bounds)?;
     report_found(alloc, &found, project, paths, account, output)
 }
 
@@ -193,14 +202,16 @@ fn report_cut<O: Write>(
     let project = Project {
         shown: &texts.shown,
         read: &texts.read,
-        judged: texts.shown.len(),
-        is_whole: true,
+        scope: Scope {
+            judged: texts.shown.len(),
+            is_whole: true,
+        },
     };
-    let found = reports_of(alloc, schema, project, bounds)?;
+    let found = all_reports_of(alloc, schema, project, bounds)?;
     account.add_documents(1);
     let hidden = BTreeSet::new(alloc);
     let files = FilesOfProject {
-        judged: project.judged,
+        judged: project.scope.judged,
         hidden: &hidden,
     };
     let subject = subject_of(project);
@@ -234,7 +245,7 @@ fn report_found<O: Write>(
 ) -> Result<usize, Fault> {
     let hidden = hidden_files(alloc, project.shown, paths.hidden)?;
     let files = FilesOfProject {
-        judged: project.judged,
+        judged: project.scope.judged,
         hidden: &hidden,
     };
     let subject = subject_of(project);
@@ -294,8 +305,8 @@ fn text_files<R: Files + AllocGlobal, I: Read, F: Write>(
     })
 }
 
-/// What is reported of these texts together: of all files of the run, or of some.
-fn reports_of(
+/// What is reported of these texts together, and of what is left of them without what cannot be built.
+fn all_reports_of(
     alloc: Global,
     schema: &Schema,
     project: Project<'_>,
@@ -303,14 +314,16 @@ fn reports_of(
 ) -> Result<ProjectReports, Fault>
     requires { IsUsable schema.now }
 {
-    let (own, lent) = project
-        .read
-        .split_at(project.judged.min(project.read.len()));
-    if project.is_whole {
-        Ok(check_project(alloc, schema, own, lent, bounds)?)
-    } else {
-        Ok(check_part_of_project(alloc, schema, own, lent, bounds)?)
-    }
+    let mut found = reports_of(alloc, schema, project.read, project.scope, bounds)?;
+    add_further(
+        alloc,
+        schema,
+        project.read,
+        project.scope,
+        bounds,
+        &mut found,
+    )?;
+    Ok(found)
 }
 
 /// What is reported of the texts of a document as a project, if one of these reports on it depends on an operation.

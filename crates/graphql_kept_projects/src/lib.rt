@@ -1,0 +1,12 @@
+//! Files of which some definitions cannot be built, validated again without what keeps these from it: so that a fault in a definition hides no
+//! other fault.
+#![tactic(auto)]
+
+mod kept;
+mod known;
+pub mod rounds;
+pub mod scopes;
+
+pub use graphql_project_checking::check_project;
+pub use rounds::add_further;
+pub use scopes::{Scope, reports_of};

@@ -1,0 +1,10 @@
+//! What reports say of the parts of texts that are to be left out, and which reports on what is left could be false of the whole.
+#![tactic(auto)]
+
+pub mod doubts;
+pub mod faults;
+mod uses;
+
+pub use doubts::Doubts;
+pub use faults::{add_doubtful, add_faults};
+pub use graphql_kept_texts::{Faults, Kept, kept_of};

@@ -1,0 +1,141 @@
+//! What of a document is at fault.
+
+use crate::cuts::Cut;
+use crate::faults::Faults;
+use crate::rooms::cut_at;
+use crate::selections::{Walk, cut_below, cut_selections, cut_set};
+use crate::variables::cut_variables;
+use graphql_nodes::{OperationType, SourceSpan};
+use graphql_trees::{
+    Definition, Document, FragmentDefinition, OperationDefinition, TypeDefinition,
+};
+use std::alloc::{AllocError, Global};
+
+/// The cuts that leave out of the text of a document what is at fault, in order:
+///
+/// - a field whose name is at fault; of a field that is itself at fault, its set
+/// - an inline fragment, or the definition of a fragment, that is at fault, or whose condition or name is
+/// - the spread of a fragment that is at fault
+/// - an operation that is at fault, or whose name is, and definitions of variables that are at fault
+/// - a definition of the type system that is at fault
+///
+/// A set of which nothing is left has `__typename` in its place. If there is no room for it, or the operation is a subscription, what has the
+/// set is left out. The only error is a failed allocation.
+///
+/// Specification: 2.2 Document, 2.4 Selection Sets.
+pub fn cuts_of(
+    alloc: Global,
+    text: &str,
+    document: &Document,
+    faults: &Faults,
+) -> Result<Vec<Cut>, AllocError> {
+    let walk = Walk { text, faults };
+    cut_definitions(alloc, walk, document.definitions.as_slice())
+}
+
+fn cut_definitions(
+    alloc: Global,
+    walk: Walk<'_>,
+    definitions: &[Definition],
+) -> Result<Vec<Cut>, AllocError> {
+    let mut cuts = Vec::new(alloc);
+    for definition in definitions {
+        cut_definition(walk, definition, &mut cuts)?;
+    }
+    Ok(cuts)
+}
+
+fn cut_definition(
+    walk: Walk<'_>,
+    definition: &Definition,
+    cuts: &mut Vec<Cut>,
+) -> Result<(), AllocError> {
+    match definition {
+        Definition::Operation(operation) => cut_operation(walk, operation, cuts),
+        Definition::Fragment(fragment) => cut_fragment(walk, fragment, cuts),
+        Definition::Schema(definition) | Definition::SchemaExtension(definition) => {
+            cut_if_at_fault(walk, definition.span, cuts)
+        }
+        Definition::Directive(definition) => cut_if_at_fault(walk, definition.span, cuts),
+        Definition::Type(definition) | Definition::TypeExtension(definition) => {
+            cut_if_at_fault(walk, span_of_type(definition), cuts)
+        }
+    }
+}
+
+fn cut_if_at_fault(
+    walk: Walk<'_>,
+    place: SourceSpan,
+    cuts: &mut Vec<Cut>,
+) -> Result<(), AllocError> {
+    if walk.faults.has(place) {
+        cut_at(place, cuts)?;
+    }
+    Ok(())
+}
+
+fn span_of_type(definition: &TypeDefinition) -> SourceSpan {
+    match definition {
+        TypeDefinition::Scalar(definition) => definition.span,
+        TypeDefinition::Object(definition) => definition.span,
+        TypeDefinition::Interface(definition) => definition.span,
+        TypeDefinition::Union(definition) => definition.span,
+        TypeDefinition::Enum(definition) => definition.span,
+        TypeDefinition::InputObject(definition) => definition.span,
+    }
+}
+
+fn cut_operation(
+    walk: Walk<'_>,
+    operation: &OperationDefinition,
+    cuts: &mut Vec<Cut>,
+) -> Result<(), AllocError> {
+    if walk.faults.has(operation.span) || has_name(walk, operation) {
+        return cut_at(operation.span, cuts);
+    }
+    let before = cuts.len();
+    cut_variables(walk, operation, cuts)?;
+    if is_set_left(walk, operation, cuts)? {
+        return Ok(());
+    }
+    cuts.truncate(before);
+    cut_at(operation.span, cuts)
+}
+
+/// Whether the name of the operation is at fault.
+fn has_name(walk: Walk<'_>, operation: &OperationDefinition) -> bool {
+    match &operation.name {
+        Some(name) => walk.faults.has_name(name),
+        None => false,
+    }
+}
+
+/// Cuts what is at fault in the set of an operation. `__typename` does not come in the place of the root fields of a subscription.
+///
+/// Specification: 5.2.3.1 Single Root Field.
+fn is_set_left(
+    walk: Walk<'_>,
+    operation: &OperationDefinition,
+    cuts: &mut Vec<Cut>,
+) -> Result<bool, AllocError> {
+    let set = &operation.selection_set;
+    match operation.operation_type {
+        OperationType::Subscription => cut_selections(walk, set.selections.as_slice(), cuts),
+        OperationType::Query | OperationType::Mutation => cut_set(walk, set, cuts),
+    }
+}
+
+fn cut_fragment(
+    walk: Walk<'_>,
+    fragment: &FragmentDefinition,
+    cuts: &mut Vec<Cut>,
+) -> Result<(), AllocError> {
+    let is_at_fault = walk.faults.has(fragment.span)
+        || walk.faults.has_name(&fragment.name)
+        || walk.faults.has_name(&fragment.type_condition);
+    if is_at_fault {
+        return cut_at(fragment.span, cuts);
+    }
+    cut_below(walk, fragment.span, &fragment.selection_set, cuts)?;
+    Ok(())
+}
