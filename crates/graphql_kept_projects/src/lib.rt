@@ -2,6 +2,7 @@
 //! other fault.
 #![tactic(auto)]
 
+mod certain;
 mod kept;
 mod known;
 pub mod rounds;

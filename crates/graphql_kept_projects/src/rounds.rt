@@ -2,6 +2,7 @@
 
 ghost use Rattle.graphql_frontend.specs.Schemas.{IsUsable};
 
+use crate::certain::add_all_certain;
 use crate::kept::{Left, doubts_of, left_without, sources_of};
 use crate::known::add_known;
 use crate::scopes::{Scope, reports_of};
@@ -14,7 +15,8 @@ use std::alloc::{AllocError, Global};
 /// As many times texts are validated again at most.
 const MOST_ROUNDS: usize = 4;
 
-/// Adds to what was found in texts what is found in them without what cannot be built. A report that could be false of the whole texts is not
+/// Adds to what was found in texts what is found in them without what cannot be built, and what is found without the schema in those with something that
+/// cannot. A report that could be false of the whole texts is not
 /// added, nor are the others of its list: what it is about is left out as well, and the rest is validated again.
 pub fn add_further(
     alloc: Global,
@@ -31,6 +33,7 @@ pub fn add_further(
     if faults.is_empty() {
         return Ok(());
     }
+    add_all_certain(alloc, read, scope, &faults, bounds, found)?;
     let left = Left::of(alloc, read)?;
     add_rounds(alloc, schema, read, scope, bounds, faults, left, found)
 }

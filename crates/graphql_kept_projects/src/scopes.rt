@@ -1,6 +1,6 @@
 //! Texts that are validated together.
 
-ghost use Rattle.std.specs.Prelude.{◌≡◌, ◌×◌, ◌++◌, List, IfOk};
+ghost use Rattle.std.specs.Prelude.{◌≡◌, ◌++◌, List, IfOk};
 ghost use Rattle.graphql_frontend.specs.Schemas.{IsUsable};
 ghost use Rattle.graphql_frontend.specs.declared.texts.SourceText as source_text;
 ghost use Rattle.graphql_project_checking.specs.Truth.{AreAllTrue};

@@ -4,7 +4,7 @@ ghost use Rattle.std.specs.Prelude.{◌≡◌};
 ghost use Rattle.std.specs.BTreeSet.{contains_text};
 ghost use Rattle.graphql_kept_reports.specs.Doubtful.{asks_for_what_is_there, has_doubtful, is_doubtful, may_be_of_type_name};
 
-use crate::uses::{Meaning, meaning};
+use crate::uses::{Meaning, meaning_of};
 use graphql_diagnostics::{BuildError, Details, DiagnosticData, DiagnosticEntry, DiagnosticList};
 use graphql_nodes::Name;
 use graphql_tokens::{Token, scan};
@@ -66,7 +66,7 @@ impl Doubts {
         first: Token,
         tokens: &[Token],
     ) -> Result<(), AllocError> {
-        match meaning(whole, tokens) {
+        match meaning_of(whole, tokens) {
             Meaning::Nothing => Ok(()),
             Meaning::UsesVariable(name) => {
                 if is_left_out(whole, left, first) {

@@ -1,10 +1,13 @@
 //! What reports say of the parts of texts that are to be left out, and which reports on what is left could be false of the whole.
 #![tactic(auto)]
 
+pub mod certain;
 pub mod doubts;
 pub mod faults;
 mod uses;
 
+pub use certain::add_certain;
 pub use doubts::Doubts;
 pub use faults::{add_doubtful, add_faults};
+pub use graphql_diagnostics::DiagnosticList;
 pub use graphql_kept_texts::{Faults, Kept, kept_of};

@@ -18,7 +18,7 @@ pub(crate) enum Meaning<'a> {
 /// What these tokens of a text mean, which follow one another.
 ///
 /// Specification: 2.8 Fragments, 2.10 Variables.
-pub(crate) fn meaning<'a>(text: &'a str, tokens: &[Token]) -> Meaning<'a> {
+pub(crate) fn meaning_of<'a>(text: &'a str, tokens: &[Token]) -> Meaning<'a> {
     match tokens {
         [first, name, rest @ ..] => match name.kind {
             TokenKind::Name => named(text, *first, text_of(text, *name), rest),

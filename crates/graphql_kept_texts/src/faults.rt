@@ -1,5 +1,8 @@
 //! What is at fault in texts.
 
+ghost use Rattle.std.specs.Prelude.{IsFalse};
+ghost use Rattle.graphql_kept_texts.specs.Faults.{HasNothing};
+
 use graphql_nodes::{FileId, Name, SourceSpan};
 use std::alloc::{AllocError, Global};
 use std::collections::BTreeSet;
@@ -19,7 +22,9 @@ pub struct Faults {
 
 impl Faults {
     /// Nothing is at fault.
-    pub fn new(alloc: Global) -> Faults {
+    pub fn new(alloc: Global) -> Faults
+        ensures { HasNothing result }
+    {
         Faults {
             places: BTreeSet::new(alloc),
             variables: BTreeSet::new(alloc),
@@ -67,28 +72,41 @@ impl Faults {
     }
 
     /// Whether what is at this place is at fault.
-    pub(crate) fn has(&self, place: SourceSpan) -> bool {
+    pub(crate) fn has(&self, place: SourceSpan) -> bool
+        ensures { HasNothing self.now → IsFalse result }
+    {
         self.places
             .contains(&(place.file_id.0, place.start, place.end))
     }
 
     /// Whether what this name names is at fault.
-    pub(crate) fn has_name(&self, name: &Name) -> bool {
-        name.location().is_some_and(|place| self.has(place))
+    pub(crate) fn has_name(&self, name: &Name) -> bool
+        ensures { HasNothing self.now → IsFalse result }
+    {
+        match name.location() {
+            Some(place) => self.has(place),
+            None => false,
+        }
     }
 
     /// Whether the definition of a variable at this place is at fault.
-    pub(crate) fn has_variable(&self, place: SourceSpan) -> bool {
+    pub(crate) fn has_variable(&self, place: SourceSpan) -> bool
+        ensures { HasNothing self.now → IsFalse result }
+    {
         self.variables.contains(&(place.file_id.0, place.start))
     }
 
     /// Whether the fragments of this name are at fault.
-    pub(crate) fn has_fragment(&self, name: &Name) -> bool {
+    pub(crate) fn has_fragment(&self, name: &Name) -> bool
+        ensures { HasNothing self.now → IsFalse result }
+    {
         self.fragments.contains(name.as_str())
     }
 
     /// Whether a definition of a variable is at fault.
-    pub(crate) fn has_variables(&self) -> bool {
+    pub(crate) fn has_variables(&self) -> bool
+        ensures { HasNothing self.now → IsFalse result }
+    {
         !self.variables.is_empty()
     }
 }

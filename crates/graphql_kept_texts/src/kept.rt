@@ -1,7 +1,8 @@
 //! What is left of the text of a document.
 
-ghost use Rattle.std.specs.Prelude.{◌≡◌, IfOk, IfSome};
+ghost use Rattle.std.specs.Prelude.{◌≡◌, IfOk, IfSome, None};
 ghost use Rattle.graphql_kept_texts.specs.Cuts.{IsKeptOf, is_type_name};
+ghost use Rattle.graphql_kept_texts.specs.Faults.{HasNothing};
 ghost use Rattle.std.specs.List.{list_any};
 
 use crate::cuts::{Cut, Fill, kept_text};
@@ -26,7 +27,8 @@ pub fn kept_of(
     document: &Document,
     faults: &Faults,
 ) -> Result<Option<Kept>, AllocError>
-    ensures { IfOk result (λ kept. IfSome kept (IsKeptOf text.now)) }
+    ensures kept { IfOk result (λ kept. IfSome kept (IsKeptOf text.now)) }
+    ensures whole { HasNothing faults.now → IfOk result (λ kept. kept ≡ None) }
 {
     let cuts = cuts_of(alloc, text, document, faults)?;
     if cuts.is_empty() {

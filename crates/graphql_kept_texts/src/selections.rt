@@ -1,5 +1,8 @@
 //! What of selections is at fault.
 
+ghost use Rattle.std.specs.Prelude.{◌≡◌, IfOk, IsFalse, IsTrue};
+ghost use Rattle.graphql_kept_texts.specs.Faults.{HasNothing};
+
 use crate::cuts::Cut;
 use crate::faults::Faults;
 use crate::rooms::{cut_at, fill_set};
@@ -20,7 +23,9 @@ pub(crate) fn cut_set(
     walk: Walk<'_>,
     set: &SelectionSet,
     cuts: &mut Vec<Cut>,
-) -> Result<bool, AllocError> {
+) -> Result<bool, AllocError>
+    ensures { HasNothing walk.entry.faults.now → IfOk result (λ is_left. IsTrue is_left × (cuts.new.items ≡ cuts.old.items)) }
+{
     let before = cuts.len();
     if cut_selections(walk, set.selections.as_slice(), cuts)? {
         return Ok(true);
@@ -29,14 +34,16 @@ pub(crate) fn cut_set(
     fill_set(walk.text, set.span, cuts)
 }
 
-/// Cuts what is at fault in selections. The answer is whether one of them is left.
+/// Cuts what is at fault in selections. The answer is whether one of them is left, if there is one.
 #[cycle(selections)]
 pub(crate) fn cut_selections(
     walk: Walk<'_>,
     selections: &[Selection],
     cuts: &mut Vec<Cut>,
-) -> Result<bool, AllocError> {
-    let mut is_left = false;
+) -> Result<bool, AllocError>
+    ensures { HasNothing walk.entry.faults.now → IfOk result (λ is_left. IsTrue is_left × (cuts.new.items ≡ cuts.old.items)) }
+{
+    let mut is_left = selections.is_empty();
     for selection in selections {
         if cut_selection(walk, selection, cuts)? {
             is_left = true;
@@ -50,7 +57,9 @@ fn cut_selection(
     walk: Walk<'_>,
     selection: &Selection,
     cuts: &mut Vec<Cut>,
-) -> Result<bool, AllocError> {
+) -> Result<bool, AllocError>
+    ensures { HasNothing walk.entry.faults.now → IfOk result (λ is_left. IsTrue is_left × (cuts.new.items ≡ cuts.old.items)) }
+{
     match selection {
         Selection::Field(field) => cut_field(walk, field, cuts),
         Selection::FragmentSpread(spread) => cut_spread(walk, spread, cuts),
@@ -60,7 +69,9 @@ fn cut_selection(
 
 /// Cuts a field, if its name is at fault. If the field itself is, its set is cut.
 #[cycle(selections)]
-fn cut_field(walk: Walk<'_>, field: &Field, cuts: &mut Vec<Cut>) -> Result<bool, AllocError> {
+fn cut_field(walk: Walk<'_>, field: &Field, cuts: &mut Vec<Cut>) -> Result<bool, AllocError>
+    ensures { HasNothing walk.entry.faults.now → IfOk result (λ is_left. IsTrue is_left × (cuts.new.items ≡ cuts.old.items)) }
+{
     if walk.faults.has_name(&field.name) {
         cut_at(field.span, cuts)?;
         return Ok(false);
@@ -80,7 +91,9 @@ fn cut_spread(
     walk: Walk<'_>,
     spread: &FragmentSpread,
     cuts: &mut Vec<Cut>,
-) -> Result<bool, AllocError> {
+) -> Result<bool, AllocError>
+    ensures { HasNothing walk.entry.faults.now → IfOk result (λ is_left. IsTrue is_left × (cuts.new.items ≡ cuts.old.items)) }
+{
     if walk.faults.has(spread.span) || walk.faults.has_fragment(&spread.name) {
         cut_at(spread.span, cuts)?;
         return Ok(false);
@@ -94,7 +107,9 @@ fn cut_inline_fragment(
     walk: Walk<'_>,
     fragment: &InlineFragment,
     cuts: &mut Vec<Cut>,
-) -> Result<bool, AllocError> {
+) -> Result<bool, AllocError>
+    ensures { HasNothing walk.entry.faults.now → IfOk result (λ is_left. IsTrue is_left × (cuts.new.items ≡ cuts.old.items)) }
+{
     if walk.faults.has(fragment.span) || has_condition(walk, fragment) {
         cut_at(fragment.span, cuts)?;
         return Ok(false);
@@ -103,7 +118,9 @@ fn cut_inline_fragment(
 }
 
 /// Whether the condition of the fragment is at fault.
-fn has_condition(walk: Walk<'_>, fragment: &InlineFragment) -> bool {
+fn has_condition(walk: Walk<'_>, fragment: &InlineFragment) -> bool
+    ensures { HasNothing walk.entry.faults.now → IsFalse result }
+{
     match &fragment.type_condition {
         Some(condition) => walk.faults.has_name(condition),
         None => false,
@@ -117,7 +134,9 @@ pub(crate) fn cut_below(
     owner: SourceSpan,
     set: &SelectionSet,
     cuts: &mut Vec<Cut>,
-) -> Result<bool, AllocError> {
+) -> Result<bool, AllocError>
+    ensures { HasNothing walk.entry.faults.now → IfOk result (λ is_left. IsTrue is_left × (cuts.new.items ≡ cuts.old.items)) }
+{
     let before = cuts.len();
     if cut_set(walk, set, cuts)? {
         return Ok(true);

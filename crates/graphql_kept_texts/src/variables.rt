@@ -1,5 +1,8 @@
 //! Which definitions of variables are at fault.
 
+ghost use Rattle.std.specs.Prelude.{◌≡◌, OnOk};
+ghost use Rattle.graphql_kept_texts.specs.Faults.{HasNothing};
+
 use crate::cuts::Cut;
 use crate::rooms::{cut_at, cut_part};
 use crate::selections::Walk;
@@ -12,7 +15,9 @@ pub(crate) fn cut_variables(
     walk: Walk<'_>,
     operation: &OperationDefinition,
     cuts: &mut Vec<Cut>,
-) -> Result<(), AllocError> {
+) -> Result<(), AllocError>
+    ensures { HasNothing walk.entry.faults.now → OnOk result (cuts.new.items ≡ cuts.old.items) }
+{
     if !walk.faults.has_variables() {
         return Ok(());
     }

@@ -1,5 +1,8 @@
 //! What of a document is at fault.
 
+ghost use Rattle.std.specs.Prelude.{◌≡◌, [], IfOk, IsFalse, IsTrue, OnOk};
+ghost use Rattle.graphql_kept_texts.specs.Faults.{HasNothing};
+
 use crate::cuts::Cut;
 use crate::faults::Faults;
 use crate::rooms::cut_at;
@@ -28,7 +31,9 @@ pub fn cuts_of(
     text: &str,
     document: &Document,
     faults: &Faults,
-) -> Result<Vec<Cut>, AllocError> {
+) -> Result<Vec<Cut>, AllocError>
+    ensures { HasNothing faults.now → IfOk result (λ cuts. cuts.items ≡ []) }
+{
     let walk = Walk { text, faults };
     cut_definitions(alloc, walk, document.definitions.as_slice())
 }
@@ -37,7 +42,9 @@ fn cut_definitions(
     alloc: Global,
     walk: Walk<'_>,
     definitions: &[Definition],
-) -> Result<Vec<Cut>, AllocError> {
+) -> Result<Vec<Cut>, AllocError>
+    ensures { HasNothing walk.entry.faults.now → IfOk result (λ cuts. cuts.items ≡ []) }
+{
     let mut cuts = Vec::new(alloc);
     for definition in definitions {
         cut_definition(walk, definition, &mut cuts)?;
@@ -49,7 +56,9 @@ fn cut_definition(
     walk: Walk<'_>,
     definition: &Definition,
     cuts: &mut Vec<Cut>,
-) -> Result<(), AllocError> {
+) -> Result<(), AllocError>
+    ensures { HasNothing walk.entry.faults.now → OnOk result (cuts.new.items ≡ cuts.old.items) }
+{
     match definition {
         Definition::Operation(operation) => cut_operation(walk, operation, cuts),
         Definition::Fragment(fragment) => cut_fragment(walk, fragment, cuts),
@@ -63,11 +72,9 @@ fn cut_definition(
     }
 }
 
-fn cut_if_at_fault(
-    walk: Walk<'_>,
-    place: SourceSpan,
-    cuts: &mut Vec<Cut>,
-) -> Result<(), AllocError> {
+fn cut_if_at_fault(walk: Walk<'_>, place: SourceSpan, cuts: &mut Vec<Cut>) -> Result<(), AllocError>
+    ensures { HasNothing walk.entry.faults.now → OnOk result (cuts.new.items ≡ cuts.old.items) }
+{
     if walk.faults.has(place) {
         cut_at(place, cuts)?;
     }
@@ -89,7 +96,9 @@ fn cut_operation(
     walk: Walk<'_>,
     operation: &OperationDefinition,
     cuts: &mut Vec<Cut>,
-) -> Result<(), AllocError> {
+) -> Result<(), AllocError>
+    ensures { HasNothing walk.entry.faults.now → OnOk result (cuts.new.items ≡ cuts.old.items) }
+{
     if walk.faults.has(operation.span) || has_name(walk, operation) {
         return cut_at(operation.span, cuts);
     }
@@ -103,7 +112,9 @@ fn cut_operation(
 }
 
 /// Whether the name of the operation is at fault.
-fn has_name(walk: Walk<'_>, operation: &OperationDefinition) -> bool {
+fn has_name(walk: Walk<'_>, operation: &OperationDefinition) -> bool
+    ensures { HasNothing walk.entry.faults.now → IsFalse result }
+{
     match &operation.name {
         Some(name) => walk.faults.has_name(name),
         None => false,
@@ -117,7 +128,9 @@ fn is_set_left(
     walk: Walk<'_>,
     operation: &OperationDefinition,
     cuts: &mut Vec<Cut>,
-) -> Result<bool, AllocError> {
+) -> Result<bool, AllocError>
+    ensures { HasNothing walk.entry.faults.now → IfOk result (λ is_left. IsTrue is_left × (cuts.new.items ≡ cuts.old.items)) }
+{
     let set = &operation.selection_set;
     match operation.operation_type {
         OperationType::Subscription => cut_selections(walk, set.selections.as_slice(), cuts),
@@ -129,7 +142,9 @@ fn cut_fragment(
     walk: Walk<'_>,
     fragment: &FragmentDefinition,
     cuts: &mut Vec<Cut>,
-) -> Result<(), AllocError> {
+) -> Result<(), AllocError>
+    ensures { HasNothing walk.entry.faults.now → OnOk result (cuts.new.items ≡ cuts.old.items) }
+{
     let is_at_fault = walk.faults.has(fragment.span)
         || walk.faults.has_name(&fragment.name)
         || walk.faults.has_name(&fragment.type_condition);

@@ -1,0 +1,68 @@
+//! What is reported without a schema of texts with something that cannot be built.
+
+use crate::scopes::Scope;
+use graphql_frontend::{
+    DocumentReports, ProjectReports, Reports, SourceText, ValidationError,
+    validate_standalone_document,
+};
+use graphql_kept_reports::{DiagnosticList, Faults, add_certain};
+use graphql_parser::Bounds;
+use std::alloc::Global;
+
+/// Adds what is reported without a schema of those of the texts that may have something at fault, if it is true against each schema.
+pub(crate) fn add_all_certain(
+    alloc: Global,
+    read: &[SourceText<'_>],
+    scope: Scope,
+    faults: &Faults,
+    bounds: Bounds,
+    found: &mut ProjectReports,
+) -> Result<(), ValidationError> {
+    for source in read.iter().take(scope.judged) {
+        if faults.may_be_in(source.file_id) {
+            add_certain_of(alloc, *source, bounds, found)?;
+        }
+    }
+    Ok(())
+}
+
+fn add_certain_of(
+    alloc: Global,
+    source: SourceText<'_>,
+    bounds: Bounds,
+    found: &mut ProjectReports,
+) -> Result<(), ValidationError> {
+    match validate_standalone_document(alloc, source, bounds)? {
+        Some(Reports::DocumentRules(reports)) => add_reports(alloc, reports, found),
+        _ => Ok(()),
+    }
+}
+
+fn add_reports(
+    alloc: Global,
+    reports: DocumentReports,
+    found: &mut ProjectReports,
+) -> Result<(), ValidationError> {
+    let DocumentReports {
+        rules,
+        undefined_variables,
+        input_fields,
+        usages: _,
+        has_more: _,
+    } = reports;
+    let mut certain = DiagnosticList::with_hash_seed(alloc, rules.hash_seed());
+    add_certain(alloc, &rules, &mut certain)?;
+    if certain.is_empty() && undefined_variables.is_empty() && input_fields.is_empty() {
+        return Ok(());
+    }
+    found.push(
+        None,
+        Reports::DocumentRules(DocumentReports {
+            rules: certain,
+            undefined_variables,
+            input_fields,
+            usages: Vec::new(alloc),
+            has_more: false,
+        }),
+    )
+}
