@@ -1,0 +1,4 @@
+pub mod AddLemmas
+pub mod ExactLemmas
+pub mod SelectionLemmas
+pub mod ValueLemmas

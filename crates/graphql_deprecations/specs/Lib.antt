@@ -1,0 +1,3 @@
+pub mod Deprecations
+pub mod InOrder
+pub mod Usages
