@@ -141,5 +141,13 @@ pub fn selection_rules() -> &'static [Explanation] {
             wrong: "{ search(text: \"a\") { ... on User { name } ... on Book { name } } }",
             right: "{ search(text: \"a\") { ... on User { name } ... on Book { bookName: name } } }",
         },
+        Explanation {
+            rule: "DeprecatedUsage",
+            section: "3.13.3 @deprecated",
+            asks: "No document uses a field or an enum value that is deprecated, or, as in the draft, an argument or an input field. This is a warning.",
+            schema: "type Query { name: String now: Int old: Int @deprecated(reason: \"use `now`\") }",
+            wrong: "{ old }",
+            right: "{ now }",
+        },
     ]
 }

@@ -10,12 +10,16 @@ use crate::kept::{counts_of, keep_shown};
 use crate::policies::Policy;
 use crate::presentations::Presentation;
 use crate::sheets::Sheet;
+use gqlvalidate_deprecations::{DEPRECATED_USAGE, deprecation_reports};
 use gqlvalidate_formats::named_texts::{CountedSubject, Subject};
-use gqlvalidate_formats::{Finding, ProjectReports, Reports, Run, Texts, findings_beside};
+use gqlvalidate_formats::{
+    Finding, ProjectReports, Reports, Run, SourceText, Texts, findings_beside,
+};
 use gqlvalidate_inputs::faults::{Fault, fault_of_output};
 use gqlvalidate_inputs::statuses::Status;
 use gqlvalidate_levels::{Counts, Levels};
 use graphql_documents::documents::Schema;
+use graphql_nodes::ValidationError;
 use graphql_parser::Bounds;
 use std::alloc::{AllocError, Global};
 use std::collections::{BTreeMap, BTreeSet};
@@ -232,6 +236,7 @@ impl<'a> Account<'a> {
             bounds,
             usize::MAX,
         )?;
+        self.add_deprecations(alloc, subject.sources, bounds, &mut findings.shown)?;
         let reported = self.report_one(alloc, &mut findings.shown, subject, output);
         drop(findings);
         reported
@@ -298,9 +303,38 @@ impl<'a> Account<'a> {
             bounds,
             usize::MAX,
         )?;
+        let (judged, _) = subject
+            .sources
+            .split_at(files.judged.min(subject.sources.len()));
+        self.add_deprecations(alloc, judged, bounds, &mut findings.shown)?;
         let count = self.report_shown(alloc, &mut findings.shown, subject, files, output);
         drop(findings);
         count
+    }
+
+    /// Adds findings on what these texts use of the schema that is deprecated, unless that rule is off.
+    fn add_deprecations(
+        &self,
+        alloc: Global,
+        sources: &[SourceText<'_>],
+        bounds: Bounds,
+        findings: &mut Vec<Finding<'_>>,
+    ) -> Result<(), ValidationError> {
+        let Some(schema) = self.definitions else {
+            return Ok(());
+        };
+        if !self.levels.shows(DEPRECATED_USAGE) {
+            return Ok(());
+        }
+        for report in deprecation_reports(alloc, schema, sources, bounds)? {
+            findings.push(Finding {
+                report,
+                notes: Vec::new(alloc),
+                help: None,
+                operations: Vec::new(alloc),
+            })?;
+        }
+        Ok(())
     }
 
     /// Reports these findings, unless they are in a file of those that are hidden. The answer is how many there are.

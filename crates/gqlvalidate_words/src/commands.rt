@@ -49,6 +49,8 @@ pub const RULE: &str = "rule";
 
 pub const MAX_WARNINGS: &str = "max-warnings";
 
+pub const DEPRECATED: &str = "deprecated";
+
 pub const ANSWER: &str = "answer";
 
 pub const OLD: &str = "old";
@@ -105,6 +107,9 @@ pub const BREAKING: &str = "breaking";
 pub const DANGEROUS: &str = "dangerous";
 
 static LEVELS: [&str; 3] = [BREAKING, DANGEROUS, NEVER];
+
+/// The levels of a rule.
+static RULE_LEVELS: [&str; 3] = ["off", "warning", "error"];
 
 /// When text is coloured.
 pub const AUTO: &str = "auto";
@@ -241,7 +246,7 @@ fn with_reporting<'a>(alloc: Global, command: Command<'a>) -> Result<Command<'a>
 /// Adds the options that say which reports are errors, and how many warnings there may be.
 fn with_rules<'a>(alloc: Global, command: Command<'a>) -> Result<Command<'a>, Error> {
     let command = command.arg(level(alloc))?;
-    Ok(command.arg(max_warnings(alloc))?)
+    Ok(command.arg(deprecated(alloc))?.arg(max_warnings(alloc))?)
 }
 
 /// Adds the options that choose the configuration.
@@ -515,6 +520,17 @@ fn level<'a>(alloc: Global) -> Arg<'a> {
             "The level of a rule: error, warning or, for rules on which no other check depends, off; may be repeated",
         )
         .action(ArgAction::Append)
+}
+
+fn deprecated<'a>(alloc: Global) -> Arg<'a> {
+    Arg::new(alloc, DEPRECATED)
+        .long(DEPRECATED)
+        .value_name("LEVEL")
+        .help(
+            "The level of reports on deprecated elements, as --rule DeprecatedUsage=LEVEL [default: warning]",
+        )
+        .value_parser(RULE_LEVELS.as_slice())
+        .action(ArgAction::Set)
 }
 
 fn max_warnings<'a>(alloc: Global) -> Arg<'a> {

@@ -1,22 +1,36 @@
 //! The levels that a command line gives to rules.
 
-use crate::commands::{CHECK, RULE};
+use crate::commands::{CHECK, DEPRECATED, RULE};
 use crate::requests::Refusal;
 use clap::ArgMatches;
 use gqlvalidate_levels::{LevelProblem, Levels, rule_level, similar_rule};
 use std::alloc::{AllocError, Global};
 
-/// What `check` gives to rules, each as `NAME=LEVEL`; of several for one rule the last counts. Other commands give none. The error says which is wrong:
+/// What `check` gives to rules: by `--deprecated`, and then each as `NAME=LEVEL`; of several for one rule the last counts. Other commands give none. The error says which is wrong:
 /// there must be such a rule, and such a level that it may have.
 pub fn levels_of(alloc: Global, command: &str, given: &ArgMatches<'_>) -> Result<Levels, Refusal> {
     let mut levels = Levels::new(alloc);
     if command != CHECK {
         return Ok(levels);
     }
+    if let Some(level) = given.get_str(DEPRECATED) {
+        set_deprecated(&mut levels, level)?;
+    }
     for word in given.get_strs(RULE).unwrap_or(&[]) {
         set_level(alloc, &mut levels, word)?;
     }
     Ok(levels)
+}
+
+/// Gives this level to the rule that no deprecated element is used. No other level is accepted than those that there are.
+fn set_deprecated(levels: &mut Levels, level: &str) -> Result<(), Refusal> {
+    let Ok(given) = rule_level("DeprecatedUsage", level) else {
+        return Ok(());
+    };
+    match levels.set(given) {
+        Ok(()) => Ok(()),
+        Err(AllocError) => Err(Refusal::OutOfMemory),
+    }
 }
 
 /// Gives the level of this word to its rule.
