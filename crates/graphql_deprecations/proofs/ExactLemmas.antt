@@ -56,6 +56,9 @@ exactly_after {P = P} {Q = Q} {a = a} {b = b} h k = record { each = λ u there. 
   back u (inr q) = Contains-append_right a b u (k.all u q)
 
 -- the use of an element
+abbrev use_by : DeprecatedElement → NameText → Node Directive → Usage
+use_by element name d = record { element = element; place = name.location; reason = reason_of d.value.value }
+
 pub exactly_element : (element : DeprecatedElement) (name : NameText) (directives : List (Node Directive)) →
     AreExactly (IsUsageOf element name directives) (element_uses element name directives)
 exactly_element element name directives = by_deprecation (deprecation_in directives) refl where
@@ -66,10 +69,11 @@ exactly_element element name directives = by_deprecation (deprecation_in directi
     all = λ u used. let e : None ≡ Some used.deprecation = sym none ∙ used.deprecates in absurd (let no : ⊥ = cc in no);
   }
   by_deprecation (Some d) some = record {
-    each = λ u there. record { deprecation = d; deprecates = some; usage_is = only_one _ u (subst (λ l. Contains l u) (one_use element name directives d some) there) };
+    each = λ u there. record { deprecation = d; deprecates = some; usage_is = only_one (use_by element name d) u (subst (λ l. Contains l u) (one_use element name directives d some) there) };
     all = λ u used.
         subst (λ v. Contains (element_uses element name directives) v) (sym used.usage_is)
-        (subst (λ l. Contains l _) (sym (one_use element name directives used.deprecation used.deprecates)) (stands_first _ []));
+        (subst (λ l. Contains l (use_by element name used.deprecation)) (sym (one_use element name directives used.deprecation used.deprecates))
+        (stands_first (use_by element name used.deprecation) []));
   }
 
 pub exactly_uses : (element : DeprecatedElement) (name : NameText) (directives : List (Node Directive)) (us : List Usage) →
