@@ -114,6 +114,11 @@ pub record HasAsciiEdges (text : List ℕ) (literal : Literal) : Type 0 where
   pub before : slice_index text (literal.start - 1) < 128
   pub holes : All (HasAsciiEnds text) literal.holes.items
 
+-- the text, in which all bytes of these parts are blank
+pub record IsBlanked (text : List ℕ) (parts : List Part) (blanked : List ℕ) : Type 0 where
+  pub long : length blanked ≡ length text
+  pub each : (k : ℕ) → k < length text → slice_index blanked k ≡ blank_in_any parts k (slice_index text k)
+
 -- the text is the program up to the end of the literal, in which each byte is blank that is not the literal's own
 pub record IsTextOf (program : List ℕ) (literal : Literal) (text : List ℕ) : Type 0 where
   pub long : length text ≡ literal.end

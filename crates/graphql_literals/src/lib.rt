@@ -22,4 +22,4 @@ mod tokens;
 
 pub use literals::{Literal, Plucked, SkipReason, Skipped, literals_in};
 pub use programs::is_program;
-pub use texts::text_of_literal;
+pub use texts::{blank_parts, text_of_literal};

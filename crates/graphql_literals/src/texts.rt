@@ -1,7 +1,7 @@
 //! Literals as texts of their own.
 
 ghost use Rattle.std.specs.Prelude.{◌≡◌, ◌<◌, ℕ, All, IfOk, IfSome, IsSome, IsUtf8, length, slice_index, string_bytes};
-ghost use Rattle.graphql_literals.specs.Literals.{blank_in, blank_in_any, HasAsciiEdges, HasAsciiEnds, IsLiteral, IsTextOf};
+ghost use Rattle.graphql_literals.specs.Literals.{blank_in, blank_in_any, HasAsciiEdges, HasAsciiEnds, IsBlanked, IsLiteral, IsTextOf};
 
 use crate::literals::Literal;
 use graphql_blanks::{Part, blank_byte};
@@ -25,6 +25,27 @@ pub fn text_of_literal(
     };
     let bytes = blanked(alloc, prefix, literal)?;
     Ok(text_of_bytes(bytes))
+}
+
+/// The text, in which all bytes of these parts are blank. None, if a part begins or ends within a character; none does that begins and ends
+/// with an ASCII character. The only error is a failed allocation.
+pub fn blank_parts(alloc: Global, text: &str, parts: &[Part]) -> Result<Option<String>, AllocError>
+    ensures text { IfOk result (λ found. IfSome found (λ it. IsBlanked text.now parts.now (string_bytes it))) }
+    ensures found { All (HasAsciiEnds text.now) parts.now → IfOk result (λ found. IsSome found) }
+{
+    let bytes = without_parts(alloc, text.as_bytes(), parts)?;
+    Ok(text_of_bytes(bytes))
+}
+
+/// The bytes, in which all of these parts are blank. The only error is a failed allocation.
+fn without_parts(alloc: Global, text: &[u8], parts: &[Part]) -> Result<Vec<u8>, AllocError>
+    ensures text { IfOk result (λ bytes. IsBlanked text.now parts.now bytes.items) }
+    ensures utf8 { IfOk result (λ bytes. IsUtf8 text.now → All (HasAsciiEnds text.now) parts.now → IsUtf8 bytes.items) }
+{
+    let mut bytes = Vec::new(alloc);
+    bytes.extend_from_slice(text)?;
+    blank_holes(&mut bytes, parts);
+    Ok(bytes)
 }
 
 /// The text of these bytes, if they are UTF-8.
