@@ -1,0 +1,2 @@
+mod AdoptionLemmas
+mod RowLemmas

@@ -1,0 +1,3 @@
+pub mod Adoption
+pub mod Lacking
+pub mod Rows
