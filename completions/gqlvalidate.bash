@@ -19,14 +19,17 @@ _gqlvalidate() {
       mapfile -t COMPREPLY < <(compgen -W "$(gqlvalidate explain 2> /dev/null | cut -d' ' -f1 | sed 's/.*/&=warning &=error/')" -- "$word")
       return ;;
     --color) mapfile -t COMPREPLY < <(compgen -W "auto always never" -- "$word"); return ;;
+    --federation) mapfile -t COMPREPLY < <(compgen -W "2" -- "$word"); return ;;
+    --client) mapfile -t COMPREPLY < <(compgen -W "apollo relay urql" -- "$word"); return ;;
     --max-*) return ;;
   esac
   local options="--help"
   case "$command" in
-    check) options="--schema --config --no-config --project --fragments --only --each --one-document --files-from --null --stdin-name --watch --rule --max-warnings $reporting $limits" ;;
-    diff) options="--old-schema --new-schema --operations --lone-fields --fail-on --format --help" ;;
-    schema | syntax) options="$reporting" ;;
-    serve) options="--schema --fragments --max-line --max-reports --help $limits" ;;
+    check) options="--schema --config --no-config --project --fragments --only --each --one-document --files-from --null --stdin-name --watch --rule --deprecated --max-warnings --federation --client $reporting $limits" ;;
+    diff) options="--old-schema --new-schema --operations --lone-fields --fail-on --federation --format --help" ;;
+    schema) options="--federation $reporting" ;;
+    syntax) options="$reporting" ;;
+    serve) options="--schema --fragments --federation --max-line --max-reports --help $limits" ;;
     explain) options=$(gqlvalidate explain 2> /dev/null | cut -d' ' -f1) ;;
     help) options="check diff print-schema schema serve syntax explain" ;;
   esac

@@ -38,5 +38,7 @@ complete -c gqlvalidate -n '__fish_seen_subcommand_from check serve' -x -l max-w
 complete -c gqlvalidate -n '__fish_seen_subcommand_from check' -l one-document -d 'All files are one document'
 complete -c gqlvalidate -n '__fish_seen_subcommand_from check' -r -l stdin-name -d 'The document whose text is on standard input'
 complete -c gqlvalidate -n '__fish_seen_subcommand_from check' -l watch -d 'Validate again whenever a file changes'
+complete -c gqlvalidate -n '__fish_seen_subcommand_from check schema serve diff' -x -l federation -a 2 -d 'The schema is a subgraph of Apollo Federation'
+complete -c gqlvalidate -n '__fish_seen_subcommand_from check' -x -l client -a 'apollo relay urql' -d 'Define the directives of this client'
 complete -c gqlvalidate -n '__fish_seen_subcommand_from serve' -x -l max-line -d 'Bytes of a line at most'
 complete -c gqlvalidate -n '__fish_seen_subcommand_from explain' -f -a '(gqlvalidate explain 2> /dev/null | cut -d" " -f1)'

@@ -13,7 +13,7 @@ use gqlvalidate_inputs::printable::printable_words;
 use gqlvalidate_inputs::statuses::Status;
 use gqlvalidate_inputs::terminals::Terminal;
 use gqlvalidate_serve::{Allowance, serve};
-use gqlvalidate_words::{Refusal, Request, parse};
+use gqlvalidate_words::{Dialect, Refusal, Request, parse};
 use std::alloc::Global;
 use std::io;
 use std::io::{Read, Write};
@@ -83,6 +83,7 @@ fn answer<R: Files + AllocGlobal + Clock + Clone + Drop, I: Read, O: Write, F: W
             watch,
             levels,
             max_warnings,
+            dialect,
         } => {
             let words = Words {
                 schema,
@@ -97,6 +98,7 @@ fn answer<R: Files + AllocGlobal + Clock + Clone + Drop, I: Read, O: Write, F: W
                     levels,
                     max_warnings: *max_warnings,
                 },
+                dialect: *dialect,
             };
             let presentation = Presentation::new(*reporting, terminal);
             if *watch {
@@ -111,6 +113,7 @@ fn answer<R: Files + AllocGlobal + Clock + Clone + Drop, I: Read, O: Write, F: W
             lone_fields,
             fail_on,
             format,
+            federation,
         } => {
             let compared = Compared {
                 old,
@@ -120,13 +123,19 @@ fn answer<R: Files + AllocGlobal + Clock + Clone + Drop, I: Read, O: Write, F: W
                 fail_on: *fail_on,
                 format: *format,
                 presentation: presentation_of(*format, terminal),
+                dialect: of_schema(*federation),
             };
             compare(rt, compared, input, output, faults)
         }
         Request::PrintSchema { answer } => print_schema(rt, answer, input, output, faults),
-        Request::Schema { schema, reporting } => {
+        Request::Schema {
+            schema,
+            reporting,
+            federation,
+        } => {
             let presentation = Presentation::new(*reporting, terminal);
-            check_schema(rt, schema, presentation, input, output, faults)
+            let dialect = of_schema(*federation);
+            check_schema(rt, schema, dialect, presentation, input, output, faults)
         }
         Request::Serve {
             schema,
@@ -134,12 +143,14 @@ fn answer<R: Files + AllocGlobal + Clock + Clone + Drop, I: Read, O: Write, F: W
             limits,
             max_line,
             max_reports,
+            federation,
         } => {
             let allowance = Allowance {
                 bounds: bounds_of_answers(*limits, *max_reports),
                 line: *max_line,
                 reports: *max_reports,
                 lends: !fragments.is_empty(),
+                dialect: of_schema(*federation),
             };
             serve(rt, schema, fragments, allowance, input, output, faults)
         }
@@ -149,6 +160,14 @@ fn answer<R: Files + AllocGlobal + Clock + Clone + Drop, I: Read, O: Write, F: W
         }
         Request::Explain { rule: Some(rule) } => explain(rule, output, faults),
         Request::Explain { rule: None } => list_rules(output),
+    }
+}
+
+/// The dialect of a schema that is perhaps a subgraph.
+fn of_schema(federation: bool) -> Dialect {
+    Dialect {
+        federation,
+        client: None,
     }
 }
 

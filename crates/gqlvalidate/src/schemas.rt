@@ -1,16 +1,17 @@
 //! A schema that is validated for itself.
 
 use gqlvalidate_check::accounts::Account;
-use gqlvalidate_check::bounds::OF_SCHEMA;
+use gqlvalidate_check::dialects::{SchemaTexts, dialect_texts, read_schema_in};
 use gqlvalidate_check::named_texts::NamedText;
 use gqlvalidate_check::presentations::Presentation;
 use gqlvalidate_check::schema_files::{FileKind, ReadFiles, named_schema, read_files};
 use gqlvalidate_check::schema_reports::{end_unread, extent_of, reject};
-use gqlvalidate_check::schema_texts::{schema_subject, sources_of};
+use gqlvalidate_check::schema_texts::schema_subject;
 use gqlvalidate_inputs::faults::Fault;
 use gqlvalidate_inputs::statuses::Status;
 use gqlvalidate_inputs::word_paths::{schema_paths, views};
-use graphql_frontend::{SchemaReading, abandon, read_schema};
+use gqlvalidate_words::Dialect;
+use graphql_frontend::{SchemaReading, abandon};
 use std::alloc::{AllocError, Global};
 use std::io::{Read, Write};
 use std::rt::Files;
@@ -19,6 +20,7 @@ use std::rt::Files;
 pub fn check_schema<R: Files + AllocGlobal + Clone + Drop, I: Read, O: Write, F: Write>(
     rt: &R,
     words: &[&str],
+    dialect: Dialect,
     presentation: Presentation,
     input: &mut I,
     output: &mut O,
@@ -28,13 +30,14 @@ pub fn check_schema<R: Files + AllocGlobal + Clone + Drop, I: Read, O: Write, F:
         return Ok(Status::Unreadable);
     };
     let paths = views(rt.alloc(), &files)?;
-    check_files(rt, &paths, presentation, input, output, faults)
+    check_files(rt, &paths, dialect, presentation, input, output, faults)
 }
 
 /// Validates the schema of these files.
 fn check_files<'a, R: Files + AllocGlobal, I: Read, O: Write, F: Write>(
     rt: &R,
     paths: &'a [&'a str],
+    dialect: Dialect,
     presentation: Presentation,
     input: &mut I,
     output: &mut O,
@@ -45,25 +48,27 @@ fn check_files<'a, R: Files + AllocGlobal, I: Read, O: Write, F: Write>(
         return end_unread(rt.alloc(), unreadable, presentation, output, faults);
     };
     let named = named_schema(rt.alloc(), paths, &texts)?;
-    check_texts(rt.alloc(), &named, presentation, output, faults)
+    check_texts(rt.alloc(), &named, dialect, presentation, output, faults)
 }
 
 /// Validates the schema of these texts.
 fn check_texts<O: Write, F: Write>(
     alloc: Global,
     named: &[NamedText<'_>],
+    dialect: Dialect,
     presentation: Presentation,
     output: &mut O,
     faults: &mut F,
 ) -> Result<Status, Fault> {
-    let sources = sources_of(alloc, named)?;
-    match read_schema(alloc, &sources, OF_SCHEMA)? {
+    let read = dialect_texts(alloc, named, dialect)?;
+    let texts = SchemaTexts::new(alloc, named, &read)?;
+    match read_schema_in(alloc, &texts, dialect)? {
         SchemaReading::Accepted(schema) => {
             abandon(schema);
             accept(alloc, named, presentation, output, faults)
         }
         SchemaReading::Rejected(reports) => {
-            let subject = schema_subject(named, &sources);
+            let subject = schema_subject(&texts.shown, &texts.read);
             reject(alloc, reports, subject, presentation, output, faults)
         }
         SchemaReading::LacksIntrospection => Err(Fault::LacksIntrospection),

@@ -10,19 +10,17 @@ use gqlvalidate_inputs::faults::Fault;
 use gqlvalidate_inputs::sources::{shown_path, text_or_said};
 use gqlvalidate_inputs::statuses::Status;
 use gqlvalidate_runs::accounts::{Account, Extent, Whole};
-use gqlvalidate_runs::bounds::OF_SCHEMA;
+use gqlvalidate_runs::dialects::{SchemaTexts, dialect_texts, read_schema_in};
 use gqlvalidate_runs::named_texts::{NamedText, Subject};
 use gqlvalidate_runs::policies::Policy;
 use gqlvalidate_runs::presentations::Presentation;
 use gqlvalidate_runs::schema_files::{FileKind, ReadFiles, named_schema, named_text, read_files};
 use gqlvalidate_runs::schema_reports::{end_unread, reject};
-use gqlvalidate_runs::schema_texts::{schema_subject, sources_of};
-use gqlvalidate_words::Grouping;
+use gqlvalidate_runs::schema_texts::schema_subject;
 use gqlvalidate_words::requests::STANDARD_INPUT;
+use gqlvalidate_words::{Dialect, Grouping};
 use graphql_documents::documents::Schema;
-use graphql_frontend::{
-    ProjectReports, Reports, SchemaReading, abandon, read_schema, validate_document,
-};
+use graphql_frontend::{ProjectReports, Reports, SchemaReading, abandon, validate_document};
 use graphql_literals::is_program;
 use graphql_parser::Bounds;
 use std::alloc::Global;
@@ -48,6 +46,8 @@ pub struct Paths<'a> {
     pub bounds: Bounds,
     /// Which reports are errors, and which are not shown.
     pub policy: Policy<'a>,
+    /// What the schema and the documents mean beyond the specification.
+    pub dialect: Dialect,
 }
 
 impl Paths<'_> {
@@ -66,6 +66,7 @@ impl Paths<'_> {
             && self.fragments.is_empty()
             && self.hidden.is_empty()
             && self.program().is_none()
+            && self.dialect.client.is_none()
     }
 
     /// What is read for a document: its file, unless standard input has its text.
@@ -104,14 +105,14 @@ pub fn check<R: Files + AllocGlobal, I: Read, O: Write, F: Write>(
     };
     drop(unreadable);
     let named = named_schema(rt.alloc(), paths.schema, &texts)?;
-    let status = check_against(rt, &named, paths, presentation, input, output, faults);
+    let status = check_in_dialect(rt, &named, paths, presentation, input, output, faults);
     drop(named);
     drop(texts);
     status
 }
 
-/// Validates the schema of these texts, and the documents against it, if it holds.
-fn check_against<R: Files + AllocGlobal, I: Read, O: Write, F: Write>(
+/// Validates the schema of these texts, as the dialect of the run reads them, and the documents against it, if it holds.
+fn check_in_dialect<R: Files + AllocGlobal, I: Read, O: Write, F: Write>(
     rt: &R,
     named: &[NamedText<'_>],
     paths: Paths<'_>,
@@ -120,10 +121,27 @@ fn check_against<R: Files + AllocGlobal, I: Read, O: Write, F: Write>(
     output: &mut O,
     faults: &mut F,
 ) -> Result<Status, Fault> {
-    let sources = sources_of(rt.alloc(), named)?;
-    match read_schema(rt.alloc(), &sources, OF_SCHEMA)? {
+    let read = dialect_texts(rt.alloc(), named, paths.dialect)?;
+    let texts = SchemaTexts::new(rt.alloc(), named, &read)?;
+    let status = check_against(rt, &texts, paths, presentation, input, output, faults);
+    drop(texts);
+    drop(read);
+    status
+}
+
+/// Validates the schema of these texts, and the documents against it, if it holds.
+fn check_against<R: Files + AllocGlobal, I: Read, O: Write, F: Write>(
+    rt: &R,
+    schema_texts: &SchemaTexts<'_>,
+    paths: Paths<'_>,
+    presentation: Presentation,
+    input: &mut I,
+    output: &mut O,
+    faults: &mut F,
+) -> Result<Status, Fault> {
+    match read_schema_in(rt.alloc(), schema_texts, paths.dialect)? {
         SchemaReading::Accepted(schema) => {
-            let texts = schema_subject(named, &sources);
+            let texts = schema_subject(&schema_texts.shown, &schema_texts.read);
             let status = check_documents(
                 rt,
                 &schema,
@@ -138,7 +156,7 @@ fn check_against<R: Files + AllocGlobal, I: Read, O: Write, F: Write>(
             status
         }
         SchemaReading::Rejected(reports) => {
-            let subject = schema_subject(named, &sources);
+            let subject = schema_subject(&schema_texts.shown, &schema_texts.read);
             reject(rt.alloc(), reports, subject, presentation, output, faults)
         }
         SchemaReading::LacksIntrospection => Err(Fault::LacksIntrospection),
@@ -232,7 +250,7 @@ fn check_path<R: Files + AllocGlobal, I: Read, O: Write, F: Write>(
 ) -> Result<Status, Fault>
     requires { IsUsable schema.now }
 {
-    if is_program(path) {
+    if is_program(path) || paths.dialect.client.is_some() {
         let program = [path];
         check_alone(
             rt,

@@ -9,7 +9,7 @@ use gqlvalidate_paths::plain::plain;
 use gqlvalidate_paths::{Expansion, without};
 use gqlvalidate_runs::policies::Policy;
 use gqlvalidate_runs::presentations::Presentation;
-use gqlvalidate_words::{Grouping, PathEnds, PathList};
+use gqlvalidate_words::{Dialect, Grouping, PathEnds, PathList};
 use graphql_parser::Bounds;
 use std::alloc::{AllocError, Global};
 use std::io::{Read, Write};
@@ -31,6 +31,7 @@ pub struct Words<'a> {
     pub bounds: Bounds,
     /// Which reports are errors, and which are not shown.
     pub policy: Policy<'a>,
+    pub dialect: Dialect,
 }
 
 impl Words<'_> {
@@ -111,6 +112,7 @@ fn check_run<R: Files + AllocGlobal, I: Read, O: Write, F: Write>(
         grouping: words.grouping,
         bounds: words.bounds,
         policy: words.policy,
+        dialect: words.dialect,
     };
     let status = check_with_lent(rt, files, paths, presentation, input, output, faults)?;
     if files.is_all {

@@ -2,6 +2,7 @@
 #![tactic(auto)]
 
 mod check;
+mod client_texts;
 mod cuts;
 mod expansions;
 mod one_document;
@@ -13,7 +14,7 @@ mod syntax;
 pub use expansions::{Words, check_words};
 // The program takes these from here: `rt` follows each path from a crate down to another.
 pub use gqlvalidate_runs::{
-    accounts, bounds, named_texts, policies, presentations, schema_files, schema_reports,
+    accounts, bounds, dialects, named_texts, policies, presentations, schema_files, schema_reports,
     schema_texts,
 };
 pub use syntax::check_syntax;

@@ -51,8 +51,10 @@ pub fn check_files<R: Files + AllocGlobal, I: Read, O: Write, F: Write>(
 ) -> Result<Status, Fault>
     requires { IsUsable schema.now }
 {
-    let own = text_files(rt, paths, paths.documents, account, input, faults)?;
-    let lent = text_files(rt, paths, paths.fragments, account, input, faults)?;
+    let mut own = text_files(rt, paths, paths.documents, account, input, faults)?;
+    let mut lent = text_files(rt, paths, paths.fragments, account, input, faults)?;
+    read_as_sent(rt.alloc(), schema, &mut own.files, paths, faults)?;
+    read_as_sent(rt.alloc(), schema, &mut lent.files, paths, faults)?;
     let is_all = own.is_all && lent.is_all;
     let has_all_literals = own.has_all_literals && lent.has_all_literals;
     count_files(account, &own.files);
@@ -67,6 +69,20 @@ pub fn check_files<R: Files + AllocGlobal, I: Read, O: Write, F: Write>(
         output,
     )?;
     Ok(status_of(count, is_all))
+}
+
+/// Reads these files as their client sends them.
+fn read_as_sent<F: Write>(
+    alloc: Global,
+    schema: &Schema,
+    files: &mut [ReadFile],
+    paths: Paths<'_>,
+    faults: &mut F,
+) -> Result<(), Fault> {
+    for file in files.iter_mut() {
+        file.read_as_sent(alloc, schema, paths.bounds, paths.dialect, faults)?;
+    }
+    Ok(())
 }
 
 /// Validates these files together, with the fragments of those that are lent. The answer is how many reports there are.

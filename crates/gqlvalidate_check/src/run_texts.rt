@@ -4,12 +4,16 @@ ghost use Rattle.std.specs.Prelude.{IsTrue, []};
 ghost use Rattle.graphql_tokens.specs.Lexical.{AreTokens};
 
 use crate::check::Paths;
+use crate::client_texts::{answers_fields, say_arguments, texts_as_sent};
 use crate::programs::{ProgramTexts, texts_of_program};
 use gqlvalidate_inputs::faults::Fault;
 use gqlvalidate_inputs::sources::{shown_path, text_or_said};
 use gqlvalidate_runs::named_texts::NamedText;
+use gqlvalidate_words::Dialect;
+use graphql_documents::documents::Schema;
 use graphql_frontend::{FileId, SourceText};
 use graphql_literals::is_program;
+use graphql_parser::Bounds;
 use graphql_tokens::{Stop, measure};
 use std::alloc::{AllocError, Global};
 use std::io::{Read, Write};
@@ -20,11 +24,43 @@ use std::rt::Files;
 pub struct ReadFile {
     path: String,
     text: String,
-    /// What is read of a program: texts in which all but some of its literals is blank.
+    /// What is read of a program: texts in which all but some of its literals is blank; or of a document, without fields that its client answers.
     literals: Option<Vec<String>>,
 }
 
 impl ReadFile {
+    /// Reads the file as its client sends it, if that is in another way.
+    pub fn read_as_sent<F: Write>(
+        &mut self,
+        alloc: Global,
+        schema: &Schema,
+        bounds: Bounds,
+        dialect: Dialect,
+        faults: &mut F,
+    ) -> Result<(), Fault> {
+        say_arguments(self.path.as_str(), self.text.as_str(), dialect, faults);
+        if !answers_fields(dialect) {
+            return Ok(());
+        }
+        let texts = self.texts(alloc)?;
+        let sent = texts_as_sent(alloc, schema, &texts, bounds)?;
+        drop(texts);
+        if sent.is_some() {
+            self.literals = sent;
+        }
+        Ok(())
+    }
+
+    /// What is read of it.
+    fn texts(&self, alloc: Global) -> Result<Vec<&str>, AllocError> {
+        let mut texts = Vec::new(alloc);
+        match &self.literals {
+            Some(literals) => add_views(&mut texts, literals)?,
+            None => texts.push(self.text.as_str())?,
+        }
+        Ok(texts)
+    }
+
     /// Whether what is read of it has no token.
     pub fn has_no_token(&self) -> bool {
         match &self.literals {
@@ -34,6 +70,13 @@ impl ReadFile {
             None => has_no_token(self.text.as_str()),
         }
     }
+}
+
+fn add_views<'a>(texts: &mut Vec<&'a str>, strings: &'a [String]) -> Result<(), AllocError> {
+    for string in strings {
+        texts.push(string.as_str())?;
+    }
+    Ok(())
 }
 
 /// Whether the text has no token.

@@ -10,15 +10,15 @@ use gqlvalidate_inputs::terminals::Terminal;
 use gqlvalidate_inputs::word_paths::{expanded, schema_paths, views};
 use gqlvalidate_paths::Expansion;
 use gqlvalidate_runs::accounts::{Account, Extent, Whole, print};
-use gqlvalidate_runs::bounds::OF_SCHEMA;
+use gqlvalidate_runs::dialects::{SchemaTexts, dialect_texts, read_schema_in};
 use gqlvalidate_runs::github::{Annotation, push_annotation};
 use gqlvalidate_runs::json_lines::print_line;
 use gqlvalidate_runs::named_texts::{CountedSubject, NamedText};
 use gqlvalidate_runs::presentations::Presentation;
 use gqlvalidate_runs::schema_files::{FileKind, ReadFiles, named_text, read_files};
 use gqlvalidate_runs::schema_reports::reject;
-use gqlvalidate_runs::schema_texts::{BUILT_IN_TEXT, schema_subject, sources_of};
-use gqlvalidate_words::{ChangeFormat, Color, FailOn, Format, Reporting};
+use gqlvalidate_runs::schema_texts::{BUILT_IN_TEXT, schema_subject};
+use gqlvalidate_words::{ChangeFormat, Color, Dialect, FailOn, Format, Reporting};
 use graphql_change_formats::{
     ChangeTally, ChangeVerdict, ComparedTexts, ShownChange, json_format, markdown_format,
     text_format, verdict_of,
@@ -26,7 +26,7 @@ use graphql_change_formats::{
 use graphql_change_kinds::{BreakingReason, Level, SchemaChange};
 use graphql_change_witnesses::confirmed_witness;
 use graphql_documents::documents::Schema;
-use graphql_frontend::{SchemaReading, abandon, read_schema};
+use graphql_frontend::{SchemaReading, abandon};
 use graphql_parser::Bounds;
 use graphql_schema_comparison::{Comparison, compare_schemas};
 use graphql_schema_ways::Ways;
@@ -46,6 +46,8 @@ pub struct Compared<'a> {
     pub format: ChangeFormat,
     /// How reports of a schema or a document are presented.
     pub presentation: Presentation,
+    /// What the schemas mean beyond the specification.
+    pub dialect: Dialect,
 }
 
 /// The files of a schema: their paths as they are shown, and their texts.
@@ -136,6 +138,23 @@ fn compare_read<R: Files + AllocGlobal, I: Read, O: Write, F: Write>(
 ) -> Result<Status, Fault> {
     let old = named_files(rt.alloc(), old)?;
     let new = named_files(rt.alloc(), new)?;
+    compare_named(rt, &old, &new, compared, input, output, faults)
+}
+
+/// Compares the schemas of these texts, as their dialect reads them.
+fn compare_named<R: Files + AllocGlobal, I: Read, O: Write, F: Write>(
+    rt: &R,
+    old: &[NamedText<'_>],
+    new: &[NamedText<'_>],
+    compared: Compared<'_>,
+    input: &mut I,
+    output: &mut O,
+    faults: &mut F,
+) -> Result<Status, Fault> {
+    let old_read = dialect_texts(rt.alloc(), old, compared.dialect)?;
+    let new_read = dialect_texts(rt.alloc(), new, compared.dialect)?;
+    let old = SchemaTexts::new(rt.alloc(), old, &old_read)?;
+    let new = SchemaTexts::new(rt.alloc(), new, &new_read)?;
     compare_from(rt, &old, &new, compared, input, output, faults)
 }
 
@@ -209,16 +228,15 @@ fn named_files<'a>(
 /// Compares the schemas of these texts, if the old one holds.
 fn compare_from<R: Files + AllocGlobal, I: Read, O: Write, F: Write>(
     rt: &R,
-    old: &[NamedText<'_>],
-    new: &[NamedText<'_>],
+    old: &SchemaTexts<'_>,
+    new: &SchemaTexts<'_>,
     compared: Compared<'_>,
     input: &mut I,
     output: &mut O,
     faults: &mut F,
 ) -> Result<Status, Fault> {
-    let sources = sources_of(rt.alloc(), old)?;
-    let subject = schema_subject(old, &sources);
-    match read_schema(rt.alloc(), &sources, OF_SCHEMA)? {
+    let subject = schema_subject(&old.shown, &old.read);
+    match read_schema_in(rt.alloc(), old, compared.dialect)? {
         SchemaReading::Accepted(schema) => {
             let texts = CountedSubject::new(rt.alloc(), subject)?;
             let status = compare_to(rt, &schema, texts, new, compared, input, output, faults);
@@ -238,7 +256,7 @@ fn compare_to<R: Files + AllocGlobal, I: Read, O: Write, F: Write>(
     rt: &R,
     old: &Schema,
     old_texts: CountedSubject<'_>,
-    new: &[NamedText<'_>],
+    new: &SchemaTexts<'_>,
     compared: Compared<'_>,
     input: &mut I,
     output: &mut O,
@@ -246,9 +264,8 @@ fn compare_to<R: Files + AllocGlobal, I: Read, O: Write, F: Write>(
 ) -> Result<Status, Fault>
     requires { IsUsable old.now }
 {
-    let sources = sources_of(rt.alloc(), new)?;
-    let subject = schema_subject(new, &sources);
-    match read_schema(rt.alloc(), &sources, OF_SCHEMA)? {
+    let subject = schema_subject(&new.shown, &new.read);
+    match read_schema_in(rt.alloc(), new, compared.dialect)? {
         SchemaReading::Accepted(schema) => {
             let texts = ComparedTexts {
                 old: old_texts,

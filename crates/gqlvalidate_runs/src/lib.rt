@@ -4,6 +4,7 @@
 pub mod accounts;
 pub mod bounds;
 mod comments;
+pub mod dialects;
 mod files;
 pub mod json_lines;
 mod kept;

@@ -11,16 +11,16 @@ use gqlvalidate_inputs::word_paths::{expanded, schema_paths, views};
 use gqlvalidate_paths::Expansion;
 use gqlvalidate_paths::plain::plain;
 use gqlvalidate_runs::bounds::OF_SCHEMA;
+use gqlvalidate_runs::dialects::{SchemaTexts, dialect_texts, read_schema_in};
 use gqlvalidate_runs::json_format::{add_findings, begin_errors};
 use gqlvalidate_runs::json_lines::print_line;
 use gqlvalidate_runs::named_texts::{CountedSubject, NamedText, Subject};
 use gqlvalidate_runs::schema_files::{FileKind, ReadFiles, named_schema, named_text, read_files};
 use gqlvalidate_runs::schema_texts::{schema_subject, sources_of};
 use gqlvalidate_runs::{Finding, Texts, findings_of};
+use gqlvalidate_words::Dialect;
 use graphql_documents::documents::Schema;
-use graphql_frontend::{
-    Reports, SchemaReading, SourceText, abandon, read_schema, validate_document,
-};
+use graphql_frontend::{Reports, SchemaReading, SourceText, abandon, validate_document};
 use graphql_nodes::FileId;
 use graphql_parser::Bounds;
 use graphql_project_checking::check_project;
@@ -47,6 +47,8 @@ pub struct Allowance {
     pub reports: usize,
     /// Whether documents may spread the fragments of files that are lent.
     pub lends: bool,
+    /// What the schema means beyond the specification.
+    pub dialect: Dialect,
 }
 
 /// Reads the schema of the files that these words name, and answers each line of standard input by a line, until there are no more.
@@ -98,9 +100,10 @@ fn serve_schema<R: Files + AllocGlobal + Clone + Drop, I: Read, O: Write, F: Wri
     output: &mut O,
     faults: &mut F,
 ) -> Result<Status, Fault> {
-    let sources = sources_of(rt.alloc(), named)?;
-    let subject = schema_subject(named, &sources);
-    match read_schema(rt.alloc(), &sources, OF_SCHEMA)? {
+    let read = dialect_texts(rt.alloc(), named, allowance.dialect)?;
+    let texts = SchemaTexts::new(rt.alloc(), named, &read)?;
+    let subject = schema_subject(&texts.shown, &texts.read);
+    match read_schema_in(rt.alloc(), &texts, allowance.dialect)? {
         SchemaReading::Accepted(schema) => {
             let status = serve_beside(
                 rt, &schema, subject, fragments, allowance, input, output, faults,
