@@ -32,7 +32,8 @@ fn add_certain_of(
     bounds: Bounds,
     found: &mut ProjectReports,
 ) -> Result<(), ValidationError> {
-    match validate_standalone_document(alloc, source, bounds)? {
+    let reported = validate_standalone_document(alloc, source, bounds)?;
+    match &reported {
         Some(Reports::DocumentRules(reports)) => add_reports(alloc, reports, found),
         _ => Ok(()),
     }
@@ -40,29 +41,21 @@ fn add_certain_of(
 
 fn add_reports(
     alloc: Global,
-    reports: DocumentReports,
+    reports: &DocumentReports,
     found: &mut ProjectReports,
 ) -> Result<(), ValidationError> {
-    let DocumentReports {
-        rules,
-        undefined_variables,
-        input_fields,
-        usages: _,
-        has_more: _,
-    } = reports;
-    let mut certain = DiagnosticList::with_hash_seed(alloc, rules.hash_seed());
-    add_certain(alloc, &rules, &mut certain)?;
-    if certain.is_empty() && undefined_variables.is_empty() && input_fields.is_empty() {
+    let mut certain = DiagnosticList::with_hash_seed(alloc, reports.rules.hash_seed());
+    add_certain(alloc, reports.rules.iter().as_slice(), &mut certain)?;
+    add_certain(alloc, &reports.undefined_variables, &mut certain)?;
+    if certain.is_empty() {
         return Ok(());
     }
-    found.push(
-        None,
-        Reports::DocumentRules(DocumentReports {
-            rules: certain,
-            undefined_variables,
-            input_fields,
-            usages: Vec::new(alloc),
-            has_more: false,
-        }),
-    )
+    let reports = DocumentReports {
+        rules: certain,
+        undefined_variables: Vec::new(alloc),
+        input_fields: Vec::new(alloc),
+        usages: Vec::new(alloc),
+        has_more: false,
+    };
+    found.push(None, Reports::DocumentRules(reports))
 }

@@ -14,13 +14,13 @@ use std::alloc::Global;
 /// Specification: 5.4.2 Argument Uniqueness, 5.8.1 Variable Uniqueness, 5.8.3 All Variable Uses Defined, 5.8.4 All Variables Used.
 pub fn add_certain(
     alloc: Global,
-    list: &DiagnosticList,
+    reports: &[DiagnosticEntry],
     certain: &mut DiagnosticList,
 ) -> Result<(), ValidationError>
-    ensures { OnOk result (KeepsReports (Contains (entries list.now)) (entries certain.old) (entries certain.new)) }
+    ensures { OnOk result (KeepsReports (Contains reports.now) (entries certain.old) (entries certain.new)) }
 {
-    let knows_all = !list.iter().any(is_of_unknown);
-    for entry in list.iter().as_slice() {
+    let knows_all = !reports.iter().any(is_of_unknown);
+    for entry in reports {
         add_entry(alloc, entry, knows_all, certain)?;
     }
     Ok(())

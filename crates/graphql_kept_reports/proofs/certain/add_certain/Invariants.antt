@@ -4,4 +4,4 @@ use Rattle.graphql_diagnostics.specs.Reports.{KeepsReports}
 use Rattle.graphql_kept_reports.proofs.certain.add_certain.Given as goal
 
 abbrev pub invariant-loop-entry : goal.invariant-loop-entry
-invariant-loop-entry l = KeepsReports (Contains (entries l.list.now)) (entries l.initial.certain) (entries l.certain)
+invariant-loop-entry l = KeepsReports (Contains l.reports) (entries l.initial.certain) (entries l.certain)
