@@ -1,5 +1,5 @@
 -- The usages in selections, operations, fragments and documents: those in order are exactly those that there are.
-use Rattle.std.proofs.Common.{◌≡◌, ◌↔◌, ℕ, ◌+◌, ◌<◌, ◌≤◌, List, [], ◌∷◌, ◌++◌, length, get_or, take, refl, sym, ap, ◌∙◌, subst, Contains, Some}
+use Rattle.std.proofs.Common.{◌≡◌, ◌↔◌, ℕ, ◌+◌, ◌<◌, ◌≤◌, List, [], ◌∷◌, ◌++◌, length, get_or, take, refl, sym, ap, ◌∙◌, subst, Contains}
 use Rattle.std.specs.Prelude.{Any, ◌⊎◌}
 use Rattle.std.proofs.lemmas.List.{append-nil, append_assoc, take_all}
 use mathlib.Core.Logic.{inl, inr}
@@ -24,7 +24,7 @@ use Rattle.graphql_documents.specs.declared.documents.executables.Selection.TheV
 use Rattle.graphql_documents.specs.declared.documents.executables.SelectionSet.{SelectionSet}
 use Rattle.graphql_documents.specs.declared.documents.schemas.Schema.{Schema}
 use Rattle.graphql_deprecations.specs.Deprecations.{IsUsageOf, Usage}
-use Rattle.graphql_deprecations.specs.InOrder.{Adds, DirectivesUse, DocumentUses, FieldItselfUses, FieldUses, FragmentUses, InlineFragmentUses, OperationUses, SelectionsUse, Then, next_field, next_inline_fragment, next_spread, no_selections}
+use Rattle.graphql_deprecations.specs.InOrder.{Adds, DirectivesUse, DocumentUses, FieldItselfUses, FieldUses, FragmentUses, InlineFragmentUses, OperationUses, SelectionsUse, next_field, next_inline_fragment, next_spread, no_selections}
 use Rattle.graphql_deprecations.specs.Usages.{AreExactly, IsDeprecatedUsage, UsedByField, UsedBySelection, UsedInArguments, UsedInDirectives, UsedInFragment, UsedInOperation, UsedInSet, UsedInVariable, field_at}
 use Rattle.graphql_deprecations.specs.declared.reports.DeprecatedElement.TheVariants as kind
 use Rattle.graphql_deprecations.specs.declared.reports.DeprecatedUsage.{DeprecatedUsage}

@@ -1,5 +1,5 @@
 -- The usages in values, arguments, directives and variables: those in order are exactly those that there are.
-use Rattle.std.proofs.Common.{◌≡◌, ◌↔◌, ℕ, ◌+◌, ◌<◌, ◌≤◌, List, [], ◌∷◌, ◌++◌, length, get_or, take, refl, sym, ap, ◌∙◌, subst, Contains, Vec, Option, None, Some}
+use Rattle.std.proofs.Common.{◌≡◌, ℕ, ◌+◌, ◌<◌, ◌≤◌, List, [], ◌∷◌, ◌++◌, length, get_or, take, refl, sym, ap, ◌∙◌, subst, Contains, Vec, Some}
 use Rattle.std.specs.Prelude.{Any, ◌⊎◌}
 use Rattle.std.specs.declared.alloc.Global.{Global}
 use Rattle.std.proofs.lemmas.List.{append-nil, append_assoc, take_all}
@@ -22,7 +22,7 @@ use Rattle.graphql_documents.specs.declared.documents.values.Value.{Value, out-V
 use Rattle.graphql_documents.specs.declared.documents.values.Value.TheOpen as Open
 use Rattle.graphql_documents.specs.declared.documents.values.Value.TheVariants as literal
 use Rattle.graphql_deprecations.specs.Deprecations.{IsUsageOf, Usage}
-use Rattle.graphql_deprecations.specs.InOrder.{Adds, ArgumentUses, ArgumentsUse, DirectiveUses, DirectivesUse, EntriesUse, InputFieldUses, ItemsUse, ValueUses, VariableUses, element_uses, enum_uses, list_uses, next_entry, next_item, no_entries, no_items, object_uses, other_uses, unknown_entry, uses_nothing}
+use Rattle.graphql_deprecations.specs.InOrder.{Adds, ArgumentUses, ArgumentsUse, DirectiveUses, DirectivesUse, EntriesUse, InputFieldUses, ItemsUse, ValueUses, VariableUses, enum_uses, list_uses, next_entry, next_item, no_entries, no_items, object_uses, other_uses, unknown_entry, uses_nothing}
 use Rattle.graphql_deprecations.specs.Usages.{AreExactly, UsedIn, UsedInArgument, UsedInArguments, UsedInDirective, UsedInDirectives, UsedInVariable, enum_value_at, in_input_field, in_item, input_field_at, of_enum_value, of_input_field}
 use Rattle.graphql_deprecations.specs.declared.reports.DeprecatedElement.{DeprecatedElement}
 use Rattle.graphql_deprecations.specs.declared.reports.DeprecatedElement.TheVariants as kind

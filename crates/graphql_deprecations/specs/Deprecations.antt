@@ -1,5 +1,5 @@
 -- Elements that are deprecated, why, and what a message says. Specification: 3.13.3 @deprecated.
-use Rattle.std.specs.Prelude.{ℕ, List, [], ◌++◌, ◌≡◌, Option, Some, codes, find, string_bytes}
+use Rattle.std.specs.Prelude.{ℕ, List, ◌++◌, ◌≡◌, Option, Some, codes, find, string_bytes}
 use Rattle.std.specs.Option.{option_map_or}
 use Rattle.std.specs.Str.{bytes_eq}
 use Rattle.graphql_nodes.specs.Names.{NameText}

@@ -2,7 +2,7 @@ use Rattle.std.proofs.Common.{◌≡◌, ◌∙◌, List, None, Option, Some, ap
 use Rattle.std.specs.Option.{option_map_or}
 use Rattle.graphql_nodes.specs.declared.nodes.Node.{Node}
 use Rattle.graphql_documents.specs.declared.documents.directives.Argument.{Argument}
-use Rattle.graphql_deprecations.specs.Deprecations.{reason_argument, reason_in, reason_of}
+use Rattle.graphql_deprecations.specs.Deprecations.{reason_argument, reason_in}
 use Rattle.graphql_deprecations.proofs.deprecations.reason_of.Goals as goal
 
 -- the reason that an argument gives, if there is one

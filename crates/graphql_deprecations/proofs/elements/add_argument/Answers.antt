@@ -1,4 +1,4 @@
-use Rattle.std.proofs.Common.{◌≡◌, None, Some, ap, rules}
+use Rattle.std.proofs.Common.{◌≡◌, None, Some, rules}
 use Rattle.graphql_deprecations.specs.InOrder.{argument_element}
 use Rattle.graphql_deprecations.specs.Deprecations.{deprecation_in}
 use Rattle.graphql_deprecations.proofs.AddLemmas.{adds_no_use, adds_use}

@@ -1,4 +1,4 @@
-use Rattle.std.proofs.Common.{◌≡◌, ◌∙◌, None, OnOk, Some, ap, rules, subst}
+use Rattle.std.proofs.Common.{◌≡◌, ◌∙◌, OnOk, Some, ap, rules, subst}
 use Rattle.std.specs.Prelude.{List}
 use Rattle.std.proofs.lemmas.Result.{on_ok_weaker}
 use Rattle.graphql_documents.specs.declared.documents.components.Component.{Component}

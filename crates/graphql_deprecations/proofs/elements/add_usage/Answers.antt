@@ -1,4 +1,4 @@
-use Rattle.std.proofs.Common.{◌≡◌, ◌∙◌, [], ◌∷◌, ap}
+use Rattle.std.proofs.Common.{◌∙◌, [], ◌∷◌, ap}
 use Rattle.graphql_documents.specs.declared.documents.directives.Directive.{Directive}
 use Rattle.graphql_deprecations.specs.Deprecations.{Usage, reason_of}
 use Rattle.graphql_deprecations.proofs.AddLemmas.{adds_one, adds_words}

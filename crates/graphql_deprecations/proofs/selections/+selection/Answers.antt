@@ -1,7 +1,6 @@
-use Rattle.std.proofs.Common.{◌∙◌, ap, subst, sym, [], ◌∷◌, OnOk}
+use Rattle.std.proofs.Common.{◌∙◌, ap, subst, sym, [], ◌∷◌}
 use Rattle.std.proofs.lemmas.Result.{on_ok_weaker}
 use Rattle.graphql_documents.specs.declared.documents.executables.FragmentSpread.{FragmentSpread}
-use Rattle.graphql_documents.specs.declared.documents.executables.Selection.TheVariants as selection
 use Rattle.graphql_deprecations.specs.InOrder.{Adds, DirectivesUse, FieldUses, InlineFragmentUses, SelectionsUse, no_selections}
 use Rattle.graphql_deprecations.proofs.AddLemmas.{adds_both, adds_none, adds_words}
 use Rattle.graphql_deprecations.proofs.SelectionLemmas.{adds_selection, one_field, one_inline_fragment, one_spread, selections_all}

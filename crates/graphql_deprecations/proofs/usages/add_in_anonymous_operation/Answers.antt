@@ -1,4 +1,4 @@
-use Rattle.std.proofs.Common.{◌≡◌, [], ◌∷◌, refl, sym, subst, Option, None, Some, OnOk}
+use Rattle.std.proofs.Common.{refl, sym, subst, OnOk}
 use Rattle.std.specs.Prelude.{List, option_to_list}
 use Rattle.std.proofs.lemmas.Result.{on_ok_weaker}
 use Rattle.graphql_nodes.specs.declared.nodes.Node.{Node}

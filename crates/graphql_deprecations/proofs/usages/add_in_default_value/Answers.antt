@@ -1,4 +1,4 @@
-use Rattle.std.proofs.Common.{◌≡◌, ◌∙◌, ap, subst, OnOk}
+use Rattle.std.proofs.Common.{◌∙◌, ap, subst, OnOk}
 use Rattle.std.proofs.lemmas.Result.{on_ok_weaker}
 use Rattle.std.specs.Prelude.{List}
 use Rattle.graphql_nodes.specs.declared.nodes.Node.{Node}

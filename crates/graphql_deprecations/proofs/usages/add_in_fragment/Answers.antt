@@ -1,4 +1,4 @@
-use Rattle.std.proofs.Common.{subst, OnOk}
+use Rattle.std.proofs.Common.{subst}
 use Rattle.std.proofs.lemmas.Result.{on_ok_weaker}
 use Rattle.graphql_deprecations.specs.InOrder.{Adds, DirectivesUse}
 use Rattle.graphql_deprecations.proofs.AddLemmas.{adds_both}

@@ -1,5 +1,3 @@
-use Rattle.std.proofs.Common.{◌≡◌, ◌∙◌, subst, sym}
-use Rattle.graphql_deprecations.specs.InOrder.{DocumentUses, usages}
 use Rattle.graphql_deprecations.proofs.AddLemmas.{adds_both, all_added}
 use Rattle.graphql_deprecations.proofs.SelectionLemmas.{exactly_document}
 use Rattle.graphql_deprecations.proofs.usages.deprecated_usages.Goals as goal

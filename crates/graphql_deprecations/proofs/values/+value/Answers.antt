@@ -1,4 +1,4 @@
-use Rattle.std.proofs.Common.{sym, ap, ◌∙◌, subst, rules, ◌≡◌, ◌∷◌, [], ◌++◌, None, Some, OnOk}
+use Rattle.std.proofs.Common.{sym, ap, ◌∙◌, subst, rules, ◌≡◌, None, Some, OnOk}
 use Rattle.std.proofs.lemmas.Result.{on_ok_weaker}
 use Rattle.graphql_documents.specs.TypeReferences.{inner_named_type}
 use Rattle.graphql_deprecations.specs.InOrder.{Adds, EntriesUse, InputFieldUses, ItemsUse, ValueUses, element_uses, enum_uses, list_uses, no_entries, no_items, object_uses, other_uses, unknown_entry}
