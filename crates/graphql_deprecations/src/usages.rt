@@ -19,13 +19,15 @@ use std::alloc::Global;
 
 /// The uses of deprecated elements of the schema in the operations and fragments of a document, reached or not: of fields, of the
 /// arguments of fields and directives, and, in the values of arguments and the default values of variables at any depth, of input
-/// fields and enum values. No other use is listed, and each as often as the document has it.
+/// fields and enum values. The list has no other use, and each as often as the document has it. Uses in the definitions of the
+/// schema itself are not listed.
 ///
 /// The operations come first, the one without a name before the others, and then the fragments, each in the order of the text. A
-/// field, argument or input field comes before those in it. Where the schema does not define a field, an argument, a directive or
-/// an input field, nothing is listed of it or of its values.
+/// field, an argument or an input field comes before the uses in it. If the schema does not define a field, an argument, a
+/// directive or an input field, nothing is listed of it or of its values.
 ///
-/// The call takes as deep a stack as selections and values nest. The only error is a failed allocation.
+/// The call recurses as deep as selections and values nest. The parser limits this in texts; a document that a program makes must
+/// not nest deeper than the stack allows. The only error is a failed allocation.
 ///
 /// Specification: 3.13.3 @deprecated, and in the draft for arguments and input fields.
 pub fn deprecated_usages(
