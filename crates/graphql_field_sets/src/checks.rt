@@ -8,7 +8,7 @@ use graphql_document_building::build_document;
 use graphql_document_checking::check_document;
 use graphql_documents::documents::{ExecutableDocument, Schema};
 use graphql_frontend::{Reports, SourceText, SyntaxReport};
-use graphql_nodes::{FileId, ValidationError};
+use graphql_nodes::{SourceSpan, ValidationError};
 use graphql_parser::{Bounds, SyntaxError, parse_document};
 use graphql_syntax::Expected;
 use graphql_tokens::{Token, TokenKind};
@@ -34,7 +34,7 @@ pub fn check_field_sets(
             check_text(
                 alloc,
                 schema,
-                set.literal.span.file_id,
+                set.literal.span,
                 text.as_str(),
                 bounds,
                 &mut found,
@@ -72,22 +72,46 @@ fn fields_of_block(written: &str) -> Option<&str> {
     written.strip_prefix("\"\"\"")?.strip_suffix("\"\"\"")
 }
 
-/// Checks the text of a field set.
+/// Checks the text of a field set, which is the string at this place.
 fn check_text(
     alloc: Global,
     schema: &Schema,
-    file_id: FileId,
+    string: SourceSpan,
     text: &str,
     bounds: Bounds,
     found: &mut FieldSetReports,
 ) -> Result<(), ValidationError> {
+    let file_id = string.file_id;
     match parse_document(alloc, file_id, text, bounds) {
-        Ok(tree) => check_tree(alloc, schema, file_id, &tree, found),
+        Ok(tree) => check_tree(alloc, schema, string, &tree, found),
         Err(SyntaxError::OutOfMemory) => Err(ValidationError::OutOfMemory),
         Err(error) => {
+            let error = error_in_string(error, string);
             found.syntax.push(SyntaxReport { file_id, error })?;
             Ok(())
         }
+    }
+}
+
+/// The error as one of the schema: its token is a part of a string, whose last quote is where the text of the field set ends.
+fn error_in_string(error: SyntaxError, string: SourceSpan) -> SyntaxError {
+    match error {
+        SyntaxError::Unexpected(token, expected) => {
+            let (start, end) = match token {
+                Some(token) => (token.start, token.end),
+                None => (string.end.saturating_sub(1), string.end),
+            };
+            SyntaxError::Unexpected(Some(part_of_string(start, end)), expected)
+        }
+        other => other,
+    }
+}
+
+fn part_of_string(start: u32, end: u32) -> Token {
+    Token {
+        kind: TokenKind::StringValue,
+        start,
+        end,
     }
 }
 
@@ -95,7 +119,7 @@ fn check_text(
 fn check_tree(
     alloc: Global,
     schema: &Schema,
-    file_id: FileId,
+    string: SourceSpan,
     tree: &Document,
     found: &mut FieldSetReports,
 ) -> Result<(), ValidationError> {
@@ -104,13 +128,11 @@ fn check_tree(
         [Definition::Fragment(fragment), ..] => {
             // The fragment ends with a brace that is within the string.
             let end = fragment.span.end;
-            let token = Token {
-                kind: TokenKind::RightBrace,
-                start: end.saturating_sub(1),
-                end,
-            };
-            let error = SyntaxError::Unexpected(Some(token), Expected::Selection);
-            found.syntax.push(SyntaxReport { file_id, error })?;
+            let brace = part_of_string(end.saturating_sub(1), end);
+            found.syntax.push(SyntaxReport {
+                file_id: string.file_id,
+                error: SyntaxError::Unexpected(Some(brace), Expected::Selection),
+            })?;
             Ok(())
         }
         _ => Ok(()),

@@ -1,6 +1,6 @@
 //! Field sets as texts.
 
-ghost use Rattle.std.specs.Prelude.{◌≡◌, IfOk, string_bytes};
+ghost use Rattle.std.specs.Prelude.{◌≡◌, IfOk, replicate, string_bytes};
 ghost use Rattle.graphql_field_sets.specs.Texts.{fragment_text};
 
 use std::alloc::{AllocError, Global};
@@ -34,8 +34,8 @@ fn blanks(alloc: Global, count: usize) -> Result<String, AllocError>
     ensures { IfOk result (λ text. string_bytes text ≡ replicate count 32) }
 {
     let mut text = String::new(alloc);
-    for _ in 0..count {
-        text.push(' ')?;
+    for _turn in 0..count {
+        text.push_str(" ")?;
     }
     Ok(text)
 }
