@@ -3,8 +3,8 @@
 //! messages in the words of this project.
 use graphql_deprecations::deprecated_usages;
 use graphql_documents::documents::Valid;
-use graphql_notation::build::{document_in_file, schema};
 use graphql_nodes::FileId;
+use graphql_notation::build::{document_in_file, schema};
 use std::alloc::Global;
 use std::fmt::Write;
 use std::process::Abort;
