@@ -14,6 +14,6 @@ is_warning Error = false
 abbrev pub shown : Levels → List Text → List Text
 shown levels reports = filter (shows levels) reports
 
--- documents with these reports, by the names of their rules, hold but for the rules that are off: each report is of such a rule
+-- documents with these reports, by the names of their rules, keep all rules that are not off: each report is of a rule that is off
 abbrev pub HoldsBut : Levels → List Text → Type 0
 HoldsBut levels reports = All (λ rule. shows levels rule ≡ false) reports
