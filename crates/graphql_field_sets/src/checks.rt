@@ -57,8 +57,9 @@ fn text_of(
     else {
         return Ok(None);
     };
-    let start = span.start as usize;
-    let written = source.text.get(start..span.end as usize).unwrap_or("");
+    let start = usize::try_from(span.start).unwrap_or(usize::MAX);
+    let end = usize::try_from(span.end).unwrap_or(usize::MAX);
+    let written = source.text.get(start..end).unwrap_or("");
     let ty = set.ty.as_str();
     let text = match fields_of_block(written) {
         Some(fields) => text_of_field_set(alloc, ty, fields, start.saturating_add(2))?,
