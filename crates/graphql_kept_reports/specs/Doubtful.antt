@@ -1,6 +1,6 @@
 -- Reports on what is left of texts that could be false of the whole texts. Specification: 5.2.3.1 Single Root Field, 5.3.2 Field Selection Merging,
 -- 5.5.1.4 Fragments Must Be Used, 5.5.2.1 Fragment Spread Target Defined, 5.8.4 All Variables Used
-use Rattle.std.specs.Prelude.{◌&&◌, ◌||◌, Bool, List, codes, false, true}
+use Rattle.std.specs.Prelude.{◌&&◌, ◌||◌, Bool, codes, false, true}
 use Rattle.std.specs.BTreeSet.{contains_text}
 use Rattle.std.specs.List.{list_any}
 use Rattle.std.specs.Str.{bytes_eq}
