@@ -13,31 +13,31 @@ const READ: &[(&[&str], &str)] = &[
     (&["explain", "Syntax"], "Explain { rule: Some(\"Syntax\") }"),
     (
         &["check", "--schema", "s", "a", "--schema=t", "b"],
-        "Check { choice: ConfigurationChoice { configuration: Nearest, project: None }, schema: [\"s\", \"t\"], documents: [\"a\", \"b\"], files_from: None, fragments: [], only: [], stdin_name: None, grouping: Project, limits: Limits { depth: 500, reach: 64, work: 160000000 }, reporting: Reporting { format: Text, color: Auto, max_reports: 100 }, watch: false, levels: Levels { given: [] }, max_warnings: None }",
+        "Check { choice: ConfigurationChoice { configuration: Nearest, project: None }, schema: [\"s\", \"t\"], documents: [\"a\", \"b\"], files_from: None, fragments: [], only: [], stdin_name: None, grouping: Project, limits: Limits { depth: 500, reach: 64, work: 160000000 }, reporting: Reporting { format: Text, color: Auto, max_reports: 100 }, watch: false, levels: Levels { given: [] }, max_warnings: None, dialect: Dialect { federation: false, client: None } }",
     ),
     (
         &["schema", "--format", "json", "--max-reports", "7", "s"],
-        "Schema { schema: [\"s\"], reporting: Reporting { format: Json, color: Auto, max_reports: 7 } }",
+        "Schema { schema: [\"s\"], reporting: Reporting { format: Json, color: Auto, max_reports: 7 }, federation: false }",
     ),
     (
         &["schema", "--format=github", "--color=never", "s"],
-        "Schema { schema: [\"s\"], reporting: Reporting { format: Github, color: Never, max_reports: 18446744073709551615 } }",
+        "Schema { schema: [\"s\"], reporting: Reporting { format: Github, color: Never, max_reports: 18446744073709551615 }, federation: false }",
     ),
     (
         &["schema", "--format", "sarif", "s"],
-        "Schema { schema: [\"s\"], reporting: Reporting { format: Sarif, color: Auto, max_reports: 18446744073709551615 } }",
+        "Schema { schema: [\"s\"], reporting: Reporting { format: Sarif, color: Auto, max_reports: 18446744073709551615 }, federation: false }",
     ),
     (
         &["schema", "--format", "junit", "s"],
-        "Schema { schema: [\"s\"], reporting: Reporting { format: Junit, color: Auto, max_reports: 18446744073709551615 } }",
+        "Schema { schema: [\"s\"], reporting: Reporting { format: Junit, color: Auto, max_reports: 18446744073709551615 }, federation: false }",
     ),
     (
         &["schema", "--format", "checkstyle", "s"],
-        "Schema { schema: [\"s\"], reporting: Reporting { format: Checkstyle, color: Auto, max_reports: 18446744073709551615 } }",
+        "Schema { schema: [\"s\"], reporting: Reporting { format: Checkstyle, color: Auto, max_reports: 18446744073709551615 }, federation: false }",
     ),
     (
         &["schema", "--format", "gitlab", "s"],
-        "Schema { schema: [\"s\"], reporting: Reporting { format: Gitlab, color: Auto, max_reports: 18446744073709551615 } }",
+        "Schema { schema: [\"s\"], reporting: Reporting { format: Gitlab, color: Auto, max_reports: 18446744073709551615 }, federation: false }",
     ),
     (&["print-schema", "a"], "PrintSchema { answer: \"a\" }"),
     (
@@ -54,7 +54,7 @@ const READ: &[(&[&str], &str)] = &[
             "s",
             "a",
         ],
-        "Check { choice: ConfigurationChoice { configuration: Nearest, project: None }, schema: [\"s\"], documents: [\"a\"], files_from: None, fragments: [], only: [], stdin_name: None, grouping: OneDocument, limits: Limits { depth: 7, reach: 5, work: 6 }, reporting: Reporting { format: Text, color: Always, max_reports: 100 }, watch: false, levels: Levels { given: [] }, max_warnings: None }",
+        "Check { choice: ConfigurationChoice { configuration: Nearest, project: None }, schema: [\"s\"], documents: [\"a\"], files_from: None, fragments: [], only: [], stdin_name: None, grouping: OneDocument, limits: Limits { depth: 7, reach: 5, work: 6 }, reporting: Reporting { format: Text, color: Always, max_reports: 100 }, watch: false, levels: Levels { given: [] }, max_warnings: None, dialect: Dialect { federation: false, client: None } }",
     ),
     (
         &[
@@ -66,19 +66,19 @@ const READ: &[(&[&str], &str)] = &[
             "s",
             "--fragments=g",
         ],
-        "Check { choice: ConfigurationChoice { configuration: Nearest, project: None }, schema: [\"s\"], documents: [], files_from: Some(PathList { file: \"l\", ends: Lines }), fragments: [\"f\", \"g\"], only: [], stdin_name: None, grouping: Project, limits: Limits { depth: 500, reach: 64, work: 160000000 }, reporting: Reporting { format: Text, color: Auto, max_reports: 100 }, watch: false, levels: Levels { given: [] }, max_warnings: None }",
+        "Check { choice: ConfigurationChoice { configuration: Nearest, project: None }, schema: [\"s\"], documents: [], files_from: Some(PathList { file: \"l\", ends: Lines }), fragments: [\"f\", \"g\"], only: [], stdin_name: None, grouping: Project, limits: Limits { depth: 500, reach: 64, work: 160000000 }, reporting: Reporting { format: Text, color: Auto, max_reports: 100 }, watch: false, levels: Levels { given: [] }, max_warnings: None, dialect: Dialect { federation: false, client: None } }",
     ),
     (
         &["check", "--each", "--schema", "s", "a"],
-        "Check { choice: ConfigurationChoice { configuration: Nearest, project: None }, schema: [\"s\"], documents: [\"a\"], files_from: None, fragments: [], only: [], stdin_name: None, grouping: Each, limits: Limits { depth: 500, reach: 64, work: 160000000 }, reporting: Reporting { format: Text, color: Auto, max_reports: 100 }, watch: false, levels: Levels { given: [] }, max_warnings: None }",
+        "Check { choice: ConfigurationChoice { configuration: Nearest, project: None }, schema: [\"s\"], documents: [\"a\"], files_from: None, fragments: [], only: [], stdin_name: None, grouping: Each, limits: Limits { depth: 500, reach: 64, work: 160000000 }, reporting: Reporting { format: Text, color: Auto, max_reports: 100 }, watch: false, levels: Levels { given: [] }, max_warnings: None, dialect: Dialect { federation: false, client: None } }",
     ),
     (
         &["check", "--config", "c", "--project=p"],
-        "Check { choice: ConfigurationChoice { configuration: File(\"c\"), project: Some(\"p\") }, schema: [], documents: [], files_from: None, fragments: [], only: [], stdin_name: None, grouping: Project, limits: Limits { depth: 500, reach: 64, work: 160000000 }, reporting: Reporting { format: Text, color: Auto, max_reports: 100 }, watch: false, levels: Levels { given: [] }, max_warnings: None }",
+        "Check { choice: ConfigurationChoice { configuration: File(\"c\"), project: Some(\"p\") }, schema: [], documents: [], files_from: None, fragments: [], only: [], stdin_name: None, grouping: Project, limits: Limits { depth: 500, reach: 64, work: 160000000 }, reporting: Reporting { format: Text, color: Auto, max_reports: 100 }, watch: false, levels: Levels { given: [] }, max_warnings: None, dialect: Dialect { federation: false, client: None } }",
     ),
     (
         &["check", "--no-config", "--schema", "s", "a"],
-        "Check { choice: ConfigurationChoice { configuration: Nothing, project: None }, schema: [\"s\"], documents: [\"a\"], files_from: None, fragments: [], only: [], stdin_name: None, grouping: Project, limits: Limits { depth: 500, reach: 64, work: 160000000 }, reporting: Reporting { format: Text, color: Auto, max_reports: 100 }, watch: false, levels: Levels { given: [] }, max_warnings: None }",
+        "Check { choice: ConfigurationChoice { configuration: Nothing, project: None }, schema: [\"s\"], documents: [\"a\"], files_from: None, fragments: [], only: [], stdin_name: None, grouping: Project, limits: Limits { depth: 500, reach: 64, work: 160000000 }, reporting: Reporting { format: Text, color: Auto, max_reports: 100 }, watch: false, levels: Levels { given: [] }, max_warnings: None, dialect: Dialect { federation: false, client: None } }",
     ),
     (
         &[
@@ -93,11 +93,11 @@ const READ: &[(&[&str], &str)] = &[
             "s",
             "a",
         ],
-        "Check { choice: ConfigurationChoice { configuration: Nearest, project: None }, schema: [\"s\"], documents: [\"a\"], files_from: None, fragments: [], only: [], stdin_name: None, grouping: Project, limits: Limits { depth: 500, reach: 64, work: 160000000 }, reporting: Reporting { format: Text, color: Auto, max_reports: 100 }, watch: false, levels: Levels { given: [RuleLevel { rule: \"UnusedFragment\", level: Warning }, RuleLevel { rule: \"UnusedVariable\", level: Off }] }, max_warnings: Some(2) }",
+        "Check { choice: ConfigurationChoice { configuration: Nearest, project: None }, schema: [\"s\"], documents: [\"a\"], files_from: None, fragments: [], only: [], stdin_name: None, grouping: Project, limits: Limits { depth: 500, reach: 64, work: 160000000 }, reporting: Reporting { format: Text, color: Auto, max_reports: 100 }, watch: false, levels: Levels { given: [RuleLevel { rule: \"UnusedFragment\", level: Warning }, RuleLevel { rule: \"UnusedVariable\", level: Off }] }, max_warnings: Some(2), dialect: Dialect { federation: false, client: None } }",
     ),
     (
         &["serve", "--schema", "s"],
-        "Serve { schema: [\"s\"], fragments: [], limits: Limits { depth: 500, reach: 4, work: 160000000 }, max_line: 8388608, max_reports: 1000 }",
+        "Serve { schema: [\"s\"], fragments: [], limits: Limits { depth: 500, reach: 4, work: 160000000 }, max_line: 8388608, max_reports: 1000, federation: false }",
     ),
     (
         &[
@@ -109,11 +109,11 @@ const READ: &[(&[&str], &str)] = &[
             "--schema",
             "s",
         ],
-        "Serve { schema: [\"s\"], fragments: [], limits: Limits { depth: 3, reach: 2, work: 160000000 }, max_line: 9, max_reports: 8 }",
+        "Serve { schema: [\"s\"], fragments: [], limits: Limits { depth: 3, reach: 2, work: 160000000 }, max_line: 9, max_reports: 8, federation: false }",
     ),
     (
         &["diff", "a", "b"],
-        "Diff { old: [\"a\"], new: [\"b\"], operations: [], lone_fields: false, fail_on: Breaking, format: Text }",
+        "Diff { old: [\"a\"], new: [\"b\"], operations: [], lone_fields: false, fail_on: Breaking, format: Text, federation: false }",
     ),
     (
         &[
@@ -132,7 +132,7 @@ const READ: &[(&[&str], &str)] = &[
             "a",
             "b",
         ],
-        "Diff { old: [\"a\", \"c\"], new: [\"b\", \"d\"], operations: [\"e\", \"f\"], lone_fields: true, fail_on: Dangerous, format: Markdown }",
+        "Diff { old: [\"a\", \"c\"], new: [\"b\", \"d\"], operations: [\"e\", \"f\"], lone_fields: true, fail_on: Dangerous, format: Markdown, federation: false }",
     ),
 ];
 
