@@ -5,6 +5,7 @@ use std::fs::{Metadata, OpenFile, OpenOptions};
 use std::io;
 use std::io::{ErrorKind, Read, Seek, SeekFrom, Write};
 use std::rt::Files;
+use std::time::{Clock, Duration};
 
 /// A runtime with four files, and a folder that nobody may read.
 #[derive(Clone, Copy)]
@@ -32,6 +33,17 @@ fn text_of(path: &str) -> Option<&'static str> {
 
 fn unsupported<T>() -> io::Result<T> {
     Err(io::Error::from(ErrorKind::Unsupported))
+}
+
+/// Its clock stands still, and no run waits.
+impl Clock for Shelf {
+    fn monotonic(&self) -> io::Result<Duration> {
+        Ok(Duration::ZERO)
+    }
+
+    fn since_1970(&self) -> io::Result<Duration> {
+        Ok(Duration::ZERO)
+    }
 }
 
 impl Files for Shelf {
