@@ -184,7 +184,7 @@ fn names_of_a_schema_are_hashed_by_a_seed_of_its_texts(rt: HostRuntime) {
     for text in &["type Query { a: Int }", "type Query { b: Int }"] {
         let mut both = String::new(alloc);
         write!(both, "{BUILT_IN_DEFINITIONS}{text}").expect(&rt, "memory for a text");
-        let sources = texts_of_schema(FileId(1), text);
+        let sources = texts_of_schema(FileId(1), *text);
         match read_schema(alloc, &sources, Bounds::DEFAULT).expect(&rt, "memory for a schema") {
             SchemaReading::Accepted(schema) => {
                 let expected = HashSeed::of_text(&both);
