@@ -8,7 +8,7 @@ use gqlvalidate_inputs::faults::{Fault, fault_of_output};
 use gqlvalidate_inputs::printable::Printable;
 use gqlvalidate_inputs::statuses::Status;
 use gqlvalidate_words::ConfigurationChoice;
-use std::alloc::AllocError;
+use std::alloc::{AllocError, Global};
 use std::io::{Read, Write};
 use std::rt::Files;
 use std::thread;
@@ -66,16 +66,33 @@ fn wait<R: Files + AllocGlobal + Clock + Clone + Drop, F: Write>(
     for _ in 0..u64::MAX {
         thread::sleep(rt, Duration::from_millis(PAUSE));
         let now = snapshot(rt, words, choice)?;
-        let changed = now
-            .first_difference(before)
-            .or_else(|| before.first_difference(&now));
-        if let Some(path) = changed {
-            let path = Printable(path);
-            let _ = writeln!(faults, "\n{path} changed");
+        if let Some(path) = difference(rt.alloc(), before, &now)? {
+            say_changed(path.as_str(), faults);
             return Ok(());
         }
     }
     Ok(())
+}
+
+/// The path of the first file that differs, if one does.
+fn difference(
+    alloc: Global,
+    before: &Snapshot,
+    now: &Snapshot,
+) -> Result<Option<String>, AllocError> {
+    if let Some(path) = now.first_difference(before) {
+        return Ok(Some(String::from_str(alloc, path)?));
+    }
+    match before.first_difference(now) {
+        Some(path) => Ok(Some(String::from_str(alloc, path)?)),
+        None => Ok(None),
+    }
+}
+
+/// Says on standard error which file changed. That this fails changes nothing.
+fn say_changed<F: Write>(path: &str, faults: &mut F) {
+    let path = Printable(path);
+    let _ = writeln!(faults, "\n{path} changed");
 }
 
 /// The files that the words and the configuration name.
