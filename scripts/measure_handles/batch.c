@@ -1,33 +1,12 @@
 /* Prints the microseconds that each document takes in a batch, which reads the schema once: batch SCHEMA DOCUMENT..
    That is the difference between a batch of copies of the document and an empty one. */
 #include "graphql_validation.h"
-#include <stdio.h>
-#include <stdlib.h>
+#include "measure.h"
 #include <string.h>
-#include <time.h>
 
 enum { ROUNDS = 20, COPIES = 2000 };
 
 static uint8_t out[1 << 24];
-
-static uint8_t *text_of(const char *path, size_t *length) {
-  FILE *file = fopen(path, "rb");
-  if (!file || fseek(file, 0, SEEK_END))
-    exit(5);
-  *length = (size_t)ftell(file);
-  rewind(file);
-  uint8_t *text = malloc(*length + 1);
-  if (!text || fread(text, 1, *length, file) != *length)
-    exit(5);
-  fclose(file);
-  return text;
-}
-
-static double microseconds(void) {
-  struct timespec now;
-  clock_gettime(CLOCK_MONOTONIC, &now);
-  return (double)now.tv_sec * 1e6 + (double)now.tv_nsec * 1e-3;
-}
 
 int main(int count, char **words) {
   if (count < 3)
