@@ -1,12 +1,70 @@
-//! The texts of diagnostics.
+//! The names and texts of diagnostics.
 
 ghost use Rattle.std.specs.Prelude.{◌≡◌, Some};
-ghost use Rattle.graphql_diagnostics.specs.Messages.{fragment_text, message, name_or_anon_text};
+ghost use Rattle.graphql_diagnostics.specs.Messages.{diagnostic_name, fragment_text, message, name_or_anon_text};
 
 use super::data::DiagnosticData;
 use super::names::{FieldOf, NameOrAnon};
 use graphql_nodes::Name;
 use std::fmt;
+
+impl DiagnosticData {
+    /// The name of the broken rule, as machines read it.
+    pub fn name(&self) -> &'static str
+        ensures { result.now ≡ diagnostic_name self.now }
+    {
+        match self {
+            DiagnosticData::UniqueVariable { .. } => "UniqueVariable",
+            DiagnosticData::UniqueArgument { .. } => "UniqueArgument",
+            DiagnosticData::UniqueInputValue { .. } => "UniqueInputValue",
+            DiagnosticData::UndefinedArgument { .. } => "UndefinedArgument",
+            DiagnosticData::UndefinedDefinition { .. } => "UndefinedDefinition",
+            DiagnosticData::UndefinedDirective { .. } => "UndefinedDirective",
+            DiagnosticData::UndefinedVariable { .. } => "UndefinedVariable",
+            DiagnosticData::UndefinedFragment { .. } => "UndefinedFragment",
+            DiagnosticData::UndefinedEnumValue { .. } => "UndefinedEnumValue",
+            DiagnosticData::UndefinedInputValue { .. } => "UndefinedInputValue",
+            DiagnosticData::MissingInterfaceField { .. } => "MissingInterfaceField",
+            DiagnosticData::InvalidImplementationFieldType { .. } => "InvalidImplementationFieldType",
+            DiagnosticData::MissingInterfaceFieldArgument { .. } => "MissingInterfaceFieldArgument",
+            DiagnosticData::InvalidImplementationFieldArgumentType { .. } =>
+                "InvalidImplementationFieldArgumentType",
+            DiagnosticData::ExtraRequiredImplementationFieldArgument { .. } =>
+                "ExtraRequiredImplementationFieldArgument",
+            DiagnosticData::RequiredArgument { .. } => "RequiredArgument",
+            DiagnosticData::RequiredField { .. } => "RequiredField",
+            DiagnosticData::TransitiveImplementedInterfaces { .. } => "TransitiveImplementedInterfaces",
+            DiagnosticData::OutputType { .. } => "OutputType",
+            DiagnosticData::InputType { .. } => "InputType",
+            DiagnosticData::VariableInputType { .. } => "VariableInputType",
+            DiagnosticData::QueryRootOperationType => "QueryRootOperationType",
+            DiagnosticData::UnusedVariable { .. } => "UnusedVariable",
+            DiagnosticData::RootOperationObjectType { .. } => "RootOperationObjectType",
+            DiagnosticData::DuplicateRootOperationType { .. } => "DuplicateRootOperationType",
+            DiagnosticData::UnionMemberObjectType { .. } => "UnionMemberObjectType",
+            DiagnosticData::UnsupportedLocation { .. } => "UnsupportedLocation",
+            DiagnosticData::UnsupportedValueType { .. } => "UnsupportedValueType",
+            DiagnosticData::IntCoercionError { .. } => "IntCoercionError",
+            DiagnosticData::UniqueDirective { .. } => "UniqueDirective",
+            DiagnosticData::MissingSubselection { .. } => "MissingSubselection",
+            DiagnosticData::InvalidFragmentTarget { .. } => "InvalidFragmentTarget",
+            DiagnosticData::InvalidFragmentSpread { .. } => "InvalidFragmentSpread",
+            DiagnosticData::UnusedFragment { .. } => "UnusedFragment",
+            DiagnosticData::DisallowedVariableUsage { .. } => "DisallowedVariableUsage",
+            DiagnosticData::RecursiveDirectiveDefinition { .. } => "RecursiveDirectiveDefinition",
+            DiagnosticData::RecursiveInterfaceDefinition { .. } => "RecursiveInterfaceDefinition",
+            DiagnosticData::RecursiveInputObjectDefinition { .. } => "RecursiveInputObjectDefinition",
+            DiagnosticData::RecursiveFragmentDefinition { .. } => "RecursiveFragmentDefinition",
+            DiagnosticData::DeeplyNestedType { .. } => "DeeplyNestedType",
+            DiagnosticData::RecursionError => "RecursionError",
+            DiagnosticData::EmptyFieldSet { .. } => "EmptyFieldSet",
+            DiagnosticData::EmptyValueSet { .. } => "EmptyValueSet",
+            DiagnosticData::EmptyMemberSet { .. } => "EmptyMemberSet",
+            DiagnosticData::EmptyInputValueSet { .. } => "EmptyInputValueSet",
+            DiagnosticData::ReservedName { .. } => "ReservedName",
+        }
+    }
+}
 
 /// The text of the diagnostic, without its place.
 impl fmt::Display for DiagnosticData {

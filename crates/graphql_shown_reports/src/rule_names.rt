@@ -1,75 +1,19 @@
 //! The names of rules, as machines read them.
 
 ghost use Rattle.std.specs.Prelude.{◌≡◌};
-ghost use Rattle.graphql_shown_reports.specs.RuleNames.{building_name, details_name, diagnostic_name};
+ghost use Rattle.graphql_shown_reports.specs.RuleNames.{building_name, details_name};
 
 use graphql_building_reports::BuildingRule;
-use graphql_diagnostics::{Details, DiagnosticData};
+use graphql_diagnostics::Details;
 
 /// The name of the rule that a diagnostic is about.
 pub fn details_rule(details: &Details) -> &'static str
     ensures { result.now ≡ details_name details.now }
 {
     match details {
-        Details::Diagnostic(data) => diagnostic_rule(data),
+        Details::Diagnostic(data) => data.name(),
         Details::Build(error) => error.name(),
         Details::RecursionLimit(_) => "RecursionLimit",
-    }
-}
-
-/// The name of a rule of validation.
-fn diagnostic_rule(broken: &DiagnosticData) -> &'static str
-    ensures { result.now ≡ diagnostic_name broken.now }
-{
-    match broken {
-        DiagnosticData::UniqueVariable { .. } => "UniqueVariable",
-        DiagnosticData::UniqueArgument { .. } => "UniqueArgument",
-        DiagnosticData::UniqueInputValue { .. } => "UniqueInputValue",
-        DiagnosticData::UndefinedArgument { .. } => "UndefinedArgument",
-        DiagnosticData::UndefinedDefinition { .. } => "UndefinedDefinition",
-        DiagnosticData::UndefinedDirective { .. } => "UndefinedDirective",
-        DiagnosticData::UndefinedVariable { .. } => "UndefinedVariable",
-        DiagnosticData::UndefinedFragment { .. } => "UndefinedFragment",
-        DiagnosticData::UndefinedEnumValue { .. } => "UndefinedEnumValue",
-        DiagnosticData::UndefinedInputValue { .. } => "UndefinedInputValue",
-        DiagnosticData::MissingInterfaceField { .. } => "MissingInterfaceField",
-        DiagnosticData::InvalidImplementationFieldType { .. } => "InvalidImplementationFieldType",
-        DiagnosticData::MissingInterfaceFieldArgument { .. } => "MissingInterfaceFieldArgument",
-        DiagnosticData::InvalidImplementationFieldArgumentType { .. } =>
-            "InvalidImplementationFieldArgumentType",
-        DiagnosticData::ExtraRequiredImplementationFieldArgument { .. } =>
-            "ExtraRequiredImplementationFieldArgument",
-        DiagnosticData::RequiredArgument { .. } => "RequiredArgument",
-        DiagnosticData::RequiredField { .. } => "RequiredField",
-        DiagnosticData::TransitiveImplementedInterfaces { .. } => "TransitiveImplementedInterfaces",
-        DiagnosticData::OutputType { .. } => "OutputType",
-        DiagnosticData::InputType { .. } => "InputType",
-        DiagnosticData::VariableInputType { .. } => "VariableInputType",
-        DiagnosticData::QueryRootOperationType => "QueryRootOperationType",
-        DiagnosticData::UnusedVariable { .. } => "UnusedVariable",
-        DiagnosticData::RootOperationObjectType { .. } => "RootOperationObjectType",
-        DiagnosticData::DuplicateRootOperationType { .. } => "DuplicateRootOperationType",
-        DiagnosticData::UnionMemberObjectType { .. } => "UnionMemberObjectType",
-        DiagnosticData::UnsupportedLocation { .. } => "UnsupportedLocation",
-        DiagnosticData::UnsupportedValueType { .. } => "UnsupportedValueType",
-        DiagnosticData::IntCoercionError { .. } => "IntCoercionError",
-        DiagnosticData::UniqueDirective { .. } => "UniqueDirective",
-        DiagnosticData::MissingSubselection { .. } => "MissingSubselection",
-        DiagnosticData::InvalidFragmentTarget { .. } => "InvalidFragmentTarget",
-        DiagnosticData::InvalidFragmentSpread { .. } => "InvalidFragmentSpread",
-        DiagnosticData::UnusedFragment { .. } => "UnusedFragment",
-        DiagnosticData::DisallowedVariableUsage { .. } => "DisallowedVariableUsage",
-        DiagnosticData::RecursiveDirectiveDefinition { .. } => "RecursiveDirectiveDefinition",
-        DiagnosticData::RecursiveInterfaceDefinition { .. } => "RecursiveInterfaceDefinition",
-        DiagnosticData::RecursiveInputObjectDefinition { .. } => "RecursiveInputObjectDefinition",
-        DiagnosticData::RecursiveFragmentDefinition { .. } => "RecursiveFragmentDefinition",
-        DiagnosticData::DeeplyNestedType { .. } => "DeeplyNestedType",
-        DiagnosticData::RecursionError => "RecursionError",
-        DiagnosticData::EmptyFieldSet { .. } => "EmptyFieldSet",
-        DiagnosticData::EmptyValueSet { .. } => "EmptyValueSet",
-        DiagnosticData::EmptyMemberSet { .. } => "EmptyMemberSet",
-        DiagnosticData::EmptyInputValueSet { .. } => "EmptyInputValueSet",
-        DiagnosticData::ReservedName { .. } => "ReservedName",
     }
 }
 
