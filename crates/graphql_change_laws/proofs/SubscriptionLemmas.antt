@@ -15,7 +15,7 @@ use Rattle.graphql_documents.specs.declared.documents.executables.SelectionSet.{
 use Rattle.graphql_documents.specs.declared.documents.schemas.Schema.{Schema}
 use Rattle.graphql_document_building.specs.Trees.{root_name}
 use Rattle.graphql_document_building.specs.SameLeaves.{SameDirective}
-use Rattle.graphql_document_rules.specs.SingleRootField.{SubscriptionRootHolds}
+use Rattle.graphql_frontend.specs.SingleRootField.{SubscriptionRootHolds}
 use Rattle.graphql_specification.specs.CollectFields.{AppliesTo, CollectedFrom, applies_interface, applies_itself, applies_union, collected_here, collected_in_inline_fragment, collected_in_spread}
 use Rattle.graphql_specification.specs.Fragments.{NamesComposite}
 use Rattle.graphql_specification.specs.Merging.{FieldSelection}

@@ -12,14 +12,14 @@ use Rattle.graphql_document_building.proofs.BuiltLemmas.{document_is_built}
 use Rattle.graphql_document_building.specs.BuildingRules.{DocumentBuilds}
 use Rattle.graphql_document_building.specs.Documents.{DocumentSays}
 use Rattle.graphql_document_building.specs.Trees.{root_name}
-use Rattle.graphql_document_rules.specs.DocumentRules.{DocumentRulesHold}
-use Rattle.graphql_document_rules.specs.SingleRootField.{OperationRootHolds}
+use Rattle.graphql_frontend.specs.DocumentRules.{DocumentRulesHold}
+use Rattle.graphql_frontend.specs.SingleRootField.{OperationRootHolds}
 use Rattle.graphql_frontend.specs.Documents.{EveryRuleHolds}
 use Rattle.graphql_frontend.specs.Schemas.{IsAccepted, IsUsable}
 use Rattle.graphql_lone_fields.specs.LoneFields.{HasLoneFields}
 use Rattle.graphql_lone_fields.proofs.LoneFieldLemmas.{lone_merge}
 use Rattle.graphql_sameness_laws.proofs.ZipLemmas.{zip_all}
-use Rattle.graphql_schema_changes.specs.Keeps.{KeepsDocumentsValid, KeepsLoneFieldsValid}
+use Rattle.graphql_kept_rules.specs.Keeps.{KeepsDocumentsValid, KeepsLoneFieldsValid}
 use Rattle.graphql_schema_laws.specs.InputFields.{InputObjectsHaveFieldsOfMaps}
 use Rattle.graphql_specification.specs.Merging.{FieldsCanMerge}
 use Rattle.graphql_specification.specs.Operations.{OperationHolds}

@@ -12,7 +12,7 @@ ghost use Rattle.graphql_frontend.specs.Documents.{EveryRuleHolds};
 ghost use Rattle.graphql_frontend.specs.Schemas.{IsAccepted, IsUsable};
 ghost use Rattle.graphql_kept_rules.specs.InputTypes.{HasCompositeRoots, HasMetaArgumentTypes};
 ghost use Rattle.graphql_lone_fields.specs.LoneFields.{HasLoneFields};
-ghost use Rattle.graphql_schema_changes.specs.Keeps.{KeepsDocumentsValid, KeepsLoneFieldsValid};
+ghost use Rattle.graphql_kept_rules.specs.Keeps.{KeepsDocumentsValid, KeepsLoneFieldsValid};
 ghost use Rattle.graphql_schema_laws.specs.InputFields.{InputObjectsHaveFieldsOfMaps};
 ghost use Rattle.graphql_trees.specs.declared.documents.Document.{Document};
 

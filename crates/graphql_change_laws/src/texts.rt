@@ -12,7 +12,7 @@ ghost use Rattle.graphql_frontend.specs.declared.reports.Reports.{Reports};
 ghost use Rattle.graphql_frontend.specs.declared.texts.SourceText.{SourceText};
 ghost use Rattle.graphql_kept_rules.specs.InputTypes.{HasCompositeRoots, HasMetaArgumentTypes};
 ghost use Rattle.graphql_parser.specs.declared.bounds.Bounds.{Bounds};
-ghost use Rattle.graphql_schema_changes.specs.Keeps.{KeepsDocumentsValid};
+ghost use Rattle.graphql_kept_rules.specs.Keeps.{KeepsDocumentsValid};
 ghost use Rattle.graphql_schema_laws.specs.InputFields.{InputObjectsHaveFieldsOfMaps};
 ghost use Rattle.graphql_verdict_laws.specs.Limits.{ReportsNoLimit};
 

@@ -12,3 +12,5 @@ pub mod input_objects;
 mod levels;
 mod schema_references;
 mod steps;
+
+pub use graphql_guards as guards;

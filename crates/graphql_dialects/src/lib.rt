@@ -17,5 +17,6 @@ pub use adoption::{adopted_extensions, adopted_text};
 pub use answered::{ClientField, client_fields, text_without};
 pub use clients::{Client, client_definitions};
 pub use definitions::federation_definitions;
+pub use graphql_schema_checking::definitions::SortedDefinitions;
 pub use links::{Import, Link, argument};
 pub use rows::{Row, lacking_definitions};

@@ -5,3 +5,5 @@ pub mod SameDocuments
 pub mod SameLeaves
 pub mod Selections
 pub mod Trees
+pub use Rattle.graphql_leaf_building.specs.Definitions
+pub use Rattle.graphql_leaf_building.specs.Directives

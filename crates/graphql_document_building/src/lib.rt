@@ -7,3 +7,4 @@ pub mod laws;
 mod selections;
 
 pub use documents::{build_document, build_standalone_document};
+pub use sqlite_items::Items;

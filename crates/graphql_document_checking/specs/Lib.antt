@@ -1,3 +1,11 @@
 pub mod DefinitionReports
 pub mod DocumentReports
 pub mod Reports
+pub use Rattle.graphql_repetitions.specs.Repetitions
+pub use Rattle.graphql_document_building.specs.BuildingRules
+pub use Rattle.graphql_document_building.specs.Documents
+pub use Rattle.graphql_document_building.specs.Definitions
+pub use Rattle.graphql_document_building.specs.Directives
+pub use Rattle.graphql_document_building.specs.Selections
+pub use Rattle.graphql_document_building.specs.Trees
+pub use Rattle.graphql_repetitions.specs.References

@@ -4,7 +4,7 @@ use crate::field_sets::{FieldSetText, field_sets_in};
 use crate::reports::FieldSetReports;
 use crate::sets::validate_set;
 use crate::texts::text_of_field_set;
-use graphql_document_building::build_document;
+use graphql_document_checking::build_document;
 use graphql_document_checking::check_document;
 use graphql_documents::documents::{ExecutableDocument, Schema};
 use graphql_frontend::{Reports, SourceText, SyntaxReport};

@@ -2,7 +2,7 @@
 
 use graphql_dialects::{Link, argument};
 use graphql_nodes::{Name, ValidationError};
-use graphql_schema_checking::definitions::SortedDefinitions;
+use graphql_dialects::SortedDefinitions;
 use graphql_trees::{
     Directive, Document, FieldDefinition, StringLiteral, TypeDefinition, TypeReference, Value,
 };

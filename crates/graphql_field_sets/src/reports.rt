@@ -3,7 +3,7 @@
 use graphql_building_reports::BuildingReportList;
 use graphql_diagnostics::DiagnosticList;
 use graphql_frontend::{Reports, SchemaReports, SyntaxReport};
-use graphql_hash_seeds::HashSeed;
+use graphql_diagnostics::HashSeed;
 use std::alloc::Global;
 
 /// What is reported of field sets, by stages.

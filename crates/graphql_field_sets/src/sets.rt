@@ -6,11 +6,11 @@ ghost use Rattle.graphql_specification.specs.FieldSets.{FieldSetHolds, FieldSetR
 
 use graphql_diagnostics::DiagnosticList;
 use graphql_documents::documents::{ExecutableDocument, OperationMap, Schema, SelectionSet};
-use graphql_hash_seeds::HashSeed;
+use graphql_diagnostics::HashSeed;
 use graphql_nodes::ValidationError;
-use graphql_operations::OperationValidationContext;
-use graphql_rules::operations::validate_selection_set;
-use graphql_variables::VariablesByName;
+use graphql_validation::operations::OperationValidationContext;
+use graphql_validation::operations::validate_selection_set;
+use graphql_validation::variable::VariablesByName;
 use indexmap::IndexMap;
 use std::alloc::Global;
 

@@ -17,7 +17,7 @@ use Rattle.graphql_input_rules.specs.InputFields.{FieldReport, FieldsAreUnique}
 use Rattle.graphql_input_rules.specs.declared.reports.InputFieldRepetition.{InputFieldRepetition}
 use Rattle.graphql_nodes.specs.Names.{AreDistinct, NameText, same_name}
 use Rattle.graphql_nodes.specs.declared.nodes.Node.{Node}
-use Rattle.graphql_repetitions.specs.Repetitions.{Repeats}
+use Rattle.graphql_document_checking.specs.Repetitions.{Repeats}
 use Rattle.graphql_schema_building.proofs.DistinctLemmas.{distinct_front, last_is_new}
 use Rattle.graphql_usage_rules.proofs.VariableLemmas.{all_defined}
 use Rattle.graphql_usage_rules.specs.UndefinedVariables.{DocumentUndefinedReport, UsedVariablesAreDefined, VariableUsesAreDefined}

@@ -14,17 +14,17 @@ use Rattle.graphql_documents.specs.declared.documents.executables.ExecutableDocu
 use Rattle.graphql_documents.specs.declared.documents.schemas.Schema.{Schema}
 use Rattle.graphql_parser.specs.declared.bounds.Bounds.{Bounds}
 use Rattle.graphql_document_rules.specs.DocumentRules.{DocumentRuleReport, DocumentRulesHold}
-use Rattle.graphql_specification.specs.Documents.{DocumentLimit}
+use Rattle.graphql_document_rules.specs.Documents.{DocumentLimit}
 use Rattle.graphql_trees.specs.declared.documents.Document.{Document}
 use Rattle.graphql_building_reports.specs.Checks.{reports_of}
 use Rattle.graphql_building_reports.specs.declared.lists.BuildingReportList.{BuildingReportList}
-use Rattle.graphql_document_building.specs.BuildingRules.{DocumentBuilds}
-use Rattle.graphql_document_building.specs.Documents.{DocumentSays}
+use Rattle.graphql_document_checking.specs.BuildingRules.{DocumentBuilds}
+use Rattle.graphql_document_checking.specs.Documents.{DocumentSays}
 use Rattle.graphql_document_checking.specs.DocumentReports.{DocumentBuildingReport}
 use Rattle.graphql_input_rules.specs.InputFields.{InputFieldReport, InputFieldsAreUnique}
 use Rattle.graphql_nesting.specs.Nesting.{IsNestingReportOf, NestsWithin}
-use Rattle.graphql_reach.specs.Reach.{IsReachReportOf, ReachesWithin}
-use Rattle.graphql_reach.specs.declared.reports.ReachReport.{ReachReport}
+use Rattle.graphql_usage_rules.specs.Reach.{IsReachReportOf, ReachesWithin}
+use Rattle.graphql_usage_rules.specs.ReachReport.{ReachReport}
 use Rattle.graphql_usage_rules.specs.UndefinedVariables.{DocumentUndefinedReport, VariableUsesAreDefined}
 use Rattle.graphql_usage_rules.specs.VariableMisuses.{DocumentMisuseReport, VariableUsagesAreAllowed}
 use Rattle.graphql_usage_rules.specs.declared.reports.VariableMisuse.{VariableMisuse}

@@ -8,3 +8,9 @@ pub mod Schemas
 pub mod Texts
 pub mod Verdicts
 pub mod Work
+pub use Rattle.graphql_schema_building.specs.SchemaBuilds
+pub use Rattle.graphql_document_rules.specs.DocumentRules
+pub use Rattle.graphql_document_rules.specs.SingleRootField
+pub use Rattle.graphql_input_rules.specs.InputFields
+pub use Rattle.graphql_input_rules.specs.Lists
+pub use Rattle.graphql_input_rules.specs.declared.reports.InputFieldRepetition

@@ -3,7 +3,7 @@ use Rattle.graphql_diagnostics.specs.Diagnostics.{entries}
 use Rattle.graphql_documents.specs.declared.documents.schemas.Schema.{Schema}
 use Rattle.graphql_parser.specs.declared.bounds.Bounds.{Bounds}
 use Rattle.graphql_schemas.specs.SchemaChecks.{SchemaEntryReport}
-use Rattle.graphql_specification.specs.BuiltInScalars.{SchemaRetainsUsedBuiltInScalars}
+use Rattle.graphql_document_rules.specs.BuiltInScalars.{SchemaRetainsUsedBuiltInScalars}
 use Rattle.graphql_frontend.specs.FirstReports.{AreFirst}
 use Rattle.graphql_frontend.specs.Schemas.{AreReportsOfSchema}
 use Rattle.graphql_frontend.specs.declared.schema_rules.SchemaRuleReports.{SchemaRuleReports}

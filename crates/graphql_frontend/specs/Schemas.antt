@@ -7,19 +7,19 @@ use Rattle.graphql_diagnostics.specs.Reports.{Reports, ReportsWithin}
 use Rattle.graphql_documents.specs.Built.{StandsUnderOwnNames}
 use Rattle.graphql_documents.specs.declared.documents.schemas.Schema.{Schema}
 use Rattle.graphql_parser.specs.declared.bounds.Bounds.{Bounds}
-use Rattle.graphql_specification.specs.BuiltInScalars.{SchemaRetainsUsedBuiltInScalars}
-use Rattle.graphql_specification.specs.DefaultValues.{DefaultValuesHold}
-use Rattle.graphql_specification.specs.Schemas.{SchemaHolds}
+use Rattle.graphql_document_rules.specs.BuiltInScalars.{SchemaRetainsUsedBuiltInScalars}
+use Rattle.graphql_document_rules.specs.DefaultValues.{DefaultValuesHold}
+use Rattle.graphql_document_rules.specs.Schemas.{SchemaHolds}
 use Rattle.graphql_schemas.specs.SchemaChecks.{SchemaEntryReport}
 use Rattle.graphql_input_rules.specs.SchemaValues.{SchemaInputFieldReport, SchemaInputFieldsAreUnique}
 use Rattle.graphql_trees.specs.declared.documents.Document.{Document}
 use Rattle.graphql_building_laws.specs.MetaFieldTypes.{HasTypesOfMetaFields}
 use Rattle.graphql_building_reports.specs.Checks.{reports_of}
 use Rattle.graphql_building_reports.specs.declared.lists.BuildingReportList.{BuildingReportList}
-use Rattle.graphql_document_building.specs.Documents.{HasOutputFields}
+use Rattle.graphql_document_checking.specs.Documents.{HasOutputFields}
 use Rattle.graphql_schema_building.specs.SchemaSays.{SchemaSays}
-use Rattle.graphql_schema_checking.specs.SchemaBuilds.{SchemaBuilds}
-use Rattle.graphql_schema_checking.specs.SchemaReports.{SchemaBuildingReport}
+use Rattle.graphql_schema_building.specs.SchemaBuilds.{SchemaBuilds}
+use Rattle.graphql_schema_building.specs.SchemaReports.{SchemaBuildingReport}
 use Rattle.graphql_frontend.specs.FirstReports.{AreFirst}
 use Rattle.graphql_frontend.specs.Texts.{IsDocumentOf, ParsesTexts}
 use Rattle.graphql_frontend.specs.declared.reports.Reports.TheVariants.{Syntax, Building, FirstBuilding, SchemaRules, FirstSchemaRules}

@@ -1,7 +1,7 @@
 -- The verdict on a schema and a document, from their texts.
 use Rattle.std.specs.Prelude.{ℕ, List, None, Some}
 use Rattle.std.specs.List.{AllZip}
-use Rattle.graphql_document_building.specs.Documents.{DocumentSays}
+use Rattle.graphql_document_checking.specs.Documents.{DocumentSays}
 use Rattle.graphql_documents.specs.Built.{IsBuilt}
 use Rattle.graphql_documents.specs.declared.documents.executables.ExecutableDocument.{ExecutableDocument}
 use Rattle.graphql_documents.specs.declared.documents.schemas.Schema.{Schema}

@@ -24,11 +24,11 @@ use graphql_document_rules::documents::{
     PairWork, validate_document_rules, validate_standalone_document_rules,
 };
 use graphql_documents::documents::{ExecutableDocument, Schema};
-use graphql_hash_seeds::HashSeed;
+use graphql_diagnostics::HashSeed;
 use graphql_input_rules::{InputFieldRepetition, check_input_fields};
 use graphql_nodes::{SourceSpan, ValidationError};
 use graphql_parser::Bounds;
-use graphql_reporting::ReportList;
+use graphql_usage_rules::ReportList;
 use graphql_usage_rules::{VariableMisuse, check_undefined_variables, check_variable_usages};
 use std::alloc::Global;
 use std::collections::HashSet;

@@ -3,13 +3,13 @@
 ghost use Rattle.std.specs.Prelude.{◌≡◌, ◌≢◌, ◌≤◌, [], IfOk, IsTrue, OnErr, length, max};
 ghost use Rattle.graphql_building_reports.specs.Checks.{reports_of};
 ghost use Rattle.graphql_diagnostics.specs.Diagnostics.{entries};
-ghost use Rattle.graphql_reporting.specs.Lists as kept;
+ghost use Rattle.graphql_usage_rules.specs.Lists as kept;
 
 use graphql_building_reports::BuildingReportList;
 use graphql_diagnostics::{DiagnosticList, ReportBound};
 use graphql_nodes::ValidationError;
 use graphql_parser::Bounds;
-use graphql_reporting::ReportList;
+use graphql_usage_rules::ReportList;
 
 /// How much a list of reports keeps, as the bounds say.
 pub fn report_bound(bounds: Bounds) -> ReportBound

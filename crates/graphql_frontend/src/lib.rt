@@ -17,9 +17,11 @@ pub mod work;
 pub use documents::{
     validate_built, validate_document, validate_documents, validate_standalone_document,
 };
+pub use graphql_input_rules::{InputFieldRepetition, check_input_fields};
 pub use graphql_nodes::{FileId, SourceSpan, ValidationError};
 pub use graphql_parser::Bounds;
 pub use graphql_schema_building::BUILT_IN_DEFINITIONS;
+pub use graphql_usage_rules::ReportList;
 pub use project_reports::{ListOperation, OperationMark, ProjectReports};
 pub use reports::{DocumentReports, Reports, SchemaReports};
 pub use schemas::{SchemaReading, abandon, read_schema};

@@ -2,12 +2,12 @@
 
 ghost use Rattle.std.specs.Prelude.{All, IfOk, List};
 ghost use Rattle.graphql_building_reports.specs.Checks.{reports_of};
-ghost use Rattle.graphql_schema_checking.specs.SchemaReports.{SchemaBuildingReport};
+ghost use Rattle.graphql_schema_building.specs.SchemaReports.{SchemaBuildingReport};
 ghost use Rattle.graphql_trees.specs.declared.documents.Document as document_tree;
 ghost use Rattle.graphql_documents.specs.declared.documents.schemas.Schema as schema_type;
 ghost use Rattle.graphql_frontend.specs.Schemas.{AcceptsOnlyUsableSchemas, AreReportsOfSchema, Judges, JudgesTrees, ReadsSchema};
 ghost use Rattle.graphql_parser.specs.declared.bounds.Bounds as source_bounds;
-ghost use Rattle.graphql_specification.specs.BuiltInScalars.{SchemaRetainsUsedBuiltInScalars};
+ghost use Rattle.graphql_document_rules.specs.BuiltInScalars.{SchemaRetainsUsedBuiltInScalars};
 
 use crate::first_reports::{is_full_of_building_rules, report_bound};
 use crate::meta_fields::has_types_of_meta_fields;
@@ -16,11 +16,11 @@ use crate::schema_rules::{SchemaRuleReports, schema_reports};
 use crate::texts::{Parsed, SourceText, hash_seed_of, parse_texts};
 use graphql_building_reports::BuildingReportList;
 use graphql_documents::documents::Schema;
-use graphql_hash_seeds::HashSeed;
+use graphql_diagnostics::HashSeed;
 use graphql_nodes::ValidationError;
 use graphql_parser::Bounds;
 use graphql_schema_building::build_schema;
-use graphql_schema_checking::check_schema;
+use graphql_schema_building::check_schema;
 use graphql_trees::Document;
 use std::alloc::Global;
 use std::mem;

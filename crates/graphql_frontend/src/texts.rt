@@ -6,7 +6,7 @@ ghost use Rattle.graphql_parser.specs.Parses.{ParsesDocument};
 ghost use Rattle.graphql_parser.specs.Refusals.{IsRefusal};
 ghost use Rattle.graphql_trees.specs.declared.documents.Document as document_tree;
 
-use graphql_hash_seeds::HashSeed;
+use graphql_diagnostics::HashSeed;
 use graphql_nodes::{FileId, ValidationError};
 use graphql_parser::{Bounds, SyntaxError, parse_document};
 use graphql_trees::Document;

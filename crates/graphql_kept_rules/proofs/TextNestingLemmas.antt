@@ -13,7 +13,7 @@ use Rattle.graphql_documents.specs.declared.documents.executables.Operation.{Ope
 use Rattle.graphql_documents.specs.declared.documents.executables.Selection.{Selection}
 use Rattle.graphql_documents.specs.declared.documents.executables.Selection.TheVariants as kind
 use Rattle.graphql_documents.specs.declared.documents.executables.SelectionSet.{SelectionSet}
-use Rattle.graphql_nesting.specs.Nesting.{Descends, EndlessTogether, FragmentNests, HasLevels, IsEndless, IsWithin, NestsWithin, OperationNests, endless_one, no_more, one_level, one_more, other_one, set_below, sets_below}
+use Rattle.graphql_sameness_laws.specs.Nesting.{Descends, EndlessTogether, FragmentNests, HasLevels, IsEndless, IsWithin, NestsWithin, OperationNests, endless_one, no_more, one_level, one_more, other_one, set_below, sets_below}
 use Rattle.graphql_kept_rules.specs.SameTexts.{SameFragmentText, SameOperationText, SameSelectionText, SameText, same_field, same_inline_fragment, same_spread}
 use Rattle.graphql_kept_rules.proofs.TextFragmentLemmas.{fragments_back}
 use Rattle.graphql_kept_rules.proofs.TextSelectionLemmas.{SameFragments, SameSet, fragment_definitions_alike, fragment_set, fragments_alike, operation_set, operations_alike, selections_zip, set_back}

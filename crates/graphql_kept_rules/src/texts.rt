@@ -6,7 +6,7 @@ ghost use Rattle.graphql_documents.specs.declared.documents.executables.Executab
 ghost use Rattle.graphql_documents.specs.declared.documents.schemas.Schema.{Schema};
 ghost use Rattle.graphql_document_building.specs.Documents.{DocumentSays};
 ghost use Rattle.graphql_input_rules.specs.InputFields.{InputFieldsAreUnique};
-ghost use Rattle.graphql_nesting.specs.Nesting.{NestsWithin};
+ghost use Rattle.graphql_sameness_laws.specs.Nesting.{NestsWithin};
 ghost use Rattle.graphql_reach.specs.Reach.{ReachesWithin};
 ghost use Rattle.graphql_specification.specs.Defer.{DeferHolds};
 ghost use Rattle.graphql_specification.specs.FragmentsUsed.{IsFragmentUsed};

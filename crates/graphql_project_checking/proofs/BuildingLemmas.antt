@@ -8,9 +8,9 @@ use Rattle.std.proofs.lemmas.List.Elements.{All-append, All-cons, All-nil, filte
 use Rattle.graphql_documents.proofs.ListLemmas.{more_is}
 use Rattle.graphql_documents.specs.declared.documents.executables.ExecutableDocument.{ExecutableDocument}
 use Rattle.graphql_documents.specs.declared.documents.schemas.Schema.{Schema}
-use Rattle.graphql_document_building.specs.BuildingRules.{DocumentBuilds}
-use Rattle.graphql_document_building.specs.Documents.{DocumentSays}
-use Rattle.graphql_document_building.specs.Trees.{as_fragment, fragments_in}
+use Rattle.graphql_document_checking.specs.BuildingRules.{DocumentBuilds}
+use Rattle.graphql_document_checking.specs.Documents.{DocumentSays}
+use Rattle.graphql_document_checking.specs.Trees.{as_fragment, fragments_in}
 use Rattle.graphql_frontend.specs.declared.reports.Reports.{Reports}
 use Rattle.graphql_nodes.specs.Names.{NameText}
 use Rattle.graphql_projects.specs.OperationTrees.{fragments_among}

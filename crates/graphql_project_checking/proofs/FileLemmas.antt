@@ -19,10 +19,10 @@ use Rattle.graphql_trees.specs.declared.documents.Definition.TheVariants as defi
 use Rattle.graphql_trees.specs.declared.documents.Document.{Document}
 use Rattle.graphql_trees.specs.declared.executable.FragmentDefinition.{FragmentDefinition}
 use Rattle.graphql_trees.specs.declared.executable.OperationDefinition.{OperationDefinition}
-use Rattle.graphql_document_building.proofs.BuiltLemmas.{document_is_built}
-use Rattle.graphql_document_building.specs.BuildingRules.{DocumentBuilds}
-use Rattle.graphql_document_building.specs.Documents.{DocumentSays, FragmentSays, OperationSays, SaysUnderName}
-use Rattle.graphql_document_building.specs.Trees.{anonymous_operations_in, as_anonymous_operation, as_fragment, as_named_operation, fragments_in, named_operations_in, operations_in}
+use Rattle.graphql_document_checking.proofs.BuiltLemmas.{document_is_built}
+use Rattle.graphql_document_checking.specs.BuildingRules.{DocumentBuilds}
+use Rattle.graphql_document_checking.specs.Documents.{DocumentSays, FragmentSays, OperationSays, SaysUnderName}
+use Rattle.graphql_document_checking.specs.Trees.{anonymous_operations_in, as_anonymous_operation, as_fragment, as_named_operation, fragments_in, named_operations_in, operations_in}
 use Rattle.graphql_frontend.specs.Schemas.{IsUsable}
 use Rattle.graphql_pools.specs.Pools.{Entry}
 use Rattle.graphql_projects.specs.OperationTrees.{Pool, ReachesFragment, fragment_named}

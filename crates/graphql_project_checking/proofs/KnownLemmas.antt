@@ -6,7 +6,7 @@ use Rattle.std.proofs.lemmas.List.Elements.{Contains-append_left, Contains-appen
 use Rattle.graphql_diagnostics.specs.Reports.{KeepsReports}
 use Rattle.graphql_documents.proofs.ListLemmas.{each_standing}
 use Rattle.graphql_documents.specs.declared.documents.schemas.Schema.{Schema}
-use Rattle.graphql_document_building.specs.BuildingRules.{DocumentBuilds}
+use Rattle.graphql_document_checking.specs.BuildingRules.{DocumentBuilds}
 use Rattle.graphql_frontend.specs.declared.reports.Reports.{Reports}
 use Rattle.graphql_frontend.specs.declared.texts.SourceText.{SourceText}
 use Rattle.graphql_parser.specs.declared.bounds.Bounds.{Bounds}

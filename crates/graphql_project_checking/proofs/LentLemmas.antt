@@ -6,11 +6,11 @@ use Rattle.graphql_building_reports.specs.declared.lists.BuildingReport.{Buildin
 use Rattle.graphql_building_reports.specs.declared.rules.BuildingRule.TheVariants as rule
 use Rattle.graphql_documents.proofs.ListLemmas.{none_stands}
 use Rattle.graphql_documents.specs.declared.documents.schemas.Schema.{Schema}
-use Rattle.graphql_document_building.specs.Trees.{named_operations_in, operations_in}
+use Rattle.graphql_document_checking.specs.Trees.{named_operations_in, operations_in}
 use Rattle.graphql_document_checking.specs.DefinitionReports.{IsReportOfDefinitions}
 use Rattle.graphql_document_checking.specs.DocumentReports.{DocumentBuildingReport, fragment_names, of_anonymous_operation, of_definition, of_fragment_name, of_operation_name, operation_names}
 use Rattle.graphql_nodes.specs.Names.{NameText}
-use Rattle.graphql_repetitions.specs.Repetitions.{RepetitionReport}
+use Rattle.graphql_document_checking.specs.Repetitions.{RepetitionReport}
 use Rattle.graphql_trees.specs.declared.documents.Definition.TheVariants as definition
 use Rattle.graphql_trees.specs.declared.documents.Definition.{Definition}
 use Rattle.graphql_trees.specs.declared.documents.Document.{Document}

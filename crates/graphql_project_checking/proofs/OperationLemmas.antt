@@ -21,17 +21,17 @@ use Rattle.graphql_trees.specs.declared.documents.Definition.TheVariants as defi
 use Rattle.graphql_trees.specs.declared.documents.Document.{Document}
 use Rattle.graphql_trees.specs.declared.executable.FragmentDefinition.{FragmentDefinition}
 use Rattle.graphql_trees.specs.declared.executable.OperationDefinition.{OperationDefinition}
-use Rattle.graphql_document_building.specs.Documents.{DocumentSays, FragmentSays, IsRoot, OperationSays, SaysUnderName}
-use Rattle.graphql_document_building.specs.Selections.{SelectionsSay}
-use Rattle.graphql_document_building.specs.Trees.{anonymous_operations_in, fragments_in, named_operations_in}
-use Rattle.graphql_leaf_building.specs.Definitions.{VariablesSay}
-use Rattle.graphql_leaf_building.specs.Directives.{DirectivesSay}
+use Rattle.graphql_document_checking.specs.Documents.{DocumentSays, FragmentSays, IsRoot, OperationSays, SaysUnderName}
+use Rattle.graphql_document_checking.specs.Selections.{SelectionsSay}
+use Rattle.graphql_document_checking.specs.Trees.{anonymous_operations_in, fragments_in, named_operations_in}
+use Rattle.graphql_document_checking.specs.Definitions.{VariablesSay}
+use Rattle.graphql_document_checking.specs.Directives.{DirectivesSay}
 use Rattle.graphql_pools.specs.Pools.{Borrows, Entry, IsAlone, IsBorrowed, IsOperationDocument}
 use Rattle.graphql_projects.specs.OperationTrees.{IsTreeOf, Pool, ReachesFragment, SpreadsIn, fragment_named}
 use Rattle.graphql_projects.proofs.OperationDocumentLemmas.{document_of, document_says, own}
 use Rattle.graphql_projects.proofs.SaidDefinitionLemmas.{found_entry, one_found}
 use Rattle.graphql_projects.proofs.SaidReachLemmas.{SaysIfAny, fragment_said, said_fragment, spread_is_in_tree, tree_spread_is_reached, zip_first}
-use Rattle.graphql_reach.specs.Reached.{IsReachedFrom, IsSpreadFrom, ReachesNames}
+use Rattle.graphql_projects.specs.Reached.{IsReachedFrom, IsSpreadFrom, ReachesNames}
 
 -- ==== different names
 

@@ -14,9 +14,9 @@ use Rattle.graphql_trees.specs.declared.documents.Definition.TheVariants as defi
 use Rattle.graphql_trees.specs.declared.documents.Definition.{Definition}
 use Rattle.graphql_trees.specs.declared.documents.Document.{Document}
 use Rattle.graphql_trees.specs.declared.executable.FragmentDefinition.{FragmentDefinition}
-use Rattle.graphql_document_building.specs.BuildingRules.{DefinitionBuilds, DocumentBuilds}
-use Rattle.graphql_document_building.specs.Documents.{DocumentSays, FragmentSays, SaysUnderName}
-use Rattle.graphql_document_building.specs.Trees.{fragments_in, operations_in}
+use Rattle.graphql_document_checking.specs.BuildingRules.{DefinitionBuilds, DocumentBuilds}
+use Rattle.graphql_document_checking.specs.Documents.{DocumentSays, FragmentSays, SaysUnderName}
+use Rattle.graphql_document_checking.specs.Trees.{fragments_in, operations_in}
 use Rattle.graphql_frontend.specs.Schemas.{IsUsable}
 use Rattle.graphql_frontend.specs.declared.texts.SourceText.{SourceText}
 use Rattle.graphql_parser.specs.declared.bounds.Bounds.{Bounds}

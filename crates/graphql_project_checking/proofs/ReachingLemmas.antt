@@ -18,9 +18,9 @@ use Rattle.graphql_frontend.specs.declared.reports.Reports.{Reports}
 use Rattle.graphql_nodes.specs.Names.{NameText, same_name}
 use Rattle.graphql_nodes.specs.declared.nodes.Node.{Node}
 use Rattle.graphql_pools.specs.Pools.{Borrows, Entry, IsBorrowed}
-use Rattle.graphql_reach.proofs.ReachLemmas.{nodes_next}
-use Rattle.graphql_reach.specs.Reach.{nodes_at}
-use Rattle.graphql_reach.specs.Reached.{IsReachedFrom, IsSpreadFrom, ReachesNames}
+use Rattle.graphql_projects.proofs.ReachLemmas.{nodes_next}
+use Rattle.graphql_projects.specs.Reach.{nodes_at}
+use Rattle.graphql_projects.specs.Reached.{IsReachedFrom, IsSpreadFrom, ReachesNames}
 use Rattle.graphql_project_checking.proofs.OperationLemmas.{is_there}
 use Rattle.graphql_project_checking.proofs.SilenceLemmas.{silent_then}
 use Rattle.graphql_pools.specs.Uses.{NotesNames}

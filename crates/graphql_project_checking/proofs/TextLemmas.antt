@@ -6,7 +6,7 @@ use Rattle.graphql_frontend.specs.Texts.{IsDocumentOf, ParsesTexts, next_is_docu
 use Rattle.graphql_frontend.specs.declared.texts.SourceText.{SourceText}
 use Rattle.graphql_frontend.specs.declared.texts.SyntaxReport.{SyntaxReport}
 use Rattle.graphql_parser.specs.declared.bounds.Bounds.{Bounds}
-use Rattle.graphql_tokens.specs.Lexical.{AreTokens}
+use Rattle.graphql_projects.specs.Lexical.{AreTokens}
 use Rattle.graphql_trees.specs.declared.documents.Document.{Document}
 use Rattle.graphql_projects.specs.Projects.{ReadFiles, empty_file, next_file, no_file}
 use Rattle.graphql_project_checking.specs.Silence.{AddsIfToken, LeavesOutEmpty, has_none, is_added, keeps, leaves_out, no_text}

@@ -12,10 +12,10 @@ use Rattle.graphql_documents.specs.Selections.{fragments_of}
 use Rattle.graphql_documents.specs.declared.documents.executables.ExecutableDocument.{ExecutableDocument}
 use Rattle.graphql_documents.specs.declared.documents.executables.Fragment.{Fragment}
 use Rattle.graphql_documents.specs.declared.documents.schemas.Schema.{Schema}
-use Rattle.graphql_document_building.proofs.BuiltLemmas.{document_is_built}
-use Rattle.graphql_document_building.specs.BuildingRules.{DefinitionBuilds, DocumentBuilds}
-use Rattle.graphql_document_building.specs.Documents.{DocumentSays, FragmentSays, SaysUnderName}
-use Rattle.graphql_document_building.specs.Trees.{anonymous_operations_in, as_anonymous_operation, as_fragment, as_named_operation, fragments_in, named_operations_in, operations_in}
+use Rattle.graphql_document_checking.proofs.BuiltLemmas.{document_is_built}
+use Rattle.graphql_document_checking.specs.BuildingRules.{DefinitionBuilds, DocumentBuilds}
+use Rattle.graphql_document_checking.specs.Documents.{DocumentSays, FragmentSays, SaysUnderName}
+use Rattle.graphql_document_checking.specs.Trees.{anonymous_operations_in, as_anonymous_operation, as_fragment, as_named_operation, fragments_in, named_operations_in, operations_in}
 use Rattle.graphql_frontend.specs.Schemas.{IsUsable}
 use Rattle.graphql_frontend.specs.declared.reports.Reports.{Reports}
 use Rattle.graphql_nodes.specs.Names.{NameText, same_name}

@@ -12,7 +12,7 @@ use Rattle.graphql_diagnostics.specs.Reports.{KeepsReports, Reports as Reporting
 use Rattle.graphql_diagnostics.specs.declared.lists.DiagnosticEntry.{DiagnosticEntry}
 use Rattle.graphql_frontend.specs.declared.reports.Reports.{Reports}
 use Rattle.graphql_frontend.specs.declared.reports.Reports.TheVariants.{Building, DocumentRules, FirstBuilding, FirstDocumentRules}
-use Rattle.graphql_input_rules.specs.declared.reports.InputFieldRepetition.{InputFieldRepetition}
+use Rattle.graphql_frontend.specs.InputFieldRepetition.{InputFieldRepetition}
 use Rattle.graphql_project_checking.specs.Truth.{AreOfBuilding, AreOfInputFields, AreOfRules}
 
 -- ==== further reports

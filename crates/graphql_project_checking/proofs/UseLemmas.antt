@@ -5,7 +5,7 @@ use Rattle.std.proofs.lemmas.List.Elements.{All-append, All-cons, All-nil}
 use Rattle.graphql_diagnostics.specs.declared.lists.DiagnosticEntry.{DiagnosticEntry}
 use Rattle.graphql_frontend.specs.declared.reports.Reports.{Reports}
 use Rattle.graphql_nodes.specs.Names.{NameText}
-use Rattle.graphql_document_building.specs.Trees.{fragments_in}
+use Rattle.graphql_document_checking.specs.Trees.{fragments_in}
 use Rattle.graphql_projects.specs.OperationTrees.{Pool, fragments_among}
 use Rattle.graphql_trees.specs.declared.documents.Definition.{Definition}
 use Rattle.graphql_trees.specs.declared.documents.Document.{Document}

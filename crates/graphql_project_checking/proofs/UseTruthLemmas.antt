@@ -15,15 +15,15 @@ use Rattle.graphql_documents.specs.Selections.{fragments_of}
 use Rattle.graphql_documents.specs.declared.documents.executables.ExecutableDocument.{ExecutableDocument}
 use Rattle.graphql_documents.specs.declared.documents.executables.Fragment.{Fragment}
 use Rattle.graphql_documents.specs.declared.documents.executables.Operation.{Operation}
-use Rattle.graphql_document_building.specs.Trees.{as_fragment, fragments_in}
+use Rattle.graphql_document_checking.specs.Trees.{as_fragment, fragments_in}
 use Rattle.graphql_frontend.specs.declared.reports.Reports.{Reports}
 use Rattle.graphql_nodes.specs.Names.{NameText, same_name}
 use Rattle.graphql_nodes.specs.declared.nodes.Node.{Node}
 use Rattle.graphql_pools.specs.Uses.{NotesNames}
 use Rattle.graphql_projects.specs.OperationTrees.{fragments_among}
-use Rattle.graphql_reach.proofs.ReachLemmas.{nodes_next}
-use Rattle.graphql_reach.specs.Reach.{nodes_at}
-use Rattle.graphql_reach.specs.Reached.{IsSpreadFrom, ReachesNames}
+use Rattle.graphql_projects.proofs.ReachLemmas.{nodes_next}
+use Rattle.graphql_projects.specs.Reach.{nodes_at}
+use Rattle.graphql_projects.specs.Reached.{IsSpreadFrom, ReachesNames}
 use Rattle.graphql_trees.specs.declared.documents.Definition.TheVariants as definition
 use Rattle.graphql_trees.specs.declared.documents.Definition.{Definition}
 use Rattle.graphql_trees.specs.declared.documents.Document.{Document}

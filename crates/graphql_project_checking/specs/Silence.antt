@@ -5,8 +5,8 @@ use Rattle.std.specs.Map.{lookup}
 use Rattle.indexmap.specs.IndexMap.{IsUnique, values}
 use Rattle.graphql_diagnostics.specs.declared.lists.DiagnosticEntry.{DiagnosticEntry}
 use Rattle.graphql_documents.specs.Executables.{operations_of}
-use Rattle.graphql_document_building.specs.BuildingRules.{DefinitionBuilds, DocumentBuilds}
-use Rattle.graphql_document_building.specs.Documents.{DocumentSays}
+use Rattle.graphql_document_checking.specs.BuildingRules.{DefinitionBuilds, DocumentBuilds}
+use Rattle.graphql_document_checking.specs.Documents.{DocumentSays}
 use Rattle.graphql_documents.specs.Selections.{fragments_of}
 use Rattle.graphql_documents.specs.declared.documents.executables.ExecutableDocument.{ExecutableDocument}
 use Rattle.graphql_documents.specs.declared.documents.executables.Fragment.{Fragment}
@@ -15,18 +15,18 @@ use Rattle.graphql_documents.specs.declared.documents.executables.OperationMap.{
 use Rattle.graphql_documents.specs.declared.documents.schemas.Schema.{Schema}
 use Rattle.graphql_frontend.specs.Documents.{EveryRuleHolds, IsBuiltFor}
 use Rattle.graphql_frontend.specs.declared.reports.Reports.{Reports}
-use Rattle.graphql_input_rules.specs.InputFields.{InputFieldsAreUnique}
+use Rattle.graphql_frontend.specs.InputFields.{InputFieldsAreUnique}
 use Rattle.graphql_frontend.specs.declared.texts.SourceText.{SourceText}
 use Rattle.graphql_nodes.specs.Names.{NameText, same_name}
 use Rattle.graphql_nodes.specs.Nodes.{SameNode}
 use Rattle.graphql_nodes.specs.declared.nodes.Node.{Node}
 use Rattle.graphql_pools.specs.Pools.{Entry, IsOperationDocument}
-use Rattle.graphql_reach.specs.Reached.{IsReachedFrom, IsSpreadFrom, ReachesNames}
+use Rattle.graphql_projects.specs.Reached.{IsReachedFrom, IsSpreadFrom, ReachesNames}
 use Rattle.graphql_project_checking.specs.declared.building.Lent.{Lent}
 use Rattle.graphql_projects.specs.OperationTrees.{Pool, ReachesFragment, fragments_among}
 use Rattle.graphql_projects.specs.Projects.{FileHolds, OperationIsValid, operations_among}
-use Rattle.graphql_specification.specs.Defer.{LabelsHold}
-use Rattle.graphql_tokens.specs.Lexical.{AreTokens}
+use Rattle.graphql_projects.specs.Defer.{LabelsHold}
+use Rattle.graphql_projects.specs.Lexical.{AreTokens}
 use Rattle.graphql_trees.specs.declared.documents.Definition.TheVariants as definition
 use Rattle.graphql_trees.specs.declared.documents.Definition.{Definition}
 use Rattle.graphql_trees.specs.declared.documents.Document.{Document}

@@ -9,9 +9,9 @@ use Rattle.graphql_diagnostics.specs.Reports.{KeepsReports}
 use Rattle.graphql_diagnostics.specs.declared.data.DiagnosticData.TheVariants as report
 use Rattle.graphql_diagnostics.specs.declared.details.Details.TheVariants as details
 use Rattle.graphql_diagnostics.specs.declared.lists.DiagnosticEntry.{DiagnosticEntry}
-use Rattle.graphql_document_building.specs.BuildingRules.{DefinitionBuilds, DocumentBuilds}
-use Rattle.graphql_document_building.specs.Documents.{DocumentSays}
-use Rattle.graphql_document_building.specs.Trees.{operations_in}
+use Rattle.graphql_document_checking.specs.BuildingRules.{DefinitionBuilds, DocumentBuilds}
+use Rattle.graphql_document_checking.specs.Documents.{DocumentSays}
+use Rattle.graphql_document_checking.specs.Trees.{operations_in}
 use Rattle.graphql_document_checking.specs.DocumentReports.{DocumentBuildingReport}
 use Rattle.graphql_documents.specs.Built.{IsBuilt}
 use Rattle.graphql_documents.specs.Executables.{operations_of}
@@ -26,8 +26,8 @@ use Rattle.graphql_frontend.specs.declared.reports.Reports.{Reports}
 use Rattle.graphql_frontend.specs.declared.reports.Reports.TheVariants.{Syntax, Building, FirstBuilding, DocumentRules, FirstDocumentRules}
 use Rattle.graphql_frontend.specs.declared.texts.SourceText.{SourceText}
 use Rattle.graphql_frontend.specs.declared.texts.SyntaxReport.{SyntaxReport}
-use Rattle.graphql_input_rules.specs.InputFields.{InputFieldReport}
-use Rattle.graphql_input_rules.specs.declared.reports.InputFieldRepetition.{InputFieldRepetition}
+use Rattle.graphql_frontend.specs.InputFields.{InputFieldReport}
+use Rattle.graphql_frontend.specs.InputFieldRepetition.{InputFieldRepetition}
 use Rattle.graphql_nodes.specs.Names.{NameText}
 use Rattle.graphql_nodes.specs.declared.nodes.Node.{Node}
 use Rattle.graphql_parser.specs.declared.bounds.Bounds.{Bounds}
@@ -35,10 +35,10 @@ use Rattle.graphql_pools.specs.Pools.{IsOperationDocument}
 use Rattle.graphql_project_checking.specs.Silence.{BorrowsForAll, HasFragmentsOf}
 use Rattle.graphql_projects.specs.OperationTrees.{IsTreeOf, Pool, ReachesFragment, fragments_among}
 use Rattle.graphql_projects.specs.Projects.{ReadFiles, operations_among}
-use Rattle.graphql_reach.specs.Reached.{IsSpreadFrom, ReachesNames}
-use Rattle.graphql_repetitions.specs.Repetitions.{RepetitionReport}
-use Rattle.graphql_specification.specs.Defer.{DeferLimit, DeferReport}
-use Rattle.graphql_tokens.specs.Lexical.{AreTokens}
+use Rattle.graphql_projects.specs.Reached.{IsSpreadFrom, ReachesNames}
+use Rattle.graphql_document_checking.specs.Repetitions.{RepetitionReport}
+use Rattle.graphql_projects.specs.Defer.{DeferLimit, DeferReport}
+use Rattle.graphql_projects.specs.Lexical.{AreTokens}
 use Rattle.graphql_trees.specs.declared.documents.Definition.TheVariants as definition
 use Rattle.graphql_trees.specs.declared.documents.Definition.{Definition}
 use Rattle.graphql_trees.specs.declared.documents.Document.{Document}

@@ -4,24 +4,24 @@ ghost use Rattle.std.specs.Prelude.{◌≡◌, ◌≢◌, ◌++◌, [], All, Con
 ghost use Rattle.std.specs.List.{AllZip};
 ghost use Rattle.graphql_building_reports.specs.Checks.{reports_of};
 ghost use Rattle.graphql_diagnostics.specs.Reports.{KeepsReports};
-ghost use Rattle.graphql_document_building.specs.Trees.{fragments_in};
+ghost use Rattle.graphql_document_checking.specs.Trees.{fragments_in};
 ghost use Rattle.graphql_document_checking.specs.DocumentReports.{DocumentBuildingReport};
 ghost use Rattle.graphql_nodes.specs.Names.{AreDistinct};
 ghost use Rattle.graphql_project_checking.specs.Silence.{BuildAll, BuildAsLent, BuildsTo, HasFragmentsOf, OthersBuild, SilentOnlyIf};
 ghost use Rattle.graphql_project_checking.specs.Truth.{AreOfBuilding, AreOfOneDocument, IsFragmentNameReport};
 ghost use Rattle.graphql_projects.specs.OperationTrees.{fragments_among};
-ghost use Rattle.graphql_repetitions.specs.References.{nows};
+ghost use Rattle.graphql_document_checking.specs.References.{nows};
 
 use crate::parts::parts_of;
 use graphql_building_reports::BuildingReportList;
-use graphql_document_building::build_document;
+use graphql_document_checking::build_document;
 use graphql_document_checking::{check_definitions, check_document};
 use graphql_documents::documents::{ExecutableDocument, Schema};
 use graphql_frontend::first_reports::report_bound;
 use graphql_frontend::{Bounds, Reports, ValidationError};
-use graphql_hash_seeds::HashSeed;
+use graphql_diagnostics::HashSeed;
 use graphql_nodes::Name;
-use graphql_repetitions::{Repeated, check_repetitions};
+use graphql_document_checking::{Repeated, check_repetitions};
 use graphql_trees::{Definition, Document};
 use std::alloc::Global;
 

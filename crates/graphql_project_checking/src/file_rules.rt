@@ -3,19 +3,19 @@
 ghost use Rattle.std.specs.Prelude.{◌≡◌, ◌≢◌, [], Contains, IsOk, IsTrue, OnOk};
 ghost use Rattle.graphql_diagnostics.specs.Diagnostics.{entries};
 ghost use Rattle.graphql_diagnostics.specs.Reports.{KeepsReports};
-ghost use Rattle.graphql_input_rules.specs.InputFields.{InputFieldReport, InputFieldsAreUnique};
+ghost use Rattle.graphql_frontend.specs.InputFields.{InputFieldReport, InputFieldsAreUnique};
 ghost use Rattle.graphql_project_checking.specs.Silence.{SilentOnlyIf};
 ghost use Rattle.graphql_project_checking.specs.Truth.{AreOfDefinitions, AreOfInputFields, AreOfRules, IsDeferEntry};
-ghost use Rattle.graphql_reporting.specs.Lists.{reports_of};
-ghost use Rattle.graphql_specification.specs.Defer.{LabelsHold};
+ghost use Rattle.graphql_frontend.specs.Lists.{reports_of};
+ghost use Rattle.graphql_projects.specs.Defer.{LabelsHold};
 
 use graphql_diagnostics::DiagnosticList;
 use graphql_documents::documents::ExecutableDocument;
 use graphql_frontend::first_reports::report_bound;
 use graphql_frontend::{Bounds, DocumentReports, Reports, ValidationError};
-use graphql_input_rules::{InputFieldRepetition, check_input_fields};
+use graphql_frontend::{InputFieldRepetition, check_input_fields};
 use graphql_operations::validate_defer;
-use graphql_reporting::ReportList;
+use graphql_frontend::ReportList;
 use std::alloc::Global;
 
 /// Reports labels of `@defer` that repeat in a document or are variables, and input fields that object values give again.

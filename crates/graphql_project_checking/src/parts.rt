@@ -1,7 +1,7 @@
 //! Documents with some of the definitions of others.
 
 ghost use Rattle.std.specs.Prelude.{◌≡◌, ◌++◌, ◌↔◌, IfOk, IsTrue, OnOk, Some, filter, reverse};
-ghost use Rattle.graphql_document_building.specs.BuildingRules.{DefinitionBuilds};
+ghost use Rattle.graphql_document_checking.specs.BuildingRules.{DefinitionBuilds};
 ghost use Rattle.graphql_project_checking.specs.Silence.{HasFragmentsOf, is_fragment, others_in};
 ghost use Rattle.graphql_project_checking.specs.Truth.{KeepsThatBuild};
 
@@ -10,7 +10,7 @@ use graphql_document_checking::check_definitions;
 use graphql_documents::documents::Schema;
 use graphql_nodes::ValidationError;
 use graphql_trees::{Definition, Document};
-use sqlite_items::Items;
+use graphql_document_checking::Items;
 use std::alloc::Global;
 use std::slice;
 

@@ -13,7 +13,7 @@ use crate::whole::check_whole;
 use graphql_documents::documents::Schema;
 use graphql_frontend::texts::hash_seed_of;
 use graphql_frontend::{Bounds, ProjectReports, Reports, SourceText, ValidationError};
-use graphql_hash_seeds::HashSeed;
+use graphql_diagnostics::HashSeed;
 use std::alloc::Global;
 
 /// Reports what is wrong with files that are validated together against a schema that was read: each operation in the document of it and of

@@ -5,7 +5,7 @@ ghost use Rattle.graphql_diagnostics.specs.Reports.{KeepsReports};
 ghost use Rattle.graphql_projects.specs.Projects.{ReadFiles};
 ghost use Rattle.graphql_project_checking.specs.Silence.{AddsIfToken, LeavesOutEmpty, SilentOnlyIf};
 ghost use Rattle.graphql_project_checking.specs.Truth.{AreErrorsOf, HasErrors, ParsedFiles};
-ghost use Rattle.graphql_tokens.specs.Lexical.{AreTokens};
+ghost use Rattle.graphql_projects.specs.Lexical.{AreTokens};
 
 use graphql_frontend::texts::parse_texts;
 use graphql_frontend::{Bounds, Reports, SourceText, SyntaxReport, ValidationError};

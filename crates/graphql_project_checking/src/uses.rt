@@ -3,7 +3,7 @@
 ghost use Rattle.std.specs.Prelude.{◌∷◌, [], All, OnOk};
 ghost use Rattle.graphql_diagnostics.specs.Diagnostics.{entries};
 ghost use Rattle.graphql_diagnostics.specs.Reports.{KeepsReports};
-ghost use Rattle.graphql_document_building.specs.Trees.{fragments_in};
+ghost use Rattle.graphql_document_checking.specs.Trees.{fragments_in};
 ghost use Rattle.graphql_project_checking.specs.Silence.{ReportsUnused, SilentOnlyIf};
 ghost use Rattle.graphql_project_checking.specs.Truth.{AreOfRules, IsUnnamedEntry};
 ghost use Rattle.graphql_projects.specs.OperationTrees.{fragments_among};

@@ -33,7 +33,7 @@ use Rattle.graphql_sameness_laws.proofs.SelectionLemmas.{loose_document}
 use Rattle.graphql_sameness_laws.proofs.WrittenValueLemmas.{input_fields_unique_too}
 use Rattle.graphql_specification.specs.Defer.{DeferHolds}
 use Rattle.graphql_specification.specs.FragmentsUsed.{IsFragmentUsed}
-use Rattle.graphql_tokens.specs.Lexical.{AreTokens}
+use Rattle.graphql_projects.specs.Lexical.{AreTokens}
 use Rattle.graphql_verdict_laws.proofs.EveryRuleLemmas.{one_schema_too}
 use Rattle.graphql_projects.specs.OperationTrees.{Pool, ReachesFragment, fragments_among}
 use Rattle.graphql_projects.specs.Projects.{FileHolds, OperationIsValid, ProjectHolds, ReadFiles, empty_file, next_file, no_file, operations_among}

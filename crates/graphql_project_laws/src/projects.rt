@@ -10,7 +10,7 @@ ghost use Rattle.graphql_frontend.specs.Texts.{IsDocumentOf};
 ghost use Rattle.graphql_frontend.specs.declared.texts.SourceText.{SourceText};
 ghost use Rattle.graphql_parser.specs.declared.bounds.Bounds.{Bounds};
 ghost use Rattle.graphql_projects.specs.Projects.{ProjectHolds};
-ghost use Rattle.graphql_tokens.specs.Lexical.{AreTokens};
+ghost use Rattle.graphql_projects.specs.Lexical.{AreTokens};
 ghost use Rattle.graphql_trees.specs.declared.documents.Document.{Document};
 
 /// If a project of one file holds, which has a token, and no file is lent, the text of the file is a document, it builds, and every rule

@@ -6,3 +6,6 @@ pub mod ReachableLemmas
 pub mod SelectionHoldLemmas
 pub mod VisitedLemmas
 pub mod WalkLemmas
+pub use Rattle.graphql_laws.proofs.SchemaLaws
+pub use Rattle.graphql_laws.proofs.VisitedNameLemmas
+pub use Rattle.graphql_cycles.proofs.SeenNameLemmas

@@ -3,3 +3,6 @@
 #![tactic(auto)]
 
 pub mod operations;
+
+pub use graphql_cycles as cycles;
+pub use graphql_values as values;

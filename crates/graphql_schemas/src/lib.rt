@@ -17,3 +17,6 @@ pub mod schema_definition;
 pub mod type_map;
 pub mod types;
 pub mod unions;
+
+pub use graphql_field_definitions as field_definitions;
+pub use graphql_implementations as implementations;

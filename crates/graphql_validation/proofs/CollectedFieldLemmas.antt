@@ -26,7 +26,7 @@ use Rattle.graphql_documents.specs.declared.documents.schemas.Schema.{Schema}
 use Rattle.graphql_nodes.proofs.NameLemmas.{same_name_back, same_name_itself, same_name_then}
 use Rattle.graphql_documents.proofs.ListLemmas.{All-append_right}
 use Rattle.graphql_documents.proofs.SelectionLemmas.{one_fragment_found}
-use Rattle.graphql_laws.proofs.SchemaLaws.{one_type_found}
+use Rattle.graphql_rules.proofs.SchemaLaws.{one_type_found}
 use Rattle.graphql_variables.proofs.UseLemmas.{any_has}
 use Rattle.graphql_validation.proofs.CollectingLemmas.{lists_what_is_collected}
 

@@ -20,7 +20,7 @@ use Rattle.graphql_documents.specs.declared.documents.schemas.Schema.{Schema}
 use Rattle.graphql_documents.proofs.ListLemmas.{none_stands, stands_behind, stands_first}
 use Rattle.graphql_nodes.proofs.NameLemmas.{same_name_itself}
 use Rattle.graphql_documents.proofs.SelectionLemmas.{not_inline, not_spread, same_field, same_inline, same_spread, spread_not_inline}
-use Rattle.graphql_laws.proofs.VisitedNameLemmas.{behind_true, either_true}
+use Rattle.graphql_rules.proofs.VisitedNameLemmas.{behind_true, either_true}
 use Rattle.graphql_variables.proofs.UseLemmas.{any_has, has_any}
 use Rattle.std.proofs.lemmas.Option.{same_Some}
 

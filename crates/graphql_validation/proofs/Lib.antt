@@ -5,3 +5,4 @@ pub mod DocumentLemmas
 pub mod FieldSetLemmas
 pub mod LimitLemmas
 pub mod MergingStepLemmas
+pub use Rattle.graphql_rules.proofs.WalkLemmas

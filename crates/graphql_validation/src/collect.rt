@@ -14,7 +14,7 @@ use graphql_documents::documents::{
     ExecutableDocument, ExtendedType, FragmentSpread, Schema, Selection, SelectionSet,
 };
 use graphql_field_conflicts::field_selections::FieldSelection;
-use graphql_hash_seeds::HashSeed;
+use graphql_diagnostics::HashSeed;
 use graphql_merging::groups::fields_by_key;
 use graphql_nodes::{Name, NamedType, Node, ValidationError};
 use indexmap::{IndexMap, IndexSet};

@@ -1,6 +1,6 @@
 //! What the calls report, with the texts, and their only error.
 
-pub use graphql_coordinates::{
+pub use graphql_diagnostics::{
     DirectiveArgumentCoordinate, DirectiveCoordinate, FieldArgumentCoordinate, SchemaCoordinate,
     TypeAttributeCoordinate, TypeCoordinate,
 };

@@ -10,8 +10,8 @@ pub use graphql_documents::documents::{
     Type, UnionType, Valid, Value, VariableDefinition, argument_named, definition_named,
     variable_named,
 };
-pub use graphql_hash_seeds::HashSeed;
+pub use graphql_diagnostics::HashSeed;
 pub use graphql_nodes::{
     DirectiveLocation, FileId, Name, NamedType, Node, OperationType, SourceSpan,
 };
-pub use graphql_numbers::{FloatValue, IntValue};
+pub use graphql_rules::values::{FloatValue, IntValue};

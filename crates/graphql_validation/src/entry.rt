@@ -21,7 +21,7 @@ use graphql_diagnostics::DiagnosticList;
 use graphql_documents::documents::{
     ExecutableDocument, FieldSet, Operation, OperationMap, Schema, Valid,
 };
-use graphql_hash_seeds::HashSeed;
+use graphql_diagnostics::HashSeed;
 use graphql_lone_fields::lone_fields::have_lone_fields;
 use graphql_merging::bounded::BoundedMerging;
 use graphql_nodes::{Node, ValidationError};

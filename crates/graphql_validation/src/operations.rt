@@ -1,6 +1,6 @@
 //! Operations, with the selections and fragments that they reach.
 
-pub use graphql_cycles::fragments::validate_fragment_cycles;
+pub use graphql_rules::cycles::fragments::validate_fragment_cycles;
 pub use graphql_operations::{
     DEFER_DIRECTIVE_NAME, FragmentUse, OperationValidationContext, operations_of, validate_defer,
     validate_fragment_spread_type, validate_fragment_type_condition, validate_fragments_used,

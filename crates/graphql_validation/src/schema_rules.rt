@@ -1,14 +1,14 @@
 //! The rules of schemas.
 
-pub use graphql_field_definitions::built_in_scalars::BuiltInScalars;
-pub use graphql_field_definitions::fields::{
+pub use graphql_schemas::field_definitions::built_in_scalars::BuiltInScalars;
+pub use graphql_schemas::field_definitions::fields::{
     validate_field_definition, validate_field_definitions,
 };
-pub use graphql_field_definitions::input_values::{
+pub use graphql_schemas::field_definitions::input_values::{
     validate_argument_definitions, validate_input_value_definitions,
 };
-pub use graphql_field_definitions::names::validate_type_system_name;
-pub use graphql_implementations::{
+pub use graphql_schemas::field_definitions::names::validate_type_system_name;
+pub use graphql_schemas::implementations::{
     is_valid_implementation_field_type, validate_implementation_field_arguments,
     validate_implementation_field_types, validate_implements_interfaces,
 };

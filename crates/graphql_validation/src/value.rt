@@ -1,3 +1,3 @@
 //! Values against types.
 
-pub use graphql_values::value::{validate_values, value_of_correct_type};
+pub use graphql_rules::values::value::{validate_values, value_of_correct_type};

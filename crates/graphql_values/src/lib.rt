@@ -5,3 +5,5 @@
 pub mod argument;
 pub mod directive;
 pub mod value;
+
+pub use graphql_numbers::{FloatValue, IntValue};

@@ -16,7 +16,7 @@ use Rattle.graphql_frontend.specs.declared.texts.SourceText.{SourceText}
 use Rattle.graphql_parser.specs.declared.bounds.Bounds.{Bounds}
 use Rattle.graphql_sameness_laws.proofs.RetainedLemmas.{retained_alike}
 use Rattle.graphql_schema_building.specs.SchemaSays.{SchemaSays}
-use Rattle.graphql_schema_checking.specs.SchemaBuilds.{SchemaBuilds}
+use Rattle.graphql_frontend.specs.SchemaBuilds.{SchemaBuilds}
 use Rattle.graphql_trees.specs.declared.documents.Document.{Document}
 use Rattle.graphql_verdict_laws.proofs.EveryRuleLemmas.{accepted_too}
 use Rattle.graphql_verdict_laws.proofs.TextTreeLemmas.{no_errors, one_trees}

@@ -6,7 +6,7 @@ ghost use Rattle.graphql_frontend.specs.Schemas.{AcceptsOnlyUsableSchemas, IsUsa
 use crate::faults::Fault;
 use crate::places::Place;
 use crate::reports::print_entry;
-use graphql_building_reports::BuildingReportList;
+use graphql_shown_reports::BuildingReportList;
 use graphql_diagnostics::{DiagnosticEntry, DiagnosticList};
 use graphql_documents::documents::Schema;
 use graphql_frontend::{Reports, SchemaReading, SourceText, read_schema, validate_document};

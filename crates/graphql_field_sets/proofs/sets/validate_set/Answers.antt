@@ -4,9 +4,9 @@ use Rattle.graphql_diagnostics.proofs.ReportLemmas.{kept}
 use Rattle.graphql_diagnostics.specs.Diagnostics.{entries}
 use Rattle.graphql_documents.specs.Selections.{fragments_of, selections_of}
 use Rattle.graphql_documents.proofs.SelectionLemmas.{one_fragment_found}
-use Rattle.graphql_operations.specs.Contexts.{visited_fragment_names}
-use Rattle.graphql_rules.specs.SelectionSteps.{Walks}
-use Rattle.graphql_rules.proofs.WalkLemmas.{walks_as}
+use Rattle.graphql_validation.specs.Contexts.{visited_fragment_names}
+use Rattle.graphql_validation.specs.SelectionSteps.{Walks}
+use Rattle.graphql_validation.proofs.WalkLemmas.{walks_as}
 use Rattle.graphql_validation.proofs.FieldSetLemmas.{field_set_checked, field_set_kept, has_no_fragments}
 use Rattle.graphql_field_sets.proofs.sets.validate_set.Goals as goal
 

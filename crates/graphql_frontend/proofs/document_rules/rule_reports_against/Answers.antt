@@ -1,7 +1,7 @@
 use Rattle.std.proofs.Common.{Some, rules}
 use Rattle.graphql_diagnostics.specs.Diagnostics.{IsLimitEntry, entries}
 use Rattle.graphql_document_rules.specs.DocumentRules.{DocumentRuleReport}
-use Rattle.graphql_specification.specs.Documents.{DocumentLimit}
+use Rattle.graphql_document_rules.specs.Documents.{DocumentLimit}
 use Rattle.graphql_frontend.specs.Documents.{IsDocumentEntry}
 use Rattle.graphql_frontend.proofs.DocumentLemmas.{both_of_each}
 use Rattle.graphql_frontend.proofs.ReportLemmas.{appended, kept}

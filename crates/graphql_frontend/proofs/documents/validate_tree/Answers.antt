@@ -1,6 +1,6 @@
 use Rattle.std.proofs.Common.{◌≡◌, ◌≢◌, [], Some, rules}
 use Rattle.graphql_building_reports.specs.Checks.{reports_of}
-use Rattle.graphql_document_building.proofs.BuiltLemmas.{document_is_built}
+use Rattle.graphql_document_checking.proofs.BuiltLemmas.{document_is_built}
 use Rattle.graphql_frontend.specs.Documents.{JudgesDocument, JudgesTree, does_not_build, is_built}
 use Rattle.graphql_frontend.proofs.ReportLemmas.{broken, each_true, if_ok, kept, silent}
 use Rattle.graphql_frontend.proofs.documents.validate_tree.Goals as goal

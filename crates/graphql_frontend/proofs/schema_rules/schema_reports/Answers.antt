@@ -2,8 +2,8 @@ use Rattle.std.proofs.Common.{subst}
 use Rattle.graphql_diagnostics.specs.Diagnostics.{IsLimitEntry, entries}
 use Rattle.graphql_diagnostics.specs.Reports.{ReportsWithin}
 use Rattle.graphql_schemas.specs.SchemaChecks.{SchemaEntryReport}
-use Rattle.graphql_specification.specs.DefaultValues.{DefaultValuesHold}
-use Rattle.graphql_specification.specs.Schemas.{SchemaHolds}
+use Rattle.graphql_document_rules.specs.DefaultValues.{DefaultValuesHold}
+use Rattle.graphql_document_rules.specs.Schemas.{SchemaHolds}
 use Rattle.graphql_frontend.proofs.ReportLemmas.{kept}
 use Rattle.graphql_frontend.proofs.schema_rules.schema_reports.Goals as goal
 

@@ -3,13 +3,13 @@ use Rattle.std.specs.Prelude.{All, Contains, IsOk}
 use Rattle.std.proofs.lemmas.List.{map-append}
 use Rattle.graphql_building_reports.specs.Checks.{reports_of}
 use Rattle.graphql_nodes.specs.Names.{AreDistinct}
-use Rattle.graphql_document_building.specs.Trees.{fragments_in}
+use Rattle.graphql_document_checking.specs.Trees.{fragments_in}
 use Rattle.graphql_trees.specs.declared.documents.Document.{Document}
 use Rattle.graphql_projects.specs.OperationTrees.{fragments_among}
 use Rattle.graphql_building_reports.specs.declared.rules.BuildingRule.TheVariants as rule
 use Rattle.graphql_diagnostics.specs.Reports.{KeepsReports}
-use Rattle.graphql_repetitions.specs.References.{nows}
-use Rattle.graphql_repetitions.specs.Repetitions.{RepetitionReport}
+use Rattle.graphql_document_checking.specs.References.{nows}
+use Rattle.graphql_document_checking.specs.Repetitions.{RepetitionReport}
 use Rattle.graphql_project_checking.specs.Silence.{SilentOnlyIf}
 use Rattle.graphql_project_checking.specs.Truth.{AreOfBuilding, IsFragmentNameReport}
 use Rattle.graphql_project_checking.proofs.BuildingLemmas.{name_of}

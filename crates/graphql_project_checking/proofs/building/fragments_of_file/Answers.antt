@@ -1,7 +1,7 @@
 use Rattle.std.proofs.Common.{◌≡◌, ◌∙◌, [], Some, subst}
 use Rattle.std.specs.Prelude.{All, IsOk}
 use Rattle.graphql_building_reports.specs.Checks.{reports_of}
-use Rattle.graphql_document_building.specs.BuildingRules.{DefinitionBuilds}
+use Rattle.graphql_document_checking.specs.BuildingRules.{DefinitionBuilds}
 use Rattle.graphql_document_checking.specs.DefinitionReports.{IsReportOfDefinitions}
 use Rattle.graphql_document_checking.specs.DocumentReports.{DocumentBuildingReport}
 use Rattle.graphql_project_checking.specs.Silence.{OthersBuild}

@@ -1,8 +1,8 @@
 use Rattle.std.proofs.Common.{◌+◌, ap, map, sym, take, take_all, ◌∙◌, ◌++◌}
 use Rattle.std.proofs.lemmas.List.{append-nil}
-use Rattle.graphql_document_building.specs.Trees.{fragments_in}
+use Rattle.graphql_document_checking.specs.Trees.{fragments_in}
 use Rattle.graphql_projects.specs.OperationTrees.{fragments_among}
-use Rattle.graphql_repetitions.specs.References.{nows}
+use Rattle.graphql_document_checking.specs.References.{nows}
 use Rattle.graphql_project_checking.proofs.BuildingLemmas.{name_of, names_of_file, names_then}
 use Rattle.graphql_project_checking.proofs.building.push_fragment_names.Goals as goal
 

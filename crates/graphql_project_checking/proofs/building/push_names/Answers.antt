@@ -1,9 +1,9 @@
 use Rattle.std.proofs.Common.{◌+◌, ◌∙◌, ◌∷◌, ◌++◌, [], ap, map, sym, take, take_all}
 use Rattle.std.specs.Borrow.{Bor}
 use Rattle.std.proofs.lemmas.List.{append-nil, map-append}
-use Rattle.graphql_document_building.specs.Trees.{fragments_in}
+use Rattle.graphql_document_checking.specs.Trees.{fragments_in}
 use Rattle.graphql_nodes.specs.Names.{NameText}
-use Rattle.graphql_repetitions.specs.References.{nows}
+use Rattle.graphql_document_checking.specs.References.{nows}
 use Rattle.graphql_project_checking.proofs.BuildingLemmas.{name_of, names_of_definition, names_then, no_fragment, one_name}
 use Rattle.graphql_project_checking.proofs.building.push_names.Goals as goal
 

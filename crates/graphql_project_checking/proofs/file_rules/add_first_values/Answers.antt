@@ -1,7 +1,7 @@
 use Rattle.std.proofs.Common.{◌≡◌, ◌≢◌, ◌∙◌, [], rules, subst, sym}
 use Rattle.std.specs.Prelude.{Contains, OnOk}
 use Rattle.graphql_diagnostics.specs.Reports.{KeepsReports}
-use Rattle.graphql_reporting.specs.Lists.{reports_of}
+use Rattle.graphql_frontend.specs.Lists.{reports_of}
 use Rattle.graphql_project_checking.specs.Silence.{SilentOnlyIf}
 use Rattle.graphql_project_checking.specs.Truth.{AreOfInputFields}
 use Rattle.graphql_project_checking.proofs.SilenceLemmas.{on_ok}

@@ -1,7 +1,7 @@
 use Rattle.std.proofs.Common.{inl, inr}
 use Rattle.graphql_diagnostics.specs.Reports.{KeepsReports}
-use Rattle.graphql_input_rules.specs.InputFields.{InputFieldReport, InputFieldsAreUnique}
-use Rattle.graphql_specification.specs.Defer.{LabelsHold}
+use Rattle.graphql_frontend.specs.InputFields.{InputFieldReport, InputFieldsAreUnique}
+use Rattle.graphql_projects.specs.Defer.{LabelsHold}
 use Rattle.graphql_project_checking.specs.Silence.{SilentOnlyIf}
 use Rattle.graphql_project_checking.specs.Truth.{AreOfDefinitions, AreOfInputFields, AreOfRules, IsDeferEntry}
 use Rattle.graphql_project_checking.proofs.SilenceLemmas.{on_ok, silent_then}

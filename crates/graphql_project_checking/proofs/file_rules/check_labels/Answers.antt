@@ -2,7 +2,7 @@ use Rattle.std.proofs.Common.{◌≡◌, []}
 use Rattle.std.specs.Prelude.{All, Contains, IsOk}
 use Rattle.graphql_diagnostics.specs.Diagnostics.{entries}
 use Rattle.graphql_diagnostics.specs.Reports.{KeepsReports}
-use Rattle.graphql_specification.specs.Defer.{LabelsHold}
+use Rattle.graphql_projects.specs.Defer.{LabelsHold}
 use Rattle.graphql_project_checking.specs.Silence.{SilentOnlyIf}
 use Rattle.graphql_project_checking.specs.Truth.{AreOfRules, IsDeferEntry}
 use Rattle.graphql_project_checking.proofs.SilenceLemmas.{checked_within, on_ok, silent_so}

@@ -1,8 +1,8 @@
 use Rattle.std.proofs.Common.{◌≡◌, ◌≢◌, ◌∙◌, [], subst, sym}
 use Rattle.std.specs.Prelude.{All, Contains}
 use Rattle.graphql_diagnostics.specs.Reports.{KeepsReports}
-use Rattle.graphql_input_rules.specs.InputFields.{InputFieldReport, InputFieldsAreUnique}
-use Rattle.graphql_reporting.specs.Lists.{reports_of}
+use Rattle.graphql_frontend.specs.InputFields.{InputFieldReport, InputFieldsAreUnique}
+use Rattle.graphql_frontend.specs.Lists.{reports_of}
 use Rattle.graphql_project_checking.specs.Silence.{SilentOnlyIf}
 use Rattle.graphql_project_checking.specs.Truth.{AreOfInputFields}
 use Rattle.graphql_project_checking.proofs.SilenceLemmas.{holds_of, on_ok, silent_so}

@@ -1,7 +1,7 @@
 use Rattle.std.proofs.Common.{[], Some, subst, sym}
 use Rattle.std.specs.Prelude.{All}
 use Rattle.std.proofs.lemmas.List.Elements.{All-cons, All-head, All-nil}
-use Rattle.graphql_document_building.specs.BuildingRules.{DefinitionBuilds}
+use Rattle.graphql_document_checking.specs.BuildingRules.{DefinitionBuilds}
 use Rattle.graphql_project_checking.proofs.PartTruthLemmas.{silent_of}
 use Rattle.graphql_project_checking.proofs.SilenceLemmas.{holds_of}
 use Rattle.graphql_project_checking.proofs.parts.builds.Goals as goal

@@ -1,6 +1,6 @@
 use Rattle.std.proofs.Common.{◌≡◌, [], Some, rules}
 use Rattle.graphql_building_reports.specs.Checks.{reports_of}
-use Rattle.graphql_document_building.specs.BuildingRules.{DocumentBuilds}
+use Rattle.graphql_document_checking.specs.BuildingRules.{DocumentBuilds}
 use Rattle.graphql_project_checking.specs.Truth.{has_no_part, says_part}
 use Rattle.graphql_project_checking.proofs.PartTruthLemmas.{silent_of}
 use Rattle.graphql_project_checking.proofs.SilenceLemmas.{holds_of}

@@ -1,6 +1,6 @@
 use Rattle.std.proofs.Common.{subst, sym, take_all}
 use Rattle.graphql_diagnostics.specs.Diagnostics.{entries}
-use Rattle.graphql_document_building.specs.Trees.{fragments_in}
+use Rattle.graphql_document_checking.specs.Trees.{fragments_in}
 use Rattle.graphql_variables.specs.Uses.{names_of}
 use Rattle.graphql_project_checking.specs.Silence.{ReportsUnused}
 use Rattle.graphql_project_checking.specs.Truth.{IsUnnamedEntry}

@@ -3,8 +3,8 @@ use Rattle.std.specs.Prelude.{All}
 use Rattle.graphql_diagnostics.specs.Reports.{KeepsReports}
 use Rattle.graphql_documents.specs.Executables.{operations_of}
 use Rattle.graphql_documents.specs.declared.documents.executables.ExecutableDocument.{ExecutableDocument}
-use Rattle.graphql_input_rules.specs.InputFields.{InputFieldsAreUnique}
-use Rattle.graphql_specification.specs.Defer.{LabelsHold}
+use Rattle.graphql_frontend.specs.InputFields.{InputFieldsAreUnique}
+use Rattle.graphql_projects.specs.Defer.{LabelsHold}
 use Rattle.graphql_project_checking.specs.Silence.{FilePasses, OperationPasses, SilentOnlyIf}
 use Rattle.graphql_project_checking.specs.Truth.{AreOfDefinitions, AreOfFile, AreOfOneOperation, of_definitions, of_operation}
 use Rattle.graphql_project_checking.proofs.SilenceLemmas.{on_ok, silent_then}

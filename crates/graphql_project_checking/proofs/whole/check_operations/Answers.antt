@@ -5,7 +5,7 @@ use Rattle.graphql_diagnostics.specs.Reports.{KeepsReports}
 use Rattle.graphql_documents.proofs.ListLemmas.{stands_mapped}
 use Rattle.graphql_documents.specs.declared.documents.executables.Operation.{Operation}
 use Rattle.graphql_nodes.specs.declared.nodes.Node.{Node}
-use Rattle.graphql_reach.specs.Reach.{nodes_at}
+use Rattle.graphql_projects.specs.Reach.{nodes_at}
 use Rattle.graphql_variables.specs.Uses.{names_of}
 use Rattle.graphql_project_checking.specs.Silence.{BorrowsForAll, NotesUses, OperationPasses, SilentOnlyIf}
 use Rattle.graphql_project_checking.specs.Truth.{AreOfOneOperation, AreOfOperation, NotesAll}

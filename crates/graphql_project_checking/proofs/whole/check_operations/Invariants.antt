@@ -1,7 +1,7 @@
 use Rattle.std.proofs.Common.{take}
 use Rattle.std.specs.Prelude.{All}
 use Rattle.graphql_diagnostics.specs.Reports.{KeepsReports}
-use Rattle.graphql_reach.specs.Reach.{nodes_at}
+use Rattle.graphql_projects.specs.Reach.{nodes_at}
 use Rattle.graphql_variables.specs.Uses.{names_of}
 use Rattle.graphql_project_checking.specs.Silence.{BorrowsForAll, NotesUses, OperationPasses, SilentOnlyIf}
 use Rattle.graphql_project_checking.specs.Truth.{AreOfOneOperation, NotesAll}

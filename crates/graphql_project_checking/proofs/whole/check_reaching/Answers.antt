@@ -2,7 +2,7 @@ use Rattle.std.proofs.Common.{subst}
 use Rattle.graphql_diagnostics.specs.Reports.{KeepsReports}
 use Rattle.graphql_documents.specs.Selections.{fragments_of}
 use Rattle.graphql_documents.specs.declared.documents.executables.Operation.{Operation}
-use Rattle.graphql_reach.specs.Reached.{ReachesNames}
+use Rattle.graphql_projects.specs.Reached.{ReachesNames}
 use Rattle.graphql_variables.specs.Uses.{names_of}
 use Rattle.graphql_project_checking.specs.Silence.{HoldsWith, OperationPasses, SilentOnlyIf}
 use Rattle.graphql_project_checking.specs.Truth.{AreOfDocumentWith, AreOfOperation}

@@ -17,7 +17,7 @@ use Rattle.graphql_documents.proofs.ListLemmas.{more_is}
 use Rattle.graphql_field_conflicts.specs.FieldSelections.{listed, selection_of}
 use Rattle.graphql_field_conflicts.specs.declared.field_selections.FieldSelection as Code
 use Rattle.graphql_operations.proofs.MeasureLemmas.{room_falls, room_stays, selection_is_smaller}
-use Rattle.graphql_cycles.proofs.SeenNameLemmas.{marked_grows, marked_is_seen, was_marked, was_seen}
+use Rattle.graphql_rules.proofs.SeenNameLemmas.{marked_grows, marked_is_seen, was_marked, was_seen}
 use Rattle.graphql_validation.specs.CollectionSteps.{CollectsMore, WalksAmong, WalksIn, visited_of}
 use Rattle.graphql_validation.proofs.CollectingLemmas.{among_grows}
 use Rattle.graphql_validation.proofs.CollectionLemmas.{field_collected, inline_collected, inline_passed, more_then, nothing_more, set_collected, set_passed, spread_collected, spread_passed}

@@ -1,0 +1,1 @@
+pub use Rattle.graphql_nesting.specs.Nesting
