@@ -6,83 +6,26 @@ ghost use Rattle.graphql_frontend.specs.Schemas.{IsUsable};
 
 use crate::one_document::check_together;
 use crate::project_files::{check_files, project_of, report_beside};
-use gqlvalidate_inputs::faults::Fault;
-use gqlvalidate_inputs::sources::{shown_path, text_or_said};
-use gqlvalidate_inputs::statuses::Status;
-use gqlvalidate_runs::accounts::{Account, Extent, Whole};
-use gqlvalidate_runs::dialects::{SchemaTexts, dialect_texts, read_schema_in};
-use gqlvalidate_runs::named_texts::{NamedText, Subject};
-use gqlvalidate_runs::policies::Policy;
-use gqlvalidate_runs::presentations::Presentation;
-use gqlvalidate_runs::schema_files::{FileKind, ReadFiles, named_schema, named_text, read_files};
-use gqlvalidate_runs::schema_reports::{end_unread, reject};
-use gqlvalidate_runs::schema_texts::schema_subject;
-use gqlvalidate_words::requests::STANDARD_INPUT;
-use gqlvalidate_words::{Dialect, Grouping};
+use gqlvalidate_sources::inputs::faults::Fault;
+use gqlvalidate_sources::inputs::sources::{shown_path, text_or_said};
+use gqlvalidate_sources::inputs::statuses::Status;
+use gqlvalidate_sources::runs::accounts::{Account, Extent, Whole};
+use gqlvalidate_sources::runs::dialects::{SchemaTexts, dialect_texts, read_schema_in};
+use gqlvalidate_sources::runs::named_texts::{NamedText, Subject};
+use gqlvalidate_sources::runs::presentations::Presentation;
+use gqlvalidate_sources::runs::schema_files::{
+    FileKind, ReadFiles, named_schema, named_text, read_files,
+};
+use gqlvalidate_sources::runs::schema_reports::{end_unread, reject};
+use gqlvalidate_sources::runs::schema_texts::schema_subject;
+use gqlvalidate_sources::{Paths, is_program};
+use gqlvalidate_words::Grouping;
 use graphql_documents::documents::Schema;
 use graphql_frontend::{ProjectReports, Reports, SchemaReading, abandon, validate_document};
-use graphql_literals::is_program;
 use graphql_parser::Bounds;
 use std::alloc::Global;
 use std::io::{Read, Write};
 use std::rt::Files;
-
-/// The paths of a run, and what its documents may take.
-#[derive(Clone, Copy)]
-pub struct Paths<'a> {
-    pub schema: &'a [&'a str],
-    pub documents: &'a [&'a str],
-    /// The files whose fragments are lent.
-    pub fragments: &'a [&'a str],
-    /// Of all these the files whose reports are not shown.
-    pub hidden: &'a [&'a str],
-    /// No file of the run is missing, for all that is known before they are read.
-    pub is_all: bool,
-    /// The document whose text is that of standard input.
-    pub from_stdin: Option<&'a str>,
-    /// Which documents are validated together.
-    pub grouping: Grouping,
-    /// What a document may take.
-    pub bounds: Bounds,
-    /// Which reports are errors, and which are not shown.
-    pub policy: Policy<'a>,
-    /// What the schema and the documents mean beyond the specification.
-    pub dialect: Dialect,
-}
-
-impl Paths<'_> {
-    /// How many documents there are.
-    fn count(&self) -> usize {
-        match self.grouping {
-            Grouping::OneDocument => 1,
-            Grouping::Each | Grouping::Project => self.documents.len(),
-        }
-    }
-
-    /// Whether the run is of one document, which has no other fragments than its own.
-    fn is_of_one(&self) -> bool {
-        self.is_all
-            && self.documents.len() == 1
-            && self.fragments.is_empty()
-            && self.hidden.is_empty()
-            && self.program().is_none()
-            && self.dialect.client.is_none()
-    }
-
-    /// What is read for a document: its file, unless standard input has its text.
-    pub fn source<'b>(&self, path: &'b str) -> &'b str {
-        if self.from_stdin == Some(path) {
-            STANDARD_INPUT
-        } else {
-            path
-        }
-    }
-
-    /// The first of the documents that is a program.
-    pub fn program(&self) -> Option<&str> {
-        self.documents.iter().copied().find(|path| is_program(path))
-    }
-}
 
 /// Validates the schema, and the documents against it, if it holds.
 pub fn check<R: Files + AllocGlobal, I: Read, O: Write, F: Write>(

@@ -1,14 +1,15 @@
 //! The files of a run, and which of them are shown.
 
-use crate::check::{Paths, check};
-use gqlvalidate_inputs::faults::Fault;
-use gqlvalidate_inputs::sources::text_or_said;
-use gqlvalidate_inputs::statuses::Status;
-use gqlvalidate_inputs::word_paths::{expanded, schema_paths, views};
+use crate::check::check;
 use gqlvalidate_paths::plain::plain;
 use gqlvalidate_paths::{Expansion, without};
-use gqlvalidate_runs::policies::Policy;
-use gqlvalidate_runs::presentations::Presentation;
+use gqlvalidate_sources::Paths;
+use gqlvalidate_sources::inputs::faults::Fault;
+use gqlvalidate_sources::inputs::sources::text_or_said;
+use gqlvalidate_sources::inputs::statuses::Status;
+use gqlvalidate_sources::inputs::word_paths::{expanded, schema_paths, views};
+use gqlvalidate_sources::runs::policies::Policy;
+use gqlvalidate_sources::runs::presentations::Presentation;
 use gqlvalidate_words::{Dialect, Grouping, PathEnds, PathList};
 use graphql_parser::Bounds;
 use std::alloc::{AllocError, Global};

@@ -2,18 +2,14 @@
 #![tactic(auto)]
 
 mod check;
-mod client_texts;
-mod cuts;
 mod expansions;
 mod one_document;
-mod programs;
 mod project_files;
-mod run_texts;
 mod syntax;
 
 pub use expansions::{Words, check_words};
 // The program takes these from here: `rt` follows each path from a crate down to another.
-pub use gqlvalidate_runs::{
+pub use gqlvalidate_sources::runs::{
     accounts, bounds, dialects, named_texts, policies, presentations, schema_files, schema_reports,
     schema_texts,
 };

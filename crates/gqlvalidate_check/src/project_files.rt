@@ -2,14 +2,14 @@
 
 ghost use Rattle.graphql_frontend.specs.Schemas.{IsUsable};
 
-use crate::check::Paths;
-use crate::cuts::{Cuts, add_cuts, count_of, cuts_of, with_cuts};
-use crate::run_texts::{ReadFile, ReadFiles, RunTexts, read_files};
-use gqlvalidate_inputs::faults::Fault;
-use gqlvalidate_inputs::statuses::Status;
-use gqlvalidate_runs::accounts::{Account, FilesOfProject};
-use gqlvalidate_runs::depend_on_operations;
-use gqlvalidate_runs::named_texts::{NamedText, Subject};
+use gqlvalidate_sources::Paths;
+use gqlvalidate_sources::cuts::{Cuts, add_cuts, count_of, cuts_of, with_cuts};
+use gqlvalidate_sources::inputs::faults::Fault;
+use gqlvalidate_sources::inputs::statuses::Status;
+use gqlvalidate_sources::run_texts::{ReadFile, ReadFiles, RunTexts, read_files};
+use gqlvalidate_sources::runs::accounts::{Account, FilesOfProject};
+use gqlvalidate_sources::runs::depend_on_operations;
+use gqlvalidate_sources::runs::named_texts::{NamedText, Subject};
 use graphql_documents::documents::Schema;
 use graphql_frontend::{ProjectReports, Reports, SourceText};
 use graphql_kept_projects::{Scope, add_further, check_project, reports_of};

@@ -1,13 +1,13 @@
 //! Whether texts are GraphQL documents.
 
 use crate::check::report_document;
-use gqlvalidate_inputs::faults::Fault;
-use gqlvalidate_inputs::sources::{shown_path, text_or_said};
-use gqlvalidate_inputs::statuses::Status;
-use gqlvalidate_runs::accounts::{Account, Extent, Whole};
-use gqlvalidate_runs::named_texts::NamedText;
-use gqlvalidate_runs::presentations::Presentation;
-use gqlvalidate_runs::schema_files::named_text;
+use gqlvalidate_sources::inputs::faults::Fault;
+use gqlvalidate_sources::inputs::sources::{shown_path, text_or_said};
+use gqlvalidate_sources::inputs::statuses::Status;
+use gqlvalidate_sources::runs::accounts::{Account, Extent, Whole};
+use gqlvalidate_sources::runs::named_texts::NamedText;
+use gqlvalidate_sources::runs::presentations::Presentation;
+use gqlvalidate_sources::runs::schema_files::named_text;
 use graphql_frontend::{Reports, SyntaxReport, syntax_error_of};
 use graphql_parser::Bounds;
 use std::alloc::Global;

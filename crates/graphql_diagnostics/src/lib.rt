@@ -14,10 +14,10 @@ pub use bounds::ReportBound;
 pub use build_errors::BuildError;
 pub use data::DiagnosticData;
 pub use details::Details;
-pub use lists::{DiagnosticEntry, DiagnosticList};
-pub use names::NameOrAnon;
 pub use graphql_coordinates::{
     DirectiveArgumentCoordinate, DirectiveCoordinate, FieldArgumentCoordinate, SchemaCoordinate,
     TypeAttributeCoordinate, TypeCoordinate,
 };
 pub use graphql_hash_seeds::HashSeed;
+pub use lists::{DiagnosticEntry, DiagnosticList};
+pub use names::NameOrAnon;

@@ -25,7 +25,8 @@ impl DiagnosticData {
             DiagnosticData::UndefinedEnumValue { .. } => "UndefinedEnumValue",
             DiagnosticData::UndefinedInputValue { .. } => "UndefinedInputValue",
             DiagnosticData::MissingInterfaceField { .. } => "MissingInterfaceField",
-            DiagnosticData::InvalidImplementationFieldType { .. } => "InvalidImplementationFieldType",
+            DiagnosticData::InvalidImplementationFieldType { .. } =>
+                "InvalidImplementationFieldType",
             DiagnosticData::MissingInterfaceFieldArgument { .. } => "MissingInterfaceFieldArgument",
             DiagnosticData::InvalidImplementationFieldArgumentType { .. } =>
                 "InvalidImplementationFieldArgumentType",
@@ -33,7 +34,8 @@ impl DiagnosticData {
                 "ExtraRequiredImplementationFieldArgument",
             DiagnosticData::RequiredArgument { .. } => "RequiredArgument",
             DiagnosticData::RequiredField { .. } => "RequiredField",
-            DiagnosticData::TransitiveImplementedInterfaces { .. } => "TransitiveImplementedInterfaces",
+            DiagnosticData::TransitiveImplementedInterfaces { .. } =>
+                "TransitiveImplementedInterfaces",
             DiagnosticData::OutputType { .. } => "OutputType",
             DiagnosticData::InputType { .. } => "InputType",
             DiagnosticData::VariableInputType { .. } => "VariableInputType",
@@ -53,7 +55,8 @@ impl DiagnosticData {
             DiagnosticData::DisallowedVariableUsage { .. } => "DisallowedVariableUsage",
             DiagnosticData::RecursiveDirectiveDefinition { .. } => "RecursiveDirectiveDefinition",
             DiagnosticData::RecursiveInterfaceDefinition { .. } => "RecursiveInterfaceDefinition",
-            DiagnosticData::RecursiveInputObjectDefinition { .. } => "RecursiveInputObjectDefinition",
+            DiagnosticData::RecursiveInputObjectDefinition { .. } =>
+                "RecursiveInputObjectDefinition",
             DiagnosticData::RecursiveFragmentDefinition { .. } => "RecursiveFragmentDefinition",
             DiagnosticData::DeeplyNestedType { .. } => "DeeplyNestedType",
             DiagnosticData::RecursionError => "RecursionError",

@@ -1,8 +1,7 @@
 //! Field sets in the trees of a schema.
 
-use graphql_dialects::{Link, argument};
+use graphql_dialects::{Link, SortedDefinitions, argument};
 use graphql_nodes::{Name, ValidationError};
-use graphql_dialects::SortedDefinitions;
 use graphql_trees::{
     Directive, Document, FieldDefinition, StringLiteral, TypeDefinition, TypeReference, Value,
 };

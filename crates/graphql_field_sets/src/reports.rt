@@ -1,9 +1,8 @@
 //! What is reported of field sets.
 
 use graphql_building_reports::BuildingReportList;
-use graphql_diagnostics::DiagnosticList;
+use graphql_diagnostics::{DiagnosticList, HashSeed};
 use graphql_frontend::{Reports, SchemaReports, SyntaxReport};
-use graphql_diagnostics::HashSeed;
 use std::alloc::Global;
 
 /// What is reported of field sets, by stages.

@@ -4,12 +4,10 @@ ghost use Rattle.std.specs.Prelude.{◌≡◌, [], All};
 ghost use Rattle.graphql_diagnostics.specs.Reports.{Checks};
 ghost use Rattle.graphql_specification.specs.FieldSets.{FieldSetHolds, FieldSetReport};
 
-use graphql_diagnostics::DiagnosticList;
+use graphql_diagnostics::{DiagnosticList, HashSeed};
 use graphql_documents::documents::{ExecutableDocument, OperationMap, Schema, SelectionSet};
-use graphql_diagnostics::HashSeed;
 use graphql_nodes::ValidationError;
-use graphql_validation::operations::OperationValidationContext;
-use graphql_validation::operations::validate_selection_set;
+use graphql_validation::operations::{OperationValidationContext, validate_selection_set};
 use graphql_validation::variable::VariablesByName;
 use indexmap::IndexMap;
 use std::alloc::Global;

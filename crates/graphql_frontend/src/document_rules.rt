@@ -19,17 +19,17 @@ ghost use Rattle.graphql_frontend.specs.Places.{HasThese, end_of, is_place_among
 use crate::first_reports::{is_full_of_rules, kept_reports, report_bound};
 use crate::reports::DocumentReports;
 use crate::work::WorkReport;
-use graphql_diagnostics::{Details, DiagnosticData, DiagnosticEntry, DiagnosticList};
+use graphql_diagnostics::{Details, DiagnosticData, DiagnosticEntry, DiagnosticList, HashSeed};
 use graphql_document_rules::documents::{
     PairWork, validate_document_rules, validate_standalone_document_rules,
 };
 use graphql_documents::documents::{ExecutableDocument, Schema};
-use graphql_diagnostics::HashSeed;
 use graphql_input_rules::{InputFieldRepetition, check_input_fields};
 use graphql_nodes::{SourceSpan, ValidationError};
 use graphql_parser::Bounds;
-use graphql_usage_rules::ReportList;
-use graphql_usage_rules::{VariableMisuse, check_undefined_variables, check_variable_usages};
+use graphql_usage_rules::{
+    ReportList, VariableMisuse, check_undefined_variables, check_variable_usages,
+};
 use std::alloc::Global;
 use std::collections::HashSet;
 

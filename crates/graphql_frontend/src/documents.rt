@@ -20,17 +20,16 @@ use crate::first_reports::{is_full_of_building_rules, report_bound};
 use crate::reports::Reports;
 use crate::texts::{Parsed, SourceText, SyntaxReport, hash_seed_of, is_out_of_memory, parse_texts};
 use graphql_building_reports::BuildingReportList;
-use graphql_diagnostics::DiagnosticList;
-use graphql_document_checking::{build_document, build_standalone_document};
-use graphql_document_checking::{check_document, check_standalone_document};
+use graphql_diagnostics::{DiagnosticList, HashSeed};
+use graphql_document_checking::{
+    Items, build_document, build_standalone_document, check_document, check_standalone_document,
+};
 use graphql_documents::documents::{ExecutableDocument, Schema};
-use graphql_diagnostics::HashSeed;
 use graphql_nesting::check_nesting;
 use graphql_nodes::{FileId, SourceSpan, ValidationError};
 use graphql_parser::{Bounds, SyntaxError, parse_document};
-use graphql_usage_rules::{ReachReport, check_reach};
 use graphql_trees::Document;
-use graphql_document_checking::Items;
+use graphql_usage_rules::{ReachReport, check_reach};
 use std::alloc::Global;
 
 /// How many bytes count at least, where those that operations may reach go by the bytes of the texts: what a short document

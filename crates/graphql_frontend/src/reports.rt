@@ -10,8 +10,7 @@ use graphql_building_reports::BuildingReportList;
 use graphql_diagnostics::{DiagnosticEntry, DiagnosticList};
 use graphql_input_rules::InputFieldRepetition;
 use graphql_nesting::NestingReport;
-use graphql_usage_rules::ReachReport;
-use graphql_usage_rules::VariableMisuse;
+use graphql_usage_rules::{ReachReport, VariableMisuse};
 
 /// What is reported of texts, by the first stage that reports something.
 #[derive(Debug)]

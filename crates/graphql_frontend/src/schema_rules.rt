@@ -12,8 +12,8 @@ use graphql_documents::documents::Schema;
 use graphql_input_rules::{InputFieldRepetition, check_schema_input_fields};
 use graphql_nodes::ValidationError;
 use graphql_parser::Bounds;
-use graphql_usage_rules::ReportList;
 use graphql_schemas::schema::validate_schema;
+use graphql_usage_rules::ReportList;
 use std::alloc::Global;
 
 /// What the rules report of a schema, within bounds.

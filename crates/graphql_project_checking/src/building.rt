@@ -14,14 +14,14 @@ ghost use Rattle.graphql_document_checking.specs.References.{nows};
 
 use crate::parts::parts_of;
 use graphql_building_reports::BuildingReportList;
-use graphql_document_checking::build_document;
-use graphql_document_checking::{check_definitions, check_document};
+use graphql_diagnostics::HashSeed;
+use graphql_document_checking::{
+    Repeated, build_document, check_definitions, check_document, check_repetitions,
+};
 use graphql_documents::documents::{ExecutableDocument, Schema};
 use graphql_frontend::first_reports::report_bound;
 use graphql_frontend::{Bounds, Reports, ValidationError};
-use graphql_diagnostics::HashSeed;
 use graphql_nodes::Name;
-use graphql_document_checking::{Repeated, check_repetitions};
 use graphql_trees::{Definition, Document};
 use std::alloc::Global;
 

@@ -12,10 +12,11 @@ ghost use Rattle.graphql_projects.specs.Defer.{LabelsHold};
 use graphql_diagnostics::DiagnosticList;
 use graphql_documents::documents::ExecutableDocument;
 use graphql_frontend::first_reports::report_bound;
-use graphql_frontend::{Bounds, DocumentReports, Reports, ValidationError};
-use graphql_frontend::{InputFieldRepetition, check_input_fields};
+use graphql_frontend::{
+    Bounds, DocumentReports, InputFieldRepetition, ReportList, Reports, ValidationError,
+    check_input_fields,
+};
 use graphql_operations::validate_defer;
-use graphql_frontend::ReportList;
 use std::alloc::Global;
 
 /// Reports labels of `@defer` that repeat in a document or are variables, and input fields that object values give again.

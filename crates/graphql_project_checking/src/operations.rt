@@ -7,9 +7,9 @@ ghost use Rattle.graphql_project_checking.specs.Truth.{AreOfDocumentWith};
 ghost use Rattle.graphql_variables.specs.Uses.{names_of};
 
 use crate::contexts::Context;
+use graphql_diagnostics::HashSeed;
 use graphql_documents::documents::{ExecutableDocument, Operation};
 use graphql_frontend::{OperationMark, ProjectReports, Reports, ValidationError, validate_built};
-use graphql_diagnostics::HashSeed;
 use graphql_nodes::{Name, Node, SourceSpan};
 use graphql_pools::document_of;
 use indexmap::IndexSet;

@@ -6,11 +6,10 @@ ghost use Rattle.graphql_project_checking.specs.Silence.{HasFragmentsOf, is_frag
 ghost use Rattle.graphql_project_checking.specs.Truth.{KeepsThatBuild};
 
 use graphql_building_reports::BuildingReportList;
-use graphql_document_checking::check_definitions;
+use graphql_document_checking::{Items, check_definitions};
 use graphql_documents::documents::Schema;
 use graphql_nodes::ValidationError;
 use graphql_trees::{Definition, Document};
-use graphql_document_checking::Items;
 use std::alloc::Global;
 use std::slice;
 

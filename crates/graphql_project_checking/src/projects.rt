@@ -10,10 +10,10 @@ use crate::building::{Building, build_files, build_lent_files, check_fragment_na
 use crate::rest::check_rest;
 use crate::texts::read_texts;
 use crate::whole::check_whole;
+use graphql_diagnostics::HashSeed;
 use graphql_documents::documents::Schema;
 use graphql_frontend::texts::hash_seed_of;
 use graphql_frontend::{Bounds, ProjectReports, Reports, SourceText, ValidationError};
-use graphql_diagnostics::HashSeed;
 use std::alloc::Global;
 
 /// Reports what is wrong with files that are validated together against a schema that was read: each operation in the document of it and of

@@ -15,5 +15,5 @@ mod type_parts;
 pub mod types;
 
 pub use built_in::BUILT_IN_DEFINITIONS;
-pub use schema::build_schema;
 pub use graphql_schema_checking::check_schema;
+pub use schema::build_schema;

@@ -11,8 +11,8 @@ pub mod undefined_variables;
 mod values;
 pub mod variable_usages;
 
+pub use graphql_reach::{ReachReport, check_reach};
+pub use graphql_reporting::ReportList;
 pub use reports::VariableMisuse;
 pub use undefined_variables::check_undefined_variables;
 pub use variable_usages::check_variable_usages;
-pub use graphql_reach::{ReachReport, check_reach};
-pub use graphql_reporting::ReportList;

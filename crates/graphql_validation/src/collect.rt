@@ -10,11 +10,11 @@ ghost use Rattle.graphql_documents.specs.declared.documents.executables.Selectio
 ghost use Rattle.graphql_merging.specs.Groups.{by_keys, named_fields};
 ghost use Rattle.graphql_validation.specs.CollectionSteps.{CollectsMore, WalksAmong, WalksIn, visited_of};
 
+use graphql_diagnostics::HashSeed;
 use graphql_documents::documents::{
     ExecutableDocument, ExtendedType, FragmentSpread, Schema, Selection, SelectionSet,
 };
 use graphql_field_conflicts::field_selections::FieldSelection;
-use graphql_diagnostics::HashSeed;
 use graphql_merging::groups::fields_by_key;
 use graphql_nodes::{Name, NamedType, Node, ValidationError};
 use indexmap::{IndexMap, IndexSet};

@@ -1,6 +1,7 @@
 //! Schemas, executable documents and field sets, as plain data, with the names, locations and numbers they are made of, and
 //! the seed by which the maps of a document hash its names.
 
+pub use graphql_diagnostics::HashSeed;
 pub use graphql_documents::documents::{
     Argument, Component, ComponentName, ComponentOrigin, Directive, DirectiveDefinition, EnumType,
     EnumValueDefinition, ExecutableDocument, ExtendedType, ExtensionId, Field, FieldDefinition,
@@ -10,7 +11,6 @@ pub use graphql_documents::documents::{
     Type, UnionType, Valid, Value, VariableDefinition, argument_named, definition_named,
     variable_named,
 };
-pub use graphql_diagnostics::HashSeed;
 pub use graphql_nodes::{
     DirectiveLocation, FileId, Name, NamedType, Node, OperationType, SourceSpan,
 };

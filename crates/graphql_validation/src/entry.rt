@@ -17,11 +17,10 @@ ghost use Rattle.graphql_diagnostics.specs.Reports.{Appends, Checks, ChecksWithi
 ghost use Rattle.graphql_documents.specs.Selections.{fragments_of};
 ghost use Rattle.graphql_lone_fields.specs.LoneFields.{HasLoneFields};
 
-use graphql_diagnostics::DiagnosticList;
+use graphql_diagnostics::{DiagnosticList, HashSeed};
 use graphql_documents::documents::{
     ExecutableDocument, FieldSet, Operation, OperationMap, Schema, Valid,
 };
-use graphql_diagnostics::HashSeed;
 use graphql_lone_fields::lone_fields::have_lone_fields;
 use graphql_merging::bounded::BoundedMerging;
 use graphql_nodes::{Node, ValidationError};

@@ -6,7 +6,6 @@ ghost use Rattle.graphql_frontend.specs.Schemas.{AcceptsOnlyUsableSchemas, IsUsa
 use crate::faults::Fault;
 use crate::places::Place;
 use crate::reports::print_entry;
-use graphql_shown_reports::BuildingReportList;
 use graphql_diagnostics::{DiagnosticEntry, DiagnosticList};
 use graphql_documents::documents::Schema;
 use graphql_frontend::{Reports, SchemaReading, SourceText, read_schema, validate_document};
@@ -14,6 +13,7 @@ use graphql_input_rules::InputFieldRepetition;
 use graphql_nodes::FileId;
 use graphql_parser::Bounds;
 use graphql_schema_building::BUILT_IN_DEFINITIONS;
+use graphql_shown_reports::BuildingReportList;
 use graphql_shown_reports::rule_names::building_rule;
 use graphql_usage_rules::VariableMisuse;
 use std::alloc::Global;

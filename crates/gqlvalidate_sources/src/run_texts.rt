@@ -3,9 +3,9 @@
 ghost use Rattle.std.specs.Prelude.{IsTrue, []};
 ghost use Rattle.graphql_tokens.specs.Lexical.{AreTokens};
 
-use crate::check::Paths;
 use crate::client_texts::{answers_fields, say_arguments, texts_as_sent};
 use crate::programs::{ProgramTexts, texts_of_program};
+use crate::run_paths::Paths;
 use gqlvalidate_inputs::faults::Fault;
 use gqlvalidate_inputs::sources::{shown_path, text_or_said};
 use gqlvalidate_runs::named_texts::NamedText;
