@@ -3,4 +3,3 @@ pub mod Conflicts
 pub mod FieldEquality
 pub mod FieldSelections
 pub mod FirstFields
-pub mod FirstPlaces

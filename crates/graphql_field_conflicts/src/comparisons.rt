@@ -1,11 +1,9 @@
 //! When two fields agree: on their values, on the shapes of their types, and on their names and arguments.
 
 mod arguments;
-mod by_name;
 mod equal_values;
 mod field_conflicts;
 mod first_field;
-mod first_places;
 mod shapes;
 mod values;
 

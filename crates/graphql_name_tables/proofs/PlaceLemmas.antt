@@ -1,7 +1,8 @@
--- Tables of the places of the first elements of each name: what one more element changes.
-use Rattle.std.proofs.Common.{◌≡◌, ℕ, ◌<◌, ◌+◌, Bool, true, false, Bor, List, [], ◌∷◌, ◌++◌, Option, Some, None, cond, refl, length, get_or, take, sym, ap, subst, ◌∙◌, arith}
+-- Tables of the places of the first elements of each name: what one more element changes, and what is found.
+use Rattle.std.proofs.Common.{◌≡◌, ◌↔◌, ℕ, ◌<◌, ◌+◌, Bool, true, false, not, Bor, List, [], ◌∷◌, ◌++◌, Option, Some, None, cond, refl, length, get_or, take, sym, ap, subst, ◌∙◌, arith}
 use Rattle.std.specs.HashMap.{HashMap}
-use Rattle.std.specs.Option.{option_or}
+use Rattle.std.specs.Option.{option_copied, option_or}
+use Rattle.std.specs.Prelude.{IsNone, IsSome, IsTrue, is_some}
 use Rattle.std.proofs.lemmas.List.{length-take-le}
 use Rattle.graphql_nodes.specs.Names.{NameText, same_name}
 use Rattle.graphql_documents.proofs.ListLemmas.{more_is}
@@ -26,7 +27,7 @@ kept_or false x None some = refl
 
 module _ {T S : Type 0} (name_of : T → NameText) where
   -- one element more, behind the others
-  places_push : {old new : HashMap (Bor NameText) ℕ S} (xs : List T) (x : T) →
+  pub places_push : {old new : HashMap (Bor NameText) ℕ S} (xs : List T) (x : T) →
       AddsPlace old new (name_of x) (length xs) → HasPlaces name_of old xs → HasPlaces name_of new (xs ++ x ∷ [])
   places_push xs x adds has = record {
     look_up = λ name.
@@ -41,3 +42,21 @@ module _ {T S : Type 0} (name_of : T → NameText) where
       let count : length (take i xs) ≡ i = length-take-le i xs (omega arith) in
       subst (HasPlaces name_of new) (sym (more_is xs i x within item))
       (places_push (take i xs) x (subst (AddsPlace old new (name_of x)) (sym count) adds) has)
+
+-- whether nothing is found
+pub nothing_found : {X : Type 0} (got : Option (Bor X)) (found : Option X) (none : Bool) → option_copied got ≡ found → is_some got ≡ not none → IsTrue none ↔ IsNone found
+nothing_found None found true same is = (λ h. subst (λ o. IsNone o) same refl, λ h. refl)
+nothing_found None found false same is = absurd (let no : ⊥ = cc in no)
+nothing_found (Some x) found true same is = absurd (let no : ⊥ = cc in no)
+nothing_found (Some x) found false same is = (
+  λ h. absurd (let no : ⊥ = cc in no),
+  λ none. absurd (let there = subst (λ o. IsSome o) same refl in let no : ⊥ = cc in no),
+)
+
+pub is_nothing : {X : Type 0} (o : Option X) → IsNone o → o ≡ None
+is_nothing None none = refl
+is_nothing (Some x) none = absurd (let no : ⊥ = cc in no)
+
+pub is_something : {X : Type 0} (o : Option X) → ¬ IsNone o → IsSome o
+is_something None some = absurd (some refl)
+is_something (Some x) some = refl

@@ -1,7 +1,7 @@
 //! Lists whose elements are found by their names.
 
 ghost use Rattle.std.specs.Option.{option_copied};
-ghost use Rattle.std.specs.Prelude.{◌≡◌, IfOk, find};
+ghost use Rattle.std.specs.Prelude.{◌≡◌, ◌↔◌, ◌++◌, ◌∷◌, [], IfOk, IsNone, IsTrue, find, length};
 ghost use Rattle.graphql_nodes.specs.Names.{same_name};
 ghost use Rattle.graphql_name_tables.specs.Places.{HasPlaces};
 
@@ -12,7 +12,8 @@ use graphql_nodes::Name;
 use std::alloc::{AllocError, Global};
 use std::marker::Model;
 
-/// The elements of a list, each found by its name. Of those with one name the first is found.
+/// The elements of a list, each found by its name in about constant time. Of those with one name the first is found. The list
+/// can grow, so that no more of it is read than has to be.
 #[derive(Drop)]
 pub struct ByName<'a, T: Named> {
     elements: &'a [T],
@@ -57,6 +58,13 @@ impl<'a, T: Named> ByName<'a, T> {
         })
     }
 
+    /// How many elements there are.
+    pub fn len(&self) -> usize
+        ensures { result ≡ length self.now }
+    {
+        self.elements.len()
+    }
+
     /// The first element with this name.
     pub fn find(&self, name: &Name) -> Option<&'a T>
         ensures { option_copied result ≡ find (λ x. same_name (T.name_of x) name.now) self.now }
@@ -68,6 +76,35 @@ impl<'a, T: Named> ByName<'a, T> {
                 None => None,
             },
         }
+    }
+
+    /// Has these elements from now on: one more, the last. Answers whether none before it has its name. Growing
+    /// one by one takes about linear time in all. The only error is a failed allocation.
+    pub fn grow(
+        &mut self,
+        alloc: Global,
+        hash_seed: HashSeed,
+        elements: &'a [T],
+        last: &'a T,
+    ) -> Result<bool, AllocError>
+        requires { elements.now ≡ self.old ++ last.now ∷ [] }
+        ensures elements { IfOk result (λ _. self.new ≡ elements.now) }
+        ensures first { IfOk result (λ first. IsTrue first ↔ IsNone (find (λ x. same_name (T.name_of x) (T.name_of last.now)) self.old)) }
+    {
+        let place = self.elements.len();
+        let is_first = self.find(last.name()).is_none();
+        // taken out, since a table that could not grow is of no use
+        let places = match self.places.take() {
+            Some(mut places) => {
+                add_if_new(&mut places, last.name(), place)?;
+                Some(places)
+            }
+            None if place < FEW => None,
+            None => Some(first_places(alloc, hash_seed, elements)?),
+        };
+        self.elements = elements;
+        self.places = places;
+        Ok(is_first)
     }
 }
 

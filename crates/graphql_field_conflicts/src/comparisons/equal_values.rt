@@ -6,10 +6,10 @@ ghost use Rattle.std.specs.Prelude.{◌≡◌, ◌↔◌, IfOk, IsTrue};
 ghost use Rattle.graphql_documents.specs.Values.{SameValue, entry_named};
 ghost use Rattle.graphql_field_conflicts.specs.Comparisons.{HasEntry, HasKeysOf, SameEntries, SameItems};
 
-use super::by_name::ByName;
 use super::values::same_value;
 use graphql_documents::documents::Value;
 use graphql_hash_seeds::HashSeed;
+use graphql_name_tables::ByName;
 use graphql_nodes::{Name, Node};
 use std::alloc::{AllocError, Global};
 
@@ -65,9 +65,9 @@ fn have_same_entries(
 ) -> Result<bool, AllocError>
     ensures { IfOk result (λ same. IsTrue same ↔ SameEntries a.now b.now) }
 {
-    let others = ByName::new(alloc, hash_seed, b)?;
+    let others = ByName::new(alloc, hash_seed, b, usize::MAX)?;
     // grows up to the first entry on which the two differ
-    let mut seen = ByName::new(alloc, hash_seed, &a[..0])?;
+    let mut seen = ByName::new(alloc, hash_seed, &a[..0], usize::MAX)?;
     for (i, entry) in a.iter().enumerate() {
         if seen.grow(alloc, hash_seed, &a[..i + 1], entry)?
             && !stands_in(alloc, hash_seed, entry, &others)?

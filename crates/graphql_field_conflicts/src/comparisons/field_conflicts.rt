@@ -8,12 +8,12 @@ ghost use Rattle.graphql_specification.specs.Merging.{SameNameAndArguments};
 ghost use Rattle.graphql_field_conflicts.specs.Comparisons.{ArgumentConflicts, Conflicts, HasArgument};
 
 use super::arguments::FieldConflict;
-use super::by_name::ByName;
 use super::equal_values::is_same_value;
 use super::first_field::FirstField;
 use crate::field_selections::FieldSelection;
 use graphql_documents::documents::Argument;
 use graphql_hash_seeds::HashSeed;
+use graphql_name_tables::ByName;
 use graphql_nodes::Node;
 use std::alloc::{AllocError, Global};
 

@@ -7,11 +7,11 @@ ghost use Rattle.graphql_field_conflicts.specs.Comparisons.{ArgumentsConflict, C
 ghost use Rattle.graphql_field_conflicts.specs.FirstFields.{HasRead, AreFirst, arguments_of};
 
 use super::arguments::FieldConflict;
-use super::by_name::ByName;
 use super::field_conflicts::{conflict_of_argument, missing_argument};
 use crate::field_selections::FieldSelection;
 use graphql_documents::documents::Argument;
 use graphql_hash_seeds::HashSeed;
+use graphql_name_tables::ByName;
 use graphql_nodes::Node;
 use std::alloc::{AllocError, Global};
 
@@ -39,7 +39,12 @@ impl<'a> FirstField<'a> {
         ensures selection { IfOk result (λ first. first.selection ≡ selection.entry) }
         ensures read { IfOk result (λ first. HasRead first) }
     {
-        let seen = ByName::new(alloc, hash_seed, &selection.field.value.arguments[..0])?;
+        let seen = ByName::new(
+            alloc,
+            hash_seed,
+            &selection.field.value.arguments[..0],
+            usize::MAX,
+        )?;
         Ok(FirstField {
             alloc,
             hash_seed,
@@ -66,7 +71,7 @@ impl<'a> FirstField<'a> {
         if self.selection.field.value.name != second.name {
             return Ok(Some(FieldConflict::Names));
         }
-        let others = ByName::new(self.alloc, self.hash_seed, &second.arguments)?;
+        let others = ByName::new(self.alloc, self.hash_seed, &second.arguments, usize::MAX)?;
         match self.conflict_of_arguments(&others)? {
             Some(conflict) => Ok(Some(conflict)),
             None => match missing_argument(&second.arguments, &self.seen) {

@@ -9,7 +9,7 @@ use Rattle.graphql_documents.specs.Values.{SameValue}
 use Rattle.graphql_nodes.specs.declared.nodes.Node.{Node}
 use Rattle.graphql_documents.specs.declared.documents.values.Value.{Value, out-Value}
 use Rattle.graphql_field_conflicts.specs.Comparisons.{HasEntry, HasKeysOf, SameEntries, SameItems, StandIn}
-use Rattle.graphql_field_conflicts.proofs.ByNameLemmas.{is_nothing, is_something}
+use Rattle.graphql_name_tables.proofs.PlaceLemmas.{is_nothing, is_something}
 use Rattle.graphql_field_conflicts.proofs.FirstNamedLemmas.{first_named}
 use Rattle.graphql_field_conflicts.proofs.ValueComparisonLemmas.{entry_decides, key, known_entry, more_stand_in, must_have, none_stand_in, same_objects, same_opened, some_value}
 use Rattle.graphql_field_conflicts.proofs.comparisons.equal_values.+equal.Goals as goal

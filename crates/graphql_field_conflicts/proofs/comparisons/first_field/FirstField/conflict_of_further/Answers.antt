@@ -7,7 +7,7 @@ use Rattle.graphql_documents.specs.declared.documents.directives.Argument.{Argum
 use Rattle.graphql_documents.specs.declared.documents.executables.Field.{Field}
 use Rattle.graphql_nodes.specs.declared.nodes.Node.{Node}
 use Rattle.graphql_field_conflicts.proofs.ArgumentComparisonLemmas.{more_among, reachable_at}
-use Rattle.graphql_field_conflicts.proofs.ByNameLemmas.{is_nothing, is_something}
+use Rattle.graphql_name_tables.proofs.PlaceLemmas.{is_nothing, is_something}
 use Rattle.graphql_field_conflicts.specs.Comparisons.{ArgumentConflicts, ArgumentsConflict, HasArgument, StandAmong}
 use Rattle.graphql_field_conflicts.specs.FirstFields.{arguments_of}
 use Rattle.graphql_field_conflicts.specs.declared.field_selections.FieldSelection.{FieldSelection}

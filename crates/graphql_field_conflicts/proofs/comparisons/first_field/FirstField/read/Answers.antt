@@ -1,7 +1,7 @@
 use Rattle.std.proofs.Common.{◌≡◌, None, ◌∷◌, ◌++◌, [], sym, ap, ◌∙◌, map}
 use Rattle.std.proofs.lemmas.List.{map-append}
 use Rattle.graphql_documents.specs.Directives.{argument_named}
-use Rattle.graphql_field_conflicts.proofs.ByNameLemmas.{is_nothing, is_something}
+use Rattle.graphql_name_tables.proofs.PlaceLemmas.{is_nothing, is_something}
 use Rattle.graphql_field_conflicts.proofs.FirstFieldLemmas.{firsts_with_known, firsts_with_new}
 use Rattle.graphql_field_conflicts.specs.FirstFields.{firsts_behind}
 use Rattle.graphql_field_conflicts.proofs.comparisons.first_field.FirstField.read.Goals as goal

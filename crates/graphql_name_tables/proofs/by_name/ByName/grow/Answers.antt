@@ -1,9 +1,10 @@
 use Rattle.std.proofs.Common.{◌≡◌, ◌++◌, ◌∷◌, [], List, length, sym, ap, subst, ◌∙◌}
-use Rattle.graphql_field_conflicts.proofs.ByNameLemmas.{nothing_found, places_push}
-use Rattle.graphql_field_conflicts.proofs.FirstNamedLemmas.{first_named}
-use Rattle.graphql_field_conflicts.specs.FirstPlaces.{AddsPlace, HasPlaces}
-use Rattle.graphql_field_conflicts.proofs.comparisons.by_name.ByName.grow.Goals as goal
-use Rattle.graphql_field_conflicts.proofs.comparisons.by_name.ByName.grow.Goals.{in-Some+in_ok-add_if_new-in-Some, in-None, in-None-2+in_ok-first_places-in-None-2}
+use Rattle.graphql_name_tables.proofs.PlaceLemmas.{nothing_found, places_push}
+use Rattle.std.specs.Prelude.{find}
+use Rattle.graphql_nodes.specs.Names.{same_name}
+use Rattle.graphql_name_tables.specs.Places.{AddsPlace, HasPlaces}
+use Rattle.graphql_name_tables.proofs.by_name.ByName.grow.Goals as goal
+use Rattle.graphql_name_tables.proofs.by_name.ByName.grow.Goals.{in-Some+in_ok-add_if_new-in-Some, in-None, in-None-2+in_ok-first_places-in-None-2}
 
 pub invariant_of-self-2 : goal.invariant_of-self-2
 invariant_of-self-2 g c places is =
@@ -30,5 +31,5 @@ invariant_of-self-2 g c places is =
 pub returns-clause-first : goal.returns-clause-first
 returns-clause-first g c =
     let name_of = g.T.Named.name_of in
-    nothing_found c.find.result (first_named name_of (name_of c.args.last.now) c.args.self.now) c.is_none-is_first.result
-    (c.find.ensures ∙ ap (λ name. first_named name_of name c.args.self.now) c.name.ensures) c.is_none-is_first.ensures
+    nothing_found c.find.result (find (λ x. same_name (name_of x) (name_of c.args.last.now)) c.args.self.now) c.is_none-is_first.result
+    (c.find.ensures ∙ ap (λ name. find (λ x. same_name (name_of x) name) c.args.self.now) c.name.ensures) c.is_none-is_first.ensures
