@@ -1,7 +1,7 @@
 //! Schemas in a dialect: what is read of their texts, and the definitions that these lack.
 
 ghost use Rattle.std.specs.Prelude.{IfOk};
-ghost use Rattle.graphql_frontend.specs.Schemas.{AcceptsOnlyUsableSchemas};
+ghost use Rattle.graphql_field_sets.specs.Schemas.{AcceptsOnlyUsableSchemas};
 
 use crate::bounds::OF_SCHEMA;
 use gqlvalidate_formats::SourceText;

@@ -29,7 +29,7 @@ use Rattle.graphql_diagnostics.proofs.ReportWithinLemmas.{in_words_within, kept_
 use Rattle.graphql_documents.proofs.ListLemmas.{All-append_left, All-append_right, each_standing, stands_first, stands_mapped}
 use Rattle.graphql_merging.specs.MergedOperations.{AreLimits, HasMerged, MergesOneMore, Merging, beyond_bound, within_bound}
 use Rattle.graphql_merging.proofs.MergedOperationLemmas.{conflicts_decide}
-use Rattle.graphql_pair_merging.proofs.ReportedLemmas.{report_breaks}
+use Rattle.graphql_validation.proofs.ReportedLemmas.{report_breaks}
 use Rattle.graphql_variables.proofs.UseLemmas.{any_has}
 use Rattle.graphql_validation.proofs.MergingStepLemmas.{silent_holds}
 use Rattle.graphql_document_rules.specs.DocumentRules.{DocumentRulesHold}

@@ -23,7 +23,7 @@ use Rattle.graphql_documents.specs.declared.documents.schemas.Schema.{Schema}
 use Rattle.graphql_nodes.specs.declared.nodes.Node.{Node}
 use Rattle.graphql_nodes.specs.declared.operation_types.OperationType.TheVariants as operation
 use Rattle.graphql_nodes.specs.declared.spans.SourceSpan.{SourceSpan}
-use Rattle.graphql_rules.proofs.OperationLemmas.{OperationsEntryReport}
+use Rattle.graphql_validation.proofs.OperationLemmas.{OperationsEntryReport}
 use Rattle.graphql_validation.proofs.DocumentLemmas as validation
 use Rattle.graphql_validation.proofs.DocumentLemmas.{DocumentEntryReport}
 use Rattle.graphql_validation.proofs.LimitLemmas.{limit_is_one, limit_says, report_is_no_limit, says_limit}

@@ -9,7 +9,7 @@ ghost use Rattle.graphql_document_rules.specs.DocumentRules.{DocumentRuleReport,
 ghost use Rattle.graphql_document_rules.specs.SingleRootField.{OperationRootHolds};
 ghost use Rattle.graphql_documents.specs.Built.{IsBuilt};
 ghost use Rattle.graphql_documents.specs.Executables.{operations_of};
-ghost use Rattle.graphql_pair_merging.specs.Works.{IsPassed, most_of};
+ghost use Rattle.graphql_validation.specs.Works.{IsPassed, most_of};
 ghost use Rattle.graphql_specification.specs.Defer.{DeferHolds};
 ghost use Rattle.graphql_specification.specs.Documents.{DocumentLimit};
 ghost use Rattle.graphql_specification.specs.FragmentsUsed.{IsFragmentUsed};
@@ -20,8 +20,8 @@ use graphql_diagnostics::DiagnosticList;
 use graphql_documents::documents::{ExecutableDocument, Schema};
 use graphql_nodes::ValidationError;
 use graphql_operations::{validate_defer, validate_fragments_used};
-pub use graphql_pair_merging::work::PairWork;
-use graphql_rules::operations::validate_operation_definitions;
+pub use graphql_validation::pair_merging::work::PairWork;
+use graphql_validation::rules::operations::validate_operation_definitions;
 
 /// Validates a document against a schema by the rules of `validate_executable_document_within` of `graphql_validation`, with one
 /// rule exchanged: the fields at the root of a subscription have one response key at most. Several fields of one key count once,

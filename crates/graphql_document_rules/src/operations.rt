@@ -8,19 +8,19 @@ ghost use Rattle.graphql_document_rules.specs.SingleRootField.{OperationRootHold
 ghost use Rattle.graphql_documents.specs.Built.{IsBuilt};
 ghost use Rattle.graphql_documents.specs.Executables.{operations_of};
 ghost use Rattle.graphql_documents.specs.Selections.{fragments_of};
-ghost use Rattle.graphql_pair_merging.specs.Works.{IsPassed, most_of};
+ghost use Rattle.graphql_validation.specs.Works.{IsPassed, most_of};
 ghost use Rattle.graphql_specification.specs.Documents.{DocumentLimit};
 ghost use Rattle.graphql_specification.specs.Merging.{FieldsCanMerge};
 
 use crate::subscriptions::validate_subscription_root;
 use graphql_diagnostics::DiagnosticList;
 use graphql_documents::documents::{ExecutableDocument, Operation, Schema};
-use graphql_lone_fields::lone_fields::have_lone_fields;
 use graphql_merging::bounded::BoundedMerging;
 use graphql_nodes::{Node, ValidationError};
 use graphql_operations::operations_of;
-use graphql_pair_merging::merging::merge_by_pairs_within;
-use graphql_pair_merging::work::PairWork;
+use graphql_validation::lone_fields::lone_fields::have_lone_fields;
+use graphql_validation::pair_merging::merging::merge_by_pairs_within;
+use graphql_validation::pair_merging::work::PairWork;
 
 /// Validates the operations of a document by the rules that need a schema, one after another: those of subscriptions, and that
 /// all fields that come together in a response agree: if some do, by sets as far as the work allows, and then by pairs. Answers

@@ -1,1 +1,2 @@
 pub mod Texts
+pub use Rattle.graphql_frontend.specs.Schemas

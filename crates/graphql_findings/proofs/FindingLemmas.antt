@@ -7,8 +7,8 @@ use Rattle.std.proofs.lemmas.List.Elements.{All-cons, All-contains, All-map, All
 use Rattle.std.proofs.lemmas.Slice.Zip.{AllZip-long}
 use Rattle.graphql_documents.proofs.ListLemmas.{stands_behind, stands_first}
 use Rattle.graphql_documents.specs.declared.documents.schemas.Schema.{Schema}
-use Rattle.graphql_frontend.specs.declared.reports.Reports.{Reports}
-use Rattle.graphql_frontend.specs.declared.texts.SourceText.{SourceText}
+use Rattle.graphql_shown_reports.specs.Reports.{Reports}
+use Rattle.graphql_shown_reports.specs.SourceText.{SourceText}
 use Rattle.graphql_parser.specs.declared.bounds.Bounds.{Bounds}
 use Rattle.graphql_shown_reports.specs.Shown.{Report, Shows, listed}
 use Rattle.graphql_shown_reports.specs.declared.shown.ShownReport.{ShownReport}

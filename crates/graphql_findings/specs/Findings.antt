@@ -12,8 +12,8 @@ use Rattle.graphql_findings.specs.declared.findings.Finding.{Finding}
 use Rattle.graphql_findings.specs.declared.findings.Findings.{Findings}
 use Rattle.graphql_findings.specs.declared.order.Found.{Found}
 use Rattle.graphql_findings.specs.declared.singles.Single.{Single}
-use Rattle.graphql_frontend.specs.declared.reports.Reports.{Reports}
-use Rattle.graphql_frontend.specs.declared.texts.SourceText.{SourceText}
+use Rattle.graphql_shown_reports.specs.Reports.{Reports}
+use Rattle.graphql_shown_reports.specs.SourceText.{SourceText}
 use Rattle.graphql_parser.specs.declared.bounds.Bounds.{Bounds}
 use Rattle.graphql_shown_reports.specs.Shown.{Report, Shows, listed}
 use Rattle.graphql_shown_reports.specs.declared.shown.ShownReport.{ShownReport}

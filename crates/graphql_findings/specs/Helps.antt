@@ -5,8 +5,8 @@ use Rattle.graphql_diagnostics.specs.declared.lists.DiagnosticEntry.{DiagnosticE
 use Rattle.graphql_documents.specs.declared.documents.schemas.Schema.{Schema}
 use Rattle.graphql_findings.specs.declared.helps.FindingHelp.{FindingHelp}
 use Rattle.graphql_findings.specs.declared.helps.FindingHelp.TheVariants as by
-use Rattle.graphql_frontend.specs.declared.texts.SourceText.{SourceText}
-use Rattle.graphql_frontend.specs.declared.texts.SyntaxReport.{SyntaxReport}
+use Rattle.graphql_shown_reports.specs.SourceText.{SourceText}
+use Rattle.graphql_shown_reports.specs.SyntaxReport.{SyntaxReport}
 use Rattle.graphql_helps.specs.HelpWords.{help_words}
 use Rattle.graphql_helps.specs.Helps.{HelpsWithBuilding, HelpsWithDetails}
 use Rattle.graphql_shown_reports.specs.Shown.{Report, building, syntax, text_of, validation}

@@ -2,8 +2,8 @@
 use Rattle.std.specs.Prelude.{List, [], ◌∷◌, ◌++◌, Option, codes}
 use Rattle.graphql_documents.specs.TypeReferences.{type_text}
 use Rattle.graphql_input_rules.specs.declared.reports.InputFieldRepetition.{InputFieldRepetition}
-use Rattle.graphql_frontend.specs.declared.texts.SourceText.{SourceText}
-use Rattle.graphql_frontend.specs.declared.texts.SyntaxReport.{SyntaxReport}
+use Rattle.graphql_shown_reports.specs.SourceText.{SourceText}
+use Rattle.graphql_shown_reports.specs.SyntaxReport.{SyntaxReport}
 use Rattle.graphql_nodes.specs.declared.spans.SourceSpan.{SourceSpan}
 use Rattle.graphql_notes.specs.Labels.{AreNotes, Label, label}
 use Rattle.graphql_notes.specs.Notes.{building_labels, details_labels, first_here, of_type}

@@ -12,12 +12,12 @@ use crate::operations::Concerns;
 use crate::order::{Found, keep_distinct};
 use crate::singles::{Single, singles_of};
 use graphql_documents::documents::Schema;
-use graphql_frontend::project_reports::{OperationMark, ProjectReports};
-use graphql_frontend::reports::Reports;
-use graphql_frontend::texts::SourceText;
 use graphql_nodes::ValidationError;
 use graphql_notes::Note;
 use graphql_parser::Bounds;
+use graphql_shown_reports::frontend::project_reports::{OperationMark, ProjectReports};
+use graphql_shown_reports::frontend::reports::Reports;
+use graphql_shown_reports::frontend::texts::SourceText;
 use graphql_shown_reports::{ShownReport, shown_reports};
 use std::alloc::{AllocError, Global};
 

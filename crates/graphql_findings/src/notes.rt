@@ -6,11 +6,11 @@ ghost use Rattle.graphql_findings.specs.Singles.{report_of};
 ghost use Rattle.graphql_notes.specs.Labels.{AreNotes};
 
 use crate::singles::Single;
-use graphql_frontend::texts::{SourceText, SyntaxReport};
 use graphql_input_rules::InputFieldRepetition;
 use graphql_nodes::SourceSpan;
 use graphql_notes::{Note, note_beside, notes_of_building, notes_of_details};
 use graphql_parser::Bounds;
+use graphql_shown_reports::frontend::texts::{SourceText, SyntaxReport};
 use graphql_shown_reports::text_of;
 use graphql_syntax_helps::unclosed_place;
 use graphql_usage_rules::VariableMisuse;

@@ -2,11 +2,11 @@
 
 use crate::order::compare;
 use crate::singles::{Single, singles_of};
-use graphql_frontend::project_reports::{OperationMark, ProjectReports};
-use graphql_frontend::reports::Reports;
-use graphql_frontend::texts::SourceText;
 use graphql_nodes::{SourceSpan, ValidationError};
 use graphql_parser::Bounds;
+use graphql_shown_reports::frontend::project_reports::{OperationMark, ProjectReports};
+use graphql_shown_reports::frontend::reports::Reports;
+use graphql_shown_reports::frontend::texts::SourceText;
 use graphql_shown_reports::{ShownReport, shown_reports};
 use std::alloc::{AllocError, Global};
 use std::cmp::Ordering;

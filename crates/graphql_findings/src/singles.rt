@@ -2,18 +2,18 @@
 
 ghost use Rattle.std.specs.Prelude.{◌≡◌, ◌∷◌, [], ◌++◌, IfOk, OnOk, map};
 ghost use Rattle.graphql_findings.specs.Singles.{report_of};
-ghost use Rattle.graphql_frontend.specs.declared.reports.Reports.TheVariants as all_reports;
+ghost use Rattle.graphql_shown_reports.specs.Reports.TheVariants as all_reports;
 ghost use Rattle.graphql_shown_reports.specs.Shown.{building, input_field, listed, more, once_if, syntax, usage, validation};
 
 use graphql_building_reports::{BuildingReport, BuildingReportList};
 use graphql_diagnostics::{BuildError, Details, DiagnosticData, DiagnosticEntry, DiagnosticList};
 use graphql_documents::documents::Value;
-use graphql_frontend::reports::{DocumentReports, Reports, SchemaReports};
-use graphql_frontend::texts::SyntaxReport;
-use graphql_frontend::work::WorkReport;
 use graphql_input_rules::InputFieldRepetition;
 use graphql_nesting::NestingReport;
 use graphql_reach::ReachReport;
+use graphql_shown_reports::frontend::reports::{DocumentReports, Reports, SchemaReports};
+use graphql_shown_reports::frontend::texts::SyntaxReport;
+use graphql_shown_reports::frontend::work::WorkReport;
 use graphql_usage_rules::VariableMisuse;
 use std::alloc::{AllocError, Global};
 

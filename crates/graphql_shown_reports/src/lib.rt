@@ -7,6 +7,7 @@ pub mod shown;
 pub mod shown_texts;
 
 pub use graphql_building_reports::BuildingReportList;
+pub use graphql_frontend as frontend;
 pub use graphql_frontend::texts::SourceText;
 pub use shown::{ShownReport, shown_reports, text_of};
 pub use shown_texts::{shown_copy, shown_text};

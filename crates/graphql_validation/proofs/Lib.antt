@@ -6,3 +6,5 @@ pub mod FieldSetLemmas
 pub mod LimitLemmas
 pub mod MergingStepLemmas
 pub use Rattle.graphql_rules.proofs.WalkLemmas
+pub use Rattle.graphql_pair_merging.proofs.ReportedLemmas
+pub use Rattle.graphql_rules.proofs.OperationLemmas

@@ -18,3 +18,6 @@ pub mod value;
 pub mod variable;
 
 pub use graphql_built::built_against;
+pub use graphql_lone_fields as lone_fields;
+pub use graphql_pair_merging as pair_merging;
+pub use graphql_rules as rules;
