@@ -2,13 +2,14 @@
 
 use crate::configurations::{Refused, projects_of};
 use crate::faults::{SettingsFault, Why, wrong};
-use crate::json_values::{JsonFault, json_place, json_setting, json_setting_at};
+use crate::json_values::{JsonFault, json_setting, json_setting_at};
 use crate::keys::Key;
 use crate::projects::ProjectSettings;
 use crate::refusals::{Problem, Refusal};
 use crate::rules::levels_of;
 use crate::setting::Setting;
-use crate::toml_values::{TomlFault, toml_place, toml_setting};
+use crate::toml_values::{TomlFault, toml_setting};
+use gqlvalidate_key_places::{json_place, toml_place};
 use gqlvalidate_levels::Levels;
 use graphql_places::Place;
 use std::alloc::{AllocError, Global};
