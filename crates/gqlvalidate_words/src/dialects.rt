@@ -1,6 +1,7 @@
-//! What schemas and documents of a run mean beyond the specification.
+//! The dialects that a command line names.
 
 use clap::{Arg, ArgAction, ArgMatches, Command, Error};
+use gqlvalidate_dialects::{CLIENTS, ClientName, Dialect, VERSIONS, is_federation_version};
 use std::alloc::Global;
 
 /// The names of the arguments.
@@ -8,68 +9,17 @@ pub const FEDERATION: &str = "federation";
 
 pub const CLIENT: &str = "client";
 
-/// The only version of Federation.
-const SECOND: &str = "2";
-
-static VERSIONS: [&str; 1] = [SECOND];
-
-/// The names of the clients.
-pub const APOLLO: &str = "apollo";
-
-pub const RELAY: &str = "relay";
-
-pub const URQL: &str = "urql";
-
-static CLIENTS: [&str; 3] = [APOLLO, RELAY, URQL];
-
-/// A client whose documents have directives of its own.
-#[derive(Clone, Copy, Debug)]
-pub enum ClientName {
-    Apollo,
-    Relay,
-    Urql,
-}
-
-impl ClientName {
-    /// The client of this name, if there is one.
-    pub fn of(name: &str) -> Option<ClientName> {
-        match name {
-            _ if name == APOLLO => Some(ClientName::Apollo),
-            _ if name == RELAY => Some(ClientName::Relay),
-            _ if name == URQL => Some(ClientName::Urql),
-            _ => None,
-        }
-    }
-}
-
-/// What the schema and the documents of a run mean beyond the specification.
-#[derive(Clone, Copy, Debug)]
-pub struct Dialect {
-    /// The schema is a subgraph of Apollo Federation 2.
-    pub federation: bool,
-    /// The client that takes its own directives and fields out of the documents.
-    pub client: Option<ClientName>,
-}
-
-impl Dialect {
-    /// What the specification says, and no more.
-    pub const NONE: Dialect = Dialect {
-        federation: false,
-        client: None,
-    };
-}
-
 /// The dialect that the arguments name, of a command with both options.
 pub(crate) fn dialect_of(given: &ArgMatches<'_>) -> Dialect {
     Dialect {
         federation: is_federation(given),
-        client: given.get_str(CLIENT).and_then(ClientName::of),
+        client: given.get_str(CLIENT).and_then(ClientName::named),
     }
 }
 
 /// Whether the schema is a subgraph of Federation.
 pub(crate) fn is_federation(given: &ArgMatches<'_>) -> bool {
-    given.get_str(FEDERATION).is_some()
+    given.get_str(FEDERATION).is_some_and(is_federation_version)
 }
 
 /// Adds the options that name a dialect of the schema and of documents.

@@ -7,7 +7,8 @@ mod levels;
 pub mod reading;
 pub mod requests;
 
-pub use dialects::{ClientName, Dialect};
+// Crates that validate take these from here: `rt` follows each path from a crate down to another.
+pub use gqlvalidate_dialects::{ClientName, Dialect};
 pub use reading::parse;
 pub use requests::{
     ChangeFormat, Color, Configuration, ConfigurationChoice, FailOn, Format, Grouping, Limits,

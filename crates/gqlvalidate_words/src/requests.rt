@@ -2,7 +2,7 @@
 
 ghost use Rattle.std.specs.Prelude.{◌≡◌, ℕ, None, Some};
 
-use crate::dialects::Dialect;
+use gqlvalidate_dialects::Dialect;
 use gqlvalidate_levels::Levels;
 
 /// The path that stands for standard input.
