@@ -9,9 +9,9 @@ use gqlvalidate_inputs::statuses::Status;
 use gqlvalidate_inputs::word_paths::views;
 use gqlvalidate_levels::Levels;
 use gqlvalidate_settings::{
-    ProjectSettings, Settings, SettingsFault, find_settings, read_settings,
+    ProjectPolicy, ProjectSettings, Settings, SettingsFault, find_settings, read_settings,
 };
-use gqlvalidate_words::{Configuration, ConfigurationChoice, Format, Grouping};
+use gqlvalidate_words::{Configuration, ConfigurationChoice, Dialect, Format, Grouping};
 use std::alloc::Global;
 use std::io::{Read, Write};
 use std::rt::Files;
@@ -107,13 +107,13 @@ fn check_projects<R: Files + AllocGlobal + Clone + Drop, I: Read, O: Write, F: W
         return Ok(Status::BadArguments);
     }
     let mut status = Status::Accepted;
-    for (project, levels) in settings.projects.iter().zip(settings.levels.iter()) {
+    for (project, policy) in settings.projects.iter().zip(settings.policies.iter()) {
         if is_chosen(project, chosen) {
             say_name(project, faults);
             let checked = check_project(
                 rt,
                 project,
-                levels,
+                policy,
                 words,
                 presentation,
                 input,
@@ -174,22 +174,23 @@ fn say_name<F: Write>(project: &ProjectSettings, faults: &mut F) {
     }
 }
 
-/// Validates a project of a configuration, which gives these levels to rules. Those of the words come before them.
+/// Validates a project of a configuration by this policy. The words override the configuration.
 fn check_project<R: Files + AllocGlobal + Clone + Drop, I: Read, O: Write, F: Write>(
     rt: &R,
     project: &ProjectSettings,
-    levels: &Levels,
+    policy: &ProjectPolicy,
     words: Words<'_>,
     presentation: Presentation,
     input: &mut I,
     output: &mut O,
     faults: &mut F,
 ) -> Result<Status, Fault> {
-    let levels = levels.under(rt.alloc(), words.policy.levels)?;
+    let levels = policy.levels.under(rt.alloc(), words.policy.levels)?;
     let schema = views(rt.alloc(), &project.schema)?;
     let documents = views(rt.alloc(), &project.documents)?;
     let fragments = views(rt.alloc(), &project.fragments)?;
-    let words = completed(words, &schema, &documents, &fragments, &levels);
+    let dialect = policy.dialect.under(words.dialect);
+    let words = completed(words, &schema, &documents, &fragments, &levels, dialect);
     if words.is_complete() {
         check_words(rt, words, presentation, input, output, faults)
     } else {
@@ -197,13 +198,15 @@ fn check_project<R: Files + AllocGlobal + Clone + Drop, I: Read, O: Write, F: Wr
     }
 }
 
-/// The words, with these for what they do not name, and with these levels. Only documents that are validated together have fragments of others.
+/// The words, with these for what they do not name, and with these levels and this dialect. Only documents that are validated together have
+/// fragments of others.
 fn completed<'a>(
     words: Words<'a>,
     schema: &'a [&'a str],
     documents: &'a [&'a str],
     fragments: &'a [&'a str],
     levels: &'a Levels,
+    dialect: Dialect,
 ) -> Words<'a> {
     let takes_fragments = words.fragments.is_empty() && words.grouping == Grouping::Project;
     Words {
@@ -214,6 +217,7 @@ fn completed<'a>(
             levels,
             max_warnings: words.policy.max_warnings,
         },
+        dialect,
         ..words
     }
 }

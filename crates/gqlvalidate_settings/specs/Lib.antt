@@ -1,4 +1,5 @@
 pub mod Configurations
+pub mod Dialects
 pub mod Keys
 pub mod Paths
 pub mod Projects

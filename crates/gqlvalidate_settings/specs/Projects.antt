@@ -40,7 +40,8 @@ pub record IsOwnTable (members : List Member) (own : Option (List Member)) : Typ
 
 -- this program has a setting of this name
 abbrev pub is_known : Text → Bool
-is_known name = bytes_eq name (name_of key.Fragments) || bytes_eq name (name_of key.Rules)
+is_known name =
+    bytes_eq name (name_of key.Fragments) || bytes_eq name (name_of key.Rules) || bytes_eq name (name_of key.Client) || bytes_eq name (name_of key.Federation)
 
 -- the first member of what a configuration says of this program that this program does not know
 abbrev pub unknown_member : List Member → Option Member

@@ -18,6 +18,7 @@ as_text setting = elim (out-Setting setting) [
   | Open.Text text ↦ Some (string_bytes text)
   | Open.List items ↦ None
   | Open.Table members ↦ None
+  | Open.Number number ↦ None
   | Open.Other ↦ None
 ]
 
@@ -27,6 +28,7 @@ as_list setting = elim (out-Setting setting) [
   | Open.Text text ↦ None
   | Open.List items ↦ Some items.items
   | Open.Table members ↦ None
+  | Open.Number number ↦ None
   | Open.Other ↦ None
 ]
 
@@ -36,6 +38,7 @@ as_table setting = elim (out-Setting setting) [
   | Open.Text text ↦ None
   | Open.List items ↦ None
   | Open.Table members ↦ Some members.items
+  | Open.Number number ↦ None
   | Open.Other ↦ None
 ]
 

@@ -78,7 +78,8 @@ fn setting_of(alloc: Global, value: &Value<'_>) -> Result<Setting, AllocError> {
         Value::String(text) => Ok(Setting::Text(String::from_str(alloc, text)?)),
         Value::Array(items) => list_of(alloc, items),
         Value::Object(members) => table_of(alloc, members),
-        Value::Null | Value::Bool(_) | Value::Number(_) => Ok(Setting::Other),
+        Value::Number(number) => Ok(Setting::Number(String::from_str(alloc, number)?)),
+        Value::Null | Value::Bool(_) => Ok(Setting::Other),
     }
 }
 

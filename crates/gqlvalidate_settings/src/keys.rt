@@ -18,12 +18,16 @@ pub enum Key {
     Fragments,
     /// The levels of rules, in what a configuration says of this program.
     Rules,
+    /// The client whose directives documents may use, in what a configuration says of this program.
+    Client,
+    /// The version of Apollo Federation, in what a configuration says of this program.
+    Federation,
 }
 
 /// The key that leads to `Key::Program`.
 const IN_EXTENSIONS: [&str; 1] = ["extensions"];
 
-/// The keys that lead to `Key::Fragments` and `Key::Rules`.
+/// The keys that lead to the settings of this program.
 const IN_PROGRAM: [&str; 2] = ["extensions", "gqlvalidate"];
 
 impl Key {
@@ -41,6 +45,8 @@ impl Key {
             Key::Program => "gqlvalidate",
             Key::Fragments => "fragments",
             Key::Rules => "rules",
+            Key::Client => "client",
+            Key::Federation => "federation",
         }
     }
 
@@ -54,7 +60,7 @@ impl Key {
             | Key::Projects
             | Key::Extensions => &[],
             Key::Program => &IN_EXTENSIONS,
-            Key::Fragments | Key::Rules => &IN_PROGRAM,
+            Key::Fragments | Key::Rules | Key::Client | Key::Federation => &IN_PROGRAM,
         }
     }
 }

@@ -2,12 +2,14 @@
 #![tactic(auto)]
 
 mod configurations;
+mod dialects;
 mod faults;
 mod files;
 mod json_values;
 mod keys;
 mod lists;
 mod paths;
+mod policies;
 mod projects;
 mod refusals;
 mod rules;
@@ -19,8 +21,8 @@ pub use configurations::{Refused, projects_of};
 pub use faults::{SettingsFault, Why};
 pub use files::{MAX_FOLDERS, find_settings, find_settings_from, read_settings, settings_in};
 pub use keys::Key;
+pub use policies::{ProjectPolicy, policies_of};
 pub use projects::ProjectSettings;
 pub use refusals::{Problem, Refusal};
-pub use rules::levels_of;
 pub use setting::Setting;
 pub use texts::{Settings, settings_of_text};

@@ -3,7 +3,7 @@
 ghost use Rattle.std.specs.Option.{option_copied};
 ghost use Rattle.std.specs.Prelude.{◌≡◌, IfErr, IfOk, MatchResult, map, string_bytes};
 ghost use Rattle.std.specs.List.{list_any};
-ghost use Rattle.gqlvalidate_settings.specs.Projects.{AreDocumentWords, AreFragments, AreSchemaWords, IsOwnTable, IsProject, KnownFragments, documents_key, is_url, unknown_member};
+ghost use Rattle.gqlvalidate_settings.specs.Projects.{AreDocumentWords, AreFragments, AreSchemaWords, IsOwnTable, IsProject, KnownFragments, documents_key, is_known, is_url, unknown_member};
 ghost use Rattle.gqlvalidate_settings.specs.Refusals.{RulesOut};
 ghost use Rattle.gqlvalidate_settings.specs.Settings.{TableAt};
 
@@ -173,7 +173,15 @@ fn known_fragments(alloc: Global, own: &[(String, Setting)]) -> Result<Vec<Strin
 fn unknown_member(own: &[(String, Setting)]) -> Option<&(String, Setting)>
     ensures { option_copied result ≡ unknown_member own.now }
 {
-    let fragments = Key::Fragments.name();
-    let rules = Key::Rules.name();
-    own.iter().find(|member| !(member.0.as_str() == fragments || member.0.as_str() == rules))
+    own.iter().find(|member| !is_known(member.0.as_str()))
+}
+
+/// Whether this program has a setting of this name.
+fn is_known(name: &str) -> bool
+    ensures { result ≡ is_known name.now }
+{
+    name == Key::Fragments.name()
+        || name == Key::Rules.name()
+        || name == Key::Client.name()
+        || name == Key::Federation.name()
 }

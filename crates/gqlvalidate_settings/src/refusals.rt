@@ -19,8 +19,12 @@ pub enum Problem {
     NotATable,
     #[error("must be a key of each project, if there are `projects`")]
     BesideProjects,
-    #[error("is not a setting of this program, which has only `fragments` and `rules`")]
+    #[error("is not a setting of this program, which has only `fragments`, `rules`, `client` and `federation`")]
     Unknown,
+    #[error("is no client: use `apollo`, `relay` or `urql`")]
+    NoClient,
+    #[error("is no version of Federation: use `2`")]
+    NoVersion,
     #[error("{0}")]
     Level(LevelProblem),
 }

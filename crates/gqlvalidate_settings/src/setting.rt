@@ -13,7 +13,9 @@ pub enum Setting {
     List(Vec<Setting>),
     /// Keys with their values: an object of JSON, or a table of TOML.
     Table(Vec<(String, Setting)>),
-    /// A number, a truth value, a time or `null`: no setting is one.
+    /// A number as JSON writes it, or an integer of TOML in decimal digits.
+    Number(String),
+    /// A truth value, a time, `null`, or a number of TOML that is no integer: no setting is one.
     Other,
 }
 

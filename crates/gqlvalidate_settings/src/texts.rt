@@ -4,13 +4,12 @@ use crate::configurations::{Refused, projects_of};
 use crate::faults::{SettingsFault, Why, wrong};
 use crate::json_values::{JsonFault, json_setting, json_setting_at};
 use crate::keys::Key;
+use crate::policies::{ProjectPolicy, policies_of};
 use crate::projects::ProjectSettings;
 use crate::refusals::{Problem, Refusal};
-use crate::rules::levels_of;
 use crate::setting::Setting;
 use crate::toml_values::{TomlFault, toml_setting};
 use gqlvalidate_key_places::{json_place, toml_place};
-use gqlvalidate_levels::Levels;
 use graphql_places::Place;
 use std::alloc::{AllocError, Global};
 
@@ -20,8 +19,8 @@ pub struct Settings {
     /// The path of the file of the configuration.
     pub file: String,
     pub projects: Vec<ProjectSettings>,
-    /// The levels of rules in each project, in the order of the projects.
-    pub levels: Vec<Levels>,
+    /// How each project is validated, in the order of the projects.
+    pub policies: Vec<ProjectPolicy>,
 }
 
 /// The key of a package that has the configuration.
@@ -94,12 +93,12 @@ fn settings_of_members(
     members: &[(String, Setting)],
 ) -> Result<Settings, Refused> {
     let projects = projects_of(alloc, folder, members)?;
-    let levels = levels_of(alloc, members)?;
+    let policies = policies_of(alloc, members)?;
     match String::from_str(alloc, file) {
         Ok(file) => Ok(Settings {
             file,
             projects,
-            levels,
+            policies,
         }),
         Err(AllocError) => Err(Refused::from(Refusal::OutOfMemory)),
     }

@@ -39,9 +39,8 @@ fn setting_of(alloc: Global, value: &Value) -> Result<Setting, AllocError> {
         Value::String(text) => Ok(Setting::Text(String::from_str(alloc, text.as_str())?)),
         Value::Array(items) => list_of(alloc, items),
         Value::Table(table) => table_of(alloc, table),
-        Value::Integer(_) | Value::Float(_) | Value::Boolean(_) | Value::Datetime(_) => {
-            Ok(Setting::Other)
-        }
+        Value::Integer(number) => Ok(Setting::Number(format!(in alloc; "{number}")?)),
+        Value::Float(_) | Value::Boolean(_) | Value::Datetime(_) => Ok(Setting::Other),
     }
 }
 

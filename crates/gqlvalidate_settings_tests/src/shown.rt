@@ -1,6 +1,6 @@
 //! Settings and faults as text.
 
-use gqlvalidate_settings::{ProjectSettings, Settings, SettingsFault};
+use gqlvalidate_settings::{ProjectPolicy, ProjectSettings, Settings, SettingsFault};
 use std::alloc::{AllocError, Global};
 
 /// A line for each project, or the fault, or `none`.
@@ -17,8 +17,9 @@ pub fn shown(
 
 fn shown_settings(alloc: Global, settings: &Settings) -> Result<String, AllocError> {
     let mut text = String::from_str(alloc, settings.file.as_str())?;
-    for project in &settings.projects {
+    for (project, policy) in settings.projects.iter().zip(settings.policies.iter()) {
         push_project(&mut text, project)?;
+        push_dialect(alloc, &mut text, policy)?;
     }
     Ok(text)
 }
@@ -31,6 +32,22 @@ fn push_project(text: &mut String, project: &ProjectSettings) -> Result<(), Allo
     push_words(text, "schema", &project.schema)?;
     push_words(text, "documents", &project.documents)?;
     push_words(text, "fragments", &project.fragments)
+}
+
+/// Adds what the dialect has beyond the specification.
+fn push_dialect(
+    alloc: Global,
+    text: &mut String,
+    policy: &ProjectPolicy,
+) -> Result<(), AllocError> {
+    if let Some(client) = policy.dialect.client {
+        text.push_str("; client ")?;
+        text.push_str(format!(in alloc; "{client:?}")?.as_str())?;
+    }
+    if policy.dialect.federation {
+        text.push_str("; federation")?;
+    }
+    Ok(())
 }
 
 fn push_words(text: &mut String, title: &str, words: &[String]) -> Result<(), AllocError> {

@@ -68,6 +68,104 @@ const READ: &[Example] = &[
     },
 ];
 
+/// Configurations that name dialects.
+const DIALECTS: &[Example] = &[
+    Example {
+        file: ".graphqlrc.json",
+        folder: "",
+        text: r#"{"schema": "s", "extensions": {"gqlvalidate": {"client": "apollo", "federation": 2}}}"#,
+        wanted: ".graphqlrc.json\n; schema s; documents; fragments; client Apollo; federation",
+    },
+    Example {
+        file: ".graphqlrc.json",
+        folder: "",
+        text: r#"{"schema": "s", "extensions": {"gqlvalidate": {"client": "relay"}}}"#,
+        wanted: ".graphqlrc.json\n; schema s; documents; fragments; client Relay",
+    },
+    Example {
+        file: "package.json",
+        folder: "",
+        text: r#"{"graphql": {"schema": "s", "extensions": {"gqlvalidate": {"federation": "2"}}}}"#,
+        wanted: "package.json\n; schema s; documents; fragments; federation",
+    },
+    Example {
+        file: ".graphqlrc.toml",
+        folder: "",
+        text: "schema = 's'\n[extensions.gqlvalidate]\nfederation = 2\nclient = 'urql'\n",
+        wanted: ".graphqlrc.toml\n; schema s; documents; fragments; client Urql; federation",
+    },
+    Example {
+        file: ".graphqlrc.toml",
+        folder: "",
+        text: "schema = 's'\n[extensions.gqlvalidate]\nfederation = '2'\n",
+        wanted: ".graphqlrc.toml\n; schema s; documents; fragments; federation",
+    },
+    Example {
+        file: ".graphqlrc.json",
+        folder: "",
+        text: r#"{"projects": {"web": {"extensions": {"gqlvalidate": {"client": "urql"}}}, "app": {"extensions": {"gqlvalidate": {"federation": 2}}}, "old": {}}, "extensions": {"gqlvalidate": {"client": "apollo"}}}"#,
+        wanted: ".graphqlrc.json\nweb; schema; documents; fragments; client Urql\napp; schema; documents; fragments; client Apollo; federation\nold; schema; documents; fragments; client Apollo",
+    },
+    Example {
+        file: ".graphqlrc.json",
+        folder: "",
+        text: r#"{"projects": {"web": {"extensions": {"gqlvalidate": {"client": "urql"}}}}, "extensions": {"gqlvalidate": {"federation": 2}}}"#,
+        wanted: ".graphqlrc.json\nweb; schema; documents; fragments; client Urql; federation",
+    },
+];
+
+/// Configurations that name no dialect that there is.
+const REFUSED_DIALECTS: &[Example] = &[
+    Example {
+        file: ".graphqlrc.json",
+        folder: "",
+        text: "{\"extensions\": {\"gqlvalidate\": {\n  \"client\": \"Apollo\"}}}",
+        wanted: ".graphqlrc.json:2:3: error: `extensions.gqlvalidate.client` is no client: use `apollo`, `relay` or `urql`",
+    },
+    Example {
+        file: ".graphqlrc.json",
+        folder: "",
+        text: "{\"client\": \"a\", \"extensions\": {\"gqlvalidate\": {\"federation\": 2,\n\"client\": [\"apollo\"]}}}",
+        wanted: ".graphqlrc.json:2:1: error: `extensions.gqlvalidate.client` is no client: use `apollo`, `relay` or `urql`",
+    },
+    Example {
+        file: ".graphqlrc.json",
+        folder: "",
+        text: "{\"extensions\": {\"gqlvalidate\": {\n \"federation\": 2.0}}}",
+        wanted: ".graphqlrc.json:2:2: error: `extensions.gqlvalidate.federation` is no version of Federation: use `2`",
+    },
+    Example {
+        file: ".graphqlrc.json",
+        folder: "",
+        text: "{\"extensions\": {\"gqlvalidate\": {\n \"federation\": true}}}",
+        wanted: ".graphqlrc.json:2:2: error: `extensions.gqlvalidate.federation` is no version of Federation: use `2`",
+    },
+    Example {
+        file: "package.json",
+        folder: "",
+        text: "{\"graphql\": {\"extensions\": {\"gqlvalidate\": {\n \"federation\": \"v2\"}}}}",
+        wanted: "package.json:2:2: error: `graphql.extensions.gqlvalidate.federation` is no version of Federation: use `2`",
+    },
+    Example {
+        file: ".graphqlrc.toml",
+        folder: "",
+        text: "[extensions.gqlvalidate]\nclient = 1\n",
+        wanted: ".graphqlrc.toml:2:1: error: `extensions.gqlvalidate.client` is no client: use `apollo`, `relay` or `urql`",
+    },
+    Example {
+        file: ".graphqlrc.toml",
+        folder: "",
+        text: "[extensions.gqlvalidate]\nclient = 'apollo'\nfederation = 1\n",
+        wanted: ".graphqlrc.toml:3:1: error: `extensions.gqlvalidate.federation` is no version of Federation: use `2`",
+    },
+    Example {
+        file: ".graphqlrc.json",
+        folder: "",
+        text: "{\"projects\": {\"web\": {\"extensions\": {\"gqlvalidate\": {\"client\": \"urql\"}}},\n\"app\": {\"extensions\": {\"gqlvalidate\": {\n    \"client\": null}}}}}",
+        wanted: ".graphqlrc.json:3:5: error: `projects.app.extensions.gqlvalidate.client` is no client: use `apollo`, `relay` or `urql`",
+    },
+];
+
 /// Configurations in JSON that are refused.
 const REFUSED_JSON: &[Example] = &[
     Example {
@@ -98,7 +196,7 @@ const REFUSED_JSON: &[Example] = &[
         file: ".graphqlrc.json",
         folder: "",
         text: "{\"extensions\": {\n  \"fragmnts\": {},\n  \"gqlvalidate\": {\"fragments\": \"f\",\n    \"fragmnts\": \"g\"}}}",
-        wanted: ".graphqlrc.json:4:5: error: `extensions.gqlvalidate.fragmnts` is not a setting of this program, which has only `fragments` and `rules`",
+        wanted: ".graphqlrc.json:4:5: error: `extensions.gqlvalidate.fragmnts` is not a setting of this program, which has only `fragments`, `rules`, `client` and `federation`",
     },
     Example {
         file: ".graphqlrc.json",
@@ -168,7 +266,7 @@ const REFUSED_OTHERS: &[Example] = &[
         file: ".graphqlrc.toml",
         folder: "",
         text: "schema = 's'\n[extensions.gqlvalidate]\nfragments = 'f'\n\n# wrong\nfragmnts = 'g'",
-        wanted: ".graphqlrc.toml:6:1: error: `extensions.gqlvalidate.fragmnts` is not a setting of this program, which has only `fragments` and `rules`",
+        wanted: ".graphqlrc.toml:6:1: error: `extensions.gqlvalidate.fragmnts` is not a setting of this program, which has only `fragments`, `rules`, `client` and `federation`",
     },
     Example {
         file: ".graphqlrc.toml",
@@ -195,6 +293,16 @@ fn check(rt: &(impl Abort + AllocGlobal), examples: &[Example]) {
 #[test]
 fn configurations_are_read(rt: HostRuntime) {
     check(&rt, READ);
+}
+
+#[test]
+fn dialects_are_read(rt: HostRuntime) {
+    check(&rt, DIALECTS);
+}
+
+#[test]
+fn wrong_dialects_are_refused(rt: HostRuntime) {
+    check(&rt, REFUSED_DIALECTS);
 }
 
 #[test]
