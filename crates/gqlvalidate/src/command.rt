@@ -5,7 +5,7 @@ use crate::watch::repeat;
 use gqlvalidate_check::bounds::{bounds_of, bounds_of_answers};
 use gqlvalidate_check::policies::Policy;
 use gqlvalidate_check::presentations::Presentation;
-use gqlvalidate_check::{Words, check_syntax};
+use gqlvalidate_check::{KeptRuns, Words, check_syntax};
 use gqlvalidate_diff::{Compared, compare, presentation_of};
 use gqlvalidate_inputs::faults::{Fault, fault_of_output, fault_of_words};
 use gqlvalidate_inputs::introspections::print_schema;
@@ -104,7 +104,17 @@ fn answer<R: Files + AllocGlobal + Clock + Clone + Drop, I: Read, O: Write, F: W
             if *watch {
                 return repeat(rt, words, *choice, presentation, input, output, faults);
             }
-            check_configured(rt, words, *choice, presentation, input, output, faults)
+            let mut kept = KeptRuns::new(rt.alloc(), false);
+            check_configured(
+                rt,
+                words,
+                *choice,
+                presentation,
+                &mut kept,
+                input,
+                output,
+                faults,
+            )
         }
         Request::Diff {
             old,

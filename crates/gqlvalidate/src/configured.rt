@@ -2,7 +2,7 @@
 
 use gqlvalidate_check::policies::Policy;
 use gqlvalidate_check::presentations::Presentation;
-use gqlvalidate_check::{Words, check_words};
+use gqlvalidate_check::{Kept, KeptRuns, Words, check_words};
 use gqlvalidate_inputs::faults::Fault;
 use gqlvalidate_inputs::printable::Printable;
 use gqlvalidate_inputs::statuses::Status;
@@ -17,12 +17,13 @@ use std::io::{Read, Write};
 use std::rt::Files;
 
 /// Validates the schema and the documents that these words name. What they do not name is that of the configuration: of the project that is
-/// chosen, or of each of its projects, one after another.
+/// chosen, or of each of its projects, one after another. Each project is validated with what the last run kept of it.
 pub fn check_configured<R: Files + AllocGlobal + Clone + Drop, I: Read, O: Write, F: Write>(
     rt: &R,
     words: Words<'_>,
     choice: ConfigurationChoice<'_>,
     presentation: Presentation,
+    kept: &mut KeptRuns,
     input: &mut I,
     output: &mut O,
     faults: &mut F,
@@ -31,7 +32,7 @@ pub fn check_configured<R: Files + AllocGlobal + Clone + Drop, I: Read, O: Write
         && choice.configuration == Configuration::Nearest
         && choice.project.is_none()
     {
-        return check_words(rt, words, presentation, input, output, faults);
+        return check_alone(rt, words, presentation, kept, input, output, faults);
     }
     let settings = match settings_of(rt, choice.configuration) {
         Ok(settings) => settings,
@@ -44,15 +45,40 @@ pub fn check_configured<R: Files + AllocGlobal + Clone + Drop, I: Read, O: Write
             words,
             choice.project,
             presentation,
+            kept,
             input,
             output,
             faults,
         ),
         None if words.is_complete() => {
-            check_words(rt, words, presentation, input, output, faults)
+            check_alone(rt, words, presentation, kept, input, output, faults)
         }
         None => Ok(say_incomplete(words, faults)),
     }
+}
+
+/// Validates what the words name, as the only project of the run.
+fn check_alone<R: Files + AllocGlobal + Clone + Drop, I: Read, O: Write, F: Write>(
+    rt: &R,
+    words: Words<'_>,
+    presentation: Presentation,
+    kept: &mut KeptRuns,
+    input: &mut I,
+    output: &mut O,
+    faults: &mut F,
+) -> Result<Status, Fault> {
+    let mut of_project = kept.take(0);
+    let status = check_words(
+        rt,
+        words,
+        presentation,
+        &mut of_project,
+        input,
+        output,
+        faults,
+    );
+    kept.put(0, of_project)?;
+    status
 }
 
 /// The settings of the configuration that is chosen, if there is one.
@@ -99,6 +125,7 @@ fn check_projects<R: Files + AllocGlobal + Clone + Drop, I: Read, O: Write, F: W
     words: Words<'_>,
     chosen: Option<&str>,
     presentation: Presentation,
+    kept: &mut KeptRuns,
     input: &mut I,
     output: &mut O,
     faults: &mut F,
@@ -107,20 +134,24 @@ fn check_projects<R: Files + AllocGlobal + Clone + Drop, I: Read, O: Write, F: W
         return Ok(Status::BadArguments);
     }
     let mut status = Status::Accepted;
-    for (project, policy) in settings.projects.iter().zip(settings.policies.iter()) {
+    let projects = settings.projects.iter().zip(settings.policies.iter());
+    for (position, (project, policy)) in projects.enumerate() {
         if is_chosen(project, chosen) {
             say_name(project, faults);
+            let mut of_project = kept.take(position);
             let checked = check_project(
                 rt,
                 project,
                 policy,
                 words,
                 presentation,
+                &mut of_project,
                 input,
                 output,
                 faults,
-            )?;
-            status = status.with(checked);
+            );
+            kept.put(position, of_project)?;
+            status = status.with(checked?);
         }
     }
     Ok(status)
@@ -181,6 +212,7 @@ fn check_project<R: Files + AllocGlobal + Clone + Drop, I: Read, O: Write, F: Wr
     policy: &ProjectPolicy,
     words: Words<'_>,
     presentation: Presentation,
+    kept: &mut Kept,
     input: &mut I,
     output: &mut O,
     faults: &mut F,
@@ -192,7 +224,7 @@ fn check_project<R: Files + AllocGlobal + Clone + Drop, I: Read, O: Write, F: Wr
     let dialect = policy.dialect.under(words.dialect);
     let words = completed(words, &schema, &documents, &fragments, &levels, dialect);
     if words.is_complete() {
-        check_words(rt, words, presentation, input, output, faults)
+        check_words(rt, words, presentation, kept, input, output, faults)
     } else {
         Ok(say_incomplete(words, faults))
     }

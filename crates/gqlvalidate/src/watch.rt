@@ -2,8 +2,8 @@
 
 use crate::configured::{check_configured, settings_of};
 use crate::snapshots::Snapshot;
-use gqlvalidate_check::Words;
 use gqlvalidate_check::presentations::Presentation;
+use gqlvalidate_check::{KeptRuns, Repeated, Words};
 use gqlvalidate_inputs::faults::{Fault, fault_of_output};
 use gqlvalidate_inputs::printable::Printable;
 use gqlvalidate_inputs::statuses::Status;
@@ -17,9 +17,9 @@ use std::time::{Clock, Duration};
 /// So many milliseconds pass between two looks at the files.
 const PAUSE: u64 = 300;
 
-/// Validates what the words and the configuration name, and validates it again whenever a file of the run changes, comes or goes. Ends with
-/// the status of the last run if standard output cannot be written, or memory is refused; a run that ends for another reason is followed by
-/// the next one.
+/// Validates what the words and the configuration name, and does so again whenever a file of the run changes, comes or goes: it then validates again only
+/// that of which something else may be reported. Ends with the status of the last run if standard output cannot be written, or memory is refused; a run
+/// that ends for another reason is followed by the next one.
 pub fn repeat<R: Files + AllocGlobal + Clock + Clone + Drop, I: Read, O: Write, F: Write>(
     rt: &R,
     words: Words<'_>,
@@ -30,12 +30,22 @@ pub fn repeat<R: Files + AllocGlobal + Clock + Clone + Drop, I: Read, O: Write, 
     faults: &mut F,
 ) -> Result<Status, Fault> {
     let mut status = Status::Accepted;
+    let mut kept = KeptRuns::new(rt.alloc(), true);
     for _ in 0..u64::MAX {
         let before = snapshot(rt, words, choice)?;
-        let ended = check_configured(rt, words, choice, presentation, input, output, faults);
+        let ended = check_configured(
+            rt,
+            words,
+            choice,
+            presentation,
+            &mut kept,
+            input,
+            output,
+            faults,
+        );
         status = status_of(ended, faults)?;
         output.flush().map_err(fault_of_output)?;
-        let _ = writeln!(faults, "waiting for changes");
+        say_waiting(kept.end(rt.alloc()), faults);
         wait(rt, words, choice, &before, faults)?;
     }
     Ok(status)
@@ -53,6 +63,19 @@ fn status_of<F: Write>(ended: Result<Status, Fault>, faults: &mut F) -> Result<S
         },
         Ok(status) => Ok(status),
     }
+}
+
+/// Says on standard error that the run ended, and what it validated again, if that was not all. That this fails changes nothing.
+fn say_waiting<F: Write>(repeated: Option<Repeated>, faults: &mut F) {
+    let _ = match repeated {
+        Some(Repeated { documents, all }) => {
+            writeln!(
+                faults,
+                "waiting for changes (validated {documents} of {all} documents again)"
+            )
+        }
+        None => writeln!(faults, "waiting for changes"),
+    };
 }
 
 /// Waits until a file differs from this snapshot, and says on standard error which one does.

@@ -1,8 +1,8 @@
 //! Documents, each validated against one schema.
 
-ghost use Rattle.std.specs.Prelude.{◌≡◌, None, Some, Ok};
+ghost use Rattle.std.specs.Prelude.{◌≡◌, IfOk, None, Some, Ok};
 ghost use Rattle.graphql_frontend.specs.Documents.{ValidatesDocument};
-ghost use Rattle.graphql_frontend.specs.Schemas.{IsUsable};
+ghost use Rattle.graphql_frontend.specs.Schemas.{AcceptsOnlyUsableSchemas, IsUsable};
 
 use crate::one_document::check_together;
 use crate::project_files::{check_files, project_of, report_beside};
@@ -19,9 +19,10 @@ use gqlvalidate_sources::runs::schema_files::{
 use gqlvalidate_sources::runs::schema_reports::{end_unread, reject};
 use gqlvalidate_sources::runs::schema_texts::schema_subject;
 use gqlvalidate_sources::{Paths, is_program};
-use gqlvalidate_words::Grouping;
+use gqlvalidate_watching::Kept;
+use gqlvalidate_words::{Dialect, Grouping};
 use graphql_documents::documents::Schema;
-use graphql_frontend::{ProjectReports, Reports, SchemaReading, abandon, validate_document};
+use graphql_frontend::{ProjectReports, Reports, SchemaReading, validate_document};
 use graphql_parser::Bounds;
 use std::alloc::Global;
 use std::io::{Read, Write};
@@ -32,6 +33,7 @@ pub fn check<R: Files + AllocGlobal, I: Read, O: Write, F: Write>(
     rt: &R,
     paths: Paths<'_>,
     presentation: Presentation,
+    kept: &mut Kept,
     input: &mut I,
     output: &mut O,
     faults: &mut F,
@@ -48,7 +50,7 @@ pub fn check<R: Files + AllocGlobal, I: Read, O: Write, F: Write>(
     };
     drop(unreadable);
     let named = named_schema(rt.alloc(), paths.schema, &texts)?;
-    let status = check_in_dialect(rt, &named, paths, presentation, input, output, faults);
+    let status = check_in_dialect(rt, &named, paths, presentation, kept, input, output, faults);
     drop(named);
     drop(texts);
     status
@@ -60,13 +62,14 @@ fn check_in_dialect<R: Files + AllocGlobal, I: Read, O: Write, F: Write>(
     named: &[NamedText<'_>],
     paths: Paths<'_>,
     presentation: Presentation,
+    kept: &mut Kept,
     input: &mut I,
     output: &mut O,
     faults: &mut F,
 ) -> Result<Status, Fault> {
     let read = dialect_texts(rt.alloc(), named, paths.dialect)?;
     let texts = SchemaTexts::new(rt.alloc(), named, &read)?;
-    let status = check_against(rt, &texts, paths, presentation, input, output, faults);
+    let status = check_against(rt, &texts, paths, presentation, kept, input, output, faults);
     drop(texts);
     drop(read);
     status
@@ -78,11 +81,12 @@ fn check_against<R: Files + AllocGlobal, I: Read, O: Write, F: Write>(
     schema_texts: &SchemaTexts<'_>,
     paths: Paths<'_>,
     presentation: Presentation,
+    kept: &mut Kept,
     input: &mut I,
     output: &mut O,
     faults: &mut F,
 ) -> Result<Status, Fault> {
-    match read_schema_in(rt.alloc(), schema_texts, paths.dialect)? {
+    match schema_of(rt.alloc(), schema_texts, paths.dialect, kept)? {
         SchemaReading::Accepted(schema) => {
             let texts = schema_subject(&schema_texts.shown, &schema_texts.read);
             let status = check_documents(
@@ -91,11 +95,17 @@ fn check_against<R: Files + AllocGlobal, I: Read, O: Write, F: Write>(
                 texts,
                 paths,
                 presentation,
+                kept,
                 input,
                 output,
                 faults,
             );
-            abandon(schema);
+            kept.keep_schema(
+                rt.alloc(),
+                &schema_texts.read,
+                paths.dialect.federation,
+                schema,
+            )?;
             status
         }
         SchemaReading::Rejected(reports) => {
@@ -103,6 +113,21 @@ fn check_against<R: Files + AllocGlobal, I: Read, O: Write, F: Write>(
             reject(rt.alloc(), reports, subject, presentation, output, faults)
         }
         SchemaReading::LacksIntrospection => Err(Fault::LacksIntrospection),
+    }
+}
+
+/// Reads the schema of these texts, unless the last run did.
+fn schema_of(
+    alloc: Global,
+    texts: &SchemaTexts<'_>,
+    dialect: Dialect,
+    kept: &mut Kept,
+) -> Result<SchemaReading, Fault>
+    ensures { IfOk result AcceptsOnlyUsableSchemas }
+{
+    match kept.take_schema(&texts.read, dialect.federation) {
+        Some(schema) => Ok(SchemaReading::Accepted(schema)),
+        None => Ok(read_schema_in(alloc, texts, dialect)?),
     }
 }
 
@@ -114,6 +139,7 @@ fn check_documents<'a, R: Files + AllocGlobal, I: Read, O: Write, F: Write>(
     texts: Subject<'a>,
     paths: Paths<'_>,
     presentation: Presentation,
+    kept: &mut Kept,
     input: &mut I,
     output: &mut O,
     faults: &mut F,
@@ -123,7 +149,7 @@ fn check_documents<'a, R: Files + AllocGlobal, I: Read, O: Write, F: Write>(
     let mut account = Account::new(rt.alloc(), presentation)?;
     account.heed(rt.alloc(), paths.policy)?;
     account.add_schema(schema, texts);
-    let found = check_grouped(rt, schema, paths, &mut account, input, output, faults)?;
+    let found = check_grouped(rt, schema, paths, kept, &mut account, input, output, faults)?;
     let status = account.status(found);
     let extent = Extent {
         whole: Whole::Documents(paths.count()),
@@ -138,6 +164,7 @@ fn check_grouped<R: Files + AllocGlobal, I: Read, O: Write, F: Write>(
     rt: &R,
     schema: &Schema,
     paths: Paths<'_>,
+    kept: &mut Kept,
     account: &mut Account<'_>,
     input: &mut I,
     output: &mut O,
@@ -148,7 +175,7 @@ fn check_grouped<R: Files + AllocGlobal, I: Read, O: Write, F: Write>(
     match paths.grouping {
         Grouping::OneDocument => check_together(rt, schema, paths, account, input, output, faults),
         Grouping::Project if !paths.is_of_one() => {
-            check_files(rt, schema, paths, account, input, output, faults)
+            check_files(rt, schema, paths, kept, account, input, output, faults)
         }
         Grouping::Project | Grouping::Each => {
             check_each(rt, schema, paths, account, input, output, faults)
@@ -226,7 +253,17 @@ fn check_alone<'a, R: Files + AllocGlobal, I: Read, O: Write, F: Write>(
     requires { IsUsable schema.now }
 {
     let paths = Paths { documents, ..paths };
-    check_files(rt, schema, paths, account, input, output, faults)
+    let mut nothing = Kept::new(false);
+    check_files(
+        rt,
+        schema,
+        paths,
+        &mut nothing,
+        account,
+        input,
+        output,
+        faults,
+    )
 }
 
 /// Validates the document of a file, which has this position in the run.

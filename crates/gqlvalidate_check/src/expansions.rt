@@ -10,6 +10,7 @@ use gqlvalidate_sources::inputs::statuses::Status;
 use gqlvalidate_sources::inputs::word_paths::{expanded, schema_paths, views};
 use gqlvalidate_sources::runs::policies::Policy;
 use gqlvalidate_sources::runs::presentations::Presentation;
+use gqlvalidate_watching::Kept;
 use gqlvalidate_words::{Dialect, Grouping, PathEnds, PathList};
 use graphql_parser::Bounds;
 use std::alloc::{AllocError, Global};
@@ -69,11 +70,12 @@ struct FoundFiles {
     is_all: bool,
 }
 
-/// Validates the schema and the documents that these words name.
+/// Validates the schema and the documents that these words name, with what the last run kept.
 pub fn check_words<R: Files + AllocGlobal + Clone + Drop, I: Read, O: Write, F: Write>(
     rt: &R,
     words: Words<'_>,
     presentation: Presentation,
+    kept: &mut Kept,
     input: &mut I,
     output: &mut O,
     faults: &mut F,
@@ -86,7 +88,7 @@ pub fn check_words<R: Files + AllocGlobal + Clone + Drop, I: Read, O: Write, F: 
     let Some(files) = files? else {
         return Ok(Status::Unreadable);
     };
-    let status = check_run(rt, &files, words, presentation, input, output, faults);
+    let status = check_run(rt, &files, words, presentation, kept, input, output, faults);
     drop(files);
     status
 }
@@ -97,6 +99,7 @@ fn check_run<R: Files + AllocGlobal, I: Read, O: Write, F: Write>(
     files: &FilesOfRun,
     words: Words<'_>,
     presentation: Presentation,
+    kept: &mut Kept,
     input: &mut I,
     output: &mut O,
     faults: &mut F,
@@ -115,7 +118,7 @@ fn check_run<R: Files + AllocGlobal, I: Read, O: Write, F: Write>(
         policy: words.policy,
         dialect: words.dialect,
     };
-    let status = check_with_lent(rt, files, paths, presentation, input, output, faults)?;
+    let status = check_with_lent(rt, files, paths, presentation, kept, input, output, faults)?;
     if files.is_all {
         Ok(status)
     } else {
@@ -129,6 +132,7 @@ fn check_with_lent<R: Files + AllocGlobal, I: Read, O: Write, F: Write>(
     files: &FilesOfRun,
     paths: Paths<'_>,
     presentation: Presentation,
+    kept: &mut Kept,
     input: &mut I,
     output: &mut O,
     faults: &mut F,
@@ -140,7 +144,7 @@ fn check_with_lent<R: Files + AllocGlobal, I: Read, O: Write, F: Write>(
         hidden: &hidden,
         ..paths
     };
-    check(rt, paths, presentation, input, output, faults)
+    check(rt, paths, presentation, kept, input, output, faults)
 }
 
 /// The text with further words, which is empty if there are none, if it can be read.

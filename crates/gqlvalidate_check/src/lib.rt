@@ -1,6 +1,7 @@
 //! What `gqlvalidate check` and `gqlvalidate syntax` do: they validate documents against a schema, or against the grammar alone.
 #![tactic(auto)]
 
+mod again;
 mod check;
 mod expansions;
 mod one_document;
@@ -13,4 +14,5 @@ pub use gqlvalidate_sources::runs::{
     accounts, bounds, dialects, named_texts, policies, presentations, schema_files, schema_reports,
     schema_texts,
 };
+pub use gqlvalidate_watching::{Kept, KeptRuns, Repeated};
 pub use syntax::check_syntax;

@@ -2,6 +2,7 @@
 
 ghost use Rattle.graphql_frontend.specs.Schemas.{IsUsable};
 
+use crate::again::{keep, reports_with};
 use gqlvalidate_sources::Paths;
 use gqlvalidate_sources::cuts::{Cuts, add_cuts, count_of, cuts_of, with_cuts};
 use gqlvalidate_sources::inputs::faults::Fault;
@@ -10,6 +11,7 @@ use gqlvalidate_sources::run_texts::{ReadFile, ReadFiles, RunTexts, read_files};
 use gqlvalidate_sources::runs::accounts::{Account, FilesOfProject};
 use gqlvalidate_sources::runs::depend_on_operations;
 use gqlvalidate_sources::runs::named_texts::{NamedText, Subject};
+use gqlvalidate_watching::Kept;
 use graphql_documents::documents::Schema;
 use graphql_frontend::{ProjectReports, Reports, SourceText};
 use graphql_kept_projects::{Scope, add_further, check_project, reports_of};
@@ -39,11 +41,13 @@ struct Project<'a> {
     scope: Scope,
 }
 
-/// Validates these files together, with the fragments of those that are lent. One that cannot be read does not end the run.
+/// Validates these files together, with the fragments of those that are lent, and with what the last run kept. One that cannot be read does not end the
+/// run.
 pub fn check_files<R: Files + AllocGlobal, I: Read, O: Write, F: Write>(
     rt: &R,
     schema: &Schema,
     paths: Paths<'_>,
+    kept: &mut Kept,
     account: &mut Account<'_>,
     input: &mut I,
     output: &mut O,
@@ -65,6 +69,7 @@ pub fn check_files<R: Files + AllocGlobal, I: Read, O: Write, F: Write>(
         &lent.files,
         paths,
         is_all && has_all_literals,
+        kept,
         account,
         output,
     )?;
@@ -93,6 +98,7 @@ fn check_text_files<O: Write>(
     lent: &[ReadFile],
     paths: Paths<'_>,
     is_all: bool,
+    kept: &mut Kept,
     account: &mut Account<'_>,
     output: &mut O,
 ) -> Result<usize, Fault>
@@ -110,7 +116,7 @@ fn check_text_files<O: Write>(
             is_whole: is_all && paths.is_all,
         },
     };
-    check_texts(alloc, schema, project, paths, account, output)
+    check_texts(alloc, schema, project, paths, kept, account, output)
 }
 
 /// Validates these texts together. The answer is how many reports there are.
@@ -119,12 +125,14 @@ fn check_texts<O: Write>(
     schema: &Schema,
     project: Project<'_>,
     paths: Paths<'_>,
+    kept: &mut Kept,
     account: &mut Account<'_>,
     output: &mut O,
 ) -> Result<usize, Fault>
     requires { IsUsable schema.now }
 {
-    let mut found = reports_of(alloc, schema, project.read, project.scope, paths.bounds)?;
+    let (read, scope) = (project.read, project.scope);
+    let mut found = reports_with(alloc, schema, read, scope, paths.bounds, kept)?;
     let (own, _) = project
         .read
         .split_at(project.scope.judged.min(project.read.len()));
@@ -138,7 +146,9 @@ fn check_texts<O: Write>(
             paths.bounds,
             &mut found,
         )?;
-        return report_found(alloc, &found, project, paths, account, output);
+        let count = report_found(alloc, &found, project, paths, account, output)?;
+        keep(alloc, read, scope, paths.bounds, found, kept)?;
+        return Ok(count);
     }
     drop(found);
     let counted = check_cut(alloc, schema, project, &cuts, paths, account, output);
