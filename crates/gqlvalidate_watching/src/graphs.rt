@@ -52,30 +52,52 @@ impl Edges {
     ) -> Result<BTreeSet<usize>, AllocError> {
         let mut reached = BTreeSet::new(alloc);
         let mut pending = Vec::new(alloc);
-        add_new(start.iter(), &mut reached, &mut pending)?;
+        for file in start {
+            add_new(*file, &mut reached, &mut pending)?;
+        }
+        self.follow(&mut reached, &mut pending)?;
+        Ok(reached)
+    }
+
+    /// Adds the files to which edges lead from the pending ones, also over others.
+    fn follow(
+        &self,
+        reached: &mut BTreeSet<usize>,
+        pending: &mut Vec<usize>,
+    ) -> Result<(), AllocError> {
         // Each file is added once.
         for _ in 0..self.ends.len() {
             let Some(file) = pending.pop() else {
                 break;
             };
             if let Some(ends) = self.ends.get(file) {
-                add_new(ends.iter(), &mut reached, &mut pending)?;
+                add_each_new(ends, reached, pending)?;
             }
         }
-        Ok(reached)
+        Ok(())
     }
 }
 
 /// Adds those of these files that are not reached yet.
-fn add_new<'a>(
-    files: impl Iterator<Item = &'a usize>,
+fn add_each_new(
+    files: &[usize],
     reached: &mut BTreeSet<usize>,
     pending: &mut Vec<usize>,
 ) -> Result<(), AllocError> {
     for file in files {
-        if reached.insert(*file)? {
-            pending.push(*file)?;
-        }
+        add_new(*file, reached, pending)?;
+    }
+    Ok(())
+}
+
+/// Adds a file, unless it is reached already.
+fn add_new(
+    file: usize,
+    reached: &mut BTreeSet<usize>,
+    pending: &mut Vec<usize>,
+) -> Result<(), AllocError> {
+    if reached.insert(file)? {
+        pending.push(file)?;
     }
     Ok(())
 }

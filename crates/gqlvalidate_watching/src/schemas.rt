@@ -5,6 +5,7 @@ ghost use Rattle.graphql_frontend.specs.Schemas.{IsUsable};
 use graphql_documents::documents::Schema;
 use graphql_frontend::SourceText;
 use std::alloc::{AllocError, Global};
+use std::marker::Model;
 
 /// A text, and the number of its file.
 #[derive(Drop)]
@@ -27,7 +28,17 @@ pub(crate) struct KeptSchema {
     /// They were read as a subgraph.
     federation: bool,
     schema: Schema,
-    ghost usable: { IsUsable schema },
+}
+
+impl Model for KeptSchema {
+    ghost use Rattle.graphql_frontend.specs.Schemas.{IsUsable};
+    ghost use Rattle.std.specs.Prelude.{Bool};
+
+    ghost Value = { Bool };
+
+    ghost view = { λ kept. kept.federation };
+
+    ghost invariant = { λ kept. IsUsable kept.schema };
 }
 
 impl KeptSchema {
