@@ -32,7 +32,7 @@ impl Model for StringValue {
 }
 
 impl StringValue {
-    /// The text.
+    /// The value as a string slice.
     pub fn as_str(&self) -> &str
         ensures text { result.now ≡ self.now }
         ensures utf8 { IsUtf8 self.now }
