@@ -80,7 +80,7 @@ fn lines_of_document(
     document_lines(alloc, schema.as_str(), text.as_str(), places)
 }
 
-/// The same of a schema.
+/// The lines that a schema gives, after the example's repetitions are written out.
 fn lines_of_schema(alloc: Global, text: &str, places: Places) -> Result<Vec<u8>, Fault> {
     let text = written_out(alloc, text)?;
     schema_lines(alloc, text.as_str(), places)

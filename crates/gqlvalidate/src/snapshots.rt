@@ -23,7 +23,7 @@ pub struct Snapshot {
 }
 
 impl Snapshot {
-    /// No files.
+    /// A snapshot without files.
     pub fn new(alloc: Global) -> Snapshot {
         Snapshot {
             files: BTreeMap::new(alloc),

@@ -28,7 +28,8 @@ pub fn reports_with(
     }
 }
 
-/// The same, if a part of the texts is enough.
+/// Validates only the part of a whole project that has to be validated again, and merges its reports with those that the last run
+/// kept. `None` if the texts are no whole project, or if all of them have to be validated. The only error is a failed allocation.
 fn reports_again(
     alloc: Global,
     schema: &Schema,

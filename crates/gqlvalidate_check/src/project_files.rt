@@ -36,7 +36,7 @@ struct TextFiles {
 struct Project<'a> {
     /// The texts as they are shown.
     shown: &'a [NamedText<'a>],
-    /// The same texts as they are read.
+    /// The texts as they are read, in the order of `shown`.
     read: &'a [SourceText<'a>],
     scope: Scope,
 }

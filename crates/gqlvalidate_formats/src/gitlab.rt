@@ -29,7 +29,7 @@ struct Issue<'a> {
 }
 
 impl Issues {
-    /// None.
+    /// A report without issues: its JSON array begins. The only error is a failed allocation.
     pub fn new(alloc: Global) -> Result<Issues, AllocError> {
         let mut json = Writer::new(Vec::new(alloc));
         json.begin_array()?;

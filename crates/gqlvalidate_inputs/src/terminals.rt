@@ -8,7 +8,7 @@ pub struct Terminal {
 }
 
 impl Terminal {
-    /// As many columns has one that does not say how many.
+    /// How many columns a terminal has that does not say how many.
     pub const COLUMNS: usize = 100;
 
     /// No terminal: a file, say.

@@ -61,7 +61,7 @@ fn fault_of<F: Write>(error: &PathError, faults: &mut F) -> Fault {
     }
 }
 
-/// The paths, borrowed.
+/// Lists the paths as string slices, in the same order. The only error is a failed allocation.
 pub fn views(alloc: Global, paths: &[String]) -> Result<Vec<&str>, AllocError> {
     let mut views = Vec::new(alloc);
     for path in paths {

@@ -11,7 +11,7 @@ pub struct Counts {
 }
 
 impl Counts {
-    /// These together.
+    /// Adds these counts to others. A sum stops at `usize::MAX`.
     pub fn and(self, others: Counts) -> Counts {
         Counts {
             errors: self.errors.saturating_add(others.errors),

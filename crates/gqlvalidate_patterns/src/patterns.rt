@@ -7,7 +7,7 @@ pub struct CharacterRange {
     pub last: char,
 }
 
-/// Some characters.
+/// The characters of a path for which a piece of a pattern can stand.
 #[derive(Debug, Drop)]
 pub enum CharacterSet {
     /// This one alone.

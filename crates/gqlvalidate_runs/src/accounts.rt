@@ -41,7 +41,7 @@ pub struct Account<'a> {
     definitions: Option<&'a Schema>,
     /// Its texts, which notes may be about.
     schema: Option<Subject<'a>>,
-    /// The same with its lines counted, once something is reported.
+    /// The texts of the schema with their lines counted, once something is reported.
     counted: Option<CountedSubject<'a>>,
     /// The files that could not be read.
     unreadable: Vec<String>,

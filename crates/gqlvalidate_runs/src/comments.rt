@@ -17,7 +17,7 @@ const LONGEST: usize = 100;
 /// A file, by the number of its first text; a line of it; and a rule.
 pub type Spot = (u32, usize, &'static str);
 
-/// What comments ignore.
+/// The reports that comments ignore, and the names of rules in these comments.
 #[derive(Drop)]
 pub struct Comments<'a> {
     /// The reports of a rule on a line of a file.

@@ -12,7 +12,7 @@ pub struct Presentation {
 }
 
 impl Presentation {
-    /// As the command line says; with the colours of the terminal where it leaves them open.
+    /// Presents reports as the command line says. If it leaves the colours open, the terminal decides.
     pub fn new(reporting: Reporting, terminal: Terminal) -> Presentation {
         let colored = match reporting.color {
             Color::Auto => terminal.colored,

@@ -27,7 +27,7 @@ pub enum Sheet {
 }
 
 impl Sheet {
-    /// One without findings.
+    /// Begins a sheet of this format without findings. The only error is a failed allocation.
     pub fn new(alloc: Global, format: Format, style: Style) -> Result<Sheet, AllocError> {
         match format {
             Format::Text => Ok(Sheet::Text(style)),

@@ -43,7 +43,7 @@ pub struct Allowance {
     pub bounds: Bounds,
     /// So many bytes its line may have, without its end.
     pub line: u64,
-    /// As many reports its answer has at most.
+    /// How many reports the answer to a question has at most.
     pub reports: usize,
     /// Whether documents may spread the fragments of files that are lent.
     pub lends: bool,

@@ -8,7 +8,7 @@ use gqlvalidate_levels::Levels;
 /// The path that stands for standard input.
 pub const STANDARD_INPUT: &str = "-";
 
-/// As many reports are written as text, unless a number is given.
+/// How many reports are written as text at most, unless a number is given.
 pub const TEXT_REPORTS: usize = 100;
 
 /// How reports are written.
@@ -66,7 +66,7 @@ pub enum Color {
 pub struct Reporting {
     pub format: Format,
     pub color: Color,
-    /// As many are written at most, in all files together.
+    /// How many reports are written at most, in all files together.
     pub max_reports: usize,
 }
 
@@ -217,7 +217,7 @@ pub enum Request<'a> {
         limits: Limits,
         /// So many bytes a line may have, without its end.
         max_line: u64,
-        /// As many reports an answer has at most.
+        /// How many reports an answer has at most.
         max_reports: usize,
         /// The schema is a subgraph of Federation.
         federation: bool,

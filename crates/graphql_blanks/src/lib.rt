@@ -13,8 +13,10 @@ pub struct Part {
     pub end: usize,
 }
 
-/// As many bytes as these: those that end lines stay, and the others are spaces.
-/// The only error is a failed allocation.
+/// Blanks bytes: those that end lines stay, and each other one becomes a space. The only error is a
+/// failed allocation.
+///
+/// Specification: 2.1.3 Line Terminators.
 pub fn blank(alloc: Global, bytes: &[u8]) -> Result<Vec<u8>, AllocError>
     ensures { IfOk result (λ blank. blank.items ≡ map blank_byte bytes.now) }
 {

@@ -65,7 +65,7 @@ impl BuildingReportList {
         BuildingReportList::with_hash_seed(alloc, HashSeed::default())
     }
 
-    /// The same, where names are hashed by this seed.
+    /// A list without reports, which grows by this allocator. Names are hashed by this seed.
     pub fn with_hash_seed(alloc: Global, hash_seed: HashSeed) -> BuildingReportList
         ensures empty { reports_of result ≡ [] }
         ensures allocator { allocator_of result ≡ alloc }
@@ -81,8 +81,9 @@ impl BuildingReportList {
         }
     }
 
-    /// The same with a bound: the list keeps the first report, and those after it that the bound admits. It refuses the next
-    /// one, and each one after that, as if memory were refused.
+    /// A list without reports, which grows by this allocator and has a bound: it keeps the first report, and those after it
+    /// that the bound admits. It refuses the next one, and each one after that, as if memory were refused. Names are hashed
+    /// by this seed.
     pub fn with_bound(alloc: Global, hash_seed: HashSeed, bound: ReportBound) -> BuildingReportList
         ensures empty { reports_of result ≡ [] }
         ensures allocator { allocator_of result ≡ alloc }

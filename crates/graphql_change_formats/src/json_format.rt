@@ -254,7 +254,7 @@ fn add_paths(json: &mut Writer, paths: &[&str]) -> Result<(), AllocError>
     Ok(())
 }
 
-/// Ends the object.
+/// Ends the JSON object of a comparison.
 pub fn end(json: &mut Writer) -> Result<(), AllocError>
     ensures { Appends result json.old json.new comparison_end }
 {

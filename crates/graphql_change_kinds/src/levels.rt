@@ -21,7 +21,7 @@ pub enum Level {
 pub enum BreakingReason {
     /// A document that was valid no longer is.
     Documents,
-    /// The same of documents alone that put two fields under one response key.
+    /// A document that was valid no longer is, but each such document puts two fields under one response key.
     Merging,
     /// Documents stay valid, but a response may have another form.
     Responses,
@@ -136,7 +136,7 @@ impl Change {
         }
     }
 
-    /// The same of a change of an argument or an input field.
+    /// How grave a change of an argument or an input field is.
     fn level_of_input(&self) -> Level
         requires { IsTrue (is_input_change self.now) }
         ensures { (merging : Bool) → is_breaking merging result ≡ breaks merging self.now }

@@ -268,7 +268,7 @@ impl<'schema> PartLevels<'schema> {
         Ok(self.all_lower(&references, level))
     }
 
-    /// The same of a type.
+    /// Whether a type definition refers only to lower levels than this.
     pub(super) fn type_leads_lower(
         &self,
         alloc: Global,

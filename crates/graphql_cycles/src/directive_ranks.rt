@@ -58,7 +58,7 @@ fn directives_lead_no_higher(
     Ok(true)
 }
 
-/// The same of the types.
+/// Whether no type refers to a definition of a higher rank.
 fn types_lead_no_higher(
     alloc: Global,
     schema: &Schema,
@@ -94,7 +94,7 @@ fn directive_leads_no_higher(
     }
 }
 
-/// The same of a type.
+/// Whether a type definition of this rank, if it has one, refers to none of a higher rank.
 fn type_leads_no_higher(
     alloc: Global,
     ranks: &PartLevels<'_>,

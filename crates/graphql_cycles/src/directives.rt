@@ -170,7 +170,8 @@ impl<'schema> DirectiveSearch<'schema> {
         Ok(())
     }
 
-    /// The same of a reference.
+    /// Searches the definition to which a reference leads, if it was not visited. The search ends if an
+    /// application leads back to the root, or if a path is full.
     #[cycle(search)]
     fn search_reference(
         &self,
@@ -187,7 +188,9 @@ impl<'schema> DirectiveSearch<'schema> {
         }
     }
 
-    /// The same of an application of a directive: marks its name, and searches the definition that it finds.
+    /// Searches the definition of a directive that is applied, if its name was not seen: marks the name, and
+    /// searches the definition if there is one. The search ends if the application leads back to the root, or if
+    /// a path is full.
     #[cycle(search)]
     fn search_application(
         &self,
@@ -223,8 +226,9 @@ impl<'schema> DirectiveSearch<'schema> {
         }
     }
 
-    /// The same of the name of a type. A type that every schema has goes on the path only as an input object:
-    /// no other one leads to a type.
+    /// Searches the type of this name, if the name was not seen: marks the name, and searches the type if it is
+    /// defined. A type that every schema has goes on the path only as an input object: no other one leads to a
+    /// type. The search ends if an application leads back to the root, or if a path is full.
     #[cycle(search)]
     fn search_type(
         &self,

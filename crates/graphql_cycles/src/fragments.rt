@@ -173,7 +173,8 @@ impl<'doc> FragmentSearch<'doc> {
         Ok(())
     }
 
-    /// The same of a selection.
+    /// Searches the fragments that are spread in a selection, at any depth, but no name again that was seen. The search ends if a
+    /// spread leads back to the root, or if the path is full.
     #[cycle(search)]
     fn search_selection(
         &self,
@@ -195,7 +196,8 @@ impl<'doc> FragmentSearch<'doc> {
         }
     }
 
-    /// The same of a spread: marks its name, and searches the set of the fragment that it finds.
+    /// Searches the fragment that a spread names, if the name was not seen: marks the name, and searches the set of the fragment
+    /// if it is defined. The search ends if a spread leads back to the root, or if the path is full.
     #[cycle(search)]
     fn search_spread(
         &self,

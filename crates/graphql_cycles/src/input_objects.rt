@@ -122,7 +122,9 @@ impl<'schema> InputObjectSearch<'schema> {
         Ok(())
     }
 
-    /// The same of a field: marks the name of the input object that it requires, and searches that.
+    /// Searches the input object that a field requires, if there is one and its name was not seen: marks
+    /// the name, and searches the fields. The search ends if the field leads back to the root, or if the
+    /// path is full.
     #[cycle(search)]
     fn search_field(
         &self,

@@ -35,7 +35,9 @@ pub(super) fn references_of_directive<'schema>(
     Ok(found)
 }
 
-/// The same of a type definition: its directives, and then those of its members and their types.
+/// The references that are written in a type definition, in order: the directives on it, then for an
+/// enum those on its values, and for an input object, field by field, the directives on the field and
+/// its type. The only error is a failed allocation.
 ///
 /// Specification: 3.13 Directives.
 pub(super) fn references_of_type<'schema>(

@@ -65,7 +65,8 @@ pub(crate) fn add_in_arguments(
     Ok(())
 }
 
-/// The same of one argument. Nothing is added if it is not defined.
+/// Adds the use of one argument that is given to a field or a directive with these definitions, and those in its value. Adds
+/// nothing if the argument is not defined.
 fn add_in_argument(
     found: &mut Vec<DeprecatedUsage>,
     schema: &Schema,
@@ -116,7 +117,7 @@ pub(crate) fn add_in_directives(
     Ok(())
 }
 
-/// The same of one directive. Nothing is added if it is not defined.
+/// Adds the uses in the arguments of one directive. Adds nothing if the directive is not defined.
 fn add_in_directive(
     found: &mut Vec<DeprecatedUsage>,
     schema: &Schema,

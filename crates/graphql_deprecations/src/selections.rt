@@ -28,7 +28,7 @@ pub(crate) fn add_in_selection_set(
     Ok(())
 }
 
-/// The same of a selection on this type.
+/// Adds the uses in a selection on this type, at any depth. Spreads are not followed.
 #[cycle(selection)]
 fn add_in_selection(
     found: &mut Vec<DeprecatedUsage>,

@@ -26,7 +26,8 @@ pub(crate) fn add_in_value(
     }
 }
 
-/// The same in the items of a list value.
+/// Adds the uses in the items of a list value. A value of the named type, or a list of such, is
+/// expected.
 ///
 /// Specification: 3.11 List.
 #[cycle(value)]
@@ -44,7 +45,8 @@ fn add_in_items(
     Ok(())
 }
 
-/// The same in the entries of an object value.
+/// Adds the uses in the entries of an object value. A value of the named type, or a list of such, is
+/// expected.
 ///
 /// Specification: 3.10 Input Objects.
 #[cycle(value)]
@@ -62,7 +64,8 @@ fn add_in_entries(
     Ok(())
 }
 
-/// The same in an entry of an object value. Nothing is added if the type has no such input field.
+/// Adds the use of the input field that an entry of an object value gives, and those in the value of
+/// the entry. Adds nothing if the type has no such input field.
 #[cycle(value)]
 fn add_in_entry(
     found: &mut Vec<DeprecatedUsage>,

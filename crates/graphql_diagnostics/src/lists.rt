@@ -63,7 +63,7 @@ impl DiagnosticList {
         DiagnosticList::with_hash_seed(alloc, HashSeed::default())
     }
 
-    /// The same, where names are hashed by this seed.
+    /// A list of no reports, which grows by this allocator. Names are hashed by this seed.
     pub fn with_hash_seed(alloc: Global, hash_seed: HashSeed) -> DiagnosticList
         ensures empty { entries result ≡ [] }
         ensures allocator { allocator_of result ≡ alloc }
@@ -79,8 +79,9 @@ impl DiagnosticList {
         }
     }
 
-    /// The same with a bound: the list keeps the first report, and those after it that the bound admits. It refuses the next
-    /// one, and each one after that, as if memory were refused.
+    /// A list of no reports, which grows by this allocator and has a bound: it keeps the first report, and those after it
+    /// that the bound admits. It refuses the next one, and each one after that, as if memory were refused. Names are hashed
+    /// by this seed.
     pub fn with_bound(alloc: Global, hash_seed: HashSeed, bound: ReportBound) -> DiagnosticList
         ensures empty { entries result ≡ [] }
         ensures allocator { allocator_of result ≡ alloc }

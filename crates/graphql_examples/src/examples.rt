@@ -31,9 +31,10 @@ pub enum Subject {
     FieldSet(&'static str),
     /// A document against the schema, by `validate_executable_document`.
     Document(&'static str),
-    /// The same, where the text is file 1.
+    /// A document against the schema, by `validate_executable_document`. Its text is file 1.
     DocumentInFile(&'static str),
-    /// The same, where another schema gave the document's fields their definitions.
+    /// A document against the schema, by `validate_executable_document`. Another schema, the builder,
+    /// gave its fields their definitions.
     DocumentBuiltBy {
         text: &'static str,
         builder: &'static str,
@@ -43,11 +44,12 @@ pub enum Subject {
     Standalone(&'static str),
     /// The schema, by `validate_schema`.
     Schema,
-    /// The same, where the text is file 1.
+    /// The schema, by `validate_schema`. Its text is file 1.
     SchemaInFile,
     /// The schema, and the types afterwards are shown.
     RetainedTypes,
-    /// The same for a schema that was validated before.
+    /// The schema, by `validate_schema`, after the same call has validated it once. The types that it
+    /// has afterwards are shown.
     TypesRetainedAgain,
 }
 

@@ -28,7 +28,8 @@ pub fn validate_definition_directives(
     check_each_directive(diagnostics, Some(schema), directives, location, &variables)
 }
 
-/// The same over directives that may be in extensions. The only error is a failed allocation.
+/// Validates the directives on a definition and on its extensions, for which no variables are defined.
+/// The only error is a failed allocation.
 ///
 /// Specification: 5.7 Directives.
 pub fn validate_component_directives(

@@ -57,7 +57,8 @@ pub fn findings_of<'a>(
     findings_beside(alloc, schema, reports, None, sources, bounds, most)
 }
 
-/// The same, with the operations on which a report depends, taken from what is reported of these texts as a project, if that is given.
+/// What is shown of these lists of reports on these texts, as `findings_of` says. If the reports on these texts as a project are
+/// given, each finding also names the operations on which it depends. The only error is a failed allocation.
 pub fn findings_beside<'a>(
     alloc: Global,
     schema: Option<&Schema>,

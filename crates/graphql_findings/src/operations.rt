@@ -25,7 +25,7 @@ pub struct Concerns<'a> {
 }
 
 impl<'a> Concerns<'a> {
-    /// None.
+    /// No reports that depend on operations.
     pub fn none(alloc: Global) -> Concerns<'a> {
         Concerns {
             sorted: Vec::new(alloc),

@@ -29,7 +29,7 @@ pub(crate) fn is_full_of_rules(list: &DiagnosticList, bounds: Bounds) -> bool
     list.has_more() && !list.is_empty() && list.len() <= bounds.reports.max(1)
 }
 
-/// The same of rules that keep texts from being built.
+/// Whether a check by rules that keep texts from being built ended because the list has a report and keeps no more.
 pub(crate) fn is_full_of_building_rules(list: &BuildingReportList, bounds: Bounds) -> bool
     ensures { IsTrue result → (reports_of list.now ≢ []) × (length (reports_of list.now) ≤ max bounds.reports 1) }
 {

@@ -13,7 +13,7 @@ use std::alloc::Global;
 pub struct OperationMark {
     /// Its name, with the place of that, if it has one.
     pub name: Option<Name>,
-    /// Where it is.
+    /// The place of the operation.
     pub location: Option<SourceSpan>,
 }
 
@@ -65,7 +65,7 @@ fn name_of(alloc: Global, operation: &Operation) -> Result<Option<Name>, Validat
 }
 
 impl ProjectReports {
-    /// No reports.
+    /// No lists of reports, and no operations that they are about.
     pub fn new(alloc: Global) -> ProjectReports
         ensures lists { result.lists.items ≡ [] }
         ensures operations { result.operations.items ≡ [] }

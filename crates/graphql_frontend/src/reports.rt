@@ -56,7 +56,7 @@ impl Drop for Reports {
 /// What is reported of a schema that was built.
 #[derive(Debug, Drop)]
 pub struct SchemaReports {
-    /// Rules of validation.
+    /// What the rules of validation report of the schema.
     pub rules: DiagnosticList,
     /// Input fields that object values give again.
     pub input_fields: Vec<InputFieldRepetition>,
@@ -67,7 +67,7 @@ pub struct SchemaReports {
 /// What is reported of a document that was built.
 #[derive(Debug, Drop)]
 pub struct DocumentReports {
-    /// Rules of validation.
+    /// What the rules of validation report of the document.
     pub rules: DiagnosticList,
     /// Variables that an operation uses and does not define, without those that validation reports as undefined.
     pub undefined_variables: Vec<DiagnosticEntry>,

@@ -13,7 +13,7 @@ pub struct WorkReport {
     pub counted: usize,
     /// How much the bounds allow.
     pub most: usize,
-    /// The first operation.
+    /// The place of the first operation.
     pub location: Option<SourceSpan>,
 }
 

@@ -34,7 +34,7 @@ impl DepthCounter {
         }
     }
 
-    /// The same depth, which may rise to this limit.
+    /// Changes the limit: the depth may rise to this one. The depth stays.
     pub fn with_limit(self, limit: usize) -> DepthCounter
         ensures depth { depth_of result ≡ depth_of self }
         ensures limit { depth_limit result ≡ limit }

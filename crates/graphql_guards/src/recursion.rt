@@ -59,7 +59,7 @@ impl RecursionStack {
         Ok(stack)
     }
 
-    /// The same path, which may hold this many names, the root counted.
+    /// Changes the limit: the path may hold this many names, the root counted. The names on it stay.
     pub fn with_limit(self, limit: usize) -> RecursionStack
         ensures path { path_of result ≡ path_of self }
         ensures limit { path_limit result ≡ limit }
@@ -126,7 +126,9 @@ impl RecursionStack {
         }
     }
 
-    /// The same as `enter`, until the guard is dropped.
+    /// Adds a name at the end of the path, on which it is not, until the guard is dropped. The error is
+    /// `Limit` exactly if the path holds as many names as it may; otherwise it says that memory was
+    /// refused. Either leaves the path as it was.
     pub fn push<T: Drop>(&mut self, name: &Name) -> Result<RecursionGuard<'_>, CycleError<T>>
         requires { stands_on (path_of self.old) name.now ≡ false }
         ensures* rests { sem 𝓛 (StackRestsIfErr self.entry result) }

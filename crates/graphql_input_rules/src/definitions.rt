@@ -29,7 +29,7 @@ pub(crate) fn check_applied_directives(
     Ok(())
 }
 
-/// The same in the arguments of a field or of a directive definition.
+/// Reports the input fields that object values repeat in the argument definitions of a field or of a directive definition.
 pub(crate) fn check_argument_definitions(
     reports: &mut ReportList<InputFieldRepetition>,
     hash_seed: HashSeed,
@@ -43,7 +43,7 @@ pub(crate) fn check_argument_definitions(
     Ok(())
 }
 
-/// The same in the input fields of an input object.
+/// Reports the input fields that object values repeat in the field definitions of an input object.
 pub(crate) fn check_input_field_definitions(
     reports: &mut ReportList<InputFieldRepetition>,
     hash_seed: HashSeed,
@@ -68,7 +68,7 @@ fn check_input_value(
     check_default_value(reports, hash_seed, &definition.default_value)
 }
 
-/// The same in the fields of an object or interface.
+/// Reports the input fields that object values repeat in the field definitions of an object or interface.
 pub(crate) fn check_field_definitions(
     reports: &mut ReportList<InputFieldRepetition>,
     hash_seed: HashSeed,
@@ -93,7 +93,7 @@ fn check_field_definition(
     check_argument_definitions(reports, hash_seed, &field.arguments)
 }
 
-/// The same in the values of an enum.
+/// Reports the input fields that object values repeat in the directives on the values of an enum.
 pub(crate) fn check_enum_values(
     reports: &mut ReportList<InputFieldRepetition>,
     hash_seed: HashSeed,

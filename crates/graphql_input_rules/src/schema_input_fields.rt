@@ -112,7 +112,7 @@ fn check_type(
     }
 }
 
-/// The same in an object or interface.
+/// Reports the input fields that object values repeat in an object or interface: in the directives on it, then in its fields.
 fn check_type_with_fields(
     reports: &mut ReportList<InputFieldRepetition>,
     hash_seed: HashSeed,

@@ -115,7 +115,7 @@ fn report_repetition(
     Ok(())
 }
 
-/// The same in the values of arguments.
+/// Reports the input fields that object values repeat in the values of arguments.
 pub(crate) fn check_arguments(
     reports: &mut ReportList<InputFieldRepetition>,
     hash_seed: HashSeed,
@@ -129,7 +129,7 @@ pub(crate) fn check_arguments(
     Ok(())
 }
 
-/// The same in the arguments of directives.
+/// Reports the input fields that object values repeat in the arguments of directives.
 pub(crate) fn check_directives(
     reports: &mut ReportList<InputFieldRepetition>,
     hash_seed: HashSeed,
@@ -143,7 +143,7 @@ pub(crate) fn check_directives(
     Ok(())
 }
 
-/// The same in a default value, where there is one.
+/// Reports the input fields that object values repeat in a default value, if there is one.
 pub(crate) fn check_default_value(
     reports: &mut ReportList<InputFieldRepetition>,
     hash_seed: HashSeed,

@@ -44,7 +44,8 @@ impl Path {
         }
     }
 
-    /// Enters a member.
+    /// Enters the member of this name. The error is `Missing` if there is none or if it is null, and
+    /// `NotAnObject` if this is no object.
     pub(crate) fn enter<'v, 'a>(
         &mut self,
         object: &'v Value<'a>,

@@ -32,7 +32,8 @@ pub fn different_fields_under_one_key_do_not_merge()
         ¬ FieldsCanMerge schema fragments set }
 {}
 
-/// The same holds below two fields with one key.
+/// A set on an object type does not merge if two of its fields have one key and, in their sets, which are on one
+/// object type, select two fields with one key and different names.
 ///
 /// Specification: 5.3.2 Field Selection Merging.
 pub fn different_fields_below_one_key_do_not_merge()

@@ -35,7 +35,8 @@ pub(crate) fn have_different_keys<L: Ledger>(
     }
 }
 
-/// The same, by comparing each with each.
+/// Whether no two of a few fields have the same response key. Compares each with each, which takes no
+/// memory.
 fn few_have_different_keys<L: Ledger>(fields: &[FieldSelection<'_>], steps: &mut Steps<L>) -> bool
     requires { length fields.now ≤ 16 }
     ensures different { IsTrue result → AllPairs HaveOtherKeys (listed fields.now) }
@@ -63,7 +64,8 @@ fn has_key(field: &FieldSelection<'_>, key: &Name) -> bool
     key == field.field.value.response_key()
 }
 
-/// The same, by a set of the keys.
+/// Whether no two of many fields have the same response key. Collects the keys in a set. The only error
+/// is a failed allocation.
 fn many_have_different_keys<L: Ledger>(
     alloc: Global,
     hash_seed: HashSeed,

@@ -123,7 +123,7 @@ impl<'doc> LoneFieldSearch<'doc> {
         self.have_lone_fields_below(&fields, levels - 1, steps)
     }
 
-    /// The same of the sets of these fields.
+    /// Whether, in the set of each of these fields and in the sets below, each response key is that of one field alone.
     #[cycle(search)]
     fn have_lone_fields_below<L: Ledger>(
         &mut self,
@@ -144,7 +144,7 @@ impl<'doc> LoneFieldSearch<'doc> {
         Ok(true)
     }
 
-    /// The same of the set of a field, in which there may be nothing.
+    /// Whether, in the set of a field and in the sets below, each response key is that of one field alone. The set may be empty.
     #[cycle(search)]
     fn has_lone_fields_below<L: Ledger>(
         &mut self,

@@ -41,7 +41,7 @@ pub(crate) fn compare_groups<'doc>(
     Ok(())
 }
 
-/// The same of one group.
+/// Compares the first field of one group with the rest, and reports each that does not agree with it.
 fn compare_group<'doc>(
     diagnostics: &mut DiagnosticList,
     examined: &mut Examined<'doc>,

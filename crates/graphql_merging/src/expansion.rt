@@ -63,7 +63,8 @@ impl<'doc> FieldExpansion<'doc> {
         Ok(())
     }
 
-    /// The same of a selection of a set of this type.
+    /// Expands one selection in a set of this type: lists a field, or puts the set of a fragment after the
+    /// others.
     fn expand_selection(
         &mut self,
         parent_type: &'doc NamedType,
@@ -80,7 +81,8 @@ impl<'doc> FieldExpansion<'doc> {
         }
     }
 
-    /// The same of a spread.
+    /// Puts the set of the fragment that a spread names after the others, if it is defined and was not
+    /// visited before.
     fn expand_spread(&mut self, spread: &'doc Node<FragmentSpread>) -> Result<(), ValidationError>
         ensures { OnOk result ((parent : NameText) → Expands (expanding self.old) (expanding self.new) parent (kind.FragmentSpread spread.now ∷ [])) }
     {

@@ -111,9 +111,9 @@ impl<'s, 'doc> FieldsInSetCanMerge<'s, 'doc> {
         Ok(())
     }
 
-    /// As `validate_operation`, but answers whether the operation was decided: it was, unless more was gone through or compared
-    /// than the work allows. If it was not decided, each report is true of two chains of fields of the operation, and the lists
-    /// that were examined say nothing of further operations.
+    /// Validates an operation as `validate_operation` does, and answers whether it was decided: it was, unless more was gone
+    /// through or compared than the work allows. If it was not decided, each report is true of two chains of fields of the
+    /// operation, and the lists that were examined say nothing of further operations.
     pub(crate) fn validate_operation_within(
         &mut self,
         operation: &'doc Node<Operation>,

@@ -76,7 +76,8 @@ impl<'n, 'doc> NumberedExpansion<'n, 'doc> {
         Ok(())
     }
 
-    /// The same of a selection of a set of this type, with the number of its contents.
+    /// Expands one selection in a set of this type, whose contents have this number: lists a field, or puts the set of a
+    /// fragment after the others.
     fn expand_selection(
         &mut self,
         parent_type: &'doc NamedType,
@@ -108,7 +109,7 @@ impl<'n, 'doc> NumberedExpansion<'n, 'doc> {
         }
     }
 
-    /// The same of a spread.
+    /// Puts the set of the fragment that a spread names after the others, if it is defined and was not visited before.
     fn expand_spread(&mut self, spread: &'doc Node<FragmentSpread>) -> Result<(), ValidationError>
         requires fragments { HasFragments self.old.numbered.now }
         requires numbers { HasNumbers (contents_in self.old.numbered.now) self.old }

@@ -5,7 +5,8 @@ use graphql_value_numbers::ValueNumbers;
 use std::alloc::Global;
 use std::process::Abort;
 
-/// The same entries: in one order, in another, and with one more under a name that was there.
+/// The entries of object values that are the same: in one order, in another, and with a second entry
+/// under the name of an earlier one.
 const SAME: &[&[(&str, bool)]] = &[
     &[("a", true), ("b", false)],
     &[("b", false), ("a", true)],

@@ -22,7 +22,7 @@ pub enum ExampleError {
 }
 
 impl ExampleError {
-    /// What is wrong.
+    /// The message that says what is wrong.
     pub fn message(self) -> &'static str {
         match self {
             ExampleError::OutOfMemory => "out of memory",

@@ -26,7 +26,7 @@ pub(crate) fn field_defined(
     note_beside(alloc, at, place, message)
 }
 
-/// The same, with its type.
+/// A field of a type is defined here, and has this type.
 pub(crate) fn typed_field_defined(
     alloc: Global,
     at: Option<SourceSpan>,
@@ -56,7 +56,7 @@ pub(crate) fn argument_defined(
     note_beside(alloc, at, place, message)
 }
 
-/// The same, with its type.
+/// An argument of a field is defined here, and has this type.
 pub(crate) fn typed_argument_defined(
     alloc: Global,
     at: Option<SourceSpan>,

@@ -27,7 +27,7 @@ pub fn note_beside(
     Ok(notes)
 }
 
-/// Two such notes.
+/// The first and the second note, each with its message at its place, as `note_beside` gives one.
 pub(crate) fn two_notes_beside(
     alloc: Global,
     at: Option<SourceSpan>,

@@ -31,7 +31,7 @@ impl GroupedBy {
     }
 }
 
-/// Fields by names.
+/// Fields in groups, each under the name by which it is grouped.
 pub(crate) type FieldsByName<'doc> = IndexMap<&'doc Name, Vec<NumberedField<'doc>>, HashSeed>;
 
 /// These fields by their names. The only error is a failed allocation.

@@ -54,8 +54,10 @@ pub fn merge_by_pairs(
     Ok(())
 }
 
-/// As `merge_by_pairs`, but answers whether the operations were decided. They were, unless the work that was counted passes its
-/// bound. Then the search stops, and nothing is reported. What was counted before the call counts too, and the bound stays.
+/// Decides whether in each of these operations all fields that come together in a response agree, and reports as `merge_by_pairs`
+/// does. Answers whether this was decided: it was, unless the work that was counted passes its bound. Then the search stops,
+/// and nothing is reported. What was counted before the call counts too, and the bound stays. The only error is a failed
+/// allocation.
 ///
 /// Specification: 5.3.2 Field Selection Merging.
 pub fn merge_by_pairs_within(

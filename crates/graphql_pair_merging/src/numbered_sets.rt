@@ -150,7 +150,7 @@ impl<'doc> Numbering<'doc> {
         Ok(described)
     }
 
-    /// The same of one selection of a set.
+    /// Lists one selection of a set, and numbers the set that is written in it, if there is one.
     fn add_selection(
         &mut self,
         alloc: Global,

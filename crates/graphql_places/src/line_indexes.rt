@@ -43,7 +43,7 @@ impl<'a> LineIndex<'a> {
         Ok(LineIndex { text, kept })
     }
 
-    /// The text.
+    /// The text whose lines are indexed.
     pub fn text(&self) -> &'a str
         ensures { result.now ≡ self.now }
     {

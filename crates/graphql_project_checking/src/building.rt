@@ -149,7 +149,7 @@ fn build_file(
 /// The fragments of files that are lent.
 #[derive(Drop)]
 pub(crate) struct Lent {
-    /// As documents without other definitions.
+    /// The files as documents without definitions other than fragments.
     pub documents: Vec<Document>,
     pub files: Vec<ExecutableDocument>,
 }

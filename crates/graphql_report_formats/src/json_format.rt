@@ -15,7 +15,7 @@ use graphql_places::Place;
 use json::Writer;
 use std::alloc::{AllocError, Global};
 
-/// Begins the object.
+/// Begins a JSON object, and the list that is its member `errors`.
 pub fn begin(json: &mut Writer) -> Result<(), AllocError>
     ensures { Appends result json.old json.new object_begin }
 {
@@ -31,7 +31,7 @@ pub fn begin_errors(json: &mut Writer) -> Result<(), AllocError>
     json.begin_array()
 }
 
-/// Ends the object.
+/// Ends the list of errors, and the JSON object.
 pub fn end(json: &mut Writer) -> Result<(), AllocError>
     ensures { Appends result json.old json.new object_end }
 {

@@ -22,7 +22,7 @@ pub struct Subject<'a> {
     /// The file of a report that has no place.
     pub path: Option<&'a str>,
     pub texts: &'a [NamedText<'a>],
-    /// The same texts, in the same order.
+    /// The sources of `texts`, in the same order.
     pub sources: &'a [SourceText<'a>],
 }
 

@@ -33,7 +33,8 @@ impl<T: Drop> ReportList<T> {
         }
     }
 
-    /// The same with a bound: the list admits a first report, and those after it for which the bound has room.
+    /// A list without reports, which grows by this allocator and has a bound: it admits a first report, and those after it for
+    /// which the bound has room.
     pub fn with_bound(alloc: Global, bound: ReportBound) -> ReportList<T>
         ensures empty { reports_of result ≡ [] }
         ensures allocator { allocator_of result ≡ alloc }

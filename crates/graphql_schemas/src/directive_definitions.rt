@@ -36,7 +36,12 @@ pub fn validate_directive_definition(
     validate_definition_by_levels(diagnostics, &levels, built_in_scalars, definition)
 }
 
-/// The same in the schema of the levels; no cycle is searched from a definition whose level is known.
+/// Validates a directive definition in the schema of the levels: its name, its arguments, and that it does
+/// not lead back to itself. Reports what `validate_directive_definition` reports, but searches no cycle if
+/// the level or the rank of the definition says that there is none. Types that it refers to are recorded. The
+/// only error is a failed allocation.
+///
+/// Specification: 3.13 Directives.
 fn validate_definition_by_levels(
     diagnostics: &mut DiagnosticList,
     levels: &DirectiveLevels<'_>,
@@ -85,7 +90,10 @@ pub fn validate_directive_definitions(
     validate_definitions_by_levels(diagnostics, &levels, built_in_scalars)
 }
 
-/// The same in the schema of the levels.
+/// Validates the directive definitions of the schema of the levels, in order. Types that they refer to are
+/// recorded.
+///
+/// Specification: 3.13 Directives.
 fn validate_definitions_by_levels(
     diagnostics: &mut DiagnosticList,
     levels: &DirectiveLevels<'_>,

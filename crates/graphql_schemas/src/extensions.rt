@@ -173,7 +173,7 @@ fn add_components<T: Drop>(
     Ok(())
 }
 
-/// The same of names in a list.
+/// Adds the extensions in which names of a list were written, unless they were found before.
 fn add_names(found: &mut FoundExtensions, names: &[ComponentName]) -> Result<(), ValidationError>
     requires { HasTheirNumbers found.old }
     ensures extensions { OnOk result (found.new.extensions.items ≡ extensions_among found.old.extensions.items (map (λ c. c.origin) names.now)) }
@@ -185,7 +185,7 @@ fn add_names(found: &mut FoundExtensions, names: &[ComponentName]) -> Result<(),
     Ok(())
 }
 
-/// The same of components that are under names.
+/// Adds the extensions in which components under names were written, unless they were found before.
 fn add_entries<T: Drop>(
     found: &mut FoundExtensions,
     entries: &IndexMap<Name, Component<T>, HashSeed>,

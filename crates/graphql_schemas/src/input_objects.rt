@@ -46,7 +46,12 @@ pub fn validate_input_object_definition(
     validate_input_object_by_levels(diagnostics, &levels, built_in_scalars, input_object)
 }
 
-/// The same in the schema of the levels; no cycle is searched from an input object whose level is known.
+/// Validates an input object in the schema of the levels: the directives on it, that no chain of required
+/// fields leads back to it, its fields, and that there is one. Reports what
+/// `validate_input_object_definition` reports, but searches no chain if the level of the input object is
+/// known. Types that it refers to are recorded. The only error is a failed allocation.
+///
+/// Specification: 3.10 Input Objects.
 pub(crate) fn validate_input_object_by_levels(
     diagnostics: &mut DiagnosticList,
     levels: &InputObjectLevels<'_>,

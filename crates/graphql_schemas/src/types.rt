@@ -41,7 +41,7 @@ pub fn validate_types(
     validate_types_by_levels(diagnostics, &levels, built_in_scalars)
 }
 
-/// The same in the schema of the levels.
+/// Validates the types of the schema of the levels, in order. Types that they refer to are recorded.
 fn validate_types_by_levels(
     diagnostics: &mut DiagnosticList,
     levels: &InputObjectLevels<'_>,

@@ -188,7 +188,7 @@ fn push_more(
     Ok(())
 }
 
-/// The same, if there are more.
+/// Adds that there are more reports than are kept, if so, and if there may be one report.
 fn push_more_if(
     alloc: Global,
     has_more: bool,

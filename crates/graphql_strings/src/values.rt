@@ -32,7 +32,7 @@ impl Model for StringValue {
 }
 
 impl StringValue {
-    /// The text.
+    /// The value as a string slice.
     pub fn as_str(&self) -> &str
         ensures text { result.now ≡ self.now }
         ensures utf8 { IsUtf8 self.now }
@@ -90,7 +90,7 @@ fn string_bytes(alloc: Global, text: &[u8]) -> Result<Option<Vec<u8>>, AllocErro
     }
 }
 
-/// The same, behind the first quote.
+/// What a string or block string stands for, if this whole text is what follows its first quote.
 #[tactic(auto, unfolding(crate::specs::Scans::quoted_bytes_at))]
 fn quoted_bytes(alloc: Global, text: &[u8]) -> Result<Option<Vec<u8>>, AllocError>
     ensures { IfOk result (λ found. Gives (λ bytes. bytes.items) found (quoted_bytes_at text.now)) }
@@ -125,7 +125,8 @@ fn block_bytes(alloc: Global, text: &[u8]) -> Result<Option<Vec<u8>>, AllocError
     }
 }
 
-/// The same, where quotes or backslashes are within the block string: its raw value is put together.
+/// What a block string with quotes or backslashes in it stands for, if this whole text is what follows
+/// its first three quotes. The raw value is put together from parts.
 #[tactic(auto, unfolding(crate::specs::Scans::block_bytes_at))]
 fn mixed_block_bytes(alloc: Global, text: &[u8]) -> Result<Option<Vec<u8>>, AllocError>
     ensures { IfOk result (λ found. Gives (λ bytes. bytes.items) found (block_bytes_at text.now)) }

@@ -83,7 +83,7 @@ pub fn arguments<'a>(
     Ok((found, behind))
 }
 
-/// As many directives as come.
+/// Reads directives as long as the next token is `@`.
 ///
 /// Specification: 2.12 Directives.
 #[tactic(auto, unfolding(crate::specs::DirectiveReaders::directives_at))]

@@ -55,7 +55,7 @@ pub fn packed<T: Drop>(found: Vec<T>) -> Items<T>
     Items::from_vec(found)
 }
 
-/// As many as come, behind those found.
+/// Reads items as long as more come, and adds them to those found.
 pub fn items_behind<'a, P: Production>(
     alloc: Global,
     cursor: Cursor<'a>,

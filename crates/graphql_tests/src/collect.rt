@@ -126,7 +126,8 @@ fn answered(
     shown(rt, alloc, &collected.expect(rt, "memory for fields"))
 }
 
-/// The same, of the document's text.
+/// What the object of a collection answers of the document, which is built from the texts of the
+/// collection.
 fn answered_of(rt: &impl Abort, alloc: Global, collection: &Collection) -> String {
     let schema = schema_of(rt, alloc, collection.schema);
     let document = document(alloc, &schema.0, collection.document).expect(rt, "a document");

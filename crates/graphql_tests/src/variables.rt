@@ -59,7 +59,8 @@ const LAST: SourceSpan = SourceSpan {
     end: 27,
 };
 
-/// The same, of a document in a file over a query of itself.
+/// What the uses of variables bring in the one operation of a document of this text, which is file 1,
+/// over a query of itself.
 fn uses_in_file(rt: &impl Abort, alloc: Global, written: &str) -> DiagnosticList {
     let schema = query_of_itself(rt, alloc);
     let document = document_in_file(alloc, &schema.0, written, FileId(1));

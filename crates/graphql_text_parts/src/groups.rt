@@ -18,7 +18,7 @@ impl Group {
         self.end.saturating_sub(self.first) <= 1
     }
 
-    /// Its two halves.
+    /// Splits the group into its first and its second half.
     pub(crate) fn halves(self) -> (Group, Group) {
         let middle = self
             .first

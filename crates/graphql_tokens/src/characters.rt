@@ -134,7 +134,7 @@ pub(crate) fn after_run(text: &[u8], class: Class) -> &[u8]
     after_short_run(rest, class)
 }
 
-/// The same, byte by byte.
+/// The text after the bytes of the class at its start: one byte is tested at a time.
 #[inline(always)]
 pub(crate) fn after_short_run(text: &[u8], class: Class) -> &[u8]
     ensures { result.now ≡ after_run (belongs class) text.now }

@@ -16,7 +16,7 @@ pub struct Document {
 impl Document {
     ghost use Rattle.std.specs.Prelude.{◌≡◌};
 
-    /// The definitions.
+    /// Takes the definitions out of the document.
     pub fn into_definitions(self) -> Items<Definition>
         ensures { result ≡ self.definitions }
     {

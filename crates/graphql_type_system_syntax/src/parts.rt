@@ -96,7 +96,7 @@ fn separated<'a, P: Part>(
     P::read(alloc, behind, depth)
 }
 
-/// As many as come, each behind a separator, behind those found.
+/// Reads parts as long as a separator comes before each, and adds them to those found.
 pub fn more_separated<'a, P: Part>(
     alloc: Global,
     cursor: Cursor<'a>,

@@ -33,7 +33,8 @@ pub(crate) fn check_fragment(
     )
 }
 
-/// The same in the selections of a set, at any depth. Spreads are not followed.
+/// Reports the variables that may not be where they are used, in the selections of a set, at any depth.
+/// Spreads are not followed.
 #[cycle(selection)]
 pub(crate) fn check_selection_set(
     reports: &mut ReportList<VariableMisuse>,

@@ -42,7 +42,8 @@ pub(crate) fn check_value(
     }
 }
 
-/// The same in the items of a list value. Where no list is expected, nothing is said of them.
+/// Reports the variables in the items of a list value that may not be where they are used. Reports nothing if no
+/// list is expected.
 ///
 /// Specification: 3.11 List.
 #[cycle(value)]
@@ -77,7 +78,8 @@ fn check_items(
     Ok(())
 }
 
-/// The same in the entries of an object value. Where no input object is expected, nothing is said of them.
+/// Reports the variables in the entries of an object value that may not be where they are used. Reports nothing if
+/// no input object is expected.
 ///
 /// Specification: 3.10 Input Objects.
 #[cycle(value)]
@@ -177,7 +179,8 @@ fn report_misuse(
     Ok(())
 }
 
-/// The same in the values of arguments with these definitions. Nothing is said of an argument that is not defined.
+/// Reports the variables in the values of arguments with these definitions that may not be where they are used.
+/// Reports nothing in an argument that is not defined.
 pub(crate) fn check_arguments(
     reports: &mut ReportList<VariableMisuse>,
     schema: &Schema,
@@ -224,7 +227,8 @@ fn check_argument(
     }
 }
 
-/// The same in the arguments of directives. Nothing is said of a directive that is not defined.
+/// Reports the variables in the arguments of directives that may not be where they are used. Reports nothing in a
+/// directive that is not defined.
 pub(crate) fn check_directives(
     reports: &mut ReportList<VariableMisuse>,
     schema: &Schema,

@@ -87,7 +87,8 @@ fn check_operation(
     check_scope(reports, schema, &variables, document, operation, &reached)
 }
 
-/// The same, where the variables and the fragments that the operation reaches are given.
+/// Reports the variables that may not be where they are used, in an operation with these variables and in the fragments that it
+/// reaches.
 fn check_scope(
     reports: &mut ReportList<VariableMisuse>,
     schema: &Schema,
@@ -110,7 +111,7 @@ fn check_scope(
     check_fragments(reports, schema, variables, document, reached)
 }
 
-/// The same in the definitions of the fragments of these names.
+/// Reports the variables that may not be where they are used, in the definitions of the fragments of these names.
 fn check_fragments(
     reports: &mut ReportList<VariableMisuse>,
     schema: &Schema,

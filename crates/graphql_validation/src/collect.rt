@@ -100,7 +100,8 @@ impl<'a, 'doc> FieldCollection<'a, 'doc> {
         Ok(())
     }
 
-    /// The same of a selection of a set of this type.
+    /// Collects one selection in a set of this type: a field, or the fields of a fragment that applies to the
+    /// object.
     #[cycle(collect)]
     fn collect_selection(
         &self,
@@ -124,7 +125,8 @@ impl<'a, 'doc> FieldCollection<'a, 'doc> {
         }
     }
 
-    /// The same of a spread.
+    /// Collects the fields of the fragment that a spread names, if it is defined, was not visited before, and
+    /// applies to the object. A defined fragment counts as visited in any case.
     #[cycle(collect)]
     fn collect_spread(
         &self,

@@ -112,7 +112,8 @@ pub fn validate_executable_document_within(
     validate_against(diagnostics, schema, document, Some(work))
 }
 
-/// The same with a bound on the work of merging, or without one.
+/// Validates a document against a schema: by the rules that need none, and then by those that do. The work of merging may have a
+/// bound.
 fn validate_against(
     diagnostics: &mut DiagnosticList,
     schema: &Schema,

@@ -15,7 +15,7 @@ pub(crate) struct NamedNumbers<'doc> {
 }
 
 impl<'doc> NamedNumbers<'doc> {
-    /// No names.
+    /// A value without numbers and names.
     pub(crate) fn new(alloc: Global) -> NamedNumbers<'doc>
         ensures none { (name : NameText) → number_under result name ≡ None }
         ensures ordered { AreOrdered result }

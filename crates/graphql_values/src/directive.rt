@@ -52,7 +52,9 @@ pub fn validate_directives(
     check_directives(diagnostics, schema, directives, location, &variables)
 }
 
-/// The same, where each variable is found by its name.
+/// Validates the directives applied at one place, and finds each variable by its name. Without a schema each
+/// directive is reported as undefined. Reports come in the order of `validate_directives`. The only error is
+/// a failed allocation.
 ///
 /// Specification: 5.7 Directives; 5.4 Arguments.
 pub fn check_directives(
@@ -81,7 +83,9 @@ pub fn check_directives(
     Ok(())
 }
 
-/// The same over the directives of an operation, a selection or a fragment.
+/// Validates the directives on an operation, a selection or a fragment, and finds each variable by its name.
+/// Without a schema each directive is reported as undefined. Reports come in the order of
+/// `validate_directives`. The only error is a failed allocation.
 ///
 /// Specification: 5.7 Directives; 5.4 Arguments.
 pub fn check_each_directive(

@@ -75,8 +75,9 @@ pub fn value_of_correct_type(
     check_value_of_type(diagnostics, schema, ty, value, &variables)
 }
 
-/// The same, where each variable is found by its name: a document is checked in time that does not grow
-/// with the number of its variables for each use of one.
+/// Validates a value against a type, and finds each variable by its name: a document is checked in time that
+/// does not grow with the number of its variables for each use of one. Nothing is said of a type that is not
+/// defined. Reports come in the order of `value_of_correct_type`. The only error is a failed allocation.
 ///
 /// Specification: 5.6 Values.
 pub fn check_value_of_type(

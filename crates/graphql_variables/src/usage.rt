@@ -36,7 +36,9 @@ pub fn validate_variable_usage(
     check_variable_usage(diagnostics, definition, &variables, argument)
 }
 
-/// The same, where each variable is found by its name.
+/// Reports an argument that is a defined variable which is not allowed there, by the definition of the
+/// argument, and answers whether nothing was reported. The variable is found by its name. The only error is
+/// a failed allocation.
 ///
 /// Specification: 5.8.5 All Variable Usages Are Allowed.
 pub fn check_variable_usage(

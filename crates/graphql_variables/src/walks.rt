@@ -55,7 +55,9 @@ pub fn walk_selections<'doc>(
     walk.over(alloc, selection_set)
 }
 
-/// The same, also below fields: walks over each selection that is reached from a set.
+/// Walks over each selection that is reached from a set, at any depth, also below fields. Fragments are
+/// visited, selections are listed and the walk stops as in `walk_selections`. The only error is a failed
+/// allocation.
 ///
 /// Specification: 5.8.4 All Variables Used; 5.5.1.4 Fragments Must Be Used.
 pub fn walk_selections_with_deduped_fragments<'doc>(
@@ -74,9 +76,10 @@ pub fn walk_selections_with_deduped_fragments<'doc>(
     walk.over(alloc, selection_set)
 }
 
-/// The same, but only over the selections that are visited whatever the conditions: a selection that may be
-/// left out by `@skip` or `@include` is neither listed nor visited. A fragment that is spread there is
-/// visited at the first spread that can't be left out.
+/// Walks over the selections that are reached from a set, also below fields, whatever the conditions: a
+/// selection that may be left out by `@skip` or `@include` is neither listed nor visited. A fragment is
+/// visited at the first spread that is reached so and cannot be left out. Selections are listed and the walk
+/// stops as in `walk_selections`. The only error is a failed allocation.
 ///
 /// Specification: the incremental delivery proposal, Defer And Stream Directives Are Used In Valid
 /// Operations.
@@ -199,7 +202,7 @@ impl<'doc> SelectionWalk<'doc> {
         Ok(true)
     }
 
-    /// The same below a selection.
+    /// Walks over the selections below a selection, and answers whether the walk came to its end.
     #[cycle(walk)]
     fn walk_below(
         &self,
@@ -224,7 +227,8 @@ impl<'doc> SelectionWalk<'doc> {
         }
     }
 
-    /// The same over the fragment that a spread names, if it is defined and was not yet visited.
+    /// Walks over the fragment that a spread names, if it is defined and was not yet visited, and answers
+    /// whether the walk came to its end.
     #[cycle(walk)]
     fn walk_fragment(
         &self,
@@ -247,7 +251,8 @@ impl<'doc> SelectionWalk<'doc> {
         }
     }
 
-    /// The same over a set that is one step deeper, unless the walk is at its limit.
+    /// Walks over a set that is one step deeper, and answers whether the walk came to its end. If the walk
+    /// is at its limit, it visits nothing and answers `false`.
     #[cycle(walk)]
     fn walk_deeper(
         &self,

@@ -19,8 +19,9 @@ pub fn same_documents_hold_alike()
         EveryRuleHolds schema d → EveryRuleHolds schema e }
 {}
 
-/// The same against schemas that are the same. The definitions of the fields of the documents are the same too, but not
-/// shared: `SameDocument None`.
+/// If every rule holds of one of two documents that are the same, against one of two schemas that are the same, every
+/// rule holds of the other document against the other schema. The definitions of the fields of the documents are the
+/// same too, but not shared: `SameDocument None`.
 ///
 /// Specification: 5 Validation.
 pub fn same_documents_hold_alike_against_same_schemas()

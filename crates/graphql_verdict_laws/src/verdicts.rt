@@ -58,7 +58,8 @@ pub fn document_has_one_verdict()
         ValidatesDocument bounds a source None → ValidatesDocument bounds b source verdict → IfSome verdict ReportsNoLimit → verdict ≡ None }
 {}
 
-/// The same of texts that are validated together, as one document.
+/// If texts that are validated together, as one document, are valid against a schema, or without one, there is no other verdict on
+/// them, against this schema or one that is the same.
 ///
 /// Specification: 5 Validation.
 pub fn documents_have_one_verdict()

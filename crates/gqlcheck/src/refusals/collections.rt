@@ -21,7 +21,8 @@ pub fn judge_collections(
     Ok(())
 }
 
-/// The same of one set.
+/// Collects the fields of one selection set twice, and compares the two collections. The error says that they
+/// differ, or that memory was refused.
 fn judge_collection(
     alloc: Global,
     id: &'static str,

@@ -35,7 +35,9 @@ pub fn schema(alloc: Global, text: &str) -> Result<Valid<Schema>, ExampleError> 
     whole_schema(Reader::new(alloc, written.as_str(), Place::Nowhere))
 }
 
-/// The same, where the text is this file.
+/// The schema of the built-in definitions, and then those of this text, which is this file. Repetitions
+/// in the text are not written out. If the text names no root, the roots are the types that are called
+/// `Query`, `Mutation` and `Subscription`.
 pub fn schema_in_file(
     alloc: Global,
     text: &str,

@@ -60,7 +60,8 @@ fn walk_set<'doc>(
     Ok(true)
 }
 
-/// The same of a selection: its own applications, then those below it.
+/// Adds the `@defer` applications on a selection, then those below it, and answers whether the walk came
+/// to its end.
 #[cycle(written)]
 fn walk_selection<'doc>(
     selection: &'doc Selection,
@@ -82,7 +83,8 @@ fn walk_selection<'doc>(
     }
 }
 
-/// The same of a set that is one step deeper, unless the walk is at its limit.
+/// Adds the `@defer` applications in a set that is one step deeper, and answers whether the walk came to
+/// its end. If the walk is at its limit, this adds nothing and answers `false`.
 #[cycle(written)]
 fn walk_deeper<'doc>(
     set: &'doc SelectionSet,

@@ -49,7 +49,8 @@ pub fn validate_given_arguments(
     Ok(())
 }
 
-/// The same for one of them, whose definition is found among these.
+/// Reports that no definition has the name of this argument, or that it is a variable that is not allowed
+/// there, or else what its value breaks. `definitions` finds the definition by its name.
 fn validate_given_argument(
     diagnostics: &mut DiagnosticList,
     schema: &Schema,

@@ -34,7 +34,8 @@ pub fn validate_required_arguments(
     Ok(())
 }
 
-/// The same for one of the definitions, whose argument is found among these.
+/// Reports the required argument of this definition if it is not given or is literally null, at the field or
+/// directive. `given` finds the argument by its name.
 fn validate_required_argument(
     diagnostics: &mut DiagnosticList,
     arguments: &GivenArguments,
