@@ -296,6 +296,20 @@ fn notes_of_diagnostic(
             type_location,
             extensions_locations,
         } => notes_of_extended(alloc, at, type_name, *type_location, extensions_locations),
-        _ => Ok(no_notes(alloc)),
+        DiagnosticData::UndefinedDefinition { .. }
+        | DiagnosticData::UndefinedDirective { .. }
+        | DiagnosticData::UndefinedVariable { .. }
+        | DiagnosticData::UndefinedFragment { .. }
+        | DiagnosticData::QueryRootOperationType
+        | DiagnosticData::UnusedVariable { .. }
+        | DiagnosticData::RootOperationObjectType { .. }
+        | DiagnosticData::UnionMemberObjectType { .. }
+        | DiagnosticData::IntCoercionError { .. }
+        | DiagnosticData::MissingSubselection { .. }
+        | DiagnosticData::UnusedFragment { .. }
+        | DiagnosticData::RecursiveInterfaceDefinition { .. }
+        | DiagnosticData::DeeplyNestedType { .. }
+        | DiagnosticData::RecursionError
+        | DiagnosticData::ReservedName { .. } => Ok(no_notes(alloc)),
     }
 }
