@@ -22,7 +22,7 @@ pub fn document(
     read_document(Reader::new(alloc, written.as_str(), Place::Nowhere), schema)
 }
 
-/// The document of this text, built against the schema. The text is this file.
+/// The document of this text, which is this file, built against the schema. Repetitions in the text are not written out.
 pub fn document_in_file(
     alloc: Global,
     schema: &Schema,
