@@ -7,7 +7,6 @@ pub mod build_errors;
 pub mod data;
 pub mod details;
 pub mod lists;
-mod messages;
 pub mod names;
 
 pub use bounds::ReportBound;

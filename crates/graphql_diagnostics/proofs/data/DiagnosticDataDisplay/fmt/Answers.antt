@@ -1,5 +1,5 @@
 use Rattle.std.proofs.Common.{rules}
-use Rattle.graphql_diagnostics.proofs.messages.DiagnosticDataDisplay.fmt.Goals as goal
+use Rattle.graphql_diagnostics.proofs.data.DiagnosticDataDisplay.fmt.Goals as goal
 
 pub returns-in-MissingInterfaceField-clause-writes : goal.returns-in-MissingInterfaceField-clause-writes
 returns-in-MissingInterfaceField-clause-writes g c = rw c.in-MissingInterfaceField.is (search rules)
