@@ -34,7 +34,7 @@ use Rattle.graphql_variables.proofs.UseLemmas.{any_has}
 use Rattle.graphql_validation.proofs.MergingStepLemmas.{silent_holds}
 use Rattle.graphql_document_rules.specs.DocumentRules.{DocumentRulesHold}
 use Rattle.graphql_document_rules.specs.SingleRootField.{OperationRootHolds}
-use Rattle.graphql_document_rules.proofs.RuleReportLemmas.{RuleEntryReport, of_merging_rule}
+use Rattle.graphql_document_rules.proofs.RuleReportLemmas.{FixedEntryReport, of_merging_rule}
 
 -- a diagnostic of merging, as one of the document
 module _ (schema : Schema) (document : ExecutableDocument) (before after : List (Node Operation)) (o : Node Operation) (split : operations_of document ≡ before ++ o ∷ after) where
@@ -43,7 +43,7 @@ module _ (schema : Schema) (document : ExecutableDocument) (before after : List 
 
   of_merged : Contains (operations_of document) o → (e : DiagnosticEntry) →
       MergingReport schema (fragments_of document) o.value.value.selection_set e.details e.location ⊎
-      MergingLimit schema (fragments_of document) before o e.details e.location → RuleEntryReport (Some schema) document e
+      MergingLimit schema (fragments_of document) before o e.details e.location → FixedEntryReport schema document e
   of_merged stands e (inl says) = of_merging_rule schema document o stands e says
   of_merged stands e (inr limit) = inr (by_merging_limit limit)
 
@@ -56,7 +56,7 @@ IsNoLimit e = ¬ IsLimitEntry e
 pub record ValidatedSoFar (schema : Schema) (document : ExecutableDocument) (done undecided : List (Node Operation)) (m : Merging) (old now : List DiagnosticEntry) : Type 0 where
   pub added : List DiagnosticEntry
   pub appended : now ≡ old ++ added
-  pub each : All (RuleEntryReport (Some schema) document) added
+  pub each : All (FixedEntryReport schema document) added
   pub holds : All IsNoLimit added → added ≡ [] → All (λ o. OperationRootHolds schema document o.value.value) done × IsFalse m.conflicting
   pub silent : All IsNoLimit added → All (λ o. OperationRootHolds schema document o.value.value) done → IsFalse m.conflicting →
       All (λ o. FieldsCanMerge schema (fragments_of document) o.value.value.selection_set) undecided → added ≡ []
@@ -69,7 +69,7 @@ no_limits o too_deep (beyond_bound beyond) none = absurd (All-head IsNoLimit _ [
 
 module _ (schema : Schema) (document : ExecutableDocument) where
   abbrev CheckedEntryReport : DiagnosticEntry → Type 0
-  CheckedEntryReport = RuleEntryReport (Some schema) document
+  CheckedEntryReport = FixedEntryReport schema document
 
   abbrev Sub : Node Operation → Type 0
   Sub o = OperationRootHolds schema document o.value.value
@@ -292,7 +292,7 @@ MergedEntryReport schema document before o e =
 
 pub merged_kept : {schema schema' : Schema} {document document' : ExecutableDocument} {before before' : List (Node Operation)} (after : List (Node Operation)) (o : Node Operation) {old new : List DiagnosticEntry} →
     schema' ≡ schema → document' ≡ document → before' ≡ before → operations_of document ≡ before ++ o ∷ after → KeepsReports (MergedEntryReport schema' document' before' o) old new →
-    KeepsReports (RuleEntryReport (Some schema) document) old new
+    KeepsReports (FixedEntryReport schema document) old new
 merged_kept {schema} {schema'} {document} {document'} {before} {before'} after o {old} {new} is_schema is_document is_before split kept =
     let stands = subst (λ l. Contains l o) (sym split) (Contains-append_right before (o ∷ after) o (stands_first o after)) in
     kept_wider (of_merged schema document before after o split stands)
@@ -302,7 +302,7 @@ merged_kept {schema} {schema'} {document} {document'} {before} {before'} after o
 
 -- what was said so far is true
 pub kept_so_far : (schema : Schema) (document : ExecutableDocument) {done undecided : List (Node Operation)} {m : Merging} {old now : List DiagnosticEntry} →
-    ValidatedSoFar schema document done undecided m old now → KeepsReports (RuleEntryReport (Some schema) document) old now
+    ValidatedSoFar schema document done undecided m old now → KeepsReports (FixedEntryReport schema document) old now
 kept_so_far schema document so_far = record { added = so_far.added; appended = so_far.appended; each = so_far.each }
 
 -- what holds in any case holds of each answer

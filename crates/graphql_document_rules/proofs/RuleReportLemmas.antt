@@ -9,6 +9,7 @@ use Rattle.graphql_specification.specs.Fragments.{FragmentLimit, spreads_nest}
 use Rattle.graphql_specification.specs.FragmentsUsed.{FragmentUseReport, FragmentWalkLimit, fragment_walk_passes, of_unused}
 use Rattle.graphql_specification.specs.Merging.{Conflict, FieldSelection, MergingReport, Pass, field_pass, of_conflict, shape_pass}
 use Rattle.graphql_specification.specs.Operations.{OperationsLimit, OperationsReport, one_passes, spread_passes, variable_walk_passes}
+use Rattle.graphql_validation.specs.RuleSets.{IsNeverOff}
 use Rattle.graphql_specification.specs.Subscriptions.{SubscriptionLimit, subscription_walk_passes}
 use Rattle.graphql_diagnostics.specs.declared.build_errors.BuildError.TheVariants as build
 use Rattle.graphql_diagnostics.specs.declared.build_errors.BuildError.{BuildError}
@@ -27,7 +28,7 @@ use Rattle.graphql_validation.proofs.OperationLemmas.{OperationsEntryReport}
 use Rattle.graphql_validation.proofs.DocumentLemmas as validation
 use Rattle.graphql_validation.proofs.DocumentLemmas.{DocumentEntryReport}
 use Rattle.graphql_validation.proofs.LimitLemmas.{limit_is_one, limit_says, report_is_no_limit, says_limit}
-use Rattle.graphql_document_rules.specs.DocumentRules.{DocumentRuleReport, counts_root_fields, of_document, of_subscription_root}
+use Rattle.graphql_document_rules.specs.DocumentRules.{DocumentRuleReport, FixedRuleReport, counts_root_fields, of_document, of_subscription_root}
 use Rattle.graphql_document_rules.specs.RootSteps.{RootEntryReport}
 use Rattle.graphql_document_rules.specs.SingleRootField.{SubscriptionRootReport, of_condition, of_introspection, of_response_keys}
 
@@ -95,21 +96,37 @@ module _ (schema : Option Schema) (document : ExecutableDocument) where
   of_all_defer e (inl says) = as_rule e (no_deferred_counts says) (validation.of_all_defer schema document e (inl says))
   of_all_defer e (inr limit) = as_rule e (no_defer_limit_counts limit) (validation.of_all_defer schema document e (inr limit))
 
+-- what is said of subscriptions and of merging names no rule that may be off
+root_never : {schema : Schema} {fragments : Fragments} {o : Node Operation} {d : Details} {at : Option SourceSpan} → SubscriptionRootReport schema fragments o d at → IsNeverOff d
+root_never (of_introspection is says) = tt
+root_never (of_condition is says) = tt
+root_never (of_response_keys is says) = tt
+
+merging_never : {schema : Schema} {fragments : Fragments} {set : SelectionSet} {d : Details} {at : Option SourceSpan} → MergingReport schema fragments set d at → IsNeverOff d
+merging_never (of_conflict broken) = tt
+
+abbrev pub FixedEntryReport : Schema → ExecutableDocument → DiagnosticEntry → Type 0
+FixedEntryReport schema document e = FixedRuleReport (Some schema) document e ⊎ DocumentLimit (Some schema) document e.details e.location
+
+pub rule_of_fixed : (schema : Schema) (document : ExecutableDocument) (e : DiagnosticEntry) → FixedEntryReport schema document e → RuleEntryReport (Some schema) document e
+rule_of_fixed schema document e (inl says) = inl says.0
+rule_of_fixed schema document e (inr limit) = inr limit
+
 -- what is said of merging, with a schema
 module _ (schema : Schema) (document : ExecutableDocument) (o : Node Operation) (in' : Contains (operations_of document) o) where
   by_merging : {d : Details} {at : Option SourceSpan} → MergingReport schema (fragments_of document) o.value.value.selection_set d at → DocumentReport (Some schema) document d at
   by_merging (of_conflict broken) = of_merging refl in' broken
 
-  pub of_merging_rule : (e : DiagnosticEntry) → MergingReport schema (fragments_of document) o.value.value.selection_set e.details e.location → RuleEntryReport (Some schema) document e
-  of_merging_rule e says = inl (of_document (no_merging_counts says) (by_merging says))
+  pub of_merging_rule : (e : DiagnosticEntry) → MergingReport schema (fragments_of document) o.value.value.selection_set e.details e.location → FixedEntryReport schema document e
+  of_merging_rule e says = inl (of_document (no_merging_counts says) (by_merging says), merging_never says)
 
   -- what is said of a subscription
   by_subscription_limit : {d : Details} {at : Option SourceSpan} → SubscriptionLimit (fragments_of document) o.value.value d at → DocumentLimit (Some schema) document d at
   by_subscription_limit (subscription_walk_passes is passes) =
       walk_of_root in' (λ query. let both : operation.Query ≡ operation.Subscription = sym query ∙ is in let no : ⊥ = cc in no) passes
 
-  pub of_a_root : (e : DiagnosticEntry) → RootEntryReport schema (fragments_of document) o e → RuleEntryReport (Some schema) document e
-  of_a_root e (inl says) = inl (of_subscription_root refl in' says)
+  pub of_a_root : (e : DiagnosticEntry) → RootEntryReport schema (fragments_of document) o e → FixedEntryReport schema document e
+  of_a_root e (inl says) = inl (of_subscription_root refl in' says, root_never says)
   of_a_root e (inr limit) = inr (by_subscription_limit limit)
 
 -- no report of a root says that a limit is passed

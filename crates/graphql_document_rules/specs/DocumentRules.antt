@@ -9,6 +9,7 @@ use Rattle.graphql_specification.specs.Documents.{DocumentReport}
 use Rattle.graphql_specification.specs.FragmentsUsed.{IsFragmentUsed}
 use Rattle.graphql_specification.specs.Merging.{FieldsCanMerge}
 use Rattle.graphql_specification.specs.Operations.{OperationHolds}
+use Rattle.graphql_validation.specs.RuleSets.{IsNeverOff, OperationHoldsBut, RuleSet}
 use Rattle.graphql_documents.specs.declared.documents.executables.ExecutableDocument.{ExecutableDocument}
 use Rattle.graphql_documents.specs.declared.documents.executables.Operation.{Operation}
 use Rattle.graphql_documents.specs.declared.documents.schemas.Schema.{Schema}
@@ -17,12 +18,21 @@ use Rattle.graphql_nodes.specs.declared.spans.SourceSpan.{SourceSpan}
 use Rattle.graphql_diagnostics.specs.declared.build_errors.BuildError.TheVariants as build
 use Rattle.graphql_diagnostics.specs.declared.details.Details.TheVariants as details
 use Rattle.graphql_diagnostics.specs.declared.details.Details.{Details}
+use Rattle.graphql_diagnostics.specs.declared.lists.DiagnosticEntry.{DiagnosticEntry}
 use Rattle.graphql_document_rules.specs.SingleRootField.{OperationRootHolds, SubscriptionRootReport}
 
 -- every rule holds for the document, at each place that is reached; without a schema, every rule that needs none
 pub record DocumentRulesHold (schema : Option Schema) (document : ExecutableDocument) : Type 0 where
   pub operations : All (λ o. OperationHolds schema document o.value.value) (operations_of document)
   pub fragments : All (λ d. IsFragmentUsed document d.value.value) (values document.fragments)
+  pub defer : DeferHolds document
+  pub subscriptions : (s : Schema) → schema ≡ Some s → All (λ o. OperationRootHolds s document o.value.value) (operations_of document)
+  pub merging : (s : Schema) → schema ≡ Some s → All (λ o. FieldsCanMerge s (fragments_of document) o.value.value.selection_set) (operations_of document)
+
+-- the same, except for rules that are off
+pub record DocumentRulesHoldBut (off : RuleSet) (schema : Option Schema) (document : ExecutableDocument) : Type 0 where
+  pub operations : All (λ o. OperationHoldsBut off schema document o.value.value) (operations_of document)
+  pub fragments : IsFalse off.unused_fragments → All (λ d. IsFragmentUsed document d.value.value) (values document.fragments)
   pub defer : DeferHolds document
   pub subscriptions : (s : Schema) → schema ≡ Some s → All (λ o. OperationRootHolds s document o.value.value) (operations_of document)
   pub merging : (s : Schema) → schema ≡ Some s → All (λ o. FieldsCanMerge s (fragments_of document) o.value.value.selection_set) (operations_of document)
@@ -39,3 +49,7 @@ pub data DocumentRuleReport (schema : Option Schema) (document : ExecutableDocum
   of_subscription_root : {s : Schema} {o : Node Operation} {d : Details} {at : Option SourceSpan} →
       schema ≡ Some s → Contains (operations_of document) o → SubscriptionRootReport s (fragments_of document) o d at →
       DocumentRuleReport schema document d at
+
+-- the same of an entry; and the rule is never off
+abbrev pub FixedRuleReport : Option Schema → ExecutableDocument → DiagnosticEntry → Type 0
+FixedRuleReport schema document e = DocumentRuleReport schema document e.details e.location × IsNeverOff e.details

@@ -3,5 +3,8 @@ pub mod RootSteps
 pub mod SingleRootField
 pub use Rattle.graphql_specification.specs.BuiltInScalars
 pub use Rattle.graphql_specification.specs.DefaultValues
+pub use Rattle.graphql_specification.specs.Defer
 pub use Rattle.graphql_specification.specs.Documents
+pub use Rattle.graphql_specification.specs.Operations
 pub use Rattle.graphql_specification.specs.Schemas
+pub use Rattle.graphql_validation.specs.RuleSets

@@ -5,7 +5,7 @@ ghost use Rattle.std.specs.Option.{option_copied};
 ghost use Rattle.std.specs.Prelude.{◌≡◌, ◌↔◌, [], All, IfOk, IsFalse, IsTrue, None, OnOk, Some};
 ghost use Rattle.graphql_diagnostics.specs.Diagnostics.{IsLimitEntry, entries};
 ghost use Rattle.graphql_diagnostics.specs.Reports.{Appends, ChecksWithin, KeepsReports};
-ghost use Rattle.graphql_document_rules.specs.DocumentRules.{DocumentRuleReport, DocumentRulesHold};
+ghost use Rattle.graphql_document_rules.specs.DocumentRules.{DocumentRuleReport, DocumentRulesHold, DocumentRulesHoldBut};
 ghost use Rattle.graphql_document_rules.specs.SingleRootField.{OperationRootHolds};
 ghost use Rattle.graphql_documents.specs.Built.{IsBuilt};
 ghost use Rattle.graphql_documents.specs.Executables.{operations_of};
@@ -14,6 +14,7 @@ ghost use Rattle.graphql_specification.specs.Defer.{DeferHolds};
 ghost use Rattle.graphql_specification.specs.Documents.{DocumentLimit};
 ghost use Rattle.graphql_specification.specs.FragmentsUsed.{IsFragmentUsed};
 ghost use Rattle.graphql_specification.specs.Operations.{OperationHolds};
+ghost use Rattle.graphql_validation.specs.RuleSets.{HoldsIfOthersAreSilent, OperationHoldsBut};
 
 use crate::operations::validate_operations;
 use graphql_diagnostics::DiagnosticList;
@@ -37,7 +38,8 @@ use graphql_validation::rules::operations::validate_operation_definitions;
 /// Of a document that was built against the schema: if every rule was decided and no limit is reported, nothing is reported
 /// exactly when every rule holds (`silence`). Of any document, decided or not: a diagnostic names a broken rule (`reports`), or
 /// it is of a limit that is really passed (`limits`), also if memory is refused; and if nothing is reported, all rules except
-/// merging hold (`parts`).
+/// merging hold (`parts`). If the document was built, every rule was decided, and only unused variables and fragments are
+/// reported, all other rules hold (`others`).
 ///
 /// Specification: 5 Validation.
 pub fn validate_document_rules(
@@ -59,6 +61,9 @@ pub fn validate_document_rules(
         All (λ d. IsFragmentUsed document.now d.value.value) (values document.now.fragments) × DeferHolds document.now ×
         All (λ o. OperationRootHolds schema.now document.now o.value.value) (operations_of document.now))
         (entries diagnostics.old) (entries diagnostics.new)) }
+    ensures others { IsBuilt schema.now document.now →
+        IfOk result (λ decided. IsTrue decided → HoldsIfOthersAreSilent (λ off. DocumentRulesHoldBut off (Some schema.now) document.now)
+        (entries diagnostics.old) (entries diagnostics.new)) }
     ensures passed { IfOk result (λ decided. IsFalse decided → IsPassed pair_work.new) }
     ensures most { most_of pair_work.new ≡ most_of pair_work.old }
 {
@@ -74,10 +79,11 @@ pub fn validate_standalone_document_rules(
     diagnostics: &mut DiagnosticList,
     document: &ExecutableDocument,
 ) -> Result<(), ValidationError>
-    ensures { ChecksWithin result (DocumentRulesHold None document.now)
+    ensures checks { ChecksWithin result (DocumentRulesHold None document.now)
         (λ e. DocumentRuleReport None document.now e.details e.location)
         (λ e. DocumentLimit None document.now e.details e.location)
         diagnostics.old diagnostics.new }
+    ensures others { OnOk result (HoldsIfOthersAreSilent (λ off. DocumentRulesHoldBut off None document.now) (entries diagnostics.old) (entries diagnostics.new)) }
 {
     validate_with_or_without_schema(diagnostics, None, document)
 }
@@ -88,12 +94,16 @@ fn validate_with_or_without_schema(
     schema: Option<&Schema>,
     document: &ExecutableDocument,
 ) -> Result<(), ValidationError>
-    ensures { ChecksWithin result
+    ensures checks { ChecksWithin result
         (All (λ o. OperationHolds (option_copied schema.entry) document.now o.value.value) (operations_of document.now) ×
         All (λ d. IsFragmentUsed document.now d.value.value) (values document.now.fragments) × DeferHolds document.now)
         (λ e. DocumentRuleReport (option_copied schema.entry) document.now e.details e.location)
         (λ e. DocumentLimit (option_copied schema.entry) document.now e.details e.location)
         diagnostics.old diagnostics.new }
+    ensures others { OnOk result (HoldsIfOthersAreSilent (λ off.
+        All (λ o. OperationHoldsBut off (option_copied schema.entry) document.now o.value.value) (operations_of document.now) ×
+        (IsFalse off.unused_fragments → All (λ d. IsFragmentUsed document.now d.value.value) (values document.now.fragments)) × DeferHolds document.now)
+        (entries diagnostics.old) (entries diagnostics.new)) }
 {
     validate_operation_definitions(diagnostics, document, schema)?;
     validate_fragments_used(diagnostics, document)?;

@@ -3,7 +3,7 @@
 ghost use Rattle.std.specs.Prelude.{◌≡◌, ◌⊎◌, [], All, IfOk, IsFalse, IsTrue, OnOk, Some, map};
 ghost use Rattle.graphql_diagnostics.specs.Diagnostics.{IsLimitEntry, entries};
 ghost use Rattle.graphql_diagnostics.specs.Reports.{Appends, ChecksWithin, KeepsReports, ReportsWithin};
-ghost use Rattle.graphql_document_rules.specs.DocumentRules.{DocumentRuleReport};
+ghost use Rattle.graphql_document_rules.specs.DocumentRules.{FixedRuleReport};
 ghost use Rattle.graphql_document_rules.specs.SingleRootField.{OperationRootHolds};
 ghost use Rattle.graphql_documents.specs.Built.{IsBuilt};
 ghost use Rattle.graphql_documents.specs.Executables.{operations_of};
@@ -36,10 +36,10 @@ pub(crate) fn validate_operations(
         IfOk result (λ decided. IsTrue decided → ReportsWithin IsLimitEntry
         (All (λ o. OperationRootHolds schema.now document.now o.value.value) (operations_of document.now) ×
         All (λ o. FieldsCanMerge schema.now (fragments_of document.now) o.value.value.selection_set) (operations_of document.now))
-        (λ e. DocumentRuleReport (Some schema.now) document.now e.details e.location ⊎ DocumentLimit (Some schema.now) document.now e.details e.location)
+        (λ e. FixedRuleReport (Some schema.now) document.now e ⊎ DocumentLimit (Some schema.now) document.now e.details e.location)
         (entries diagnostics.old) (entries diagnostics.new)) }
     ensures truth { KeepsReports
-        (λ e. DocumentRuleReport (Some schema.now) document.now e.details e.location ⊎ DocumentLimit (Some schema.now) document.now e.details e.location)
+        (λ e. FixedRuleReport (Some schema.now) document.now e ⊎ DocumentLimit (Some schema.now) document.now e.details e.location)
         (entries diagnostics.old) (entries diagnostics.new) }
     ensures subscriptions { OnOk result (Appends (λ added. added ≡ [] → All (λ o. OperationRootHolds schema.now document.now o.value.value) (operations_of document.now))
         (entries diagnostics.old) (entries diagnostics.new)) }
@@ -64,7 +64,7 @@ fn validate_subscriptions(
 ) -> Result<(), ValidationError>
     requires { map (λ o. o.now) operations.now ≡ operations_of document.now }
     ensures { ChecksWithin result (All (λ o. OperationRootHolds schema.now document.now o.value.value) (operations_of document.now))
-        (λ e. DocumentRuleReport (Some schema.now) document.now e.details e.location)
+        (FixedRuleReport (Some schema.now) document.now)
         (λ e. DocumentLimit (Some schema.now) document.now e.details e.location)
         diagnostics.old diagnostics.new }
 {
@@ -88,10 +88,10 @@ fn validate_and_merge(
         IfOk result (λ decided. IsTrue decided → ReportsWithin IsLimitEntry
         (All (λ o. OperationRootHolds schema.now document.now o.value.value) (operations_of document.now) ×
         All (λ o. FieldsCanMerge schema.now (fragments_of document.now) o.value.value.selection_set) (operations_of document.now))
-        (λ e. DocumentRuleReport (Some schema.now) document.now e.details e.location ⊎ DocumentLimit (Some schema.now) document.now e.details e.location)
+        (λ e. FixedRuleReport (Some schema.now) document.now e ⊎ DocumentLimit (Some schema.now) document.now e.details e.location)
         (entries diagnostics.old) (entries diagnostics.new)) }
     ensures truth { KeepsReports
-        (λ e. DocumentRuleReport (Some schema.now) document.now e.details e.location ⊎ DocumentLimit (Some schema.now) document.now e.details e.location)
+        (λ e. FixedRuleReport (Some schema.now) document.now e ⊎ DocumentLimit (Some schema.now) document.now e.details e.location)
         (entries diagnostics.old) (entries diagnostics.new) }
     ensures subscriptions { OnOk result (Appends (λ added. added ≡ [] → All (λ o. OperationRootHolds schema.now document.now o.value.value) (operations_of document.now))
         (entries diagnostics.old) (entries diagnostics.new)) }

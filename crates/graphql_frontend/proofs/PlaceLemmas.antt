@@ -16,7 +16,8 @@ use Rattle.graphql_nodes.specs.Names.{NameText}
 use Rattle.graphql_nodes.specs.declared.spans.FileId.{FileId}
 use Rattle.graphql_nodes.specs.declared.spans.SourceSpan.{SourceSpan}
 use Rattle.graphql_frontend.specs.Documents.{EndTogether, EndsWithOne, IsReportedUndefined}
-use Rattle.graphql_frontend.specs.Places.{HasThese, end_of, is_place_among, place_of_undefined, same_place, undefined_place}
+use Rattle.graphql_frontend.specs.Places.{HasThese, end_of, end_of_fixed, is_place_among, place_of_undefined, reported_end, same_place, undefined_place}
+use Rattle.graphql_document_rules.specs.RuleSets.{IsNeverOff}
 
 -- equal places are the same
 exact : (a b : SourceSpan) → same_place a b ≡ true → a ≡ b
@@ -145,13 +146,25 @@ module _ {S : Type 0} (rules : List DiagnosticEntry) (set : HashSet SourceSpan S
       ∙ ap (λ (n : ℕ). let end : SourceSpan = record { file_id = y.file_id; start = n; end = n } in Some end) ends
       ∙ ap end_of (sym b)
 
-  pub ends_among : HasThese (filter_map (λ (e : DiagnosticEntry). end_of e.location) rules) set → (place : Option SourceSpan) → IsTrue (is_place_among (end_of place) set) ↔ EndsWithOne rules place
-  ends_among has None = (λ is. absurd (let no : ⊥ = cc in no), λ h. absurd (let some : None ≡ Some h.2.1 = h.2.3 in let no : ⊥ = cc in no))
+  -- the end of a place, as that of a diagnostic
+  says_end : (d : Details) (end : Option SourceSpan) (place : SourceSpan) → end_of_fixed d end ≡ Some place → IsNeverOff d × (end ≡ Some place)
+  says_end (details.Diagnostic (report.UnusedVariable name)) end place is = absurd (let no : ⊥ = cc in no)
+  says_end (details.Diagnostic (report.UnusedFragment name)) end place is = absurd (let no : ⊥ = cc in no)
+  says_end _ end place is = (tt, is)
+
+  end_as_said : (d : Details) (end : Option SourceSpan) → IsNeverOff d → end_of_fixed d end ≡ end
+  end_as_said (details.Diagnostic (report.UnusedVariable name)) end never = absurd never
+  end_as_said (details.Diagnostic (report.UnusedFragment name)) end never = absurd never
+  end_as_said _ end never = refl
+
+  pub ends_among : HasThese (filter_map reported_end rules) set → (place : Option SourceSpan) → IsTrue (is_place_among (end_of place) set) ↔ EndsWithOne rules place
+  ends_among has None = (λ is. absurd (let no : ⊥ = cc in no), λ h. absurd (let together = h.3 in let some : None ≡ Some together.1 = together.3 in let no : ⊥ = cc in no))
   ends_among has (Some place) = (
     λ is.
-        let h = (has_read (λ (e : DiagnosticEntry). end_of e.location) rules set has _).0 is in
-        (h.0, h.1, ends_at h.0.location place h.2),
-    λ (e, stands, together).
+        let h = (has_read reported_end rules set has _).0 is in
+        let says = says_end h.0.details (end_of h.0.location) _ h.2 in
+        (h.0, h.1, says.0, ends_at h.0.location place says.1),
+    λ (e, stands, never, together).
         let (x, y, a, b, files, ends) = together in
-        (has_read (λ (e : DiagnosticEntry). end_of e.location) rules set has _).1 (e, stands, at_ends e.location place x y a b files ends),
+        (has_read reported_end rules set has _).1 (e, stands, end_as_said e.details (end_of e.location) never ∙ at_ends e.location place x y a b files ends),
   )

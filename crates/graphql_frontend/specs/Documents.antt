@@ -13,8 +13,9 @@ use Rattle.graphql_documents.specs.Built.{IsBuilt}
 use Rattle.graphql_documents.specs.declared.documents.executables.ExecutableDocument.{ExecutableDocument}
 use Rattle.graphql_documents.specs.declared.documents.schemas.Schema.{Schema}
 use Rattle.graphql_parser.specs.declared.bounds.Bounds.{Bounds}
-use Rattle.graphql_document_rules.specs.DocumentRules.{DocumentRuleReport, DocumentRulesHold}
+use Rattle.graphql_document_rules.specs.DocumentRules.{DocumentRuleReport, DocumentRulesHold, DocumentRulesHoldBut}
 use Rattle.graphql_document_rules.specs.Documents.{DocumentLimit}
+use Rattle.graphql_document_rules.specs.RuleSets.{IsNeverOff, NamesRuleIn, RuleSet}
 use Rattle.graphql_trees.specs.declared.documents.Document.{Document}
 use Rattle.graphql_building_reports.specs.Checks.{reports_of}
 use Rattle.graphql_building_reports.specs.declared.lists.BuildingReportList.{BuildingReportList}
@@ -60,10 +61,28 @@ pub record EveryRuleHolds (schema : Option Schema) (document : ExecutableDocumen
   pub input_fields : InputFieldsAreUnique document
   pub usages : UsagesAreAllowed schema document
 
+-- the same, except for rules that are off
+pub record EveryRuleHoldsBut (off : RuleSet) (schema : Option Schema) (document : ExecutableDocument) : Type 0 where
+  pub rules : DocumentRulesHoldBut off schema document
+  pub variables : VariableUsesAreDefined document
+  pub input_fields : InputFieldsAreUnique document
+  pub usages : UsagesAreAllowed schema document
+
 -- nothing is among the reports
 abbrev pub ReportsNothing : DocumentReports → Type 0
 ReportsNothing reports =
     (entries reports.rules ≡ []) × (reports.undefined_variables.items ≡ []) × (reports.input_fields.items ≡ []) × (reports.usages.items ≡ [])
+
+-- among the reports are only some of rules that are off
+abbrev pub ReportsOnlyOff : RuleSet → DocumentReports → Type 0
+ReportsOnlyOff off reports =
+    All (λ e. NamesRuleIn off e.details) (entries reports.rules) × (reports.undefined_variables.items ≡ []) × (reports.input_fields.items ≡ []) ×
+    (reports.usages.items ≡ [])
+
+-- each report of the list is of a rule that is off
+abbrev pub IsOnlyOff : RuleSet → Reports → Type 0
+IsOnlyOff off (DocumentRules reports) = ReportsOnlyOff off reports
+IsOnlyOff off _ = ⊥
 
 -- the usage is not allowed, which only a schema tells
 abbrev pub IsMisuseReport : Option Schema → ExecutableDocument → VariableMisuse → Type 0
@@ -85,14 +104,15 @@ IsReportedUndefined rules place =
 abbrev pub EndTogether : Option SourceSpan → Option SourceSpan → Type 0
 EndTogether a b = (x : SourceSpan) × (y : SourceSpan) × (a ≡ Some x) × (b ≡ Some y) × (x.file_id ≡ y.file_id) × (x.end ≡ y.end)
 
--- the place of one of these diagnostics ends where this one does
+-- the place of one of these diagnostics, of a rule that is never off, ends where this one does
 abbrev pub EndsWithOne : List DiagnosticEntry → Option SourceSpan → Type 0
-EndsWithOne rules place = (e : DiagnosticEntry) × Contains rules e × EndTogether e.location place
+EndsWithOne rules place = (e : DiagnosticEntry) × Contains rules e × IsNeverOff e.details × EndTogether e.location place
 
--- each is a report of validation; and where no limit is passed, there is none exactly where its rules hold
+-- each is a report of validation; if no limit is passed, there is none exactly if its rules hold; and if each is of a rule that is off, the others hold
 pub record AreRuleReports (schema : Option Schema) (document : ExecutableDocument) (rules : List DiagnosticEntry) : Type 0 where
   pub each : All (IsDocumentEntry schema document) rules
   pub decides : IsBuiltFor schema document → All (λ e. ¬ IsLimitEntry e) rules → (rules ≡ []) ↔ DocumentRulesHold schema document
+  pub others : IsBuiltFor schema document → (off : RuleSet) → All (λ e. NamesRuleIn off e.details) rules → DocumentRulesHoldBut off schema document
 
 -- the reports of the variables that are used and not defined, which are none exactly if all are defined, without those that validation reports
 pub record AreFurtherUndefined (document : ExecutableDocument) (rules further : List DiagnosticEntry) : Type 0 where
@@ -101,18 +121,21 @@ pub record AreFurtherUndefined (document : ExecutableDocument) (rules further : 
   pub beside : Without (λ e. IsReportedUndefined rules e.location) all further
 
 -- the reports of the usages that are not allowed, which are none exactly if all are allowed, without those that end where a report of validation does
+-- whose rule is never off
 pub record AreFurtherMisuses (schema : Option Schema) (document : ExecutableDocument) (rules : List DiagnosticEntry) (further : List VariableMisuse) : Type 0 where
   pub all : List VariableMisuse
   pub all_are : Reporting (UsagesAreAllowed schema document) (IsMisuseReport schema document) [] all
   pub beside : Without (λ u. EndsWithOne rules u.location) all further
 
--- each list decides its own rule; and if no limit is passed, nothing is reported exactly if every rule holds
+-- each list decides its own rule; if no limit is passed, nothing is reported exactly if every rule holds; and if each report is of a rule that is off,
+-- the others hold
 pub record AreReportsOf (schema : Option Schema) (document : ExecutableDocument) (reports : DocumentReports) : Type 0 where
   pub rules : AreRuleReports schema document (entries reports.rules)
   pub undefined_variables : AreFurtherUndefined document (entries reports.rules) reports.undefined_variables.items
   pub input_fields : Reporting (InputFieldsAreUnique document) (InputFieldReport document) [] reports.input_fields.items
   pub usages : AreFurtherMisuses schema document (entries reports.rules) reports.usages.items
   pub decides : IsBuiltFor schema document → All (λ e. ¬ IsLimitEntry e) (entries reports.rules) → ReportsNothing reports ↔ EveryRuleHolds schema document
+  pub others : IsBuiltFor schema document → (off : RuleSet) → ReportsOnlyOff off reports → EveryRuleHoldsBut off schema document
 
 -- how many bytes of the texts of a document count: 65,536 at least
 abbrev pub counted_bytes : ℕ → ℕ

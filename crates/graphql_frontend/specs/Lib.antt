@@ -10,6 +10,7 @@ pub mod Verdicts
 pub mod Work
 pub use Rattle.graphql_schema_building.specs.SchemaBuilds
 pub use Rattle.graphql_document_rules.specs.DocumentRules
+pub use Rattle.graphql_document_rules.specs.RuleSets
 pub use Rattle.graphql_document_rules.specs.SingleRootField
 pub use Rattle.graphql_input_rules.specs.InputFields
 pub use Rattle.graphql_input_rules.specs.Lists

@@ -23,6 +23,16 @@ abbrev pub end_of : Option SourceSpan → Option SourceSpan
 end_of None = None
 end_of (Some place) = Some (record { file_id = place.file_id; start = place.end; end = place.end })
 
+-- this end, if the details name a rule that is never off
+abbrev pub end_of_fixed : Details → Option SourceSpan → Option SourceSpan
+end_of_fixed (details.Diagnostic (report.UnusedVariable name)) end = None
+end_of_fixed (details.Diagnostic (report.UnusedFragment name)) end = None
+end_of_fixed _ end = end
+
+-- the end of the place of a diagnostic, if its rule is never off
+abbrev pub reported_end : DiagnosticEntry → Option SourceSpan
+reported_end e = end_of_fixed e.details (end_of e.location)
+
 -- whether two places are equal
 abbrev pub same_place : SourceSpan → SourceSpan → Bool
 same_place = equality.ghosts.eq

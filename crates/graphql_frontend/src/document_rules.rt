@@ -14,7 +14,7 @@ ghost use Rattle.graphql_documents.specs.Executables.{operations_of};
 ghost use Rattle.graphql_frontend.specs.Documents.{AreFurtherMisuses, AreFurtherUndefined, AreReportsOf, AreRuleReports, IsDocumentEntry};
 ghost use Rattle.graphql_frontend.specs.RuleReadings.{ReadsRules};
 ghost use Rattle.graphql_frontend.specs.Work.{first_location};
-ghost use Rattle.graphql_frontend.specs.Places.{HasThese, end_of, is_place_among, undefined_place};
+ghost use Rattle.graphql_frontend.specs.Places.{HasThese, end_of, is_place_among, reported_end, undefined_place};
 
 use crate::first_reports::{is_full_of_rules, kept_reports, report_bound};
 use crate::reports::DocumentReports;
@@ -266,8 +266,9 @@ fn is_among(place: Option<SourceSpan>, places: &HashSet<SourceSpan, HashSeed>) -
 }
 
 /// The usages of variables that are not allowed, without those that end where a report of validation does: validation asks it
-/// of variables that are whole arguments, and of types inside lists. They are among the first ones, if there are more than the
-/// bounds keep. Without a schema none is known.
+/// of variables that are whole arguments, and of types inside lists. Reports of unused variables and fragments do not count, because
+/// these rules may be off. The usages are among the first ones, if there are more than the bounds keep. Without a schema none is
+/// known.
 fn further_misuses(
     alloc: Global,
     schema: Option<&Schema>,
@@ -309,18 +310,30 @@ fn misuses_beside(
     Ok(usages)
 }
 
-/// The ends of the places of these diagnostics.
+/// The ends of the places of these diagnostics, except those of rules that may be off.
 fn reported_ends(
     alloc: Global,
     rules: &DiagnosticList,
 ) -> Result<HashSet<SourceSpan, HashSeed>, ValidationError>
-    ensures { IfOk result (λ ends. HasThese (filter_map (λ e. end_of e.location) (entries rules.now)) ends) }
+    ensures { IfOk result (λ ends. HasThese (filter_map reported_end (entries rules.now)) ends) }
 {
     let mut ends = HashSet::with_hasher(alloc, rules.hash_seed());
     for entry in rules.iter().as_slice() {
-        add_place(&mut ends, end_of(entry.location))?;
+        add_place(&mut ends, reported_end(entry))?;
     }
     Ok(ends)
+}
+
+/// The end of the place of the diagnostic, if its rule is never off.
+fn reported_end(entry: &DiagnosticEntry) -> Option<SourceSpan>
+    ensures { result ≡ reported_end entry.now }
+{
+    let end = end_of(entry.location);
+    match &entry.details {
+        Details::Diagnostic(DiagnosticData::UnusedVariable { .. }) => None,
+        Details::Diagnostic(DiagnosticData::UnusedFragment { .. }) => None,
+        _ => end,
+    }
 }
 
 /// Leaves the misuses whose places do not end at one of these.

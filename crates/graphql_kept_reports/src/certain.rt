@@ -42,10 +42,10 @@ fn add_entry(
 ) -> Result<(), ValidationError>
     ensures { OnOk result (KeepsReports (λ e. e ≡ entry.now) (entries certain.old) (entries certain.new)) }
 {
-    let Details::Diagnostic(data) = &entry.details else {
+    let Details::Diagnostic(diagnostic) = &entry.details else {
         return Ok(());
     };
-    match copy_of(alloc, data, knows_all)? {
+    match copy_of(alloc, diagnostic, knows_all)? {
         Some(copy) => certain.push(entry.location, Details::Diagnostic(copy)),
         None => Ok(()),
     }
@@ -54,12 +54,12 @@ fn add_entry(
 /// A copy of what is reported, if it is certain.
 fn copy_of(
     alloc: Global,
-    data: &DiagnosticData,
+    diagnostic: &DiagnosticData,
     knows_all: bool,
 ) -> Result<Option<DiagnosticData>, ValidationError>
-    ensures { IfOk result (λ copy. IfSome copy (λ it. it ≡ data.now)) }
+    ensures { IfOk result (λ copy. IfSome copy (λ it. it ≡ diagnostic.now)) }
 {
-    match data {
+    match diagnostic {
         DiagnosticData::UndefinedVariable { name } => {
             let name = name.clone_in(alloc)?;
             Ok(Some(DiagnosticData::UndefinedVariable { name }))

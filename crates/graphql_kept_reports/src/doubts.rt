@@ -104,16 +104,16 @@ impl Doubts {
         ensures { result ≡ is_doubtful self.now entry.now }
     {
         match &entry.details {
-            Details::Diagnostic(data) => self.has_rule(data),
+            Details::Diagnostic(diagnostic) => self.has_rule(diagnostic),
             Details::Build(error) => self.has_type_name && may_be_of_type_name(error),
             Details::RecursionLimit(_) => false,
         }
     }
 
-    fn has_rule(&self, data: &DiagnosticData) -> bool
-        ensures { result ≡ asks_for_what_is_there self.now data.now }
+    fn has_rule(&self, diagnostic: &DiagnosticData) -> bool
+        ensures { result ≡ asks_for_what_is_there self.now diagnostic.now }
     {
-        match data {
+        match diagnostic {
             DiagnosticData::UnusedVariable { name } => {
                 has_name(&self.left_out, name) || self.has_spread && has_name(&self.used, name)
             }

@@ -26,7 +26,8 @@ use Rattle.graphql_document_checking.specs.Trees.{anonymous_operations_in, as_an
 use Rattle.graphql_frontend.specs.Schemas.{IsUsable}
 use Rattle.graphql_pools.specs.Pools.{Entry}
 use Rattle.graphql_projects.specs.OperationTrees.{Pool, ReachesFragment, fragment_named}
-use Rattle.graphql_projects.specs.Projects.{FileHolds, OperationIsValid}
+use Rattle.graphql_frontend.specs.RuleSets.{RuleSet}
+use Rattle.graphql_projects.specs.Projects.{FileHolds, OperationIsValidBut}
 use Rattle.graphql_projects.proofs.OperationDocumentLemmas.{own, own_fragments}
 use Rattle.graphql_projects.proofs.SaidDefinitionLemmas.{found_entry, one_found, operation_is_said, operation_says}
 use Rattle.graphql_projects.proofs.SaidReachLemmas.{SaysIfAny, fragment_said, tree_spread_is_reached, zip_first, zip_second}
@@ -113,10 +114,10 @@ module _ (s : Schema) (pool : Pool) (d : ExecutableDocument) (all_said : (name :
     (own_names : HasOwnNames pool) (distinct : AreDistinct (map name_of pool))
     (tree : Document) (file : ExecutableDocument) (says : DocumentSays (Some s) tree file)
     (within : (p : NameText × FragmentDefinition) → Contains (fragments_in tree.definitions) p → Contains pool p) where
-  pub operations_are_valid : IsUsable s → All (OperationPasses s d) (operations_of file) → All (OperationIsValid s pool) (operations_in tree.definitions)
-  operations_are_valid usable pass = each_standing (OperationIsValid s pool) (operations_in tree.definitions) (λ x c.
+  pub operations_are_valid : (off : RuleSet) → IsUsable s → All (OperationPasses off s d) (operations_of file) → All (OperationIsValidBut off s pool) (operations_in tree.definitions)
+  operations_are_valid off usable pass = each_standing (OperationIsValidBut off s pool) (operations_in tree.definitions) (λ x c.
       let o = operation_says (Some s) tree file says x c in
-      let passes = All-contains (OperationPasses s d) (operations_of file) o.0 pass o.1 in
+      let passes = All-contains (OperationPasses off s d) (operations_of file) o.0 pass o.1 in
       let of_tree = document_is_of_tree (Some s) pool d all_said own_names x o.0 o.2 passes.0 passes.1 passes.2.0 passes.2.1 in
       let built = document_is_built s of_tree.0 passes.2.0 of_tree.2 usable.names usable.output_fields in
       (of_tree.0, passes.2.0, of_tree.1, of_tree.2, passes.2.2 built))
@@ -136,7 +137,7 @@ module _ (s : Schema) (pool : Pool) (d : ExecutableDocument) (all_said : (name :
         All-cons (λ b. Any (λ x. ReachesFragment pool x b) (operations_in tree.definitions)) f.0 rest.0 (x.1.0, x.0, x.1.1, x.1.2, f.2) rest.2,
       )
 
-  module _ (passes : FilePasses s d file) where
+  module _ (off : RuleSet) (passes : FilePasses off s d file) where
     borrowed : (bs : List FragmentDefinition) × AllZip (SaysUnderName (FragmentSays (Some s))) (map own bs) passes.borrows.added ×
         All (λ b. Any (λ x. ReachesFragment pool x b) (operations_in tree.definitions)) bs
     borrowed = borrowed_trees_of_all passes.borrows.added passes.borrows.each

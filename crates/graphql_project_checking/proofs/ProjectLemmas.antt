@@ -1,6 +1,6 @@
 -- From what holds of each file, to what holds of all files together. Specification: 5 Validation.
 use Rattle.std.proofs.Common.{◌≡◌, ◌∙◌, zero, suc, ◌+◌, Bool, true, false, List, [], ◌∷◌, ◌++◌, Some, arith, length, map, ap, inl, inr, refl, sym, subst}
-use Rattle.std.specs.Prelude.{◌⊎◌, All, AllPairs, Any, Contains, filter, flat_map, not}
+use Rattle.std.specs.Prelude.{◌⊎◌, All, AllPairs, Any, Contains, IsFalse, filter, flat_map, not}
 use Rattle.std.specs.List.{AllZip}
 use Rattle.std.proofs.lemmas.List.{append_assoc, get_or-append-add, get_or_append_left, length-append, map-append}
 use Rattle.std.proofs.lemmas.List.Elements.{All-append, All-contains, All-weaker, Contains-append_cases, Contains-append_left}
@@ -17,12 +17,14 @@ use Rattle.graphql_trees.specs.declared.executable.FragmentDefinition.{FragmentD
 use Rattle.graphql_document_checking.specs.BuildingRules.{DefinitionBuilds, DocumentBuilds}
 use Rattle.graphql_document_checking.specs.Documents.{DocumentSays, FragmentSays, SaysUnderName}
 use Rattle.graphql_document_checking.specs.Trees.{fragments_in, operations_in}
+use Rattle.graphql_frontend.proofs.RuleSetLemmas.{none_is_off}
+use Rattle.graphql_frontend.specs.RuleSets.{RuleSet, nothing_off}
 use Rattle.graphql_frontend.specs.Schemas.{IsUsable}
 use Rattle.graphql_frontend.specs.declared.texts.SourceText.{SourceText}
 use Rattle.graphql_parser.specs.declared.bounds.Bounds.{Bounds}
 use Rattle.graphql_pools.specs.Pools.{Entry, Gathers, SameEntry, entries_among}
 use Rattle.graphql_projects.specs.OperationTrees.{Pool, ReachesFragment, fragment_named, fragments_among}
-use Rattle.graphql_projects.specs.Projects.{FileHolds, OperationIsValid, ProjectHolds, ReadFiles, operations_among}
+use Rattle.graphql_projects.specs.Projects.{FileHolds, OperationIsValid, OperationIsValidBut, ProjectHolds, ProjectHoldsBut, ReadFiles, operations_among}
 use Rattle.graphql_projects.proofs.SaidDefinitionLemmas.{one_found, operation_is_said, own_names}
 use Rattle.graphql_projects.proofs.SaidReachLemmas.{SaysIfAny, names_say, zip_first, zip_second}
 use Rattle.graphql_project_checking.proofs.FileLemmas.{distinct_is_found, file_holds, operations_are_valid, zip_append}
@@ -151,23 +153,23 @@ module _ (s : Schema) where
 
 -- ==== all files
 
-pub files_hold : (s : Schema) (own lent : List Document) (files : List ExecutableDocument) (pool : ExecutableDocument) (used : List NameText) → IsUsable s →
+pub files_hold : (off : RuleSet) (s : Schema) (own lent : List Document) (files : List ExecutableDocument) (pool : ExecutableDocument) (used : List NameText) → IsUsable s →
     All (DocumentBuilds (Some s)) own → AllZip (DocumentSays (Some s)) own files →
     AllZip (SaysUnderName (FragmentSays (Some s))) (fragments_among (own ++ lent)) pool.fragments.entries →
-    AreDistinct (map name_of (fragments_among (own ++ lent))) → All (FilePasses s pool) files → NotesUses pool (flat_map operations_of files) [] used →
-    All (λ p. IsNamedIn used p.0) (fragments_among own) → FilesHold s own lent
-files_hold s own lent files pool used usable build say pool_said distinct pass notes named = record {
+    AreDistinct (map name_of (fragments_among (own ++ lent))) → All (FilePasses off s pool) files → NotesUses pool (flat_map operations_of files) [] used →
+    (IsFalse off.unused_fragments → All (λ p. IsNamedIn used p.0) (fragments_among own)) → FilesHold off s own lent
+files_hold off s own lent files pool used usable build say pool_said distinct pass notes named = record {
   files = each_standing (FileHolds s (fragments_among (own ++ lent))) own (λ t c.
       let f = zip_second (DocumentSays (Some s)) own files t say c in
-      file_holds s (fragments_among (own ++ lent)) pool all_said own_named distinct t f.0 f.2 (within t c) (All-contains (FilePasses s pool) files f.0 pass f.1)
+      file_holds s (fragments_among (own ++ lent)) pool all_said own_named distinct t f.0 f.2 (within t c) off (All-contains (FilePasses off s pool) files f.0 pass f.1)
       (All-contains (DocumentBuilds (Some s)) own t build c));
-  operations = each_standing (OperationIsValid s (fragments_among (own ++ lent))) (operations_among own) (λ x c.
+  operations = each_standing (OperationIsValidBut off s (fragments_among (own ++ lent))) (operations_among own) (λ x c.
       let t = made_flat (λ (t : Document). operations_in t.definitions) own x c in
       let f = zip_second (DocumentSays (Some s)) own files t.0 say t.1 in
-      All-contains (OperationIsValid s (fragments_among (own ++ lent))) (operations_in t.0.definitions) x
-      (operations_are_valid s (fragments_among (own ++ lent)) pool all_said own_named distinct t.0 f.0 f.2 (within t.0 t.1) usable (All-contains (FilePasses s pool) files f.0 pass f.1).operations) t.2);
-  used = each_standing (λ p. Any (λ x. ReachesFragment (fragments_among (own ++ lent)) x p.1) (operations_among own)) (fragments_among own) (λ p c.
-      let name = All-contains (λ p. IsNamedIn used p.0) (fragments_among own) p named c in
+      All-contains (OperationIsValidBut off s (fragments_among (own ++ lent))) (operations_in t.0.definitions) x
+      (operations_are_valid s (fragments_among (own ++ lent)) pool all_said own_named distinct t.0 f.0 f.2 (within t.0 t.1) off usable (All-contains (FilePasses off s pool) files f.0 pass f.1).operations) t.2);
+  used = λ on. each_standing (λ p. Any (λ x. ReachesFragment (fragments_among (own ++ lent)) x p.1) (operations_among own)) (fragments_among own) (λ p c.
+      let name = All-contains (λ p. IsNamedIn used p.0) (fragments_among own) p (named on) c in
       is_used p c name.0 name.2 (notes name.0 name.1));
 }
   where
@@ -200,10 +202,10 @@ files_hold s own lent files pool used usable build say pool_said distinct pass n
 
 -- ==== the project
 
-pub project_holds : (bounds : Bounds) (s : Schema) (sources lent_sources : List SourceText) (own lent_trees : List Document) (lent : Lent) →
+pub project_holds : (off : RuleSet) (bounds : Bounds) (s : Schema) (sources lent_sources : List SourceText) (own lent_trees : List Document) (lent : Lent) →
     ReadFiles bounds sources own → ReadFiles bounds lent_sources lent_trees → AreDistinct (map name_of (fragments_among (own ++ lent_trees))) →
-    All (DocumentBuilds (Some s)) own → BuildAsLent s lent_trees lent → FilesHold s own lent.documents.items → ProjectHolds bounds s sources lent_sources
-project_holds bounds s sources lent_sources own lent_trees lent are lent_are distinct build lent_build hold =
+    All (DocumentBuilds (Some s)) own → BuildAsLent s lent_trees lent → FilesHold off s own lent.documents.items → ProjectHoldsBut off bounds s sources lent_sources
+project_holds off bounds s sources lent_sources own lent_trees lent are lent_are distinct build lent_build hold =
     let same = same_pool own lent_trees lent.documents.items lent_build.fragments in
     record {
       trees = own;
@@ -215,6 +217,23 @@ project_holds bounds s sources lent_sources own lent_trees lent are lent_are dis
           (lent_definitions_build s lent_trees lent lent_build);
       fragment_names = distinct;
       files = subst (λ (l : Pool). All (FileHolds s l) own) same hold.files;
-      operations = subst (λ (l : Pool). All (OperationIsValid s l) (operations_among own)) same hold.operations;
-      used = subst (λ (l : Pool). All (λ p. Any (λ x. ReachesFragment l x p.1) (operations_among own)) (fragments_among own)) same hold.used;
+      operations = subst (λ (l : Pool). All (OperationIsValidBut off s l) (operations_among own)) same hold.operations;
+      used = λ on. subst (λ (l : Pool). All (λ p. Any (λ x. ReachesFragment l x p.1) (operations_among own)) (fragments_among own)) same (hold.used on);
     }
+
+-- if no rule is off, every rule holds
+pub whole_project_holds : (bounds : Bounds) (s : Schema) (sources lent : List SourceText) → ProjectHoldsBut nothing_off bounds s sources lent → ProjectHolds bounds s sources lent
+whole_project_holds bounds s sources lent hold = record {
+  trees = hold.trees;
+  lent_trees = hold.lent_trees;
+  are = hold.are;
+  lent_are = hold.lent_are;
+  build = hold.build;
+  fragment_names = hold.fragment_names;
+  files = hold.files;
+  operations = All-weaker (OperationIsValidBut nothing_off s pool) (OperationIsValid s pool)
+      (λ x (whole, document, tree, says, holds). (whole, document, tree, says, (none_is_off (Some s) document).0 holds)) (operations_among hold.trees) hold.operations;
+  used = hold.used refl;
+} where
+  pool : Pool
+  pool = fragments_among (hold.trees ++ hold.lent_trees)

@@ -22,9 +22,9 @@ use Rattle.graphql_projects.proofs.ReachLemmas.{nodes_next}
 use Rattle.graphql_projects.specs.Reach.{nodes_at}
 use Rattle.graphql_projects.specs.Reached.{IsReachedFrom, IsSpreadFrom, ReachesNames}
 use Rattle.graphql_project_checking.proofs.OperationLemmas.{is_there}
-use Rattle.graphql_project_checking.proofs.SilenceLemmas.{silent_then}
+use Rattle.graphql_project_checking.proofs.SilenceLemmas.{quiet_then}
 use Rattle.graphql_pools.specs.Uses.{NotesNames}
-use Rattle.graphql_project_checking.specs.Silence.{BorrowsForAll, FilePasses, IsReachedByOne, IsUsedName, NotesUses, OperationPasses, SilentOnlyIf}
+use Rattle.graphql_project_checking.specs.Silence.{BorrowsForAll, FilePasses, IsReachedByOne, IsUsedName, NotesUses, OperationPasses, QuietOnlyIf}
 
 -- ==== what is found stays
 
@@ -141,19 +141,20 @@ module _ (pool : ExecutableDocument) where
 
   module _ (s : Schema) where
     pub passes_more : (all : List (Bor (Node Operation))) (i : ℕ) (x : Bor (Node Operation)) (old mid new : List Reports) → i < length all → x ≡ get_or all i x →
-        SilentOnlyIf old mid (All (OperationPasses s pool) (nodes_at (take i all))) → SilentOnlyIf mid new (OperationPasses s pool x.now) →
-        SilentOnlyIf old new (All (OperationPasses s pool) (nodes_at (take (i + 1) all)))
+        QuietOnlyIf old mid (λ off. All (OperationPasses off s pool) (nodes_at (take i all))) → QuietOnlyIf mid new (λ off. OperationPasses off s pool x.now) →
+        QuietOnlyIf old new (λ off. All (OperationPasses off s pool) (nodes_at (take (i + 1) all)))
     passes_more all i x old mid new within is first rest =
-        silent_then old mid new (All (OperationPasses s pool) (nodes_at (take i all))) (OperationPasses s pool x.now) (All (OperationPasses s pool) (nodes_at (take (i + 1) all)))
-        (λ a b. subst (All (OperationPasses s pool)) (sym (nodes_next all i x within is))
-        (All-append (OperationPasses s pool) (nodes_at (take i all)) (x.now ∷ []) a (All-cons (OperationPasses s pool) x.now [] b (All-nil (OperationPasses s pool))))) first rest
+        quiet_then old mid new (λ off. All (OperationPasses off s pool) (nodes_at (take i all))) (λ off. OperationPasses off s pool x.now)
+        (λ off. All (OperationPasses off s pool) (nodes_at (take (i + 1) all)))
+        (λ off a b. subst (All (OperationPasses off s pool)) (sym (nodes_next all i x within is))
+        (All-append (OperationPasses off s pool) (nodes_at (take i all)) (x.now ∷ []) a (All-cons (OperationPasses off s pool) x.now [] b (All-nil (OperationPasses off s pool))))) first rest
 
     -- one more file
-    pub files_more : (done : List ExecutableDocument) (x : ExecutableDocument) (old mid new : List Reports) → SilentOnlyIf old mid (All (FilePasses s pool) done) →
-        SilentOnlyIf mid new (FilePasses s pool x) → SilentOnlyIf old new (All (FilePasses s pool) (done ++ x ∷ []))
+    pub files_more : (done : List ExecutableDocument) (x : ExecutableDocument) (old mid new : List Reports) → QuietOnlyIf old mid (λ off. All (FilePasses off s pool) done) →
+        QuietOnlyIf mid new (λ off. FilePasses off s pool x) → QuietOnlyIf old new (λ off. All (FilePasses off s pool) (done ++ x ∷ []))
     files_more done x old mid new first rest =
-        silent_then old mid new (All (FilePasses s pool) done) (FilePasses s pool x) (All (FilePasses s pool) (done ++ x ∷ []))
-        (λ a b. All-append (FilePasses s pool) done (x ∷ []) a (All-cons (FilePasses s pool) x [] b (All-nil (FilePasses s pool)))) first rest
+        quiet_then old mid new (λ off. All (FilePasses off s pool) done) (λ off. FilePasses off s pool x) (λ off. All (FilePasses off s pool) (done ++ x ∷ []))
+        (λ off a b. All-append (FilePasses off s pool) done (x ∷ []) a (All-cons (FilePasses off s pool) x [] b (All-nil (FilePasses off s pool)))) first rest
 
   pub flat_last : (done : List ExecutableDocument) (x : ExecutableDocument) → flat_map operations_of (done ++ x ∷ []) ≡ flat_map operations_of done ++ operations_of x
   flat_last [] x = append-nil (operations_of x)

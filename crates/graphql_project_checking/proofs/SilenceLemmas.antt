@@ -1,13 +1,25 @@
 -- What follows where nothing is reported.
-use Rattle.std.proofs.Common.{rules, ◌≡◌, ◌∙◌, List, [], ◌∷◌, ◌++◌, Ok, Err, Result, sym, subst}
+use Rattle.std.proofs.Common.{rules, ap, refl, ◌≡◌, ◌∙◌, List, [], ◌∷◌, ◌++◌, Ok, Some, Err, Result, sym, subst}
 use Rattle.std.specs.Prelude.{◌==◌, All, Bool, Vec, true, IfOk, IsOk, MatchResult, OnOk}
 use Rattle.std.specs.Vec.{vec_len}
 use Rattle.std.specs.declared.alloc.Global.{Global}
-use Rattle.std.proofs.lemmas.List.{nil_from_length}
-use Rattle.std.proofs.lemmas.List.Elements.{All-nil}
+use Rattle.std.proofs.lemmas.List.{append-nil, nil_from_length}
+use Rattle.std.proofs.lemmas.List.Elements.{All-head, All-nil}
 use Rattle.graphql_diagnostics.specs.Reports.{KeepsReports, Reports as Reporting, ReportsWithin}
+use Rattle.graphql_building_reports.specs.declared.lists.BuildingReport.{BuildingReport}
+use Rattle.graphql_document_checking.specs.DocumentReports.{DocumentBuildingReport}
+use Rattle.graphql_documents.specs.declared.documents.schemas.Schema.{Schema}
 use Rattle.graphql_frontend.specs.declared.reports.Reports.{Reports}
-use Rattle.graphql_project_checking.specs.Silence.{SilentOnlyIf}
+use Rattle.graphql_frontend.specs.declared.reports.Reports.TheVariants.{Building, FirstBuilding, Syntax}
+use Rattle.graphql_frontend.specs.declared.texts.SourceText.{SourceText}
+use Rattle.graphql_parser.specs.declared.bounds.Bounds.{Bounds}
+use Rattle.graphql_project_checking.specs.Truth.{AreErrorsOf, AreOfBuilding, AreOfOneDocument}
+use Rattle.graphql_trees.specs.declared.documents.Document.{Document}
+use Rattle.graphql_diagnostics.specs.declared.lists.DiagnosticEntry.{DiagnosticEntry}
+use Rattle.graphql_documents.proofs.ListLemmas.{All-append_left, All-append_right}
+use Rattle.graphql_frontend.specs.Documents.{IsOnlyOff}
+use Rattle.graphql_frontend.specs.RuleSets.{NamesRuleIn, RuleSet}
+use Rattle.graphql_project_checking.specs.Silence.{QuietOnlyIf, SilentOnlyIf}
 
 -- what follows for what is answered
 pub on_ok : {T E : Type 0} (P Q : Type 0) → (P → Q) → (r : Result T E) → OnOk r P → OnOk r Q
@@ -41,6 +53,74 @@ silent_then old mid new H K L f first rest none =
     let b = rest none in
     let a = first b.0 in
     (a.0, f a.1 b.1)
+
+-- ==== if all reports are of rules that are off
+
+-- nothing is added
+pub stays_quiet : (old : List Reports) (H : RuleSet → Type 0) → ((off : RuleSet) → H off) → QuietOnlyIf old old H
+stays_quiet old H h off all = (all, h off)
+
+-- something is added
+pub quiet_one : (old new : List Reports) (x : Reports) (H : RuleSet → Type 0) → new ≡ old ++ x ∷ [] → ((off : RuleSet) → IsOnlyOff off x → H off) → QuietOnlyIf old new H
+quiet_one old new x H grown h off all =
+    let parts = subst (All (IsOnlyOff off)) grown all in (
+      All-append_left (IsOnlyOff off) old (x ∷ []) parts,
+      h off (All-head (IsOnlyOff off) x [] (All-append_right (IsOnlyOff off) old (x ∷ []) parts)),
+    )
+
+pub is_not_quiet : (old new : List Reports) (x : Reports) → new ≡ old ++ x ∷ [] → ((off : RuleSet) → ¬ IsOnlyOff off x) → (off : RuleSet) → ¬ All (IsOnlyOff off) new
+is_not_quiet old new x grown no off all = (quiet_one old new x (λ off. ⊥) grown no off all).1
+
+pub never_quiet : (old new : List Reports) (H : RuleSet → Type 0) → ((off : RuleSet) → ¬ All (IsOnlyOff off) new) → QuietOnlyIf old new H
+never_quiet old new H no off all = absurd (no off all)
+
+pub quiet_so : (old new : List Reports) (H K : RuleSet → Type 0) → ((off : RuleSet) → H off → K off) → QuietOnlyIf old new H → QuietOnlyIf old new K
+quiet_so old new H K f quiet off all = let a = quiet off all in (a.0, f off a.1)
+
+pub quiet_then : (old mid new : List Reports) (H K L : RuleSet → Type 0) → ((off : RuleSet) → H off → K off → L off) → QuietOnlyIf old mid H → QuietOnlyIf mid new K → QuietOnlyIf old new L
+quiet_then old mid new H K L f first rest off all =
+    let b = rest off all in
+    let a = first off b.0 in
+    (a.0, f off a.1 b.1)
+
+-- lists that are never of rules that are off: then none was added
+pub none_was_added : (Q : Reports → Type 0) (old new : List Reports) → KeepsReports Q old new → (off : RuleSet) → ((r : Reports) → Q r → ¬ IsOnlyOff off r) →
+    All (IsOnlyOff off) new → (new ≡ old) × All (IsOnlyOff off) old
+none_was_added Q old new kept off never all =
+    let parts = subst (All (IsOnlyOff off)) kept.appended all in
+    let none : kept.added ≡ [] = nothing kept.added kept.each (All-append_right (IsOnlyOff off) old kept.added parts) in
+    (kept.appended ∙ ap (λ l. old ++ l) none ∙ append-nil old, All-append_left (IsOnlyOff off) old kept.added parts)
+  where
+    nothing : (added : List Reports) → All Q added → All (IsOnlyOff off) added → added ≡ []
+    nothing [] each offs = refl
+    nothing (x ∷ xs) each offs = absurd (never x (All-head Q x xs each) (All-head (IsOnlyOff off) x xs offs))
+
+-- errors of texts, and what keeps documents from being built, are never off
+pub errors_are_not_off : (bounds : Bounds) (sources : List SourceText) (off : RuleSet) (r : Reports) → AreErrorsOf bounds sources r → ¬ IsOnlyOff off r
+errors_are_not_off bounds sources off (Syntax errors) are only = only
+errors_are_not_off bounds sources off _ are only = are
+
+pub rules_of_building_are_not_off : (P : BuildingReport → Type 0) (off : RuleSet) (r : Reports) → AreOfBuilding P r → ¬ IsOnlyOff off r
+rules_of_building_are_not_off P off (Building list) are only = only
+rules_of_building_are_not_off P off (FirstBuilding list) are only = only
+rules_of_building_are_not_off P off _ are only = are
+
+pub building_is_not_off : (s : Schema) (off : RuleSet) {trees : List Document} {old new : List Reports} → KeepsReports (AreOfOneDocument s trees) old new →
+    All (IsOnlyOff off) new → (new ≡ old) × All (IsOnlyOff off) old
+building_is_not_off s off {trees} {old} {new} kept all =
+    none_was_added (AreOfOneDocument s trees) old new kept off (λ r are. rules_of_building_are_not_off (DocumentBuildingReport (Some s) are.0) off r are.2) all
+
+-- what was there, if more was added
+pub part_of_off : (off : RuleSet) {old new added : List Reports} → new ≡ old ++ added → All (IsOnlyOff off) new → All (IsOnlyOff off) old
+part_of_off off {old} {new} {added} grown all = All-append_left (IsOnlyOff off) old added (subst (All (IsOnlyOff off)) grown all)
+
+-- diagnostics that are never of rules that are off
+pub no_entry : (Q : DiagnosticEntry → Type 0) (off : RuleSet) → ((e : DiagnosticEntry) → Q e → ¬ NamesRuleIn off e.details) → (list : List DiagnosticEntry) →
+    All Q list → All (λ e. NamesRuleIn off e.details) list → list ≡ []
+no_entry Q off never [] each offs = refl
+no_entry Q off never (e ∷ rest) each offs = absurd (never e (All-head Q e rest each) (All-head (λ x. NamesRuleIn off x.details) e rest offs))
+
+-- ==== checks
 
 -- where a check answers, and its list began empty and is empty, its rule holds
 module _ {Entry : Type 0} where

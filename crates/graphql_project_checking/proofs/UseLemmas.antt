@@ -1,8 +1,9 @@
 -- What one more fragment adds to what is reported of uses.
 use Rattle.std.proofs.Common.{◌≡◌, ◌∙◌, ℕ, ◌+◌, ◌<◌, List, [], ◌∷◌, ◌++◌, length, get_or, take, subst, sym}
-use Rattle.std.specs.Prelude.{All}
+use Rattle.std.specs.Prelude.{All, IsFalse, IsTrue}
 use Rattle.std.proofs.lemmas.List.Elements.{All-append, All-cons, All-nil}
 use Rattle.graphql_diagnostics.specs.declared.lists.DiagnosticEntry.{DiagnosticEntry}
+use Rattle.graphql_frontend.specs.RuleSets.{NamesRuleIn, RuleSet}
 use Rattle.graphql_frontend.specs.declared.reports.Reports.{Reports}
 use Rattle.graphql_nodes.specs.Names.{NameText}
 use Rattle.graphql_document_checking.specs.Trees.{fragments_in}
@@ -12,11 +13,24 @@ use Rattle.graphql_trees.specs.declared.documents.Document.{Document}
 use Rattle.graphql_trees.specs.declared.executable.FragmentDefinition.{FragmentDefinition}
 use Rattle.graphql_variables.specs.Uses.{IsNamedIn}
 use Rattle.graphql_project_checking.proofs.BuildingLemmas.{flat_more, fragments_more}
-use Rattle.graphql_project_checking.proofs.SilenceLemmas.{not_nil, silent_then}
-use Rattle.graphql_project_checking.specs.Silence.{ReportsUnused, SilentOnlyIf}
+use Rattle.graphql_project_checking.proofs.SilenceLemmas.{not_nil, quiet_then}
+use Rattle.graphql_project_checking.specs.Silence.{QuietOnlyIf, ReportsUnused}
+use Rattle.graphql_project_checking.specs.Truth.{IsUnnamedEntry}
 
 abbrev pub IsUsed : List NameText → NameText × FragmentDefinition → Type 0
 IsUsed used p = IsNamedIn used p.0
+
+-- each of these fragments is used, unless the rule is off
+abbrev pub UsedUnlessOff : List NameText → Pool → RuleSet → Type 0
+UsedUnlessOff used fragments off = IsFalse off.unused_fragments → All (IsUsed used) fragments
+
+-- of an unused fragment is reported what is not off
+pub unused_is_not_off : (off : RuleSet) → IsFalse off.unused_fragments → (used : List NameText) (fragments : Pool) (e : DiagnosticEntry) → IsUnnamedEntry used fragments e →
+    ¬ NamesRuleIn off e.details
+unused_is_not_off off on used fragments e (p, stands, unnamed, is) named =
+    let named' : IsTrue off.unused_fragments = subst (λ (x : DiagnosticEntry). NamesRuleIn off x.details) is named in
+    let no : ⊥ = cc in
+    no
 
 pub unused_none : (used : List NameText) (old : List DiagnosticEntry) → ReportsUnused used [] old old
 unused_none used old none = (none, All-nil (IsUsed used))
@@ -40,10 +54,10 @@ unused_more used ds i d old mid new within is first rest =
     subst (λ l. ReportsUnused used l old new) (sym (fragments_more ds i d within is)) (unused_then used (fragments_in (take i ds)) (fragments_in (d ∷ [])) old mid new first rest)
 
 pub used_more : (used : List NameText) (documents : List Document) (i : ℕ) (document : Document) (old mid new : List Reports) → i < length documents →
-    document ≡ get_or documents i document → SilentOnlyIf old mid (All (λ p. IsNamedIn used p.0) (fragments_among (take i documents))) →
-    SilentOnlyIf mid new (All (λ p. IsNamedIn used p.0) (fragments_in document.definitions)) → SilentOnlyIf old new (All (λ p. IsNamedIn used p.0) (fragments_among (take (i + 1) documents)))
+    document ≡ get_or documents i document → QuietOnlyIf old mid (UsedUnlessOff used (fragments_among (take i documents))) →
+    QuietOnlyIf mid new (UsedUnlessOff used (fragments_in document.definitions)) → QuietOnlyIf old new (UsedUnlessOff used (fragments_among (take (i + 1) documents)))
 used_more used documents i document old mid new within is first rest =
-    silent_then old mid new (All (IsUsed used) (fragments_among (take i documents))) (All (IsUsed used) (fragments_in document.definitions))
-    (All (IsUsed used) (fragments_among (take (i + 1) documents)))
-    (λ a b. subst (All (IsUsed used)) (sym (flat_more (λ (t : Document). fragments_in t.definitions) documents i document within is))
-    (All-append (IsUsed used) (fragments_among (take i documents)) (fragments_in document.definitions) a b)) first rest
+    quiet_then old mid new (UsedUnlessOff used (fragments_among (take i documents))) (UsedUnlessOff used (fragments_in document.definitions))
+    (UsedUnlessOff used (fragments_among (take (i + 1) documents)))
+    (λ off a b on. subst (All (IsUsed used)) (sym (flat_more (λ (t : Document). fragments_in t.definitions) documents i document within is))
+    (All-append (IsUsed used) (fragments_among (take i documents)) (fragments_in document.definitions) (a on) (b on))) first rest

@@ -1,5 +1,5 @@
 -- What follows where nothing is reported, for the contracts of what is checked here. Specification: 5 Validation.
-use Rattle.std.specs.Prelude.{◌≡◌, ◌⊎◌, Bool, true, false, List, [], ◌∷◌, ◌++◌, None, Option, Some, All, Any, Contains, IsSome, filter, not, option_to_list}
+use Rattle.std.specs.Prelude.{◌≡◌, ◌⊎◌, Bool, true, false, List, [], ◌∷◌, ◌++◌, None, Option, Some, All, Any, Contains, IsFalse, IsSome, filter, not, option_to_list}
 use Rattle.std.specs.List.{AllZip}
 use Rattle.std.specs.Map.{lookup}
 use Rattle.indexmap.specs.IndexMap.{IsUnique, values}
@@ -13,7 +13,8 @@ use Rattle.graphql_documents.specs.declared.documents.executables.Fragment.{Frag
 use Rattle.graphql_documents.specs.declared.documents.executables.Operation.{Operation}
 use Rattle.graphql_documents.specs.declared.documents.executables.OperationMap.{OperationMap}
 use Rattle.graphql_documents.specs.declared.documents.schemas.Schema.{Schema}
-use Rattle.graphql_frontend.specs.Documents.{EveryRuleHolds, IsBuiltFor}
+use Rattle.graphql_frontend.specs.Documents.{EveryRuleHoldsBut, IsBuiltFor, IsOnlyOff}
+use Rattle.graphql_frontend.specs.RuleSets.{RuleSet}
 use Rattle.graphql_frontend.specs.declared.reports.Reports.{Reports}
 use Rattle.graphql_frontend.specs.InputFields.{InputFieldsAreUnique}
 use Rattle.graphql_frontend.specs.declared.texts.SourceText.{SourceText}
@@ -24,7 +25,7 @@ use Rattle.graphql_pools.specs.Pools.{Entry, IsOperationDocument}
 use Rattle.graphql_projects.specs.Reached.{IsReachedFrom, IsSpreadFrom, ReachesNames}
 use Rattle.graphql_project_checking.specs.declared.building.Lent.{Lent}
 use Rattle.graphql_projects.specs.OperationTrees.{Pool, ReachesFragment, fragments_among}
-use Rattle.graphql_projects.specs.Projects.{FileHolds, OperationIsValid, operations_among}
+use Rattle.graphql_projects.specs.Projects.{FileHolds, OperationIsValidBut, operations_among}
 use Rattle.graphql_projects.specs.Defer.{LabelsHold}
 use Rattle.graphql_projects.specs.Lexical.{AreTokens}
 use Rattle.graphql_trees.specs.declared.documents.Definition.TheVariants as definition
@@ -35,6 +36,10 @@ use Rattle.graphql_variables.specs.Uses.{IsNamedIn}
 -- where nothing is reported afterwards, nothing was before, and this holds
 abbrev pub SilentOnlyIf : List Reports → List Reports → Type 0 → Type 0
 SilentOnlyIf old new Holds = new ≡ [] → (old ≡ []) × Holds
+
+-- if each report afterwards is of a rule that is off, each was before, and this holds, which depends on what is off
+abbrev pub QuietOnlyIf : List Reports → List Reports → (RuleSet → Type 0) → Type 0
+QuietOnlyIf old new Holds = (off : RuleSet) → All (IsOnlyOff off) new → All (IsOnlyOff off) old × Holds off
 
 -- the second texts are the first without some that have no token
 pub data LeavesOutEmpty : List SourceText → List SourceText → Type 0 where
@@ -48,15 +53,15 @@ pub data AddsIfToken (source : SourceText) (old new : List SourceText) : Type 0 
   has_none : AreTokens source.text.now [] → new ≡ old → AddsIfToken source old new
   is_added : new ≡ old ++ source ∷ [] → AddsIfToken source old new
 
--- the document of the operation with the fragments of these names is one of which every rule holds, if it is built against the schema
-abbrev pub HoldsWith : Schema → ExecutableDocument → Node Operation → List NameText → Type 0
-HoldsWith schema pool o names =
-    (document : ExecutableDocument) × IsOperationDocument pool o names document × (IsBuiltFor (Some schema) document → EveryRuleHolds (Some schema) document)
+-- the rules that are not off hold of the document of the operation with the fragments of these names, if it is built against the schema
+abbrev pub HoldsWith : RuleSet → Schema → ExecutableDocument → Node Operation → List NameText → Type 0
+HoldsWith off schema pool o names =
+    (document : ExecutableDocument) × IsOperationDocument pool o names document × (IsBuiltFor (Some schema) document → EveryRuleHoldsBut off (Some schema) document)
 
 -- and the names are those of the fragments that it reaches in the pool
-abbrev pub OperationPasses : Schema → ExecutableDocument → Node Operation → Type 0
-OperationPasses schema pool o =
-    (names : List NameText) × ReachesNames (fragments_of pool) o.value.value.selection_set names × HoldsWith schema pool o names
+abbrev pub OperationPasses : RuleSet → Schema → ExecutableDocument → Node Operation → Type 0
+OperationPasses off schema pool o =
+    (names : List NameText) × ReachesNames (fragments_of pool) o.value.value.selection_set names × HoldsWith off schema pool o names
 
 -- the fragment is one that one of the operations reaches in the pool, under its own name
 pub record IsReachedByOne (pool : ExecutableDocument) (operations : List (Node Operation)) (e : Entry) : Type 0 where
@@ -81,10 +86,10 @@ pub record BorrowsForAll (pool : ExecutableDocument) (operations : List (Node Op
 abbrev pub operations_in_map : OperationMap → List (Node Operation)
 operations_in_map operations = option_to_list operations.anonymous ++ values operations.named
 
--- every rule that is asked of an operation holds of each operation of the file, and those that are asked of its definitions together hold of the document
+-- each rule of an operation that is not off holds of each operation of the file, and those of its definitions together hold of the document
 -- with them, and with the fragments that its operations reach in the pool
-pub record FilePasses (schema : Schema) (pool file : ExecutableDocument) : Type 0 where
-  pub operations : All (OperationPasses schema pool) (operations_of file)
+pub record FilePasses (off : RuleSet) (schema : Schema) (pool file : ExecutableDocument) : Type 0 where
+  pub operations : All (OperationPasses off schema pool) (operations_of file)
   pub whole : ExecutableDocument
   pub same_operations : whole.operations ≡ file.operations
   pub borrows : BorrowsForAll pool (operations_of file) file.fragments.entries whole.fragments.entries
@@ -136,11 +141,11 @@ pub record BuildAsLent (schema : Schema) (trees : List Document) (lent : Lent) :
   pub fragments : AllZip HasFragmentsOf trees lent.documents.items
   pub build : BuildAll schema lent.documents.items lent.files.items
 
--- what is asked of files that build, with the fragments of those that are lent
-pub record FilesHold (schema : Schema) (own lent : List Document) : Type 0 where
+-- the rules of files that build, with the fragments of those that are lent, except for rules that are off
+pub record FilesHold (off : RuleSet) (schema : Schema) (own lent : List Document) : Type 0 where
   pub files : All (FileHolds schema (fragments_among (own ++ lent))) own
-  pub operations : All (OperationIsValid schema (fragments_among (own ++ lent))) (operations_among own)
-  pub used : All (λ p. Any (λ x. ReachesFragment (fragments_among (own ++ lent)) x p.1) (operations_among own)) (fragments_among own)
+  pub operations : All (OperationIsValidBut off schema (fragments_among (own ++ lent))) (operations_among own)
+  pub used : IsFalse off.unused_fragments → All (λ p. Any (λ x. ReachesFragment (fragments_among (own ++ lent)) x p.1) (operations_among own)) (fragments_among own)
 
 -- if no entry is there afterwards, none was before, and each of the fragments has one of the names
 abbrev pub ReportsUnused : List NameText → Pool → List DiagnosticEntry → List DiagnosticEntry → Type 0

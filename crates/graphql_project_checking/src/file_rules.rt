@@ -1,10 +1,12 @@
 //! The rules that are asked of the definitions of a file together.
 
-ghost use Rattle.std.specs.Prelude.{◌≡◌, ◌≢◌, [], Contains, IsOk, IsTrue, OnOk};
+ghost use Rattle.std.specs.Prelude.{◌≡◌, ◌≢◌, [], All, Contains, IsOk, IsTrue, OnOk};
 ghost use Rattle.graphql_diagnostics.specs.Diagnostics.{entries};
 ghost use Rattle.graphql_diagnostics.specs.Reports.{KeepsReports};
+ghost use Rattle.graphql_frontend.specs.Documents.{IsOnlyOff};
+ghost use Rattle.graphql_frontend.specs.RuleSets.{NamesRuleIn, RuleSet};
 ghost use Rattle.graphql_frontend.specs.InputFields.{InputFieldReport, InputFieldsAreUnique};
-ghost use Rattle.graphql_project_checking.specs.Silence.{SilentOnlyIf};
+ghost use Rattle.graphql_project_checking.specs.Silence.{QuietOnlyIf};
 ghost use Rattle.graphql_project_checking.specs.Truth.{AreOfDefinitions, AreOfInputFields, AreOfRules, IsDeferEntry};
 ghost use Rattle.graphql_frontend.specs.Lists.{reports_of};
 ghost use Rattle.graphql_projects.specs.Defer.{LabelsHold};
@@ -28,7 +30,7 @@ pub(crate) fn check_file_rules(
     bounds: Bounds,
     found: &mut Vec<Reports>,
 ) -> Result<(), ValidationError>
-    ensures silence { OnOk result (SilentOnlyIf found.old.items found.new.items (LabelsHold document.now × InputFieldsAreUnique document.now)) }
+    ensures silence { OnOk result (QuietOnlyIf found.old.items found.new.items (λ off. LabelsHold document.now × InputFieldsAreUnique document.now)) }
     ensures truth { OnOk result (KeepsReports (AreOfDefinitions document.now) found.old.items found.new.items) }
 {
     check_labels(alloc, document, bounds, found)?;
@@ -41,7 +43,7 @@ fn check_labels(
     bounds: Bounds,
     found: &mut Vec<Reports>,
 ) -> Result<(), ValidationError>
-    ensures silence { OnOk result (SilentOnlyIf found.old.items found.new.items (LabelsHold document.now)) }
+    ensures silence { OnOk result (QuietOnlyIf found.old.items found.new.items (λ off. LabelsHold document.now)) }
     ensures truth { OnOk result (KeepsReports (AreOfRules (IsDeferEntry document.now)) found.old.items found.new.items) }
 {
     let mut rules = DiagnosticList::with_bound(alloc, document.hash_seed(), report_bound(bounds));
@@ -57,7 +59,7 @@ pub(crate) fn add_rules(
     bounds: Bounds,
     found: &mut Vec<Reports>,
 ) -> Result<(), ValidationError>
-    ensures silence { OnOk result (SilentOnlyIf found.old.items found.new.items (IsOk checked × (entries rules ≡ []))) }
+    ensures silence { OnOk result (QuietOnlyIf found.old.items found.new.items (λ off. IsOk checked × All (λ e. NamesRuleIn off e.details) (entries rules))) }
     ensures truth { OnOk result (KeepsReports (AreOfRules (Contains (entries rules))) found.old.items found.new.items) }
 {
     match checked {
@@ -73,7 +75,7 @@ fn add_first_rules(
     bounds: Bounds,
     found: &mut Vec<Reports>,
 ) -> Result<(), ValidationError>
-    ensures some { OnOk result (found.new.items ≢ []) }
+    ensures some { OnOk result ((off : RuleSet) → ¬ All (IsOnlyOff off) found.new.items) }
     ensures truth { OnOk result (KeepsReports (AreOfRules (Contains (entries rules))) found.old.items found.new.items) }
 {
     if !is_full(&rules, bounds) {
@@ -88,7 +90,7 @@ fn add_all_rules(
     rules: DiagnosticList,
     found: &mut Vec<Reports>,
 ) -> Result<(), ValidationError>
-    ensures silence { OnOk result (SilentOnlyIf found.old.items found.new.items (entries rules ≡ [])) }
+    ensures silence { OnOk result (QuietOnlyIf found.old.items found.new.items (λ off. All (λ e. NamesRuleIn off e.details) (entries rules))) }
     ensures truth { OnOk result (KeepsReports (AreOfRules (Contains (entries rules))) found.old.items found.new.items) }
 {
     if rules.is_empty() {
@@ -117,7 +119,7 @@ fn check_values(
     bounds: Bounds,
     found: &mut Vec<Reports>,
 ) -> Result<(), ValidationError>
-    ensures silence { OnOk result (SilentOnlyIf found.old.items found.new.items (InputFieldsAreUnique document.now)) }
+    ensures silence { OnOk result (QuietOnlyIf found.old.items found.new.items (λ off. InputFieldsAreUnique document.now)) }
     ensures truth { OnOk result (KeepsReports (AreOfInputFields (InputFieldReport document.now)) found.old.items found.new.items) }
 {
     let mut list = ReportList::with_bound(alloc, report_bound(bounds));
@@ -135,7 +137,7 @@ fn add_first_values(
     error: ValidationError,
     found: &mut Vec<Reports>,
 ) -> Result<(), ValidationError>
-    ensures some { OnOk result (found.new.items ≢ []) }
+    ensures some { OnOk result ((off : RuleSet) → ¬ All (IsOnlyOff off) found.new.items) }
     ensures truth { OnOk result (KeepsReports (AreOfInputFields (Contains (reports_of list))) found.old.items found.new.items) }
 {
     if list.is_empty() || !list.has_more() {
@@ -151,7 +153,7 @@ fn add_values(
     has_more: bool,
     found: &mut Vec<Reports>,
 ) -> Result<(), ValidationError>
-    ensures silence { OnOk result (SilentOnlyIf found.old.items found.new.items (input_fields.items ≡ [])) }
+    ensures silence { OnOk result (QuietOnlyIf found.old.items found.new.items (λ off. input_fields.items ≡ [])) }
     ensures truth { OnOk result (KeepsReports (AreOfInputFields (Contains input_fields.items)) found.old.items found.new.items) }
 {
     if input_fields.is_empty() {

@@ -1,8 +1,10 @@
 //! The document of one operation, and what is reported of it.
 
-ghost use Rattle.std.specs.Prelude.{◌≡◌, None, Ok, OnOk, Some};
+ghost use Rattle.std.specs.Prelude.{◌≡◌, IfSome, Ok, OnOk, Option, Some};
 ghost use Rattle.graphql_diagnostics.specs.Reports.{KeepsReports};
-ghost use Rattle.graphql_project_checking.specs.Silence.{HoldsWith, SilentOnlyIf};
+ghost use Rattle.graphql_frontend.specs.Documents.{IsOnlyOff};
+ghost use Rattle.graphql_frontend.specs.RuleSets.{RuleSet};
+ghost use Rattle.graphql_project_checking.specs.Silence.{HoldsWith, QuietOnlyIf};
 ghost use Rattle.graphql_project_checking.specs.Truth.{AreOfDocumentWith};
 ghost use Rattle.graphql_variables.specs.Uses.{names_of};
 
@@ -26,8 +28,8 @@ pub(crate) fn check_operation(
     names: &IndexSet<&Name, HashSeed>,
     found: &mut ProjectReports,
 ) -> Result<(), ValidationError>
-    ensures silence { OnOk result (SilentOnlyIf found.old.lists.items found.new.lists.items
-        (HoldsWith context.entry.schema.now context.entry.pool.now operation.now (names_of names.now.keys))) }
+    ensures silence { OnOk result (QuietOnlyIf found.old.lists.items found.new.lists.items
+        (λ off. HoldsWith off context.entry.schema.now context.entry.pool.now operation.now (names_of names.now.keys))) }
     ensures truth { OnOk result (KeepsReports (AreOfDocumentWith context.entry.bounds context.entry.schema.now context.entry.pool.now operation.now (names_of names.now.keys))
         found.old.lists.items found.new.lists.items) }
 {
@@ -49,7 +51,8 @@ fn reports_of(
     operation: &Node<Operation>,
     names: &IndexSet<&Name, HashSeed>,
 ) -> Result<Option<Reports>, ValidationError>
-    ensures silence { result ≡ Ok None → HoldsWith context.entry.schema.now context.entry.pool.now operation.now (names_of names.now.keys) }
+    ensures silence { (reports : Option Reports) → result ≡ Ok reports → (off : RuleSet) → IfSome reports (IsOnlyOff off) →
+        HoldsWith off context.entry.schema.now context.entry.pool.now operation.now (names_of names.now.keys) }
     ensures truth { (reports : Reports) → result ≡ Ok (Some reports) →
         AreOfDocumentWith context.entry.bounds context.entry.schema.now context.entry.pool.now operation.now (names_of names.now.keys) reports }
 {

@@ -1,10 +1,11 @@
 //! What is reported of a project.
 
-ghost use Rattle.std.specs.Prelude.{◌≡◌, ◌↔◌, [], IfOk, IsTrue, OnOk};
+ghost use Rattle.std.specs.Prelude.{◌≡◌, ◌↔◌, [], All, IfOk, IsTrue, OnOk};
+ghost use Rattle.graphql_frontend.specs.Documents.{IsOnlyOff};
+ghost use Rattle.graphql_frontend.specs.RuleSets.{RuleSet};
 ghost use Rattle.graphql_frontend.specs.Schemas.{IsUsable};
-ghost use Rattle.graphql_project_checking.specs.Silence.{SilentOnlyIf};
 ghost use Rattle.graphql_project_checking.specs.Truth.{AddsTrue, AreAllTrue};
-ghost use Rattle.graphql_projects.specs.Projects.{ProjectHolds};
+ghost use Rattle.graphql_projects.specs.Projects.{ProjectHolds, ProjectHoldsBut};
 
 use crate::building::{Building, build_files, build_lent_files, check_fragment_names};
 use crate::rest::check_rest;
@@ -27,6 +28,9 @@ use std::alloc::Global;
 /// If a text is no document, or a definition cannot be built, an operation that reaches a fragment of which nothing is known for that
 /// reason is not validated, and no fragment is reported as unused.
 ///
+/// If nothing is reported, the project holds (`silence`). If only unused variables and fragments are reported, it holds by all other
+/// rules (`others`).
+///
 /// Specification: 2.2 Document, 5 Validation.
 pub fn check_project(
     alloc: Global,
@@ -37,6 +41,7 @@ pub fn check_project(
 ) -> Result<ProjectReports, ValidationError>
     requires { IsUsable schema.now }
     ensures silence { IfOk result (λ found. found.lists.items ≡ [] → ProjectHolds bounds schema.now sources.now lent.now) }
+    ensures others { IfOk result (λ found. (off : RuleSet) → All (IsOnlyOff off) found.lists.items → ProjectHoldsBut off bounds schema.now sources.now lent.now) }
     ensures truth { IfOk result (λ found. AreAllTrue bounds schema.now sources.now lent.now found.lists.items) }
 {
     let mut found = ProjectReports::new(alloc);
@@ -73,7 +78,8 @@ fn check_texts(
     found: &mut ProjectReports,
 ) -> Result<(), ValidationError>
     requires { IsUsable schema.now }
-    ensures silence { IsTrue is_all → OnOk result (SilentOnlyIf found.old.lists.items found.new.lists.items (ProjectHolds bounds schema.now sources.now lent.now)) }
+    ensures others { IsTrue is_all → found.old.lists.items ≡ [] →
+        OnOk result ((off : RuleSet) → All (IsOnlyOff off) found.new.lists.items → ProjectHoldsBut off bounds schema.now sources.now lent.now) }
     ensures truth { OnOk result (AddsTrue bounds schema.now sources.now lent.now found.old.lists.items found.new.lists.items) }
 {
     let building = Building {

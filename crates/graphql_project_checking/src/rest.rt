@@ -1,6 +1,6 @@
 //! Files of which some have definitions that cannot be built, or are no documents.
 
-ghost use Rattle.std.specs.Prelude.{◌≡◌, [], Contains, IfOk, OnOk};
+ghost use Rattle.std.specs.Prelude.{Contains, IfOk, OnOk};
 ghost use Rattle.graphql_diagnostics.specs.Reports.{KeepsReports};
 ghost use Rattle.graphql_frontend.specs.Schemas.{IsUsable};
 ghost use Rattle.graphql_project_checking.specs.Truth.{AddsOfParts, SayParts, SaysPart};
@@ -40,7 +40,6 @@ pub(crate) fn check_rest(
     may_be_others: bool,
     found: &mut ProjectReports,
 ) -> Result<(), ValidationError>
-    ensures silence { OnOk result (found.new.lists.items ≡ [] → found.old.lists.items ≡ []) }
     ensures truth { IsUsable building.entry.schema.now →
         OnOk result (AddsOfParts building.entry.bounds building.entry.schema.now own.items lent.items found.old.lists.items found.new.lists.items) }
 {
@@ -125,7 +124,6 @@ fn add_known(
     unknown: &Unknown,
     found: &mut ProjectReports,
 ) -> Result<(), ValidationError>
-    ensures silence { OnOk result (found.new.lists.items ≡ [] → found.old.lists.items ≡ []) }
     ensures truth { OnOk result (KeepsReports (Contains all.items) found.old.lists.items found.new.lists.items) }
 {
     let mut marks = Marks::of(operations);

@@ -1,10 +1,10 @@
 //! Whether fragments of files are used.
 
-ghost use Rattle.std.specs.Prelude.{◌∷◌, [], All, OnOk};
+ghost use Rattle.std.specs.Prelude.{◌∷◌, [], All, IsFalse, OnOk};
 ghost use Rattle.graphql_diagnostics.specs.Diagnostics.{entries};
 ghost use Rattle.graphql_diagnostics.specs.Reports.{KeepsReports};
 ghost use Rattle.graphql_document_checking.specs.Trees.{fragments_in};
-ghost use Rattle.graphql_project_checking.specs.Silence.{ReportsUnused, SilentOnlyIf};
+ghost use Rattle.graphql_project_checking.specs.Silence.{QuietOnlyIf, ReportsUnused};
 ghost use Rattle.graphql_project_checking.specs.Truth.{AreOfRules, IsUnnamedEntry};
 ghost use Rattle.graphql_projects.specs.OperationTrees.{fragments_among};
 ghost use Rattle.graphql_variables.specs.Uses.{IsNamedIn, names_of};
@@ -28,8 +28,8 @@ pub(crate) fn check_uses(
     used: &Used<'_>,
     found: &mut Vec<Reports>,
 ) -> Result<(), ValidationError>
-    ensures silence { OnOk result (SilentOnlyIf found.old.items found.new.items
-        (All (λ p. IsNamedIn (names_of used.now.keys) p.0) (fragments_among documents.now))) }
+    ensures silence { OnOk result (QuietOnlyIf found.old.items found.new.items
+        (λ off. IsFalse off.unused_fragments → All (λ p. IsNamedIn (names_of used.now.keys) p.0) (fragments_among documents.now))) }
     ensures truth { OnOk result (KeepsReports (AreOfRules (IsUnnamedEntry (names_of used.now.keys) (fragments_among documents.now)))
         found.old.items found.new.items) }
 {
@@ -46,8 +46,8 @@ fn check_uses_in(
     used: &Used<'_>,
     found: &mut Vec<Reports>,
 ) -> Result<(), ValidationError>
-    ensures silence { OnOk result (SilentOnlyIf found.old.items found.new.items
-        (All (λ p. IsNamedIn (names_of used.now.keys) p.0) (fragments_in document.now.definitions))) }
+    ensures silence { OnOk result (QuietOnlyIf found.old.items found.new.items
+        (λ off. IsFalse off.unused_fragments → All (λ p. IsNamedIn (names_of used.now.keys) p.0) (fragments_in document.now.definitions))) }
     ensures truth { OnOk result (KeepsReports (AreOfRules (IsUnnamedEntry (names_of used.now.keys) (fragments_in document.now.definitions)))
         found.old.items found.new.items) }
 {

@@ -5,7 +5,7 @@ ghost use Rattle.graphql_diagnostics.specs.Reports.{KeepsReports};
 ghost use Rattle.graphql_documents.specs.Executables.{operations_of};
 ghost use Rattle.graphql_frontend.specs.Schemas.{IsUsable};
 ghost use Rattle.graphql_nodes.specs.Names.{AreDistinct};
-ghost use Rattle.graphql_project_checking.specs.Silence.{BorrowsForAll, BuildAll, FilePasses, FilesHold, NotesUses, OperationPasses, SilentOnlyIf, operations_in_map};
+ghost use Rattle.graphql_project_checking.specs.Silence.{BorrowsForAll, BuildAll, FilePasses, FilesHold, NotesUses, OperationPasses, QuietOnlyIf, operations_in_map};
 ghost use Rattle.graphql_project_checking.specs.Truth.{AreOfFile, AreOfOneFile, AreOfOneOperation, AreOfOperation, AreOfWhole, NotesAll};
 ghost use Rattle.graphql_projects.specs.OperationTrees.{fragments_among};
 ghost use Rattle.graphql_projects.specs.Reach.{nodes_at};
@@ -39,7 +39,7 @@ pub(crate) fn check_whole(
 ) -> Result<(), ValidationError>
     ensures silence { (lent : List tree.Document) → IsUsable building.entry.schema.now → BuildAll building.entry.schema.now own.now files.items →
         BuildAll building.entry.schema.now lent lenders.now → AreDistinct (map (λ p. p.0) (fragments_among (own.now ++ lent))) →
-        OnOk result (SilentOnlyIf found.old.lists.items found.new.lists.items (FilesHold building.entry.schema.now own.now lent)) }
+        OnOk result (QuietOnlyIf found.old.lists.items found.new.lists.items (λ off. FilesHold off building.entry.schema.now own.now lent)) }
     ensures truth { (lent : List tree.Document) → IsUsable building.entry.schema.now → BuildAll building.entry.schema.now own.now files.items →
         BuildAll building.entry.schema.now lent lenders.now →
         OnOk result (KeepsReports (AreOfWhole building.entry.bounds building.entry.schema.now (fragments_among (own.now ++ lent)) own.now)
@@ -64,7 +64,7 @@ pub(crate) fn check_each<'a>(
     used: &mut Used<'a>,
     found: &mut ProjectReports,
 ) -> Result<(), ValidationError>
-    ensures passes { OnOk result (SilentOnlyIf found.old.lists.items found.new.lists.items (All (FilePasses context.entry.schema.now context.entry.pool.now) files.items)) }
+    ensures passes { OnOk result (QuietOnlyIf found.old.lists.items found.new.lists.items (λ off. All (FilePasses off context.entry.schema.now context.entry.pool.now) files.items)) }
     ensures truth { OnOk result (KeepsReports (AreOfOneFile context.entry.bounds context.entry.schema.now context.entry.pool.now files.items) found.old.lists.items found.new.lists.items) }
     ensures used { OnOk result (NotesUses context.entry.pool.now (flat_map operations_of files.items) (names_of used.old.keys) (names_of used.new.keys)) }
     ensures noted { OnOk result (NotesAll context.entry.pool.now (flat_map operations_of files.items) (names_of used.old.keys) (names_of used.new.keys)) }
@@ -82,7 +82,7 @@ fn check_file<'a>(
     used: &mut Used<'a>,
     found: &mut ProjectReports,
 ) -> Result<(), ValidationError>
-    ensures passes { OnOk result (SilentOnlyIf found.old.lists.items found.new.lists.items (FilePasses context.entry.schema.now context.entry.pool.now file)) }
+    ensures passes { OnOk result (QuietOnlyIf found.old.lists.items found.new.lists.items (λ off. FilePasses off context.entry.schema.now context.entry.pool.now file)) }
     ensures truth { OnOk result (KeepsReports (AreOfFile context.entry.bounds context.entry.schema.now context.entry.pool.now file) found.old.lists.items found.new.lists.items) }
     ensures used { OnOk result (NotesUses context.entry.pool.now (operations_of file) (names_of used.old.keys) (names_of used.new.keys)) }
     ensures noted { OnOk result (NotesAll context.entry.pool.now (operations_of file) (names_of used.old.keys) (names_of used.new.keys)) }
@@ -121,8 +121,8 @@ fn check_operations<'a>(
     used: &mut Used<'a>,
     found: &mut ProjectReports,
 ) -> Result<(), ValidationError>
-    ensures passes { OnOk result (SilentOnlyIf found.old.lists.items found.new.lists.items
-        (All (OperationPasses context.entry.schema.now context.entry.pool.now) (operations_in_map operations.now))) }
+    ensures passes { OnOk result (QuietOnlyIf found.old.lists.items found.new.lists.items
+        (λ off. All (OperationPasses off context.entry.schema.now context.entry.pool.now) (operations_in_map operations.now))) }
     ensures truth { OnOk result (KeepsReports (AreOfOneOperation context.entry.bounds context.entry.schema.now context.entry.pool.now (operations_in_map operations.now))
         found.old.lists.items found.new.lists.items) }
     ensures borrows { OnOk result (BorrowsForAll context.entry.pool.now (operations_in_map operations.now) fragments.old.entries fragments.new.entries) }
@@ -145,8 +145,8 @@ fn check_reaching<'a>(
     used: &mut Used<'a>,
     found: &mut ProjectReports,
 ) -> Result<(), ValidationError>
-    ensures passes { OnOk result (SilentOnlyIf found.old.lists.items found.new.lists.items
-        (OperationPasses context.entry.schema.now context.entry.pool.now operation.now)) }
+    ensures passes { OnOk result (QuietOnlyIf found.old.lists.items found.new.lists.items
+        (λ off. OperationPasses off context.entry.schema.now context.entry.pool.now operation.now)) }
     ensures truth { OnOk result (KeepsReports (AreOfOperation context.entry.bounds context.entry.schema.now context.entry.pool.now operation.now)
         found.old.lists.items found.new.lists.items) }
     ensures borrows { OnOk result (BorrowsForAll context.entry.pool.now (operation.now ∷ []) fragments.old.entries fragments.new.entries) }

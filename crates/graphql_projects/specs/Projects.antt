@@ -1,13 +1,14 @@
 -- When the rules hold of a project: files that are validated together, in which operations spread fragments of each other's files, and of files
 -- that are lent. Specification: 5 Validation.
-use Rattle.std.specs.Prelude.{◌≡◌, ◌≢◌, List, [], ◌∷◌, ◌++◌, Some, All, Any, Contains, flat_map, map}
+use Rattle.std.specs.Prelude.{◌≡◌, ◌≢◌, IsFalse, List, [], ◌∷◌, ◌++◌, Some, All, Any, Contains, flat_map, map}
 use Rattle.graphql_nodes.specs.Names.{AreDistinct}
 use Rattle.graphql_documents.specs.declared.documents.executables.ExecutableDocument.{ExecutableDocument}
 use Rattle.graphql_documents.specs.declared.documents.schemas.Schema.{Schema}
 use Rattle.graphql_document_building.specs.BuildingRules.{AnonymousOperationIsAlone, DefinitionBuilds}
 use Rattle.graphql_document_building.specs.Documents.{DocumentSays}
 use Rattle.graphql_document_building.specs.Trees.{fragments_in, named_operations_in, operations_in}
-use Rattle.graphql_frontend.specs.Documents.{EveryRuleHolds}
+use Rattle.graphql_frontend.specs.Documents.{EveryRuleHolds, EveryRuleHoldsBut}
+use Rattle.graphql_frontend.specs.RuleSets.{RuleSet}
 use Rattle.graphql_frontend.specs.Texts.{IsDocumentOf}
 use Rattle.graphql_frontend.specs.declared.texts.SourceText.{SourceText}
 use Rattle.graphql_input_rules.specs.InputFields.{InputFieldsAreUnique}
@@ -37,6 +38,12 @@ abbrev pub OperationIsValid : Schema → Pool → OperationDefinition → Type 0
 OperationIsValid schema pool x =
     (whole : Document) × (document : ExecutableDocument) × IsTreeOf pool x whole × DocumentSays (Some schema) whole document ×
     EveryRuleHolds (Some schema) document
+
+-- the same, except for rules that are off
+abbrev pub OperationIsValidBut : RuleSet → Schema → Pool → OperationDefinition → Type 0
+OperationIsValidBut off schema pool x =
+    (whole : Document) × (document : ExecutableDocument) × IsTreeOf pool x whole × DocumentSays (Some schema) whole document ×
+    EveryRuleHoldsBut off (Some schema) document
 
 -- the document of a file: its definitions, and those fragments of other files that its operations reach
 pub record IsDocumentOfFile (pool : Pool) (file whole : Document) : Type 0 where
@@ -70,3 +77,16 @@ pub record ProjectHolds (bounds : Bounds) (schema : Schema) (sources lent : List
   pub files : All (FileHolds schema (fragments_among (trees ++ lent_trees))) trees
   pub operations : All (OperationIsValid schema (fragments_among (trees ++ lent_trees))) (operations_among trees)
   pub used : All (λ p. Any (λ x. ReachesFragment (fragments_among (trees ++ lent_trees)) x p.1) (operations_among trees)) (fragments_among trees)
+
+-- the same, except for rules that are off
+pub record ProjectHoldsBut (off : RuleSet) (bounds : Bounds) (schema : Schema) (sources lent : List SourceText) : Type 0 where
+  pub trees : List Document
+  pub lent_trees : List Document
+  pub are : ReadFiles bounds sources trees
+  pub lent_are : ReadFiles bounds lent lent_trees
+  pub build : All (λ (t : Document). All (DefinitionBuilds (Some schema)) t.definitions) (trees ++ lent_trees)
+  pub fragment_names : AreDistinct (map (λ p. p.0) (fragments_among (trees ++ lent_trees)))
+  pub files : All (FileHolds schema (fragments_among (trees ++ lent_trees))) trees
+  pub operations : All (OperationIsValidBut off schema (fragments_among (trees ++ lent_trees))) (operations_among trees)
+  pub used : IsFalse off.unused_fragments →
+      All (λ p. Any (λ x. ReachesFragment (fragments_among (trees ++ lent_trees)) x p.1) (operations_among trees)) (fragments_among trees)

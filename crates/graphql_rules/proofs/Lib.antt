@@ -3,6 +3,7 @@ pub mod FieldLemmas
 pub mod FragmentLemmas
 pub mod OperationLemmas
 pub mod ReachableLemmas
+pub mod RuleSetLemmas
 pub mod SelectionHoldLemmas
 pub mod VisitedLemmas
 pub mod WalkLemmas

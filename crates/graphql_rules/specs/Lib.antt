@@ -1,1 +1,2 @@
+pub mod RuleSets
 pub mod SelectionSteps

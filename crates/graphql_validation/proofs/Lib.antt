@@ -8,3 +8,4 @@ pub mod MergingStepLemmas
 pub use Rattle.graphql_rules.proofs.WalkLemmas
 pub use Rattle.graphql_pair_merging.proofs.ReportedLemmas
 pub use Rattle.graphql_rules.proofs.OperationLemmas
+pub use Rattle.graphql_rules.proofs.RuleSetLemmas

@@ -1,12 +1,13 @@
 //! Laws of rules: they hold of documents and schemas that are the same.
 
-ghost use Rattle.std.specs.Prelude.{None, Option, ℕ};
+ghost use Rattle.std.specs.Prelude.{◌↔◌, None, Option, ℕ};
 ghost use Rattle.graphql_building_laws.specs.SameSchemas.{SameSchema};
 ghost use Rattle.graphql_document_building.specs.SameDocuments.{SameDocument};
+ghost use Rattle.graphql_document_rules.specs.RuleSets.{nothing_off};
 ghost use Rattle.graphql_documents.specs.Contents.{SameIfAny};
 ghost use Rattle.graphql_documents.specs.declared.documents.executables.ExecutableDocument.{ExecutableDocument};
 ghost use Rattle.graphql_documents.specs.declared.documents.schemas.Schema.{Schema};
-ghost use Rattle.graphql_frontend.specs.Documents.{EveryRuleHolds, ReachesWithinBounds};
+ghost use Rattle.graphql_frontend.specs.Documents.{EveryRuleHolds, EveryRuleHoldsBut, ReachesWithinBounds};
 ghost use Rattle.graphql_frontend.specs.Schemas.{IsAccepted};
 ghost use Rattle.graphql_parser.specs.declared.bounds.Bounds.{Bounds};
 ghost use Rattle.graphql_specification.specs.BuiltInScalars.{SchemaRetainsUsedBuiltInScalars};
@@ -43,4 +44,12 @@ pub fn same_documents_reach_within_bounds_alike()
 pub fn same_schemas_are_accepted_alike()
     ensures { (a b retained other : Schema) → SameSchema a b → IsAccepted a retained →
         SchemaRetainsUsedBuiltInScalars b other → IsAccepted b other }
+{}
+
+/// If no rule is off, all rules but those that are off hold of a document exactly if every rule holds of it.
+///
+/// Specification: 5 Validation.
+pub fn every_rule_holds_if_none_is_off()
+    ensures { (schema : Option Schema) (document : ExecutableDocument) →
+        EveryRuleHoldsBut nothing_off schema document ↔ EveryRuleHolds schema document }
 {}

@@ -1,8 +1,9 @@
 ghost use Rattle.std.specs.Option.{option_copied};
-ghost use Rattle.std.specs.Prelude.{◌≡◌, [], All};
+ghost use Rattle.std.specs.Prelude.{◌≡◌, [], All, OnOk};
 ghost use Rattle.graphql_documents.specs.Executables.{operations_of};
-ghost use Rattle.graphql_diagnostics.specs.Diagnostics.{IsDiagnostic};
+ghost use Rattle.graphql_diagnostics.specs.Diagnostics.{IsDiagnostic, entries};
 ghost use Rattle.graphql_specification.specs.Operations.{OperationReport, OperationsReport, OperationHolds, operation_location, root_type, OperationLimit, OperationsLimit};
+ghost use Rattle.graphql_rules.specs.RuleSets.{HoldsIfOthersAreSilent, OperationHoldsBut};
 ghost use Rattle.graphql_diagnostics.specs.Reports.{ChecksWithin};
 ghost use Rattle.graphql_operations.specs.Contexts.{IsAgainst, visited_fragment_names, parent_of, schema_of, variables_of};
 
@@ -18,16 +19,20 @@ use graphql_variables::{VariablesByName, validate_unused_variables};
 /// Validates the operations of a document, each with the fragments that it reaches: the one without a name,
 /// then the others in order. The only error is a failed allocation.
 ///
+/// If unused variables alone are reported, all other rules of operations hold (`others`).
+///
 /// Specification: 5.2 Operations.
 pub fn validate_operation_definitions(
     diagnostics: &mut DiagnosticList,
     document: &ExecutableDocument,
     schema: Option<&Schema>,
 ) -> Result<(), ValidationError>
-    ensures { ChecksWithin result (All (λ o. OperationHolds (option_copied schema.entry) document.now o.value.value) (operations_of document.now))
+    ensures checks { ChecksWithin result (All (λ o. OperationHolds (option_copied schema.entry) document.now o.value.value) (operations_of document.now))
         (IsDiagnostic (OperationsReport (option_copied schema.entry) document.now))
         (λ e. OperationsLimit document.now e.details e.location)
         diagnostics.old diagnostics.new }
+    ensures others { OnOk result (HoldsIfOthersAreSilent (λ off. All (λ o. OperationHoldsBut off (option_copied schema.entry) document.now o.value.value) (operations_of document.now))
+        (entries diagnostics.old) (entries diagnostics.new)) }
 {
     let alloc = diagnostics.allocator();
     let operations = operations_of(alloc, document)?;
@@ -81,6 +86,8 @@ fn check_operation<'a>(
         (IsDiagnostic (OperationReport (schema_of context.old) document.now.document.now operation.now))
         (λ e. OperationLimit document.now.document.now operation.now e.details e.location)
         diagnostics.old diagnostics.new }
+    ensures others { OnOk result (HoldsIfOthersAreSilent (λ off. OperationHoldsBut off (schema_of context.old) document.now.document.now operation.now)
+        (entries diagnostics.old) (entries diagnostics.new)) }
     ensures schema { schema_of context.new ≡ schema_of context.old }
 {
     let root = root_of(context.schema, operation);

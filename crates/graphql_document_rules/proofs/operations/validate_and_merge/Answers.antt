@@ -14,7 +14,7 @@ use Rattle.graphql_merging.specs.Mergers.{is_interrupted, merger_of, merging_of}
 use Rattle.graphql_variables.proofs.ReferenceLemmas.{stands_referred}
 use Rattle.graphql_validation.proofs.MergingStepLemmas.{call_kept, merged_of, no_operations, nothing_left, open_before, pairs_decided, reports_as, split_at}
 use Rattle.graphql_document_rules.proofs.OperationStepLemmas.{MergedSoFar, if_ok, kept_so_far, left_own, merged_kept, merged_more, merged_none, merged_open, operations_so_far, pairs_kept, subscriptions_so_far, validated_all}
-use Rattle.graphql_document_rules.proofs.RuleReportLemmas.{RuleEntryReport, of_a_root}
+use Rattle.graphql_document_rules.proofs.RuleReportLemmas.{FixedEntryReport, of_a_root}
 use Rattle.graphql_document_rules.proofs.operations.validate_and_merge.Goals as goal
 use Rattle.graphql_document_rules.proofs.operations.validate_and_merge.Goals.{then-not-decided+in_ok-push, else-not-decided}
 
@@ -135,7 +135,7 @@ returns-then-is_empty-clause-holds c built _ =
     validated_all S D built
     (subst (λ l. MergedSoFar S D l [] (is_interrupted w) m old new) all
     (subst (λ l. MergedSoFar S D (now' (take c.loop-operation.operation-index xs)) (now' l) (is_interrupted w) m old new) none c.loop-operation.invariant.so_far))
-    (nothing_left S D new) (kept (RuleEntryReport (Some S) D) new)
+    (nothing_left S D new) (kept (FixedEntryReport S D) new)
 
 pub returns-then-is_empty-clause-truth : goal.returns-then-is_empty-clause-truth
 returns-then-is_empty-clause-truth c = kept_so_far c.args.schema.now c.args.document.now c.loop-operation.invariant.so_far.so_far
@@ -150,7 +150,7 @@ returns-then-is_empty-clause-subscriptions c =
     let new = entries c.loop-operation.diagnostics in
     let all = ap now' (take_all c.loop-operation.operation-index xs c.loop-operation-test.false) ∙ c.requires in
     let so_far = subst (λ l. MergedSoFar S D l (now' c.loop-operation.undecided.items) (is_interrupted w) (merging_of (merger_of w)) (entries c.args.diagnostics.now) new) all c.loop-operation.invariant.so_far in
-    subscriptions_so_far S D so_far.so_far (kept (RuleEntryReport (Some S) D) new)
+    subscriptions_so_far S D so_far.so_far (kept (FixedEntryReport S D) new)
 
 pub returns-clause-holds : goal.returns-clause-holds
 returns-clause-holds c built =

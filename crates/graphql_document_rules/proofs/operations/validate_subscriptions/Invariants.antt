@@ -3,11 +3,11 @@ use Rattle.std.proofs.Common.{All, take}
 use Rattle.graphql_diagnostics.specs.Diagnostics.{IsLimitEntry, entries}
 use Rattle.graphql_diagnostics.specs.Reports.{ReportsWithin}
 use Rattle.graphql_document_rules.specs.SingleRootField.{OperationRootHolds}
-use Rattle.graphql_document_rules.proofs.RuleReportLemmas.{RuleEntryReport}
+use Rattle.graphql_document_rules.proofs.RuleReportLemmas.{FixedEntryReport}
 use Rattle.graphql_document_rules.proofs.operations.validate_subscriptions.Given as goal
 use Rattle.std.specs.Prelude.{Some}
 
 abbrev pub invariant-loop-operation : goal.invariant-loop-operation
 invariant-loop-operation l =
     ReportsWithin IsLimitEntry (All (λ o. OperationRootHolds l.schema l.document o.now.value.value) (take l.operation-index l.operations))
-    (RuleEntryReport (Some l.schema) l.document) (entries l.initial.diagnostics) (entries l.diagnostics)
+    (FixedEntryReport l.schema l.document) (entries l.initial.diagnostics) (entries l.diagnostics)

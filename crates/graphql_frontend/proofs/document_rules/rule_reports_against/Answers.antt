@@ -20,6 +20,7 @@ returns-in-Ok-true c =
           (λ e p q. record { report = p; limit = q }) (entries c.validate_document_rules.new.diagnostics)
           (kept _ _ _ validated.reports empty) (kept _ _ _ validated.limits empty);
       decides = λ built no_limit. appended _ _ _ (c.in-Ok-true.ensures.silence built (search rules)) empty no_limit;
+      others = λ built off offs. appended _ _ _ (c.in-Ok-true.ensures.others built (search rules)) empty off offs;
     }
 
 pub returns-in-Err : goal.returns-in-Err

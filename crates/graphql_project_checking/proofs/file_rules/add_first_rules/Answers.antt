@@ -1,9 +1,9 @@
-use Rattle.std.proofs.Common.{◌∙◌, [], rules, sym}
+use Rattle.std.proofs.Common.{[], rules}
 use Rattle.std.specs.Prelude.{◌≢◌, Contains}
 use Rattle.std.proofs.lemmas.List.Elements.{All-contains_itself}
 use Rattle.graphql_diagnostics.specs.Diagnostics.{entries}
 use Rattle.graphql_project_checking.specs.Truth.{AreOfRules}
-use Rattle.graphql_project_checking.proofs.SilenceLemmas.{not_nil}
+use Rattle.graphql_project_checking.proofs.SilenceLemmas.{is_not_quiet}
 use Rattle.graphql_project_checking.proofs.TruthLemmas.{adds_one}
 use Rattle.graphql_project_checking.proofs.file_rules.add_first_rules.Goals as goal
 
@@ -12,6 +12,6 @@ returns c =
     let list = entries c.args.rules in
     let some : entries c.args.rules ≢ [] = search rules in
     record {
-      some = λ none. not_nil c.args.found.now.items _ (sym c.in_ok-push.ensures.items ∙ none);
+      some = is_not_quiet c.args.found.now.items c.push.new.self.items _ c.in_ok-push.ensures.items (λ off only. only);
       truth = adds_one (AreOfRules (Contains list)) c.args.found.now.items c.push.new.self.items _ c.in_ok-push.ensures.items (some, All-contains_itself list);
     }

@@ -2,9 +2,9 @@ use Rattle.std.proofs.Common.{inl, inr}
 use Rattle.graphql_diagnostics.specs.Reports.{KeepsReports}
 use Rattle.graphql_frontend.specs.InputFields.{InputFieldReport, InputFieldsAreUnique}
 use Rattle.graphql_projects.specs.Defer.{LabelsHold}
-use Rattle.graphql_project_checking.specs.Silence.{SilentOnlyIf}
+use Rattle.graphql_project_checking.specs.Silence.{QuietOnlyIf}
 use Rattle.graphql_project_checking.specs.Truth.{AreOfDefinitions, AreOfInputFields, AreOfRules, IsDeferEntry}
-use Rattle.graphql_project_checking.proofs.SilenceLemmas.{on_ok, silent_then}
+use Rattle.graphql_project_checking.proofs.SilenceLemmas.{on_ok, quiet_then}
 use Rattle.graphql_project_checking.proofs.TruthLemmas.{adds_so, adds_then}
 use Rattle.graphql_project_checking.proofs.file_rules.check_file_rules.Goals as goal
 
@@ -15,8 +15,8 @@ returns c =
     let mid = c.check_labels.new.found.items in
     let new = c.check_values.new.found.items in
     record {
-      silence = on_ok (SilentOnlyIf mid new (InputFieldsAreUnique d)) (SilentOnlyIf old new (LabelsHold d × InputFieldsAreUnique d))
-          (silent_then old mid new (LabelsHold d) (InputFieldsAreUnique d) (LabelsHold d × InputFieldsAreUnique d) (λ a b. (a, b)) c.in_ok-check_labels.ensures.silence)
+      silence = on_ok (QuietOnlyIf mid new (λ off. InputFieldsAreUnique d)) (QuietOnlyIf old new (λ off. LabelsHold d × InputFieldsAreUnique d))
+          (quiet_then old mid new (λ off. LabelsHold d) (λ off. InputFieldsAreUnique d) (λ off. LabelsHold d × InputFieldsAreUnique d) (λ off a b. (a, b)) c.in_ok-check_labels.ensures.silence)
           c.check_values.result c.check_values.ensures.silence;
       truth = on_ok (KeepsReports (AreOfInputFields (InputFieldReport d)) mid new) (KeepsReports (AreOfDefinitions d) old new)
           (λ adds. adds_then (AreOfDefinitions d) old mid new

@@ -7,5 +7,5 @@ use Rattle.graphql_project_checking.proofs.rest.add_known.Given as goal
 -- what was found stays, and what is added is among all
 abbrev pub invariant-loop-reports : goal.invariant-loop-reports
 invariant-loop-reports l =
-    (done : List Reports) × (l.fn.all.items ≡ done ++ l.reports-iterator.rest.items) × (l.found.lists.items ≡ [] → l.initial.found.lists.items ≡ []) ×
+    (done : List Reports) × (l.fn.all.items ≡ done ++ l.reports-iterator.rest.items) ×
     KeepsReports (Contains l.fn.all.items) l.initial.found.lists.items l.found.lists.items

@@ -30,7 +30,6 @@ returns c =
     let each : All One all = subst (All One) (sym (ap (λ v. v.items) c.into_parts-all.ensures.lists))
     (all_added One c.new-all.result.lists.items found c.in_ok-check_each.ensures.truth c.new-all.ensures.lists) in
     record {
-      silence = c.add_known.ensures.silence;
       truth = λ usable. on_ok (KeepsReports (Contains all) old new) (AddsOfParts b s c.args.own.items c.args.lent.items old new)
           (λ adds. (
             own.0,

@@ -1,13 +1,12 @@
 use Rattle.std.proofs.Common.{[], subst, take_all}
-use Rattle.std.specs.Prelude.{All}
 use Rattle.std.proofs.lemmas.List.Elements.{All-nil}
 use Rattle.graphql_projects.specs.OperationTrees.{fragments_among}
 use Rattle.graphql_variables.specs.Uses.{names_of}
-use Rattle.graphql_project_checking.specs.Silence.{SilentOnlyIf}
+use Rattle.graphql_project_checking.specs.Silence.{QuietOnlyIf}
 use Rattle.graphql_project_checking.specs.Truth.{AreOfRules, IsUnnamedEntry}
-use Rattle.graphql_project_checking.proofs.SilenceLemmas.{stays_silent}
+use Rattle.graphql_project_checking.proofs.SilenceLemmas.{stays_quiet}
 use Rattle.graphql_project_checking.proofs.TruthLemmas.{adds_nothing, adds_then, stands_at}
-use Rattle.graphql_project_checking.proofs.UseLemmas.{IsUsed, used_more}
+use Rattle.graphql_project_checking.proofs.UseLemmas.{IsUsed, UsedUnlessOff, used_more}
 use Rattle.graphql_project_checking.proofs.UseTruthLemmas.{unnamed_of_file}
 use Rattle.graphql_project_checking.proofs.uses.check_uses.Goals as goal
 
@@ -15,7 +14,7 @@ pub loop-document-init : goal.loop-document-init
 loop-document-init c =
     let used = names_of c.args.used.now.keys in
     let old = c.args.found.now.items in
-    (stays_silent old (All (IsUsed used) []) (All-nil (IsUsed used)), adds_nothing (AreOfRules (IsUnnamedEntry used (fragments_among c.args.documents.now))) old)
+    (stays_quiet old (UsedUnlessOff used []) (λ off on. All-nil (IsUsed used)), adds_nothing (AreOfRules (IsUnnamedEntry used (fragments_among c.args.documents.now))) old)
 
 pub loop-document-preserved : goal.loop-document-preserved
 loop-document-preserved c =
@@ -33,7 +32,7 @@ loop-document-preserved c =
 
 pub returns : goal.returns
 returns c = record {
-  silence = subst (λ l. SilentOnlyIf c.args.found.now.items c.loop-document.found.items (All (IsUsed (names_of c.args.used.now.keys)) (fragments_among l)))
+  silence = subst (λ l. QuietOnlyIf c.args.found.now.items c.loop-document.found.items (UsedUnlessOff (names_of c.args.used.now.keys) (fragments_among l)))
       (take_all c.loop-document.document-index c.args.documents.now c.loop-document-test.false) c.loop-document.invariant.0;
   truth = c.loop-document.invariant.1;
 }

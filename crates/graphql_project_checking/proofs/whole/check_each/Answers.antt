@@ -5,10 +5,10 @@ use Rattle.std.proofs.lemmas.List.Elements.{All-nil}
 use Rattle.graphql_documents.proofs.ListLemmas.{done_next, stands_next}
 use Rattle.graphql_documents.specs.Executables.{operations_of}
 use Rattle.graphql_variables.specs.Uses.{names_of}
-use Rattle.graphql_project_checking.specs.Silence.{FilePasses, NotesUses, SilentOnlyIf}
+use Rattle.graphql_project_checking.specs.Silence.{FilePasses, NotesUses, QuietOnlyIf}
 use Rattle.graphql_project_checking.specs.Truth.{AreOfFile, AreOfOneFile, NotesAll}
 use Rattle.graphql_project_checking.proofs.ReachingLemmas.{files_more, note_file, note_nothing}
-use Rattle.graphql_project_checking.proofs.SilenceLemmas.{stays_silent}
+use Rattle.graphql_project_checking.proofs.SilenceLemmas.{stays_quiet}
 use Rattle.graphql_project_checking.proofs.TruthLemmas.{adds_nothing, adds_so, adds_then}
 use Rattle.graphql_project_checking.proofs.UseTruthLemmas.{all_of_file, all_of_nothing}
 use Rattle.graphql_project_checking.proofs.whole.check_each.Goals as goal
@@ -16,11 +16,10 @@ use Rattle.graphql_project_checking.proofs.whole.check_each.Goals as goal
 pub loop-file-init : goal.loop-file-init
 loop-file-init c =
     let s = c.args.context.schema.now in
-    let pool = c.args.context.pool.now in
-    let Passes = FilePasses s pool in (
+    let pool = c.args.context.pool.now in (
       [],
       search rules,
-      stays_silent c.args.found.now.lists.items (All Passes []) (All-nil Passes),
+      stays_quiet c.args.found.now.lists.items (λ off. All (FilePasses off s pool) []) (λ off. All-nil (FilePasses off s pool)),
       note_nothing pool (names_of c.args.used.now.keys),
       adds_nothing (AreOfOneFile c.args.context.bounds s pool c.args.files.items) c.args.found.now.lists.items,
       all_of_nothing pool (names_of c.args.used.now.keys),
@@ -57,7 +56,7 @@ returns c =
     let none : rest.items ≡ [] = nil_from_length rest.items (sym rest.ok.0 ∙ c.in-None.ensures.steps.0) in
     let done = before.1 ∙ ap (λ l. before.0 ++ l) none ∙ append-nil before.0 in
     record {
-      passes = subst (λ l. SilentOnlyIf c.args.found.now.lists.items c.loop-file.found.lists.items (All (FilePasses s pool) l)) (sym done) before.2;
+      passes = subst (λ l. QuietOnlyIf c.args.found.now.lists.items c.loop-file.found.lists.items (λ off. All (FilePasses off s pool) l)) (sym done) before.2;
       truth = before.4;
       used = subst (λ l. NotesUses pool (flat_map operations_of l) (names_of c.args.used.now.keys) (names_of c.loop-file.used.keys)) (sym done) before.3;
       noted = subst (λ l. NotesAll pool (flat_map operations_of l) (names_of c.args.used.now.keys) (names_of c.loop-file.used.keys)) (sym done) before.5;

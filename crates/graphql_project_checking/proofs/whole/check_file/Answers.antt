@@ -5,9 +5,9 @@ use Rattle.graphql_documents.specs.Executables.{operations_of}
 use Rattle.graphql_documents.specs.declared.documents.executables.ExecutableDocument.{ExecutableDocument}
 use Rattle.graphql_frontend.specs.InputFields.{InputFieldsAreUnique}
 use Rattle.graphql_projects.specs.Defer.{LabelsHold}
-use Rattle.graphql_project_checking.specs.Silence.{FilePasses, OperationPasses, SilentOnlyIf}
+use Rattle.graphql_project_checking.specs.Silence.{FilePasses, OperationPasses, QuietOnlyIf}
 use Rattle.graphql_project_checking.specs.Truth.{AreOfDefinitions, AreOfFile, AreOfOneOperation, of_definitions, of_operation}
-use Rattle.graphql_project_checking.proofs.SilenceLemmas.{on_ok, silent_then}
+use Rattle.graphql_project_checking.proofs.SilenceLemmas.{on_ok, quiet_then}
 use Rattle.graphql_project_checking.proofs.TruthLemmas.{adds_so, adds_then}
 use Rattle.graphql_project_checking.proofs.whole.check_file.Goals as goal
 
@@ -22,9 +22,10 @@ returns c =
     let mid = c.check_operations.new.found.lists.items in
     let new = c.check_file_rules.new.found.items in
     record {
-      passes = on_ok (SilentOnlyIf mid new (LabelsHold whole × InputFieldsAreUnique whole)) (SilentOnlyIf old new (FilePasses s pool file))
-          (silent_then old mid new (All (OperationPasses s pool) (operations_of file)) (LabelsHold whole × InputFieldsAreUnique whole) (FilePasses s pool file)
-          (λ operations rules. record {
+      passes = on_ok (QuietOnlyIf mid new (λ off. LabelsHold whole × InputFieldsAreUnique whole)) (QuietOnlyIf old new (λ off. FilePasses off s pool file))
+          (quiet_then old mid new (λ off. All (OperationPasses off s pool) (operations_of file)) (λ off. LabelsHold whole × InputFieldsAreUnique whole)
+          (λ off. FilePasses off s pool file)
+          (λ off operations rules. record {
             operations = operations;
             whole = whole;
             same_operations = refl;

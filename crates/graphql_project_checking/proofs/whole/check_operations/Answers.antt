@@ -7,10 +7,10 @@ use Rattle.graphql_documents.specs.declared.documents.executables.Operation.{Ope
 use Rattle.graphql_nodes.specs.declared.nodes.Node.{Node}
 use Rattle.graphql_projects.specs.Reach.{nodes_at}
 use Rattle.graphql_variables.specs.Uses.{names_of}
-use Rattle.graphql_project_checking.specs.Silence.{BorrowsForAll, NotesUses, OperationPasses, SilentOnlyIf}
+use Rattle.graphql_project_checking.specs.Silence.{BorrowsForAll, NotesUses, OperationPasses, QuietOnlyIf}
 use Rattle.graphql_project_checking.specs.Truth.{AreOfOneOperation, AreOfOperation, NotesAll}
 use Rattle.graphql_project_checking.proofs.ReachingLemmas.{borrow_more, borrow_nothing, note_more, note_nothing, passes_more}
-use Rattle.graphql_project_checking.proofs.SilenceLemmas.{stays_silent}
+use Rattle.graphql_project_checking.proofs.SilenceLemmas.{stays_quiet}
 use Rattle.graphql_project_checking.proofs.TruthLemmas.{adds_nothing, adds_so, adds_then, stands_at}
 use Rattle.graphql_project_checking.proofs.UseTruthLemmas.{all_of_more, all_of_nothing}
 use Rattle.graphql_project_checking.proofs.whole.check_operations.Goals as goal
@@ -18,9 +18,8 @@ use Rattle.graphql_project_checking.proofs.whole.check_operations.Goals as goal
 pub loop-operation-init : goal.loop-operation-init
 loop-operation-init c =
     let s = c.args.context.schema.now in
-    let pool = c.args.context.pool.now in
-    let Passes = OperationPasses s pool in (
-      stays_silent c.args.found.now.lists.items (All Passes []) (All-nil Passes),
+    let pool = c.args.context.pool.now in (
+      stays_quiet c.args.found.now.lists.items (λ off. All (OperationPasses off s pool) []) (λ off. All-nil (OperationPasses off s pool)),
       borrow_nothing pool c.args.fragments.now.entries,
       note_nothing pool (names_of c.args.used.now.keys),
       adds_nothing (AreOfOneOperation c.args.context.bounds s pool (nodes_at c.deref-operation-items.result.now)) c.args.found.now.lists.items,
@@ -61,7 +60,7 @@ returns c =
     let are = ap nodes_at c.deref-operation-items.ensures.value ∙ c.in_ok-operations.ensures in
     let done = ap nodes_at (take_all c.loop-operation.operation-index all c.loop-operation-test.false) ∙ are in
     record {
-      passes = subst (λ l. SilentOnlyIf c.args.found.now.lists.items c.loop-operation.found.lists.items (All (OperationPasses s pool) l)) done before.0;
+      passes = subst (λ l. QuietOnlyIf c.args.found.now.lists.items c.loop-operation.found.lists.items (λ off. All (OperationPasses off s pool) l)) done before.0;
       truth = subst (λ l. KeepsReports (AreOfOneOperation c.args.context.bounds s pool l) c.args.found.now.lists.items c.loop-operation.found.lists.items) are before.3;
       borrows = subst (λ l. BorrowsForAll pool l c.args.fragments.now.entries c.loop-operation.fragments.entries) done before.1;
       used = subst (λ l. NotesUses pool l (names_of c.args.used.now.keys) (names_of c.loop-operation.used.keys)) done before.2;

@@ -5,13 +5,13 @@ use Rattle.graphql_documents.specs.Executables.{operations_of}
 use Rattle.graphql_pools.specs.Pools.{Gathers, HasFirst, entries_among}
 use Rattle.graphql_projects.specs.OperationTrees.{fragments_among}
 use Rattle.graphql_variables.specs.Uses.{names_of}
-use Rattle.graphql_project_checking.specs.Silence.{FilePasses, FilesHold, NotesUses, SilentOnlyIf}
+use Rattle.graphql_project_checking.specs.Silence.{FilePasses, FilesHold, NotesUses, QuietOnlyIf}
 use Rattle.graphql_project_checking.specs.Truth.{AreOfOneFile, AreOfRules, AreOfWhole, IsUnnamedEntry, IsUnusedEntry, NotesAll, of_parts, of_unused}
 use Rattle.graphql_project_checking.proofs.ProjectLemmas.{files_hold, pool_says}
-use Rattle.graphql_project_checking.proofs.SilenceLemmas.{on_ok, silent_then}
+use Rattle.graphql_project_checking.proofs.SilenceLemmas.{on_ok, quiet_then}
 use Rattle.graphql_project_checking.proofs.TreeLemmas.{of_one_file, unnamed_is_unused}
 use Rattle.graphql_project_checking.proofs.TruthLemmas.{adds_so, adds_then, rules_so}
-use Rattle.graphql_project_checking.proofs.UseLemmas.{IsUsed}
+use Rattle.graphql_project_checking.proofs.UseLemmas.{UsedUnlessOff}
 use Rattle.graphql_project_checking.proofs.whole.check_whole.Goals as goal
 
 pub returns : goal.returns
@@ -31,9 +31,9 @@ returns c =
           let gathers = subst (λ l. Gathers (entries_among l ++ entries_among lenders) [] pool.fragments.entries) c.deref.ensures.value c.in_ok-pool.ensures.gathers in
           let said = pool_says s own lent files lenders pool.fragments.entries own_build.1 lent_build.1 distinct gathers in
           let notes = subst (λ l. NotesUses pool (flat_map operations_of files) (names_of l) used) c.with_hasher-used.ensures.empty c.in_ok-check_each.ensures.used in
-          on_ok (SilentOnlyIf mid new (All (IsUsed used) (fragments_among own))) (SilentOnlyIf old new (FilesHold s own lent))
-          (silent_then old mid new (All (FilePasses s pool) files) (All (IsUsed used) (fragments_among own)) (FilesHold s own lent)
-          (λ pass named. files_hold s own lent files pool used usable own_build.0 own_build.1 said distinct pass notes named) c.in_ok-check_each.ensures.passes)
+          on_ok (QuietOnlyIf mid new (UsedUnlessOff used (fragments_among own))) (QuietOnlyIf old new (λ off. FilesHold off s own lent))
+          (quiet_then old mid new (λ off. All (FilePasses off s pool) files) (UsedUnlessOff used (fragments_among own)) (λ off. FilesHold off s own lent)
+          (λ off pass named. files_hold off s own lent files pool used usable own_build.0 own_build.1 said distinct pass notes named) c.in_ok-check_each.ensures.passes)
           c.check_uses.result c.check_uses.ensures.silence;
       truth = λ lent usable own_build lent_build.
           let first = subst (λ l. HasFirst (entries_among l ++ entries_among lenders) [] pool.fragments.entries) c.deref.ensures.value c.in_ok-pool.ensures.first in

@@ -9,11 +9,11 @@ use Rattle.graphql_validation.proofs.entry.validate_with_or_without_schema.Goals
 pub returns-in_err-validate_operation_definitions : goal.returns-in_err-validate_operation_definitions
 returns-in_err-validate_operation_definitions c =
     MatchResult-from_err _ _ _ c.from_residual.ensures.0
-    (λ y. kept_wider (of_operations (option_copied c.args.schema) c.args.document.now) c.in_err-validate_operation_definitions.ensures)
+    (λ y. kept_wider (of_operations (option_copied c.args.schema) c.args.document.now) c.in_err-validate_operation_definitions.ensures.checks)
 
 pub returns-in_err-validate_fragments_used : goal.returns-in_err-validate_fragments_used
 returns-in_err-validate_fragments_used c =
-    let operations = wider_within IsLimitEntry (of_operations (option_copied c.args.schema) c.args.document.now) c.in_ok-validate_operation_definitions.ensures in
+    let operations = wider_within IsLimitEntry (of_operations (option_copied c.args.schema) c.args.document.now) c.in_ok-validate_operation_definitions.ensures.checks in
     let used = of_used_fragments (option_copied c.args.schema) c.args.document.now in
     MatchResult-from_err _ _ _ c.from_residual-in_err-validate_fragments_used.ensures.0
     (λ y. kept_then (kept_within IsLimitEntry operations) (kept_wider used c.in_err-validate_fragments_used.ensures.checks))
@@ -22,7 +22,7 @@ pub returns : goal.returns
 returns c =
     let S = option_copied c.args.schema in
     let D = c.args.document.now in
-    let operations = wider_within IsLimitEntry (of_operations S D) c.in_ok-validate_operation_definitions.ensures in
+    let operations = wider_within IsLimitEntry (of_operations S D) c.in_ok-validate_operation_definitions.ensures.checks in
     let fragments = wider_within IsLimitEntry (of_used_fragments S D) c.in_ok-validate_fragments_used.ensures.checks in
     let both = both_within IsLimitEntry operations fragments in
     MatchResult-weaker c.validate_defer.result c.validate_defer.ensures
