@@ -1,5 +1,5 @@
 -- Which diagnostics of documents name rules that are never off, and how a document holds by the others.
-use Rattle.std.proofs.Common.{◌≡◌, ◌⊎◌, inl, inr, Some, IsFalse, refl, subst, All}
+use Rattle.std.proofs.Common.{◌⊎◌, inl, inr, Some, IsFalse, subst, All}
 use Rattle.std.proofs.lemmas.Option.{same_Some}
 use Rattle.indexmap.specs.IndexMap.{values}
 use Rattle.graphql_diagnostics.specs.declared.details.Details.{Details}

@@ -69,10 +69,10 @@ quiet_one old new x H grown h off all =
     )
 
 pub is_not_quiet : (old new : List Reports) (x : Reports) → new ≡ old ++ x ∷ [] → ((off : RuleSet) → ¬ IsOnlyOff off x) → (off : RuleSet) → ¬ All (IsOnlyOff off) new
-is_not_quiet old new x grown no off all = (quiet_one old new x (λ off. ⊥) grown no off all).1
+is_not_quiet old new x grown never off all = (quiet_one old new x (λ off. ⊥) grown never off all).1
 
 pub never_quiet : (old new : List Reports) (H : RuleSet → Type 0) → ((off : RuleSet) → ¬ All (IsOnlyOff off) new) → QuietOnlyIf old new H
-never_quiet old new H no off all = absurd (no off all)
+never_quiet old new H never off all = absurd (never off all)
 
 pub quiet_so : (old new : List Reports) (H K : RuleSet → Type 0) → ((off : RuleSet) → H off → K off) → QuietOnlyIf old new H → QuietOnlyIf old new K
 quiet_so old new H K f quiet off all = let a = quiet off all in (a.0, f off a.1)
@@ -105,14 +105,14 @@ rules_of_building_are_not_off P off (Building list) are only = only
 rules_of_building_are_not_off P off (FirstBuilding list) are only = only
 rules_of_building_are_not_off P off _ are only = are
 
-pub building_is_not_off : (s : Schema) (off : RuleSet) {trees : List Document} {old new : List Reports} → KeepsReports (AreOfOneDocument s trees) old new →
+pub building_is_not_off : (s : Schema) (off : RuleSet) (trees : List Document) (old new : List Reports) → KeepsReports (AreOfOneDocument s trees) old new →
     All (IsOnlyOff off) new → (new ≡ old) × All (IsOnlyOff off) old
-building_is_not_off s off {trees} {old} {new} kept all =
+building_is_not_off s off trees old new kept all =
     none_was_added (AreOfOneDocument s trees) old new kept off (λ r are. rules_of_building_are_not_off (DocumentBuildingReport (Some s) are.0) off r are.2) all
 
 -- what was there, if more was added
-pub part_of_off : (off : RuleSet) {old new added : List Reports} → new ≡ old ++ added → All (IsOnlyOff off) new → All (IsOnlyOff off) old
-part_of_off off {old} {new} {added} grown all = All-append_left (IsOnlyOff off) old added (subst (All (IsOnlyOff off)) grown all)
+pub part_of_off : (off : RuleSet) (old new added : List Reports) → new ≡ old ++ added → All (IsOnlyOff off) new → All (IsOnlyOff off) old
+part_of_off off old new added grown all = All-append_left (IsOnlyOff off) old added (subst (All (IsOnlyOff off)) grown all)
 
 -- diagnostics that are never of rules that are off
 pub no_entry : (Q : DiagnosticEntry → Type 0) (off : RuleSet) → ((e : DiagnosticEntry) → Q e → ¬ NamesRuleIn off e.details) → (list : List DiagnosticEntry) →

@@ -1,5 +1,5 @@
 -- Which diagnostics name rules that are never off, and how what holds of the other rules composes.
-use Rattle.std.proofs.Common.{◌≡◌, ◌⊎◌, inl, inr, ℕ, ◌+◌, ◌<◌, ◌≤◌, List, [], ◌∷◌, ◌++◌, Option, None, Some, IsTrue, IsFalse, length, get_or, take, refl, sym, ◌∙◌, subst, All}
+use Rattle.std.proofs.Common.{◌≡◌, inl, inr, ℕ, ◌+◌, ◌<◌, ◌≤◌, List, [], ◌∷◌, ◌++◌, Option, IsFalse, length, get_or, take, refl, sym, ◌∙◌, subst, All}
 use Rattle.std.specs.Prelude.{Result, Ok, Err, OnOk, MatchResult, ⊤}
 use Rattle.std.proofs.lemmas.List.{append-nil, append_cancel_left, take_all}
 use Rattle.std.proofs.lemmas.List.Elements.{All-nil, All-head, All-more}

@@ -1,5 +1,5 @@
 -- Each exit of the walk over the operations, each of its turns, and what pairs decide behind it.
-use Rattle.std.proofs.Common.{◌≡◌, ◌++◌, ◌∷◌, [], Bor, Contains, List, Some, ap, drop, map, subst, sym, take, ◌∙◌, ◌+◌}
+use Rattle.std.proofs.Common.{◌≡◌, ◌++◌, ◌∷◌, [], Bor, Contains, List, ap, drop, map, subst, sym, take, ◌∙◌, ◌+◌}
 use Rattle.std.proofs.lemmas.List.{map-append, take_all}
 use Rattle.std.proofs.lemmas.Result.{IfOk-weaker}
 use Rattle.graphql_diagnostics.specs.Diagnostics.{IsLimitEntry, entries}

@@ -1,4 +1,4 @@
-use Rattle.std.proofs.Common.{All, Bor, Contains, Some, refl, subst, sym}
+use Rattle.std.proofs.Common.{All, Bor, Contains, refl, subst, sym}
 use Rattle.std.proofs.lemmas.Result.{MatchResult-from_err}
 use Rattle.graphql_diagnostics.specs.Diagnostics.{IsLimitEntry, entries}
 use Rattle.graphql_diagnostics.proofs.ReportLemmas.{kept_then, kept_wider}

@@ -5,7 +5,6 @@ use Rattle.graphql_diagnostics.specs.Reports.{ReportsWithin}
 use Rattle.graphql_document_rules.specs.SingleRootField.{OperationRootHolds}
 use Rattle.graphql_document_rules.proofs.RuleReportLemmas.{FixedEntryReport}
 use Rattle.graphql_document_rules.proofs.operations.validate_subscriptions.Given as goal
-use Rattle.std.specs.Prelude.{Some}
 
 abbrev pub invariant-loop-operation : goal.invariant-loop-operation
 invariant-loop-operation l =

@@ -1,4 +1,4 @@
-use Rattle.std.proofs.Common.{◌≡◌, List, [], ◌∷◌, None, Some, ap, map, subst, sym}
+use Rattle.std.proofs.Common.{◌≡◌, List, [], ◌∷◌, Some, ap, map, subst, sym}
 use Rattle.std.specs.Prelude.{Option, ◌++◌, option_to_list, slice_get}
 use Rattle.std.proofs.lemmas.Option.{same_Some}
 use Rattle.graphql_documents.specs.declared.documents.executables.Operation.{Operation}

@@ -1,4 +1,4 @@
-use Rattle.std.proofs.Common.{◌≡◌, ◌≢◌, ◌∙◌, [], subst, sym}
+use Rattle.std.proofs.Common.{◌≡◌, ◌∙◌, [], subst, sym}
 use Rattle.std.specs.Prelude.{All, Contains}
 use Rattle.graphql_diagnostics.specs.Reports.{KeepsReports}
 use Rattle.graphql_frontend.specs.InputFields.{InputFieldReport, InputFieldsAreUnique}

@@ -75,10 +75,11 @@ returns-else-is_silent c =
       others = λ is_all empty. on_ok (AddsOfParts b s own lent.documents.items last new)
           ((off : RuleSet) → All (IsOnlyOff off) new → ProjectHoldsBut off b s c.args.sources.now c.args.lent.now)
           (λ adds off all.
-          let back = part_of_off off adds.4.appended all in
-          let built = building_is_not_off s off c.in_ok-built.ensures.truth back in
-          let files = building_is_not_off s off c.in_ok-files.ensures.truth built.1 in
-          let names = none_was_added (AreOfBuilding _) _ _ c.in_ok-check_fragment_names.ensures.truth off (λ r. rules_of_building_are_not_off _ off r) files.1 in
+          let back = part_of_off off last new _ adds.4.appended all in
+          let built = building_is_not_off s off _ _ _ c.in_ok-built.ensures.truth back in
+          let files = building_is_not_off s off _ _ _ c.in_ok-files.ensures.truth built.1 in
+          let Names = IsFragmentNameReport (c.deref.result.now ++ c.deref-2.result.now) in
+          let names = none_was_added (AreOfBuilding Names) _ _ c.in_ok-check_fragment_names.ensures.truth off (rules_of_building_are_not_off Names off) files.1 in
           let lent_texts = none_was_added (AreErrorsOf b c.args.lent.now) _ _ c.in_ok-lent.ensures.truth off (errors_are_not_off b c.args.lent.now off) names.1 in
           let texts = none_was_added (AreErrorsOf b c.args.sources.now) _ _ c.in_ok-own.ensures.truth off (errors_are_not_off b c.args.sources.now off) lent_texts.1 in
           let second = lent_texts.0 ∙ texts.0 ∙ empty in

@@ -1,4 +1,4 @@
-use Rattle.std.proofs.Common.{◌≡◌, ◌++◌, [], List}
+use Rattle.std.proofs.Common.{◌≡◌, ◌++◌, List}
 use Rattle.std.specs.Prelude.{Contains}
 use Rattle.graphql_diagnostics.specs.Reports.{KeepsReports}
 use Rattle.graphql_frontend.specs.declared.reports.Reports.{Reports}
