@@ -1,1 +1,2 @@
 pub mod Severities
+pub use Rattle.gqlvalidate_texts.specs.NamedTexts

@@ -1,1 +1,2 @@
+mod IgnoredLemmas
 mod KeptLemmas

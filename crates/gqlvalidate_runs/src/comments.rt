@@ -1,5 +1,12 @@
 //! Comments that ignore findings.
 
+ghost use Rattle.std.specs.BTreeMap.{get_by};
+ghost use Rattle.std.specs.Option.{unwrap_or};
+ghost use Rattle.std.specs.Ordering.{nat_cmp};
+ghost use Rattle.std.specs.Prelude.{◌≡◌, ◌-◌, IfOk, filter, length, map, not, ℕ};
+ghost use Rattle.gqlvalidate_formats.specs.NamedTexts.{named_text, part_at, texts_of};
+ghost use Rattle.gqlvalidate_runs.specs.Ignored.{is_ignored, spot_at};
+
 use crate::files::{first_of, first_texts};
 use gqlvalidate_formats::named_texts::{CountedSubject, Subject};
 use gqlvalidate_formats::{Finding, ShownReport, SourceText};
@@ -115,13 +122,17 @@ impl<'a> Comments<'a> {
         Ok(heard)
     }
 
-    /// Takes out the findings that are ignored. The answer is how many they are.
+    /// Takes out the findings that are ignored, and no others. The answer is how many they are.
     pub fn take_out(
         &self,
         alloc: Global,
         findings: &mut Vec<Finding<'_>>,
         subject: Subject<'_>,
-    ) -> Result<usize, AllocError> {
+    ) -> Result<usize, AllocError>
+        ensures { IfOk result (λ count. (first : ℕ → ℕ) ×
+            (findings.new.items ≡ filter (λ f. not (is_ignored self.now (map named_text subject.entry.texts.now) first f.report.rule f.report.location)) findings.old.items) ×
+            (count ≡ length findings.old.items - length findings.new.items)) }
+    {
         if self.ignored.is_empty() {
             return Ok(0);
         }
@@ -138,7 +149,10 @@ impl<'a> Comments<'a> {
         findings: &mut Vec<Finding<'_>>,
         counted: &CountedSubject<'_>,
         firsts: &BTreeMap<u32, u32>,
-    ) {
+    )
+        ensures { findings.new.items ≡ filter (λ f. not (is_ignored self.now (texts_of counted.now) (λ n. unwrap_or (get_by (nat_cmp n) firsts.now) n) f.report.rule f.report.location))
+            findings.old.items }
+    {
         findings.retain(|finding| !self.ignores(finding, counted, firsts));
     }
 
@@ -148,7 +162,9 @@ impl<'a> Comments<'a> {
         finding: &Finding<'_>,
         counted: &CountedSubject<'_>,
         firsts: &BTreeMap<u32, u32>,
-    ) -> bool {
+    ) -> bool
+        ensures { result ≡ is_ignored self.now (texts_of counted.now) (λ n. unwrap_or (get_by (nat_cmp n) firsts.now) n) finding.now.report.rule finding.now.report.location }
+    {
         match spot_of(finding, counted, firsts) {
             Some(spot) => self.ignored.contains(&spot),
             None => false,
@@ -248,7 +264,9 @@ fn spot_of(
     finding: &Finding<'_>,
     counted: &CountedSubject<'_>,
     firsts: &BTreeMap<u32, u32>,
-) -> Option<Spot> {
+) -> Option<Spot>
+    ensures { result ≡ spot_at (texts_of counted.now) (λ n. unwrap_or (get_by (nat_cmp n) firsts.now) n) finding.now.report.rule finding.now.report.location }
+{
     let located = counted.locate(finding.report.location)?;
     let first = first_of(located.span.file_id.0, firsts);
     Some((first, located.start.line, finding.report.rule))

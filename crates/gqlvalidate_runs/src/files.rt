@@ -1,12 +1,19 @@
 //! Files of a run, some of which have several texts.
 
+ghost use Rattle.std.specs.BTreeMap.{get_by};
+ghost use Rattle.std.specs.Option.{unwrap_or};
+ghost use Rattle.std.specs.Ordering.{nat_cmp};
+ghost use Rattle.std.specs.Prelude.{◌≡◌};
+
 use gqlvalidate_formats::Finding;
 use gqlvalidate_formats::named_texts::{NamedText, Subject};
 use std::alloc::{AllocError, Global};
 use std::collections::BTreeMap;
 
 /// The number of the first text of the file of this text.
-pub fn first_of(file: u32, firsts: &BTreeMap<u32, u32>) -> u32 {
+pub fn first_of(file: u32, firsts: &BTreeMap<u32, u32>) -> u32
+    ensures { result ≡ unwrap_or (get_by (nat_cmp file) firsts.now) file }
+{
     firsts.get(&file).copied().unwrap_or(file)
 }
 

@@ -1,5 +1,9 @@
 //! What is reported without a schema of texts with something that cannot be built.
 
+ghost use Rattle.std.specs.Prelude.{◌∷◌, [], OnOk};
+ghost use Rattle.graphql_kept_projects.specs.Left.{AreSomeOf, AreTrueOfOne};
+ghost use Rattle.graphql_kept_reports.specs.Reports.{KeepsReports};
+
 use crate::scopes::Scope;
 use graphql_frontend::{
     DocumentReports, ProjectReports, Reports, SourceText, ValidationError,
@@ -17,8 +21,11 @@ pub(crate) fn add_all_certain(
     faults: &Faults,
     bounds: Bounds,
     found: &mut ProjectReports,
-) -> Result<(), ValidationError> {
-    for source in read.iter().take(scope.judged) {
+) -> Result<(), ValidationError>
+    ensures { OnOk result (KeepsReports (AreTrueOfOne bounds read.now) found.old.lists.items found.new.lists.items) }
+{
+    let (judged, _) = read.split_at(scope.judged.min(read.len()));
+    for source in judged {
         if faults.may_be_in(source.file_id) {
             add_certain_of(alloc, *source, bounds, found)?;
         }
@@ -31,7 +38,9 @@ fn add_certain_of(
     source: SourceText<'_>,
     bounds: Bounds,
     found: &mut ProjectReports,
-) -> Result<(), ValidationError> {
+) -> Result<(), ValidationError>
+    ensures { OnOk result (KeepsReports (AreTrueOfOne bounds (source.entry ∷ [])) found.old.lists.items found.new.lists.items) }
+{
     let reported = validate_standalone_document(alloc, source, bounds)?;
     match &reported {
         Some(Reports::DocumentRules(reports)) => add_reports(alloc, reports, found),
@@ -43,7 +52,9 @@ fn add_reports(
     alloc: Global,
     reports: &DocumentReports,
     found: &mut ProjectReports,
-) -> Result<(), ValidationError> {
+) -> Result<(), ValidationError>
+    ensures { OnOk result (KeepsReports (AreSomeOf reports.now) found.old.lists.items found.new.lists.items) }
+{
     let mut certain = DiagnosticList::with_hash_seed(alloc, reports.rules.hash_seed());
     add_certain(alloc, reports.rules.iter().as_slice(), &mut certain)?;
     add_certain(alloc, &reports.undefined_variables, &mut certain)?;

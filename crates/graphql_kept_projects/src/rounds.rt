@@ -1,6 +1,10 @@
 //! Rounds in which texts are validated without what cannot be built.
 
+ghost use Rattle.std.specs.Prelude.{All, IfOk, List, OnOk};
 ghost use Rattle.graphql_frontend.specs.Schemas.{IsUsable};
+ghost use Rattle.graphql_frontend.specs.declared.texts.SourceText as source_text;
+ghost use Rattle.graphql_kept_projects.specs.Left.{AreFurther, AreTrueOfLeft, IsLeft};
+ghost use Rattle.graphql_kept_reports.specs.Reports.{KeepsReports};
 
 use crate::certain::add_all_certain;
 use crate::kept::{Left, doubts_of, left_without, sources_of};
@@ -18,6 +22,11 @@ const MOST_ROUNDS: usize = 4;
 /// Adds to what was found in texts what is found in them without what cannot be built, and what is found without the schema in those with something that
 /// cannot. A report that could be false of the whole texts is not
 /// added, nor are the others of its list: what it is about is left out as well, and the rest is validated again.
+///
+/// What was found stays. Each list that is added is true of what is left of the texts, in which some parts are blank or `__typename`; or it has some of
+/// the reports on one of the texts as a document without a schema. The only error is a failed allocation.
+///
+/// Specification: 5 Validation.
 pub fn add_further(
     alloc: Global,
     schema: &Schema,
@@ -27,6 +36,7 @@ pub fn add_further(
     found: &mut ProjectReports,
 ) -> Result<(), ValidationError>
     requires { IsUsable schema.now }
+    ensures { OnOk result (KeepsReports (AreFurther bounds schema.now read.now) found.old.lists.items found.new.lists.items) }
 {
     let mut faults = Faults::new(alloc);
     add_building_faults(alloc, &found.lists, &mut faults)?;
@@ -49,12 +59,14 @@ fn add_rounds(
     mut left: Left,
     found: &mut ProjectReports,
 ) -> Result<(), ValidationError>
-    requires { IsUsable schema.now }
+    requires usable { IsUsable schema.now }
+    requires left { IsLeft read.now left }
+    ensures { OnOk result (KeepsReports (AreTrueOfLeft bounds schema.now read.now) found.old.lists.items found.new.lists.items) }
 {
     for _ in 0..MOST_ROUNDS {
-        left = left_without(alloc, read, &faults, bounds, left)?;
+        left = left_without(alloc, &faults, bounds, left)?;
         let doubts = doubts_of(alloc, read, &left)?;
-        let further = check_left(alloc, schema, read, scope, &left, bounds)?;
+        let further = check_left(alloc, schema, scope, &left, bounds)?;
         faults = faults_beside(alloc, &further, &doubts)?;
         add_known(alloc, further, &doubts, found)?;
         if faults.is_empty() {
@@ -112,13 +124,13 @@ fn add_doubtful_faults(
 fn check_left(
     alloc: Global,
     schema: &Schema,
-    read: &[SourceText<'_>],
     scope: Scope,
     left: &Left,
     bounds: Bounds,
 ) -> Result<ProjectReports, ValidationError>
     requires { IsUsable schema.now }
+    ensures { (read : List source_text.SourceText) → IsLeft read left.now → IfOk result (λ further. All (AreTrueOfLeft bounds schema.now read) further.lists.items) }
 {
-    let sources = sources_of(alloc, read, left)?;
+    let sources = sources_of(alloc, left)?;
     reports_of(alloc, schema, &sources, scope, bounds)
 }

@@ -1,1 +1,5 @@
 pub mod Doubtful
+pub use Rattle.graphql_diagnostics.specs.Diagnostics
+pub use Rattle.graphql_diagnostics.specs.Reports
+pub use Rattle.graphql_kept_texts.specs.Cuts
+pub use Rattle.graphql_kept_texts.specs.declared.kept.Kept

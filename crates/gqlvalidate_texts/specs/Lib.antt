@@ -1,0 +1,1 @@
+pub use Rattle.graphql_report_formats.specs.NamedTexts

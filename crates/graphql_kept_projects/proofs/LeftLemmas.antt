@@ -1,0 +1,105 @@
+-- What is left of texts, step by step, and reports that are added.
+use Rattle.std.proofs.Common.{◌≡◌, ◌∙◌, Bool, filter, ℕ, ◌+◌, ◌<◌, List, [], ◌∷◌, ◌++◌, None, Option, Some, Ok, Err, Result, ap, get_or, length, sym, subst, take}
+use Rattle.std.specs.List.{AllZip}
+use Rattle.std.specs.Prelude.{◌⊎◌, All, Contains, IfSome, OnOk, String}
+use Rattle.std.specs.String.{string_bytes}
+use Rattle.std.specs.declared.alloc.Global.{Global}
+use Rattle.std.proofs.lemmas.List.{append-nil, append_assoc}
+use Rattle.std.proofs.lemmas.List.Elements.{All-append, All-cons, All-filter, All-nil, All-weaker, Contains-append_left}
+use Rattle.graphql_documents.proofs.ListLemmas.{more_is, only_one}
+use Rattle.graphql_frontend.specs.declared.texts.SourceText.{SourceText}
+use Rattle.graphql_kept_projects.specs.Left.{AreTrueOfOne, IsLeftOf, IsLess, IsSourceLeft, IsTextLeft, all_is_left, rest_text, some_is_left}
+use Rattle.graphql_kept_projects.specs.declared.kept.LeftText.{LeftText}
+use Rattle.graphql_frontend.specs.declared.reports.Reports.{Reports}
+use Rattle.graphql_parser.specs.declared.bounds.Bounds.{Bounds}
+use Rattle.graphql_kept_reports.specs.Cuts.{IsKeptOf}
+use Rattle.graphql_kept_reports.specs.Kept.{Kept}
+use Rattle.graphql_kept_reports.specs.Reports.{KeepsReports}
+
+-- one pair more
+pub zip_more : {A B : Type 0} (R : A → B → Type 0) (xs : List A) (ys : List B) (x : A) (y : B) → AllZip R xs ys → R x y → AllZip R (xs ++ x ∷ []) (ys ++ y ∷ [])
+zip_more R [] [] x y zip r = (r, tt)
+zip_more R [] (b ∷ ys) x y zip r = absurd zip
+zip_more R (a ∷ xs) [] x y zip r = absurd zip
+zip_more R (a ∷ xs) (b ∷ ys) x y zip r = (zip.0, zip_more R xs ys x y zip.1 r)
+
+pub zip_take : {A B : Type 0} (R : A → B → Type 0) (xs : List A) (ys ys' : List B) (i : ℕ) (x : A) (y : B) → i < length xs → x ≡ get_or xs i x → ys' ≡ ys ++ y ∷ [] →
+    AllZip R (take i xs) ys → R x y → AllZip R (take (i + 1) xs) ys'
+zip_take R xs ys ys' i x y within item grown zip r =
+    subst (λ l. AllZip R l ys') (sym (more_is xs i x within item)) (subst (AllZip R (take i xs ++ x ∷ [])) (sym grown) (zip_more R (take i xs) ys x y zip r))
+
+-- what is left of what is left
+pub left_of_left : {text left rest : List ℕ} → IsLeftOf text left → IsLeftOf left rest → IsLeftOf text rest
+left_of_left first all_is_left = first
+left_of_left first (some_is_left kept left is_kept is) = some_is_left kept (left_of_left first left) is_kept is
+
+pub rest_is_left : (text rest : String Global) (kept : Option Kept) → IfSome kept (IsKeptOf (string_bytes text)) → rest ≡ rest_text text kept → IsLeftOf (string_bytes text) (string_bytes rest)
+rest_is_left text rest None kept is = subst (λ (r : String Global). IsLeftOf (string_bytes text) (string_bytes r)) (sym is) all_is_left
+rest_is_left text rest (Some it) kept is = some_is_left it all_is_left kept (ap string_bytes is)
+
+pub zip_less : (read : List SourceText) (lefts rests : List LeftText) → AllZip IsTextLeft read lefts → AllZip IsLess lefts rests → AllZip IsTextLeft read rests
+zip_less [] [] [] first rest = tt
+zip_less [] [] (r ∷ rs) first rest = absurd rest
+zip_less [] (l ∷ ls) rests first rest = absurd first
+zip_less (s ∷ ss) [] rests first rest = absurd first
+zip_less (s ∷ ss) (l ∷ ls) [] first rest = absurd rest
+zip_less (s ∷ ss) (l ∷ ls) (r ∷ rs) first rest = (record { same_file = rest.0.0 ∙ first.0.same_file; is_left = left_of_left first.0.is_left rest.0.1 }, zip_less ss ls rs first.1 rest.1)
+
+-- what is left, as texts
+abbrev pub IsSourceOf : LeftText → SourceText → Type 0
+IsSourceOf t s = (s.file_id ≡ t.file_id) × (s.text.now ≡ string_bytes t.text)
+
+pub zip_sources : (read : List SourceText) (lefts : List LeftText) (sources : List SourceText) → AllZip IsTextLeft read lefts → AllZip IsSourceOf lefts sources → AllZip IsSourceLeft read sources
+zip_sources [] [] [] first rest = tt
+zip_sources [] [] (r ∷ rs) first rest = absurd rest
+zip_sources [] (l ∷ ls) sources first rest = absurd first
+zip_sources (s ∷ ss) [] sources first rest = absurd first
+zip_sources (s ∷ ss) (l ∷ ls) [] first rest = absurd rest
+zip_sources (s ∷ ss) (l ∷ ls) (r ∷ rs) first rest =
+    ((rest.0.0 ∙ first.0.same_file, subst (IsLeftOf s.text.now) (sym rest.0.1) first.0.is_left), zip_sources ss ls rs first.1 rest.1)
+
+-- one of two lists has it
+abbrev pub InEither : {X : Type 0} → List X → List X → X → Type 0
+InEither xs ys e = Contains xs e ⊎ Contains ys e
+
+-- reports that are added
+module _ {X : Type 0} where
+  pub adds_nothing : (P : X → Type 0) (old : List X) → KeepsReports P old old
+  adds_nothing P old = record { added = []; appended = sym (append-nil old); each = All-nil P }
+
+  pub adds_then : (P : X → Type 0) (old mid new : List X) → KeepsReports P old mid → KeepsReports P mid new → KeepsReports P old new
+  adds_then P old mid new a b = record {
+    added = a.added ++ b.added;
+    appended = b.appended ∙ ap (λ l. l ++ b.added) a.appended ∙ append_assoc old a.added b.added;
+    each = All-append P a.added b.added a.each b.each;
+  }
+
+  pub adds_so : (P Q : X → Type 0) (old new : List X) → ((x : X) → P x → Q x) → KeepsReports P old new → KeepsReports Q old new
+  adds_so P Q old new f a = record { added = a.added; appended = a.appended; each = All-weaker P Q f a.added a.each }
+
+  pub all_added : (P : X → Type 0) (old new : List X) → KeepsReports P old new → old ≡ [] → All P new
+  all_added P old new a none = subst (All P) (sym (a.appended ∙ ap (λ l. l ++ a.added) none)) a.each
+
+  pub adds_one_on_ok : {T E : Type 0} (r : Result T E) (P : X → Type 0) (old new : List X) (x : X) → OnOk r (new ≡ old ++ x ∷ []) → P x → OnOk r (KeepsReports P old new)
+  adds_one_on_ok (Ok y) P old new x grown p = record { added = x ∷ []; appended = grown; each = All-cons P x [] p (All-nil P) }
+  adds_one_on_ok (Err e) P old new x grown p = tt
+
+-- those that pass a test
+pub adds_filtered : {X : Type 0} (P : X → Type 0) (test : X → Bool) (further old new : List X) → new ≡ old ++ filter test further → All P further → KeepsReports P old new
+adds_filtered P test further old new grown all = record { added = filter test further; appended = grown; each = All-filter test P further all }
+
+pub on_ok : {T E : Type 0} (r : Result T E) (P Q : Type 0) → (P → Q) → OnOk r P → OnOk r Q
+on_ok (Ok x) P Q f p = f p
+on_ok (Err e) P Q f p = tt
+
+-- what is true of one of these texts
+pub one_of_them : (bounds : Bounds) (read own rest : List SourceText) (source : SourceText) (i : ℕ) → read ≡ own ++ rest → i < length own → source ≡ get_or own i source →
+    (old new : List Reports) → KeepsReports (AreTrueOfOne bounds (source ∷ [])) old new → KeepsReports (AreTrueOfOne bounds read) old new
+one_of_them bounds read own rest source i both within is old new =
+    adds_so (AreTrueOfOne bounds (source ∷ [])) (AreTrueOfOne bounds read) old new (λ r one. record {
+      source = one.source;
+      among = subst (λ s. Contains read s) (sym (only_one source one.source one.among)) (subst (λ l. Contains l source) (sym both) (Contains-append_left own rest source (i, within, sym is)));
+      all = one.all;
+      validated = one.validated;
+      are = one.are;
+    })
