@@ -20,10 +20,12 @@ use gqlvalidate_runs::schema_texts::{schema_subject, sources_of};
 use gqlvalidate_runs::{Finding, Texts, findings_of};
 use gqlvalidate_words::Dialect;
 use graphql_documents::documents::Schema;
-use graphql_frontend::{Reports, SchemaReading, SourceText, abandon, validate_document};
+use graphql_frontend::{
+    ProjectReports, Reports, SchemaReading, SourceText, abandon, validate_document,
+};
+use graphql_kept_projects::{Scope, add_further, reports_of};
 use graphql_nodes::FileId;
 use graphql_parser::Bounds;
-use graphql_project_checking::check_project;
 use json::{Scratch, Writer};
 use std::alloc::{AllocError, Global};
 use std::io;
@@ -33,6 +35,12 @@ use std::slice::from_ref;
 
 /// The number of the text of a question.
 const QUESTION: FileId = FileId(u32::MAX);
+
+/// Only the document of a question is judged, and no other text is.
+const ALONE: Scope = Scope {
+    judged: 1,
+    is_whole: true,
+};
 
 /// The rule that each fragment is used. Specification: 5.5.1.4 Fragments Must Be Used.
 const UNUSED_FRAGMENT: &str = "UnusedFragment";
@@ -464,13 +472,27 @@ fn answer_alone(
         subject,
         of_schema: Some(known.of_schema),
     };
-    match validate_document(alloc, schema, source, allowance.bounds)? {
-        Some(reports) => add_errors(alloc, Some(schema), &reports, about, allowance, json),
-        None => {
-            begin_errors(json)?;
-            Ok(json.end_array()?)
-        }
+    let found = reports_alone(alloc, schema, source, allowance.bounds)?;
+    let written = add_errors(alloc, Some(schema), &found.lists, about, allowance, json);
+    drop(found);
+    written
+}
+
+/// What is reported of a document that has all fragments itself, and of what is left of it without what cannot be built.
+fn reports_alone(
+    alloc: Global,
+    schema: &Schema,
+    source: SourceText<'_>,
+    bounds: Bounds,
+) -> Result<ProjectReports, Fault>
+    requires { IsUsable schema.now }
+{
+    let mut found = ProjectReports::new(alloc);
+    if let Some(reports) = validate_document(alloc, schema, source, bounds)? {
+        found.push(None, reports)?;
     }
+    add_further(alloc, schema, from_ref(&source), ALONE, bounds, &mut found)?;
+    Ok(found)
 }
 
 /// What findings are about.
@@ -495,8 +517,7 @@ fn answer_beside(
 {
     let texts = texts_of(alloc, question, known.lent)?;
     let sources = sources_of(alloc, &texts)?;
-    let (own, others) = sources.as_slice().split_at(1.min(sources.len()));
-    let found = check_project(alloc, schema, own, others, allowance.bounds)?;
+    let found = reports_beside(alloc, schema, &sources, allowance.bounds)?;
     let about = About {
         subject: Subject {
             path: None,
@@ -508,6 +529,20 @@ fn answer_beside(
     let written = add_used(alloc, schema, &found.lists, about, allowance, json);
     drop(found);
     written
+}
+
+/// What is reported of the first of these texts, and of what is left of it without what cannot be built. The others lend fragments.
+fn reports_beside(
+    alloc: Global,
+    schema: &Schema,
+    sources: &[SourceText<'_>],
+    bounds: Bounds,
+) -> Result<ProjectReports, Fault>
+    requires { IsUsable schema.now }
+{
+    let mut found = reports_of(alloc, schema, sources, ALONE, bounds)?;
+    add_further(alloc, schema, sources, ALONE, bounds, &mut found)?;
+    Ok(found)
 }
 
 /// Adds the first findings that are not about unused fragments, as many as an answer has at most, and the number of the others, if there are
@@ -585,12 +620,11 @@ fn add_others(json: &mut Writer, others: usize) -> Result<(), Fault> {
 fn add_errors(
     alloc: Global,
     schema: Option<&Schema>,
-    reports: &Reports,
+    lists: &[Reports],
     about: About<'_>,
     allowance: Allowance,
     json: &mut Writer,
 ) -> Result<(), Fault> {
-    let lists = from_ref(reports);
     let sources = about.subject.sources;
     let bounds = allowance.bounds;
     let findings = findings_of(alloc, schema, lists, sources, bounds, allowance.reports)?;
@@ -613,7 +647,7 @@ fn print_reports<O: Write>(
     };
     let mut json = Writer::new(Vec::new(alloc));
     json.begin_object()?;
-    add_errors(alloc, None, reports, about, allowance, &mut json)?;
+    add_errors(alloc, None, from_ref(reports), about, allowance, &mut json)?;
     json.end_object()?;
     print_now(alloc, json, output)
 }
