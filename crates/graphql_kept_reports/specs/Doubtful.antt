@@ -16,11 +16,11 @@ use Rattle.graphql_diagnostics.specs.declared.lists.DiagnosticList.{DiagnosticLi
 use Rattle.graphql_kept_reports.specs.declared.doubts.Doubts.{Doubts}
 
 -- the rule asks whether something is absent, and the whole texts have it: the use of a variable in a part that is left out, or maybe in a fragment that
--- is spread there; the spread of a fragment; its definition
+-- is spread there; the spread of a fragment, if a spread is left out; its definition
 abbrev pub asks_for_what_is_there : Doubts → DiagnosticData → Bool
 asks_for_what_is_there doubts (report.UnusedVariable name) =
     contains_text doubts.left_out name.text || (doubts.has_spread && contains_text doubts.used name.text)
-asks_for_what_is_there doubts (report.UnusedFragment name) = contains_text doubts.spread name.text
+asks_for_what_is_there doubts (report.UnusedFragment name) = doubts.has_spread && contains_text doubts.spread name.text
 asks_for_what_is_there doubts (report.UndefinedFragment name) = contains_text doubts.defined name.text
 asks_for_what_is_there doubts _ = false
 

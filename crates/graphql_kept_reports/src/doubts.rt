@@ -94,7 +94,7 @@ impl Doubts {
     /// Whether the report on what is left could be false of the whole:
     ///
     /// - a variable is reported as unused which is used in a part that is left out, or may be in a fragment that is spread there
-    /// - a fragment is reported as unused that is spread
+    /// - a fragment is reported as unused that is spread, if a spread is left out: the one that is left out may lead to it
     /// - a fragment is reported as undefined that is defined
     /// - a field `__typename` is compared, or counted, that is in the place of a part
     ///
@@ -117,7 +117,9 @@ impl Doubts {
             DiagnosticData::UnusedVariable { name } => {
                 has_name(&self.left_out, name) || self.has_spread && has_name(&self.used, name)
             }
-            DiagnosticData::UnusedFragment { name } => has_name(&self.spread, name),
+            DiagnosticData::UnusedFragment { name } => {
+                self.has_spread && has_name(&self.spread, name)
+            }
             DiagnosticData::UndefinedFragment { name } => has_name(&self.defined, name),
             _ => false,
         }
