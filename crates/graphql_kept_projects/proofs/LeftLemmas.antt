@@ -4,8 +4,7 @@ use Rattle.std.specs.List.{AllZip}
 use Rattle.std.specs.Prelude.{◌⊎◌, All, Contains, IfSome, OnOk, String}
 use Rattle.std.specs.String.{string_bytes}
 use Rattle.std.specs.declared.alloc.Global.{Global}
-use Rattle.std.proofs.lemmas.List.{append-nil, append_assoc}
-use Rattle.std.proofs.lemmas.List.Elements.{All-append, All-cons, All-filter, All-nil, All-weaker, Contains-append_left}
+use Rattle.std.proofs.lemmas.List.Elements.{All-cons, All-filter, All-nil, Contains-append_left}
 use Rattle.graphql_documents.proofs.ListLemmas.{more_is, only_one}
 use Rattle.graphql_frontend.specs.declared.texts.SourceText.{SourceText}
 use Rattle.graphql_kept_projects.specs.Left.{AreTrueOfOne, IsLeftOf, IsLess, IsSourceLeft, IsTextLeft, all_is_left, rest_text, some_is_left}
@@ -15,6 +14,7 @@ use Rattle.graphql_parser.specs.declared.bounds.Bounds.{Bounds}
 use Rattle.graphql_kept_reports.specs.Cuts.{IsKeptOf}
 use Rattle.graphql_kept_reports.specs.Kept.{Kept}
 use Rattle.graphql_kept_reports.specs.Reports.{KeepsReports}
+use Rattle.graphql_project_checking.proofs.TruthLemmas.{adds_so}
 
 -- one pair more
 pub zip_more : {A B : Type 0} (R : A → B → Type 0) (xs : List A) (ys : List B) (x : A) (y : B) → AllZip R xs ys → R x y → AllZip R (xs ++ x ∷ []) (ys ++ y ∷ [])
@@ -64,22 +64,6 @@ InEither xs ys e = Contains xs e ⊎ Contains ys e
 
 -- reports that are added
 module _ {X : Type 0} where
-  pub adds_nothing : (P : X → Type 0) (old : List X) → KeepsReports P old old
-  adds_nothing P old = record { added = []; appended = sym (append-nil old); each = All-nil P }
-
-  pub adds_then : (P : X → Type 0) (old mid new : List X) → KeepsReports P old mid → KeepsReports P mid new → KeepsReports P old new
-  adds_then P old mid new a b = record {
-    added = a.added ++ b.added;
-    appended = b.appended ∙ ap (λ l. l ++ b.added) a.appended ∙ append_assoc old a.added b.added;
-    each = All-append P a.added b.added a.each b.each;
-  }
-
-  pub adds_so : (P Q : X → Type 0) (old new : List X) → ((x : X) → P x → Q x) → KeepsReports P old new → KeepsReports Q old new
-  adds_so P Q old new f a = record { added = a.added; appended = a.appended; each = All-weaker P Q f a.added a.each }
-
-  pub all_added : (P : X → Type 0) (old new : List X) → KeepsReports P old new → old ≡ [] → All P new
-  all_added P old new a none = subst (All P) (sym (a.appended ∙ ap (λ l. l ++ a.added) none)) a.each
-
   pub adds_one_on_ok : {T E : Type 0} (r : Result T E) (P : X → Type 0) (old new : List X) (x : X) → OnOk r (new ≡ old ++ x ∷ []) → P x → OnOk r (KeepsReports P old new)
   adds_one_on_ok (Ok y) P old new x grown p = record { added = x ∷ []; appended = grown; each = All-cons P x [] p (All-nil P) }
   adds_one_on_ok (Err e) P old new x grown p = tt

@@ -11,6 +11,6 @@ mod ReachingLemmas
 mod SilenceLemmas
 mod TextLemmas
 mod TreeLemmas
-mod TruthLemmas
+pub mod TruthLemmas
 mod UseLemmas
 mod UseTruthLemmas

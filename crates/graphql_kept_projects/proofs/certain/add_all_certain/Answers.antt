@@ -1,7 +1,8 @@
 use Rattle.std.proofs.Common.{rules, subst, sym}
 use Rattle.graphql_kept_reports.specs.Reports.{KeepsReports}
 use Rattle.graphql_kept_projects.specs.Left.{AreTrueOfOne}
-use Rattle.graphql_kept_projects.proofs.LeftLemmas.{adds_then, one_of_them}
+use Rattle.graphql_kept_projects.proofs.LeftLemmas.{one_of_them}
+use Rattle.graphql_project_checking.proofs.TruthLemmas.{adds_then}
 use Rattle.graphql_kept_projects.proofs.certain.add_all_certain.Goals.{then-may_be_in+in_ok-add_certain_of, else-may_be_in}
 use Rattle.graphql_kept_projects.proofs.certain.add_all_certain.Goals as goal
 

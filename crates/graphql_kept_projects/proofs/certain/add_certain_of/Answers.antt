@@ -3,7 +3,8 @@ use Rattle.graphql_documents.proofs.ListLemmas.{stands_first}
 use Rattle.graphql_frontend.specs.Documents.{ValidatesDocument}
 use Rattle.graphql_frontend.specs.declared.reports.Reports.TheVariants.{DocumentRules}
 use Rattle.graphql_kept_projects.specs.Left.{AreSomeOf, AreTrueOfOne}
-use Rattle.graphql_kept_projects.proofs.LeftLemmas.{adds_so, on_ok}
+use Rattle.graphql_kept_projects.proofs.LeftLemmas.{on_ok}
+use Rattle.graphql_project_checking.proofs.TruthLemmas.{adds_so}
 use Rattle.graphql_kept_projects.proofs.certain.add_certain_of.Goals as goal
 
 pub returns-in-Some-DocumentRules : goal.returns-in-Some-DocumentRules

@@ -1,7 +1,8 @@
 use Rattle.std.proofs.Common.{◌≡◌, false, inl, inr, refl, rules, subst}
 use Rattle.std.specs.Prelude.{Contains}
 use Rattle.graphql_kept_projects.specs.Left.{AreSomeOf}
-use Rattle.graphql_kept_projects.proofs.LeftLemmas.{InEither, adds_one_on_ok, adds_so, adds_then, all_added}
+use Rattle.graphql_kept_projects.proofs.LeftLemmas.{InEither, adds_one_on_ok}
+use Rattle.graphql_project_checking.proofs.TruthLemmas.{adds_so, adds_then, all_added}
 use Rattle.graphql_kept_reports.specs.Diagnostics.{entries}
 use Rattle.graphql_kept_reports.specs.Reports.{KeepsReports}
 use Rattle.graphql_kept_projects.proofs.certain.add_reports.Goals as goal

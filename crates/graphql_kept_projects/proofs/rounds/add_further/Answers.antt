@@ -1,6 +1,7 @@
 use Rattle.std.proofs.Common.{inl, inr}
 use Rattle.graphql_kept_projects.specs.Left.{AreFurther, AreTrueOfLeft, AreTrueOfOne}
-use Rattle.graphql_kept_projects.proofs.LeftLemmas.{adds_so, adds_then, on_ok}
+use Rattle.graphql_kept_projects.proofs.LeftLemmas.{on_ok}
+use Rattle.graphql_project_checking.proofs.TruthLemmas.{adds_so, adds_then}
 use Rattle.graphql_kept_projects.proofs.rounds.add_further.Goals as goal
 
 pub returns : goal.returns

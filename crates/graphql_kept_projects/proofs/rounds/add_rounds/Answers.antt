@@ -2,7 +2,8 @@ use Rattle.std.proofs.Common.{not, subst, sym}
 use Rattle.graphql_kept_reports.specs.Reports.{KeepsReports}
 use Rattle.graphql_kept_projects.specs.Left.{AreTrueOfLeft}
 use Rattle.graphql_kept_projects.specs.Rounds.{is_doubtful_list}
-use Rattle.graphql_kept_projects.proofs.LeftLemmas.{adds_filtered, adds_nothing, adds_then, zip_less}
+use Rattle.graphql_kept_projects.proofs.LeftLemmas.{adds_filtered, zip_less}
+use Rattle.graphql_project_checking.proofs.TruthLemmas.{adds_nothing, adds_then}
 use Rattle.graphql_kept_projects.proofs.rounds.add_rounds.Goals.{else-loop-test, then-loop-test+in_ok-left+in_ok-doubts+in_ok-further+in_ok-faults+in_ok-add_known+then-is_empty}
 use Rattle.graphql_kept_projects.proofs.rounds.add_rounds.Goals as goal
 
