@@ -1,2 +1,4 @@
+pub mod Documents
 pub mod Left
 pub mod Rounds
+pub mod Schemas

@@ -3,11 +3,15 @@
 #![tactic(auto)]
 
 mod certain;
+pub mod documents;
 mod kept;
 mod known;
 pub mod rounds;
+pub mod schemas;
 pub mod scopes;
 
+pub use documents::{all_reports_of_document, all_reports_of_documents};
 pub use graphql_project_checking::check_project;
 pub use rounds::add_further;
+pub use schemas::all_reports_of_schema;
 pub use scopes::{Scope, reports_of};
