@@ -14,7 +14,7 @@ use gqlvalidate_sources::runs::named_texts::{NamedText, Subject};
 use gqlvalidate_watching::Kept;
 use graphql_documents::documents::Schema;
 use graphql_frontend::{ProjectReports, Reports, SourceText};
-use graphql_kept_projects::{Scope, add_further, check_project, reports_of};
+use graphql_kept_projects::{Scope, add_further, check_project, may_hide_faults, reports_of};
 use graphql_parser::Bounds;
 use std::alloc::{AllocError, Global};
 use std::collections::{BTreeMap, BTreeSet};
@@ -138,15 +138,11 @@ fn check_texts<O: Write>(
         .split_at(project.scope.judged.min(project.read.len()));
     let cuts = cuts_of(alloc, own, &found, paths.bounds)?;
     if cuts.is_empty() {
-        add_further(
-            alloc,
-            schema,
-            project.read,
-            project.scope,
-            paths.bounds,
-            &mut found,
-        )?;
+        let (lists, operations) = (found.lists.len(), found.operations.len());
+        add_further(alloc, schema, read, scope, paths.bounds, &mut found)?;
         let count = report_found(alloc, &found, project, paths, account, output)?;
+        found.lists.truncate(lists);
+        found.operations.truncate(operations);
         keep(alloc, read, scope, paths.bounds, found, kept)?;
         return Ok(count);
     }
@@ -181,8 +177,8 @@ fn check_cut<O: Write>(
     report_found(alloc, &found, project, paths, account, output)
 }
 
-/// Reports what is wrong with a document that cannot be built, for this reason: also with those of its definitions that can be. False, if the reason is
-/// another, or if no part of its text can be read besides.
+/// Reports what is wrong with a document of which this is reported, and which may have other faults: with its parts, what can be built of it, and fragments
+/// that no operation reaches. False, if it has no other faults, or if no part of its text can be read besides.
 pub fn report_beside<O: Write>(
     alloc: Global,
     schema: &Schema,
@@ -203,7 +199,7 @@ pub fn report_beside<O: Write>(
             }
             cuts
         }
-        Reports::Building(_) | Reports::FirstBuilding(_) => BTreeMap::new(alloc),
+        _ if may_hide_faults(reports) => BTreeMap::new(alloc),
         _ => return Ok(false),
     };
     let reported = report_cut(alloc, schema, document, &cuts, bounds, account, output);

@@ -21,9 +21,9 @@ use gqlvalidate_runs::{Finding, Texts, findings_of};
 use gqlvalidate_words::Dialect;
 use graphql_documents::documents::Schema;
 use graphql_frontend::{
-    ProjectReports, Reports, SchemaReading, SourceText, abandon, validate_document,
+    ProjectReports, Reports, SchemaReading, SourceText, abandon,
 };
-use graphql_kept_projects::{Scope, add_further, reports_of};
+use graphql_kept_projects::{Scope, add_further, all_reports_of_document, reports_of};
 use graphql_nodes::FileId;
 use graphql_parser::Bounds;
 use json::{Scratch, Writer};
@@ -472,27 +472,10 @@ fn answer_alone(
         subject,
         of_schema: Some(known.of_schema),
     };
-    let found = reports_alone(alloc, schema, source, allowance.bounds)?;
-    let written = add_errors(alloc, Some(schema), &found.lists, about, allowance, json);
+    let found = all_reports_of_document(alloc, schema, source, allowance.bounds)?;
+    let written = add_errors(alloc, Some(schema), &found, about, allowance, json);
     drop(found);
     written
-}
-
-/// What is reported of a document that has all fragments itself, and of what is left of it without what cannot be built.
-fn reports_alone(
-    alloc: Global,
-    schema: &Schema,
-    source: SourceText<'_>,
-    bounds: Bounds,
-) -> Result<ProjectReports, Fault>
-    requires { IsUsable schema.now }
-{
-    let mut found = ProjectReports::new(alloc);
-    if let Some(reports) = validate_document(alloc, schema, source, bounds)? {
-        found.push(None, reports)?;
-    }
-    add_further(alloc, schema, from_ref(&source), ALONE, bounds, &mut found)?;
-    Ok(found)
 }
 
 /// What findings are about.

@@ -1,5 +1,5 @@
 -- What is left of texts, step by step, and reports that are added.
-use Rattle.std.proofs.Common.{◌≡◌, ◌∙◌, Bool, filter, ℕ, ◌+◌, ◌<◌, List, [], ◌∷◌, ◌++◌, None, Option, Some, Ok, Err, Result, ap, get_or, length, sym, subst, take}
+use Rattle.std.proofs.Common.{◌≡◌, ◌∙◌, Bool, filter, not, refl, ℕ, ◌+◌, ◌<◌, List, [], ◌∷◌, ◌++◌, None, Option, Some, Ok, Err, Result, ap, get_or, length, sym, subst, take}
 use Rattle.std.specs.List.{AllZip}
 use Rattle.std.specs.Prelude.{◌⊎◌, All, Contains, IfSome, OnOk, String}
 use Rattle.std.specs.String.{string_bytes}
@@ -7,7 +7,13 @@ use Rattle.std.specs.declared.alloc.Global.{Global}
 use Rattle.std.proofs.lemmas.List.Elements.{All-cons, All-filter, All-nil, Contains-append_left}
 use Rattle.graphql_documents.proofs.ListLemmas.{more_is, only_one}
 use Rattle.graphql_frontend.specs.declared.texts.SourceText.{SourceText}
-use Rattle.graphql_kept_projects.specs.Left.{AreTrueOfOne, IsLeftOf, IsLess, IsSourceLeft, IsTextLeft, all_is_left, rest_text, some_is_left}
+use Rattle.graphql_documents.specs.declared.documents.schemas.Schema.{Schema}
+use Rattle.graphql_frontend.specs.Documents.{document_rules}
+use Rattle.graphql_frontend.specs.declared.reports.DocumentReports.{DocumentReports}
+use Rattle.graphql_frontend.specs.declared.reports.Reports.TheVariants.{Building, DocumentRules, FirstBuilding, FirstDocumentRules, FirstSchemaRules, Nesting, Reach, SchemaRules, Syntax, Work}
+use Rattle.graphql_kept_projects.specs.Left.{AreFurther, AreTrueOfFragments, AreTrueOfLeft, AreTrueOfOne, IsLeftOf, IsLess, IsSourceLeft, IsTextLeft, all_is_left, of_fragments, of_left, rest_text, some_is_left}
+use Rattle.graphql_kept_projects.specs.Rounds.{AddsKnown, is_doubtful_list}
+use Rattle.graphql_kept_reports.specs.declared.doubts.Doubts.{Doubts}
 use Rattle.graphql_kept_projects.specs.declared.kept.LeftText.{LeftText}
 use Rattle.graphql_frontend.specs.declared.reports.Reports.{Reports}
 use Rattle.graphql_parser.specs.declared.bounds.Bounds.{Bounds}
@@ -87,3 +93,31 @@ one_of_them bounds read own rest source i both within is old new =
       validated = one.validated;
       are = one.are;
     })
+
+-- all of these texts is left
+pub zip_all : (read : List SourceText) → AllZip IsSourceLeft read read
+zip_all [] = tt
+zip_all (s ∷ ss) = ((refl, all_is_left), zip_all ss)
+
+-- what a round adds
+pub adds_round : (bounds : Bounds) (schema : Schema) (read : List SourceText) (doubts : Doubts) (further old mid new : List Reports) →
+    All (AreTrueOfLeft bounds schema read) further → KeepsReports (AreTrueOfFragments bounds schema read) old mid → AddsKnown doubts further mid new →
+    KeepsReports (AreFurther bounds schema read) old new
+adds_round bounds schema read doubts further old mid new all fragments known =
+    let One = AreFurther bounds schema read in
+    adds_then One old mid new (adds_so (AreTrueOfFragments bounds schema read) One old mid (λ r true. of_fragments true) fragments)
+    (adds_so (AreTrueOfLeft bounds schema read) One mid new (λ r true. of_left true)
+    (adds_filtered (AreTrueOfLeft bounds schema read) (λ r. not (is_doubtful_list doubts r)) further mid new known all))
+
+-- the list with these reports on rules
+pub rules_in : (x : Reports) (reports : DocumentReports) → Some reports ≡ document_rules x → x ≡ DocumentRules reports
+rules_in (Syntax e) reports is = absurd (sym is)
+rules_in (Building l) reports is = absurd (sym is)
+rules_in (FirstBuilding l) reports is = absurd (sym is)
+rules_in (Nesting r) reports is = absurd (sym is)
+rules_in (Reach r) reports is = absurd (sym is)
+rules_in (Work r) reports is = absurd (sym is)
+rules_in (SchemaRules r) reports is = absurd (sym is)
+rules_in (FirstSchemaRules r) reports is = absurd (sym is)
+rules_in (DocumentRules r) reports is = sym (ap DocumentRules (some_injective is))
+rules_in (FirstDocumentRules l) reports is = absurd (sym is)

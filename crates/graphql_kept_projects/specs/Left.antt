@@ -1,5 +1,5 @@
 -- What is left of texts without what cannot be built, and reports that are true of it. Specification: 2.2 Document; 5 Validation
-use Rattle.std.specs.Prelude.{◌≡◌, ◌++◌, ◌⊎◌, All, Contains, List, [], None, Option, Some, String, ℕ}
+use Rattle.std.specs.Prelude.{◌≡◌, ◌∷◌, ◌++◌, ◌⊎◌, All, Contains, List, [], None, Option, Some, String, flat_map, ℕ}
 use Rattle.std.specs.List.{AllZip}
 use Rattle.std.specs.String.{string_bytes}
 use Rattle.std.specs.declared.alloc.Global.{Global}
@@ -15,7 +15,9 @@ use Rattle.graphql_parser.specs.declared.bounds.Bounds.{Bounds}
 use Rattle.graphql_project_checking.specs.Truth.{AreTrueOf, KnownFiles}
 use Rattle.graphql_kept_projects.specs.declared.kept.Left.{Left}
 use Rattle.graphql_kept_projects.specs.declared.kept.LeftText.{LeftText}
+use Rattle.graphql_kept_reports.specs.DiagnosticList.{DiagnosticList}
 use Rattle.graphql_kept_reports.specs.Diagnostics.{entries}
+use Rattle.graphql_kept_reports.specs.Unreached.{spreading}
 
 -- what is left of a text in which some parts are blank, or `__typename`: after one step or several
 pub data IsLeftOf (text : List ℕ) : List ℕ → Type 0 where
@@ -51,14 +53,20 @@ pub record AreTrueOfLeft (bounds : Bounds) (schema : Schema) (read : List Source
   pub known : KnownFiles bounds schema own lent
   pub are : AreTrueOf bounds schema own lent known reports
 
--- the reports are some of these, on rules of validation alone
-pub record AreSomeOf (all : DocumentReports) (reports : Reports) : Type 0 where
+-- the reports are these on rules of validation alone
+pub record AreRules (rules : DiagnosticList) (reports : Reports) : Type 0 where
   pub some : DocumentReports
   pub are : reports ≡ DocumentRules some
-  pub each : All (λ e. Contains (entries all.rules) e ⊎ Contains all.undefined_variables.items e) (entries some.rules)
+  pub rules_are : entries some.rules ≡ entries rules
   pub no_undefined_variables : some.undefined_variables.items ≡ []
   pub no_input_fields : some.input_fields.items ≡ []
   pub no_usages : some.usages.items ≡ []
+
+-- the reports are some of these, on rules of validation alone
+pub record AreSomeOf (all : DocumentReports) (reports : Reports) : Type 0 where
+  pub rules : DiagnosticList
+  pub are : AreRules rules reports
+  pub each : All (λ e. Contains (entries all.rules) e ⊎ Contains all.undefined_variables.items e) (entries rules)
 
 -- the reports are some of those on one of these texts as a document without a schema
 pub record AreTrueOfOne (bounds : Bounds) (read : List SourceText) (reports : Reports) : Type 0 where
@@ -68,6 +76,21 @@ pub record AreTrueOfOne (bounds : Bounds) (read : List SourceText) (reports : Re
   pub validated : ValidatesDocument bounds None source (Some (DocumentRules all))
   pub are : AreSomeOf all reports
 
--- the reports are true of what is left of these texts, or some of those on one of them as a document without a schema
-abbrev pub AreFurther : Bounds → Schema → List SourceText → Reports → Type 0
-AreFurther bounds schema read reports = AreTrueOfLeft bounds schema read reports ⊎ AreTrueOfOne bounds read reports
+-- the reports are some of one of these lists
+abbrev pub AreSomeOfOne : List Reports → Reports → Type 0
+AreSomeOfOne lists reports = (all : DocumentReports) × Contains lists (DocumentRules all) × AreSomeOf all reports
+
+-- the reports are some of those on what is left of these texts, and on operations of a further text that each spread one fragment alone
+pub record AreTrueOfFragments (bounds : Bounds) (schema : Schema) (read : List SourceText) (reports : Reports) : Type 0 where
+  pub names : List (List ℕ)
+  pub further : SourceText
+  pub text_is : further.text.now ≡ flat_map spreading names
+  pub all : DocumentReports
+  pub are_true : AreTrueOfLeft bounds schema (further ∷ read) (DocumentRules all)
+  pub are : AreSomeOf all reports
+
+-- the reports are true of what is left of these texts; or they are some of those on one of them as a document without a schema, or on fragments by themselves
+pub data AreFurther (bounds : Bounds) (schema : Schema) (read : List SourceText) (reports : Reports) : Type 0 where
+  of_left : AreTrueOfLeft bounds schema read reports → AreFurther bounds schema read reports
+  of_one : AreTrueOfOne bounds read reports → AreFurther bounds schema read reports
+  of_fragments : AreTrueOfFragments bounds schema read reports → AreFurther bounds schema read reports

@@ -1,7 +1,7 @@
 //! What is reported without a schema of texts with something that cannot be built.
 
 ghost use Rattle.std.specs.Prelude.{◌∷◌, [], OnOk};
-ghost use Rattle.graphql_kept_projects.specs.Left.{AreSomeOf, AreTrueOfOne};
+ghost use Rattle.graphql_kept_projects.specs.Left.{AreRules, AreSomeOf, AreTrueOfOne};
 ghost use Rattle.graphql_kept_reports.specs.Reports.{KeepsReports};
 
 use crate::scopes::Scope;
@@ -58,11 +58,22 @@ fn add_reports(
     let mut certain = DiagnosticList::with_hash_seed(alloc, reports.rules.hash_seed());
     add_certain(alloc, reports.rules.iter().as_slice(), &mut certain)?;
     add_certain(alloc, &reports.undefined_variables, &mut certain)?;
-    if certain.is_empty() {
+    push_rules(alloc, certain, found)
+}
+
+/// Adds a list of these reports on rules of validation alone, if there are any.
+pub(crate) fn push_rules(
+    alloc: Global,
+    rules: DiagnosticList,
+    found: &mut ProjectReports,
+) -> Result<(), ValidationError>
+    ensures { OnOk result (KeepsReports (AreRules rules) found.old.lists.items found.new.lists.items) }
+{
+    if rules.is_empty() {
         return Ok(());
     }
     let reports = DocumentReports {
-        rules: certain,
+        rules,
         undefined_variables: Vec::new(alloc),
         input_fields: Vec::new(alloc),
         usages: Vec::new(alloc),

@@ -6,12 +6,14 @@ mod certain;
 pub mod documents;
 mod kept;
 mod known;
+mod parts;
 pub mod rounds;
 pub mod schemas;
 pub mod scopes;
+mod unreached;
 
 pub use documents::{all_reports_of_document, all_reports_of_documents};
 pub use graphql_project_checking::check_project;
-pub use rounds::add_further;
+pub use rounds::{add_further, may_hide_faults};
 pub use schemas::all_reports_of_schema;
 pub use scopes::{Scope, reports_of};

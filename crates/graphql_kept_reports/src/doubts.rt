@@ -4,6 +4,7 @@ ghost use Rattle.std.specs.Prelude.{◌≡◌};
 ghost use Rattle.std.specs.BTreeSet.{contains_text};
 ghost use Rattle.graphql_kept_reports.specs.Doubtful.{asks_for_what_is_there, has_doubtful, is_doubtful, may_be_of_type_name};
 
+use crate::names::add_name;
 use crate::uses::{Meaning, meaning_of};
 use graphql_diagnostics::{BuildError, Details, DiagnosticData, DiagnosticEntry, DiagnosticList};
 use graphql_nodes::Name;
@@ -144,13 +145,6 @@ fn may_be_of_type_name(error: &BuildError) -> bool
 fn is_left_out(whole: &str, left: &str, token: Token) -> bool {
     let at = token.start as usize;
     whole.as_bytes().get(at) != left.as_bytes().get(at)
-}
-
-fn add_name(alloc: Global, name: &str, names: &mut BTreeSet<String>) -> Result<(), AllocError> {
-    if !names.contains(name) {
-        names.insert(String::from_str(alloc, name)?)?;
-    }
-    Ok(())
 }
 
 fn has_name(names: &BTreeSet<String>, name: &Name) -> bool

@@ -4,6 +4,9 @@
 pub mod certain;
 pub mod doubts;
 pub mod faults;
+mod names;
+mod spreads;
+pub mod unreached;
 mod uses;
 
 pub use certain::add_certain;
@@ -11,3 +14,4 @@ pub use doubts::Doubts;
 pub use faults::{add_doubtful, add_faults};
 pub use graphql_diagnostics::DiagnosticList;
 pub use graphql_kept_texts::{Faults, Kept, kept_of};
+pub use unreached::{Unreached, add_known_of_fragments, has_unreached, spreading_operations};
