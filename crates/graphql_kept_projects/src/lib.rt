@@ -11,7 +11,8 @@ pub mod schemas;
 pub mod scopes;
 
 pub use documents::{all_reports_of_document, all_reports_of_documents};
-pub use graphql_project_checking::check_project;
+pub use graphql_frontend as frontend;
+pub use graphql_project_checking::{check_part_of_project, check_project};
 pub use rounds::add_further;
 pub use schemas::all_reports_of_schema;
 pub use scopes::{Scope, reports_of};
