@@ -4,8 +4,8 @@ use Rattle.json.specs.Print.{print}
 use Rattle.json.specs.Token.{Token}
 use Rattle.graphql_documents.specs.declared.documents.schemas.Schema.{Schema}
 use Rattle.graphql_parser.specs.declared.bounds.TheConstants as bounds
-use Rattle.graphql_findings.specs.Findings.{AreShown, all_listed}
-use Rattle.graphql_findings.specs.declared.findings.Findings.{Findings}
+use Rattle.graphql_report_formats.specs.Findings.Findings.{AreShown, all_listed}
+use Rattle.graphql_report_formats.specs.Findings.declared.findings.Findings.{Findings}
 use Rattle.graphql_report_formats.specs.JsonReports.{error_without_place, errors_object, object_begin, object_end}
 use Rattle.graphql_report_formats.specs.NamedTexts.{Text}
 use Rattle.graphql_kept_projects.specs.Documents.{AreFurtherOf}
