@@ -13,7 +13,8 @@ pub mod scopes;
 mod unreached;
 
 pub use documents::{all_reports_of_document, all_reports_of_documents};
-pub use graphql_project_checking::check_project;
+pub use graphql_frontend as frontend;
+pub use graphql_project_checking::{check_part_of_project, check_project};
 pub use rounds::{add_further, may_hide_faults};
 pub use schemas::all_reports_of_schema;
 pub use scopes::{Scope, reports_of};
