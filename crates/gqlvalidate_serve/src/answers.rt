@@ -20,9 +20,7 @@ use gqlvalidate_runs::schema_texts::{schema_subject, sources_of};
 use gqlvalidate_runs::{Finding, Texts, findings_of};
 use gqlvalidate_words::Dialect;
 use graphql_documents::documents::Schema;
-use graphql_frontend::{
-    ProjectReports, Reports, SchemaReading, SourceText, abandon,
-};
+use graphql_frontend::{ProjectReports, Reports, SchemaReading, SourceText, abandon};
 use graphql_kept_projects::{Scope, add_further, all_reports_of_document, reports_of};
 use graphql_nodes::FileId;
 use graphql_parser::Bounds;
