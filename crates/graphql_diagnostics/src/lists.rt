@@ -174,6 +174,19 @@ impl DiagnosticList {
         self.entries.is_empty()
     }
 
+    /// The reports of the list, in the order in which they were pushed.
+    pub fn into_entries(self) -> Vec<DiagnosticEntry>
+        ensures { result.items ≡ entries self }
+    {
+        let DiagnosticList {
+            entries,
+            hash_seed: _,
+            room: _,
+            has_more: _,
+        } = self;
+        entries
+    }
+
     /// The diagnostics, in the order in which they were pushed.
     pub fn iter(&self) -> slice::Iter<'_, DiagnosticEntry>
         ensures { iter_rest result ≡ entries self.now }
