@@ -22,6 +22,19 @@ impl Drop for DiagnosticEntry {
     }
 }
 
+impl DiagnosticEntry {
+    ghost use Rattle.std.specs.Prelude.{◌≡◌};
+
+    /// The place, and the report.
+    pub fn into_parts(self) -> (Option<SourceSpan>, Details)
+        ensures place { result.0 ≡ self.location }
+        ensures report { result.1 ≡ self.details }
+    {
+        let DiagnosticEntry { location, details } = self;
+        (location, details)
+    }
+}
+
 /// Reports in the order in which they were pushed, and the seed by which a check that fills the list hashes names. A list may
 /// have a bound: then it keeps the first reports, one at least, and refuses the others.
 #[derive(Debug)]

@@ -68,6 +68,11 @@ pub record EveryRuleHoldsBut (off : RuleSet) (schema : Option Schema) (document 
   pub input_fields : InputFieldsAreUnique document
   pub usages : UsagesAreAllowed schema document
 
+-- the reports on the rules of a document, if these are such
+abbrev pub document_rules : Reports → Option DocumentReports
+document_rules (DocumentRules reports) = Some reports
+document_rules _ = None
+
 -- nothing is among the reports
 abbrev pub ReportsNothing : DocumentReports → Type 0
 ReportsNothing reports =

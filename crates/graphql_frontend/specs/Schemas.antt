@@ -1,5 +1,5 @@
 -- What texts come to as a schema. Specification: 3 Type System.
-use Rattle.std.specs.Prelude.{◌≡◌, ◌≢◌, List, [], All, Vec}
+use Rattle.std.specs.Prelude.{◌≡◌, ◌≢◌, List, [], All, None, Option, Some, Vec}
 use Rattle.std.specs.List.{AllZip}
 use Rattle.std.specs.declared.alloc.Global.{Global}
 use Rattle.graphql_diagnostics.specs.Diagnostics.{IsLimitEntry, entries}
@@ -22,6 +22,7 @@ use Rattle.graphql_schema_building.specs.SchemaBuilds.{SchemaBuilds}
 use Rattle.graphql_schema_building.specs.SchemaReports.{SchemaBuildingReport}
 use Rattle.graphql_frontend.specs.FirstReports.{AreFirst}
 use Rattle.graphql_frontend.specs.Texts.{IsDocumentOf, ParsesTexts}
+use Rattle.graphql_frontend.specs.declared.reports.Reports.{Reports as ReportsOfTexts}
 use Rattle.graphql_frontend.specs.declared.reports.Reports.TheVariants.{Syntax, Building, FirstBuilding, SchemaRules, FirstSchemaRules}
 use Rattle.graphql_frontend.specs.declared.reports.SchemaReports.{SchemaReports}
 use Rattle.graphql_frontend.specs.declared.schemas.SchemaReading.{SchemaReading}
@@ -36,6 +37,11 @@ pub record IsAccepted (schema retained : Schema) : Type 0 where
   pub retains : SchemaRetainsUsedBuiltInScalars schema retained
   pub defaults : DefaultValuesHold retained
   pub meta_fields : HasTypesOfMetaFields retained
+
+-- the reports on the rules of a schema, if these are such
+abbrev pub schema_rules : ReportsOfTexts → Option SchemaReports
+schema_rules (SchemaRules reports) = Some reports
+schema_rules _ = None
 
 -- nothing is among the reports
 abbrev pub ReportsNothingOfSchema : SchemaReports → Type 0

@@ -1,8 +1,8 @@
 //! What is reported of texts.
 
-ghost use Rattle.std.specs.Prelude.{◌↔◌, IsTrue};
-ghost use Rattle.graphql_frontend.specs.Documents.{ReportsNothing};
-ghost use Rattle.graphql_frontend.specs.Schemas.{ReportsNothingOfSchema};
+ghost use Rattle.std.specs.Prelude.{◌≡◌, ◌↔◌, IsTrue};
+ghost use Rattle.graphql_frontend.specs.Documents.{ReportsNothing, document_rules};
+ghost use Rattle.graphql_frontend.specs.Schemas.{ReportsNothingOfSchema, schema_rules};
 
 use crate::texts::SyntaxReport;
 use crate::work::WorkReport;
@@ -104,6 +104,28 @@ impl Reports {
                 .saturating_add(reports.input_fields.len())
                 .saturating_add(reports.usages.len())
                 .saturating_add(usize::from(reports.has_more)),
+        }
+    }
+}
+
+impl Reports {
+    /// The reports on the rules of a document, if these are such.
+    pub fn into_document_rules(self) -> Option<DocumentReports>
+        ensures { result ≡ document_rules self }
+    {
+        match self {
+            Reports::DocumentRules(reports) => Some(reports),
+            _ => None,
+        }
+    }
+
+    /// The reports on the rules of a schema, if these are such.
+    pub fn into_schema_rules(self) -> Option<SchemaReports>
+        ensures { result ≡ schema_rules self }
+    {
+        match self {
+            Reports::SchemaRules(reports) => Some(reports),
+            _ => None,
         }
     }
 }
