@@ -146,14 +146,18 @@ fn is_left_out(whole: &str, left: &str, token: Token) -> bool {
     whole.as_bytes().get(at) != left.as_bytes().get(at)
 }
 
-fn add_name(alloc: Global, name: &str, names: &mut BTreeSet<String>) -> Result<(), AllocError> {
+pub(crate) fn add_name(
+    alloc: Global,
+    name: &str,
+    names: &mut BTreeSet<String>,
+) -> Result<(), AllocError> {
     if !names.contains(name) {
         names.insert(String::from_str(alloc, name)?)?;
     }
     Ok(())
 }
 
-fn has_name(names: &BTreeSet<String>, name: &Name) -> bool
+pub(crate) fn has_name(names: &BTreeSet<String>, name: &Name) -> bool
     ensures { result ≡ contains_text names.now name.now.text }
 {
     names.contains(name.as_str())

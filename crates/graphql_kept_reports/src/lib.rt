@@ -2,12 +2,18 @@
 #![tactic(auto)]
 
 pub mod certain;
+mod copies;
 pub mod doubts;
 pub mod faults;
+pub mod schema_certain;
+pub mod schema_doubts;
 mod uses;
 
 pub use certain::add_certain;
 pub use doubts::Doubts;
 pub use faults::{add_doubtful, add_faults};
+pub use graphql_building_reports::BuildingReportList;
 pub use graphql_diagnostics::DiagnosticList;
 pub use graphql_kept_texts::{Faults, Kept, kept_of};
+pub use schema_certain::{certain_of_schema, has_doubtful_of_schema};
+pub use schema_doubts::SchemaDoubts;
