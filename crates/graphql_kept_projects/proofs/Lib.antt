@@ -1,1 +1,2 @@
 mod LeftLemmas
+mod SchemaLemmas

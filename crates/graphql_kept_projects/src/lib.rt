@@ -7,6 +7,8 @@ pub mod documents;
 mod kept;
 mod known;
 pub mod rounds;
+mod schema_parts;
+mod schema_rounds;
 pub mod schemas;
 pub mod scopes;
 
