@@ -28,7 +28,8 @@ pub(crate) fn parts_of(
     Ok(parts)
 }
 
-fn errors_by_file(
+/// The errors of texts, by the numbers of these.
+pub(crate) fn errors_by_file(
     alloc: Global,
     errors: &[SyntaxReport],
 ) -> Result<BTreeMap<u32, SyntaxError>, AllocError> {

@@ -4,11 +4,11 @@ ghost use Rattle.std.specs.Prelude.{◌≡◌, ◌∷◌, [], All, IfOk, IfSome,
 ghost use Rattle.graphql_kept_projects.specs.Schemas.{IsErrorOfPart};
 ghost use Rattle.graphql_kept_reports.specs.Reports.{KeepsReports};
 
+use crate::parts::errors_by_file;
 use graphql_frontend::{SourceText, SyntaxReport, ValidationError, syntax_error_of};
 use graphql_parser::{Bounds, SyntaxError};
 use graphql_text_parts::{Part, faulty_schema_parts_beside, text_of_part};
-use std::alloc::{AllocError, Global};
-use std::collections::BTreeMap;
+use std::alloc::Global;
 
 /// The errors of those parts of these texts that are no documents, but for the parts in which these errors of the texts begin. The only error
 /// is a failed allocation.
@@ -29,17 +29,6 @@ pub(crate) fn errors_of_parts(
         add_errors(alloc, *source, error, bounds, &mut found)?;
     }
     Ok(found)
-}
-
-fn errors_by_file(
-    alloc: Global,
-    errors: &[SyntaxReport],
-) -> Result<BTreeMap<u32, SyntaxError>, AllocError> {
-    let mut by_file = BTreeMap::new(alloc);
-    for report in errors {
-        by_file.insert(report.file_id.0, report.error)?;
-    }
-    Ok(by_file)
 }
 
 /// Adds the errors of the parts of a text that has this error itself, if it has one.
