@@ -17,6 +17,7 @@ use Rattle.graphql_kept_reports.specs.Reports.{KeepsReports}
 use Rattle.graphql_kept_reports.specs.declared.schema_doubts.SchemaDoubts.{SchemaDoubts}
 use Rattle.graphql_parser.specs.declared.bounds.Bounds.{Bounds}
 use Rattle.graphql_project_checking.proofs.TruthLemmas.{adds_so, any_among}
+use Rattle.graphql_text_parts.specs.Lexical.{AreTokens}
 use Rattle.graphql_kept_projects.specs.declared.kept.LeftText.{LeftText}
 
 module _ {A B : Type 0} (L : A → Type 0) (R : A → B → Type 0) where
@@ -81,3 +82,12 @@ error_in_part bounds source part start end report same text is_error = record {
   is_part = (0, source, omega arith, refl, (same, subst (IsAllOrPart source.text.now) (sym text) (is_part start end)));
   is_error = is_error;
 }
+
+-- one more text is left, or nothing of it
+pub source_is_made : (before : List LeftText) (old new : List SourceText) (left : LeftText) (source : SourceText) → AreSourcesOf before old → new ≡ old ++ source ∷ [] →
+    source.file_id ≡ left.file_id → source.text.now ≡ string_bytes left.text → AreSourcesOf (before ++ left ∷ []) new
+source_is_made before old new left source made grown same text = subst (AreSourcesOf (before ++ left ∷ [])) (sym grown) (made_more _ _ left source made (same, text))
+
+pub source_is_left_out : (before : List LeftText) (sources : List SourceText) (left : LeftText) → AreSourcesOf before sources → {text : List ℕ} →
+    text ≡ string_bytes left.text → AreTokens text [] → AreSourcesOf (before ++ left ∷ []) sources
+source_is_left_out before sources left made is none = left_out_more _ _ left made (subst (λ t. AreTokens t []) is none)

@@ -2,7 +2,7 @@
 use Rattle.std.specs.Prelude.{◌≡◌, ◌∷◌, All, Bool, IsTrue, List, [], Option, Some, Vec, false, not, true, ℕ}
 use Rattle.std.specs.String.{string_bytes}
 use Rattle.std.specs.declared.alloc.Global.{Global}
-use Rattle.graphql_diagnostics.specs.declared.lists.DiagnosticList.{DiagnosticList}
+use Rattle.graphql_kept_reports.specs.DiagnosticList.{DiagnosticList}
 use Rattle.graphql_frontend.specs.Schemas.{ReadsSchema}
 use Rattle.graphql_frontend.specs.Texts.{IsErrorOf}
 use Rattle.graphql_frontend.specs.declared.reports.Reports.TheVariants.{Building, FirstBuilding, FirstSchemaRules, SchemaRules, Syntax}
