@@ -20,6 +20,7 @@ use Rattle.graphql_kept_reports.specs.Reports.{KeepsReports}
 use Rattle.graphql_kept_reports.specs.declared.schema_doubts.SchemaDoubts.{SchemaDoubts}
 use Rattle.graphql_parser.specs.declared.bounds.Bounds.{Bounds}
 use Rattle.graphql_project_checking.proofs.TruthLemmas.{adds_so, any_among}
+use Rattle.graphql_text_parts.specs.Lexical.{AreTokens}
 use Rattle.graphql_kept_projects.specs.declared.kept.LeftText.{LeftText}
 
 module _ {A B : Type 0} (L : A → Type 0) (R : A → B → Type 0) where
@@ -48,6 +49,7 @@ module _ {A B : Type 0} (L : A → Type 0) (R : A → B → Type 0) where
 pub texts_left : (read : List SourceText) (lefts : List LeftText) (sources : List SourceText) → AllZip IsTextLeft read lefts → AreSourcesOf lefts sources →
     AreTextsLeft read sources
 texts_left [] [] [] zip none = none
+texts_left [] [] (r ∷ rs) zip made = elim made [ ]
 texts_left [] (l ∷ ls) sources zip made = absurd zip
 texts_left (s ∷ ss) [] sources zip made = absurd zip
 texts_left (s ∷ ss) (l ∷ ls) (r ∷ rs) zip (next_is_made same rest) =
@@ -100,3 +102,17 @@ schema_rules_in (SchemaRules r) reports is = cc
 schema_rules_in (FirstSchemaRules r) reports is = absurd (refuted is)
 schema_rules_in (DocumentRules r) reports is = absurd (refuted is)
 schema_rules_in (FirstDocumentRules l) reports is = absurd (refuted is)
+
+-- one more text is left, or nothing of it
+pub source_is_made : (before : List LeftText) (old new : List SourceText) (left : LeftText) (source : SourceText) → AreSourcesOf before old → new ≡ old ++ source ∷ [] →
+    source.file_id ≡ left.file_id → source.text.now ≡ string_bytes left.text → AreSourcesOf (before ++ left ∷ []) new
+source_is_made before old new left source made grown same text = subst (AreSourcesOf (before ++ left ∷ [])) (sym grown) (made_more _ _ left source made (same, text))
+
+pub source_is_left_out : (before : List LeftText) (sources : List SourceText) (left : LeftText) → AreSourcesOf before sources → {text : List ℕ} →
+    text ≡ string_bytes left.text → AreTokens text [] → AreSourcesOf (before ++ left ∷ []) sources
+source_is_left_out before sources left made is none = left_out_more _ _ left made (subst (λ t. AreTokens t []) is none)
+
+-- errors of parts of one of the texts
+pub errors_among : (bounds : Bounds) (whole : List SourceText) (source : SourceText) (old new : List SyntaxReport) → Contains whole source →
+    KeepsReports (IsErrorOfPart bounds (source ∷ [])) old new → KeepsReports (IsErrorOfPart bounds whole) old new
+errors_among bounds whole source old new among = adds_so (IsErrorOfPart bounds (source ∷ [])) (IsErrorOfPart bounds whole) old new (part_among bounds whole source among)

@@ -112,7 +112,8 @@ fn error_in(
         file_id,
         text: text.as_str(),
     };
-    match syntax_error_of(alloc, of_part, bounds)? {
+    let found = syntax_error_of(alloc, of_part, bounds)?;
+    match found {
         Some(error) => Ok(Some(SyntaxReport { file_id, error })),
         None => Ok(None),
     }

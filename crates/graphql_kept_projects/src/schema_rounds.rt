@@ -97,7 +97,8 @@ fn rejects(alloc: Global, left: &Left, bounds: Bounds) -> Result<Option<Reports>
     ensures { (whole : List source_text.SourceText) → IsLeft whole left.now → IfOk result (λ reports. IfSome reports (RejectsLeft bounds whole)) }
 {
     let sources = sources_of(alloc, left)?;
-    match read_schema(alloc, &sources, bounds)? {
+    let reading = read_schema(alloc, &sources, bounds)?;
+    match reading {
         SchemaReading::Rejected(reports) => Ok(Some(reports)),
         SchemaReading::Accepted(_) | SchemaReading::LacksIntrospection => Ok(None),
     }

@@ -1,9 +1,12 @@
 use Rattle.std.proofs.Common.{◌∙◌, subst, sym}
 use Rattle.std.proofs.lemmas.Result.{IfOk-weaker}
 use Rattle.std.specs.Prelude.{IfSome}
-use Rattle.graphql_kept_projects.specs.Schemas.{AreCertainOfSchema}
+use Rattle.graphql_kept_projects.specs.Schemas.{AreCertainOfSchema, are_all}
 use Rattle.graphql_kept_projects.proofs.SchemaLemmas.{schema_rules_in}
 use Rattle.graphql_kept_projects.proofs.schema_rounds.certain_of.Goals as goal
+
+pub returns-then-are_certain : goal.returns-then-are_certain
+returns-then-are_certain c = are_all (sym c.are_certain.ensures ∙ c.if-are_certain.true)
 
 pub returns-in-Some : goal.returns-in-Some
 returns-in-Some c =

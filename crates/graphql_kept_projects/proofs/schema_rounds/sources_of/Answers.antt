@@ -1,7 +1,10 @@
-use Rattle.std.proofs.Common.{subst, sym, take}
+use Rattle.std.proofs.Common.{[], subst, sym, take}
 use Rattle.graphql_documents.proofs.ListLemmas.{more_is}
-use Rattle.graphql_kept_projects.specs.Schemas.{AreSourcesOf}
+use Rattle.graphql_kept_projects.specs.Schemas.{AreSourcesOf, none}
 use Rattle.graphql_kept_projects.proofs.schema_rounds.sources_of.Goals as goal
+
+pub loop-left-init : goal.loop-left-init
+loop-left-init c = subst (AreSourcesOf []) (sym c.new-sources.ensures.items) none
 
 pub loop-left-preserved : goal.loop-left-preserved
 loop-left-preserved c =
