@@ -76,18 +76,23 @@ pub record AreTrueOfOne (bounds : Bounds) (read : List SourceText) (reports : Re
   pub validated : ValidatesDocument bounds None source (Some (DocumentRules all))
   pub are : AreSomeOf all reports
 
--- the reports are some of one of these lists
+-- the reports are some of these on rules of documents
+abbrev pub AreSomeOfList : Reports → Reports → Type 0
+AreSomeOfList (DocumentRules all) reports = AreSomeOf all reports
+AreSomeOfList _ reports = ⊥
+
+-- they are some of one of these lists
 abbrev pub AreSomeOfOne : List Reports → Reports → Type 0
-AreSomeOfOne lists reports = (all : DocumentReports) × Contains lists (DocumentRules all) × AreSomeOf all reports
+AreSomeOfOne lists reports = (all : Reports) × Contains lists all × AreSomeOfList all reports
 
 -- the reports are some of those on what is left of these texts, and on operations of a further text that each spread one fragment alone
 pub record AreTrueOfFragments (bounds : Bounds) (schema : Schema) (read : List SourceText) (reports : Reports) : Type 0 where
   pub names : List (List ℕ)
   pub further : SourceText
   pub text_is : further.text.now ≡ flat_map spreading names
-  pub all : DocumentReports
-  pub are_true : AreTrueOfLeft bounds schema (further ∷ read) (DocumentRules all)
-  pub are : AreSomeOf all reports
+  pub all : Reports
+  pub are_true : AreTrueOfLeft bounds schema (further ∷ read) all
+  pub are : AreSomeOfList all reports
 
 -- the reports are true of what is left of these texts; or they are some of those on one of them as a document without a schema, or on fragments by themselves
 pub data AreFurther (bounds : Bounds) (schema : Schema) (read : List SourceText) (reports : Reports) : Type 0 where

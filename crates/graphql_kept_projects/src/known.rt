@@ -31,7 +31,7 @@ pub(crate) fn add_known(
 }
 
 /// The operations of lists, by the positions of the lists.
-fn marks_of(
+pub(crate) fn marks_of(
     alloc: Global,
     operations: Vec<ListOperation>,
 ) -> Result<BTreeMap<usize, OperationMark>, AllocError> {

@@ -4,11 +4,12 @@ ghost use Rattle.std.specs.Prelude.{◌≡◌, [], ◌∷◌, IfOk, List, OnOk};
 ghost use Rattle.std.specs.List.{AllZip};
 ghost use Rattle.graphql_frontend.specs.Schemas.{IsUsable};
 ghost use Rattle.graphql_frontend.specs.declared.texts.SourceText as source_text;
-ghost use Rattle.graphql_kept_projects.specs.Left.{AreSomeOf, AreSomeOfOne, AreTrueOfFragments, IsSourceLeft};
+ghost use Rattle.graphql_kept_projects.specs.Left.{AreSomeOf, AreSomeOfList, AreSomeOfOne, AreTrueOfFragments, IsSourceLeft};
 ghost use Rattle.graphql_kept_reports.specs.Reports.{KeepsReports};
 ghost use Rattle.graphql_project_checking.specs.Truth.{AreAllTrue};
 
 use crate::certain::push_rules;
+use crate::known::marks_of;
 use crate::scopes::Scope;
 use graphql_documents::documents::Schema;
 use graphql_frontend::{
@@ -76,38 +77,56 @@ fn reports_beside(
     added: SourceText<'_>,
     left: &[SourceText<'_>],
     bounds: Bounds,
-) -> Result<Vec<Reports>, ValidationError>
+) -> Result<ProjectReports, ValidationError>
     requires { IsUsable schema.now }
-    ensures { IfOk result (λ lists. AreAllTrue bounds schema.now (added.entry ∷ []) left.now lists.items) }
+    ensures { IfOk result (λ reported. AreAllTrue bounds schema.now (added.entry ∷ []) left.now reported.lists.items) }
 {
     let own = from_ref(&added);
-    let found = if scope.is_whole {
-        check_project(alloc, schema, own, left, bounds)?
+    if scope.is_whole {
+        check_project(alloc, schema, own, left, bounds)
     } else {
-        check_part_of_project(alloc, schema, own, left, bounds)?
-    };
-    let (lists, _) = found.into_parts();
-    Ok(lists)
+        check_part_of_project(alloc, schema, own, left, bounds)
+    }
 }
 
-/// Adds those reports of these lists that are known to be true of fragments of the whole texts.
+/// Adds those reports of the lists about operations that are known to be true of fragments of the whole texts.
 fn add_all_known(
     alloc: Global,
-    lists: Vec<Reports>,
+    reported: ProjectReports,
     doubts: &Doubts,
     found: &mut ProjectReports,
 ) -> Result<(), ValidationError>
-    ensures { OnOk result (KeepsReports (AreSomeOfOne lists.items) found.old.lists.items found.new.lists.items) }
+    ensures { OnOk result (KeepsReports (AreSomeOfOne reported.lists.items) found.old.lists.items found.new.lists.items) }
 {
+    let (lists, operations) = reported.into_parts();
+    let mut marks = marks_of(alloc, operations)?;
+    let mut position = 0_usize;
     for reports in lists {
-        if let Some(reports) = reports.into_document_rules() {
+        let mark = marks.remove(&position);
+        position = position.saturating_add(1);
+        if mark.is_some() {
             add_known(alloc, reports, doubts, found)?;
         }
     }
     Ok(())
 }
 
+/// Adds those reports on rules that are known to be true of fragments of the whole texts.
 fn add_known(
+    alloc: Global,
+    reports: Reports,
+    doubts: &Doubts,
+    found: &mut ProjectReports,
+) -> Result<(), ValidationError>
+    ensures { OnOk result (KeepsReports (AreSomeOfList reports) found.old.lists.items found.new.lists.items) }
+{
+    match reports.into_document_rules() {
+        Some(reports) => add_known_rules(alloc, reports, doubts, found),
+        None => Ok(()),
+    }
+}
+
+fn add_known_rules(
     alloc: Global,
     reports: DocumentReports,
     doubts: &Doubts,

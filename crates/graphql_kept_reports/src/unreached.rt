@@ -3,7 +3,7 @@
 ghost use Rattle.std.specs.Prelude.{◌≡◌, ◌++◌, IfOk, List, OnOk, filter, flat_map, map};
 ghost use Rattle.std.specs.String.{string_bytes};
 ghost use Rattle.graphql_diagnostics.specs.Diagnostics.{entries};
-ghost use Rattle.graphql_kept_reports.specs.Unreached.{has_unreached, is_known_of_fragment, is_of_unreached, spreading};
+ghost use Rattle.graphql_kept_reports.specs.Unreached.{has_unreached, is_elsewhere, is_known_of_fragment, is_of_unreached, is_of_variable, spreading};
 
 use crate::doubts::Doubts;
 use crate::spreads::Spreads;
@@ -180,7 +180,9 @@ fn is_known(entry: &DiagnosticEntry, doubts: &Doubts, further: FileId) -> bool
 }
 
 /// Whether the place is in another text.
-fn is_elsewhere(place: Option<SourceSpan>, further: FileId) -> bool {
+fn is_elsewhere(place: Option<SourceSpan>, further: FileId) -> bool
+    ensures { result ≡ is_elsewhere further place }
+{
     match place {
         Some(span) => span.file_id != further,
         None => false,
@@ -188,7 +190,9 @@ fn is_elsewhere(place: Option<SourceSpan>, further: FileId) -> bool {
 }
 
 /// Whether it says that a variable is not defined.
-fn is_of_variable(details: &Details) -> bool {
+fn is_of_variable(details: &Details) -> bool
+    ensures { result ≡ is_of_variable details.now }
+{
     matches!(
         details,
         Details::Diagnostic(DiagnosticData::UndefinedVariable { .. })

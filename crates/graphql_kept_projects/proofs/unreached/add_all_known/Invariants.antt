@@ -7,5 +7,5 @@ use Rattle.graphql_kept_projects.proofs.unreached.add_all_known.Given as goal
 -- the lists so far are the first ones, and what was added are some of their reports
 abbrev pub invariant-loop-reports : goal.invariant-loop-reports
 invariant-loop-reports l =
-    (done : List Reports) × (l.fn.lists.items ≡ done ++ l.reports-iterator.rest.items) ×
-    KeepsReports (AreSomeOfOne l.fn.lists.items) l.initial.found.lists.items l.found.lists.items
+    (done : List Reports) × (l.fn.reported.lists.items ≡ done ++ l.reports-iterator.rest.items) ×
+    KeepsReports (AreSomeOfOne l.fn.reported.lists.items) l.initial.found.lists.items l.found.lists.items

@@ -1,0 +1,20 @@
+use Rattle.std.proofs.Common.{◌≡◌, ◌∙◌, inl, rules, subst, sym}
+use Rattle.std.specs.Prelude.{◌⊎◌, All, Contains, filter}
+use Rattle.std.proofs.lemmas.List.Elements.{All-contains_itself, All-filter, All-weaker}
+use Rattle.graphql_kept_projects.specs.Left.{AreRules, AreSomeOf}
+use Rattle.graphql_kept_projects.proofs.LeftLemmas.{InEither, on_ok}
+use Rattle.graphql_kept_reports.specs.Diagnostics.{entries}
+use Rattle.graphql_kept_reports.specs.Unreached.{is_known_of_fragment}
+use Rattle.graphql_project_checking.proofs.TruthLemmas.{adds_so}
+use Rattle.graphql_kept_projects.proofs.unreached.add_known_rules.Goals as goal
+
+pub returns : goal.returns
+returns c =
+    let all = c.args.reports in
+    let xs = entries all.rules in
+    let P = InEither xs all.undefined_variables.items in
+    let list = c.add_known_of_fragments.new.known in
+    let kept : All (Contains xs) (entries list) = search rules in
+    on_ok c.push_rules.result _ _
+    (adds_so (AreRules list) (AreSomeOf all) c.args.found.now.lists.items c.push_rules.new.found.lists.items
+    (λ r are. record { rules = list; are = are; each = All-weaker (Contains xs) P (λ e is. inl is) (entries list) kept })) c.push_rules.ensures
