@@ -5,6 +5,7 @@ use gqlvalidate_check::dialects::{SchemaTexts, dialect_texts, read_schema_in};
 use gqlvalidate_check::named_texts::NamedText;
 use gqlvalidate_check::presentations::Presentation;
 use gqlvalidate_check::schema_files::{FileKind, ReadFiles, named_schema, read_files};
+use gqlvalidate_check::schema_lists;
 use gqlvalidate_check::schema_reports::{end_unread, extent_of, reject};
 use gqlvalidate_check::schema_texts::schema_subject;
 use gqlvalidate_inputs::faults::Fault;
@@ -69,7 +70,8 @@ fn check_texts<O: Write, F: Write>(
         }
         SchemaReading::Rejected(reports) => {
             let subject = schema_subject(&texts.shown, &texts.read);
-            reject(alloc, reports, subject, presentation, output, faults)
+            let lists = schema_lists(alloc, subject, reports, dialect)?;
+            reject(alloc, &lists, subject, presentation, output, faults)
         }
         SchemaReading::LacksIntrospection => Err(Fault::LacksIntrospection),
     }

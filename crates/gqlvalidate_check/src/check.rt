@@ -10,7 +10,10 @@ use gqlvalidate_sources::inputs::faults::Fault;
 use gqlvalidate_sources::inputs::sources::{shown_path, text_or_said};
 use gqlvalidate_sources::inputs::statuses::Status;
 use gqlvalidate_sources::runs::accounts::{Account, Extent, Whole};
-use gqlvalidate_sources::runs::dialects::{SchemaTexts, dialect_texts, read_schema_in};
+use gqlvalidate_sources::runs::bounds::OF_SCHEMA;
+use gqlvalidate_sources::runs::dialects::{
+    SchemaTexts, dialect_texts, read_schema_in, reads_parts_alike,
+};
 use gqlvalidate_sources::runs::named_texts::{NamedText, Subject};
 use gqlvalidate_sources::runs::presentations::Presentation;
 use gqlvalidate_sources::runs::schema_files::{
@@ -22,7 +25,10 @@ use gqlvalidate_sources::{Paths, is_program};
 use gqlvalidate_watching::Kept;
 use gqlvalidate_words::{Dialect, Grouping};
 use graphql_documents::documents::Schema;
-use graphql_frontend::{ProjectReports, Reports, SchemaReading, validate_document};
+use graphql_frontend::{
+    ProjectReports, Reports, SchemaReading, ValidationError, validate_document,
+};
+use graphql_kept_projects::all_reports_of_schema;
 use graphql_parser::Bounds;
 use std::alloc::Global;
 use std::io::{Read, Write};
@@ -110,10 +116,26 @@ fn check_against<R: Files + AllocGlobal, I: Read, O: Write, F: Write>(
         }
         SchemaReading::Rejected(reports) => {
             let subject = schema_subject(&schema_texts.shown, &schema_texts.read);
-            reject(rt.alloc(), reports, subject, presentation, output, faults)
+            let lists = schema_lists(rt.alloc(), subject, reports, paths.dialect)?;
+            reject(rt.alloc(), &lists, subject, presentation, output, faults)
         }
         SchemaReading::LacksIntrospection => Err(Fault::LacksIntrospection),
     }
+}
+
+/// All that is reported of the texts of a schema in this dialect. The first list is this one.
+pub fn schema_lists(
+    alloc: Global,
+    of_schema: Subject<'_>,
+    reports: Reports,
+    dialect: Dialect,
+) -> Result<Vec<Reports>, ValidationError> {
+    if reads_parts_alike(&reports, dialect) {
+        return all_reports_of_schema(alloc, of_schema.sources, reports, OF_SCHEMA);
+    }
+    let mut lists = Vec::new(alloc);
+    lists.push(reports)?;
+    Ok(lists)
 }
 
 /// Reads the schema of these texts, unless the last run did.

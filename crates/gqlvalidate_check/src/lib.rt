@@ -8,6 +8,7 @@ mod one_document;
 mod project_files;
 mod syntax;
 
+pub use check::schema_lists;
 pub use expansions::{Words, check_words};
 // The program takes these from here: `rt` follows each path from a crate down to another.
 pub use gqlvalidate_sources::runs::{

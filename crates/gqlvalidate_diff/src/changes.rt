@@ -10,10 +10,11 @@ use gqlvalidate_inputs::terminals::Terminal;
 use gqlvalidate_inputs::word_paths::{expanded, schema_paths, views};
 use gqlvalidate_paths::Expansion;
 use gqlvalidate_runs::accounts::{Account, Extent, Whole, print};
-use gqlvalidate_runs::dialects::{SchemaTexts, dialect_texts, read_schema_in};
+use gqlvalidate_runs::bounds::OF_SCHEMA;
+use gqlvalidate_runs::dialects::{SchemaTexts, dialect_texts, read_schema_in, reads_parts_alike};
 use gqlvalidate_runs::github::{Annotation, push_annotation};
 use gqlvalidate_runs::json_lines::print_line;
-use gqlvalidate_runs::named_texts::{CountedSubject, NamedText};
+use gqlvalidate_runs::named_texts::{CountedSubject, NamedText, Subject};
 use gqlvalidate_runs::presentations::Presentation;
 use gqlvalidate_runs::schema_files::{FileKind, ReadFiles, named_text, read_files};
 use gqlvalidate_runs::schema_reports::reject;
@@ -26,7 +27,8 @@ use graphql_change_formats::{
 use graphql_change_kinds::{BreakingReason, Level, SchemaChange};
 use graphql_change_witnesses::confirmed_witness;
 use graphql_documents::documents::Schema;
-use graphql_frontend::{SchemaReading, abandon};
+use graphql_frontend::{Reports, SchemaReading, ValidationError, abandon};
+use graphql_kept_projects::all_reports_of_schema;
 use graphql_parser::Bounds;
 use graphql_schema_comparison::{Comparison, compare_schemas};
 use graphql_schema_ways::Ways;
@@ -245,10 +247,26 @@ fn compare_from<R: Files + AllocGlobal, I: Read, O: Write, F: Write>(
         }
         SchemaReading::Rejected(reports) => {
             let presentation = compared.presentation;
-            reject(rt.alloc(), reports, subject, presentation, output, faults)
+            let lists = schema_lists(rt.alloc(), subject, reports, compared.dialect)?;
+            reject(rt.alloc(), &lists, subject, presentation, output, faults)
         }
         SchemaReading::LacksIntrospection => Err(Fault::LacksIntrospection),
     }
+}
+
+/// All that is reported of the texts of a schema in this dialect. The first list is this one.
+fn schema_lists(
+    alloc: Global,
+    of_schema: Subject<'_>,
+    reports: Reports,
+    dialect: Dialect,
+) -> Result<Vec<Reports>, ValidationError> {
+    if reads_parts_alike(&reports, dialect) {
+        return all_reports_of_schema(alloc, of_schema.sources, reports, OF_SCHEMA);
+    }
+    let mut lists = Vec::new(alloc);
+    lists.push(reports)?;
+    Ok(lists)
 }
 
 /// Compares a schema to that of the new texts, if that holds.
@@ -277,7 +295,8 @@ fn compare_to<R: Files + AllocGlobal, I: Read, O: Write, F: Write>(
         }
         SchemaReading::Rejected(reports) => {
             let presentation = compared.presentation;
-            reject(rt.alloc(), reports, subject, presentation, output, faults)
+            let lists = schema_lists(rt.alloc(), subject, reports, compared.dialect)?;
+            reject(rt.alloc(), &lists, subject, presentation, output, faults)
         }
         SchemaReading::LacksIntrospection => Err(Fault::LacksIntrospection),
     }

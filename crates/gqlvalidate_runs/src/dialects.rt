@@ -4,9 +4,9 @@ ghost use Rattle.std.specs.Prelude.{IfOk};
 ghost use Rattle.graphql_field_sets.specs.Schemas.{AcceptsOnlyUsableSchemas};
 
 use crate::bounds::OF_SCHEMA;
-use gqlvalidate_formats::SourceText;
 use gqlvalidate_formats::named_texts::NamedText;
 use gqlvalidate_formats::schema_texts::sources_of;
+use gqlvalidate_formats::{Reports, SourceText};
 use gqlvalidate_words::{ClientName, Dialect};
 use graphql_dialects::{
     Client, adopted_extensions, adopted_text, client_definitions, federation_definitions,
@@ -159,6 +159,12 @@ fn client_of(name: ClientName) -> Client {
         ClientName::Relay => Client::Relay,
         ClientName::Urql => Client::Urql,
     }
+}
+
+/// Whether parts of these texts, or what is left of them, are read in this dialect as `read_schema` reads them. A subgraph that was built has
+/// rules of its own.
+pub fn reads_parts_alike(reports: &Reports, dialect: Dialect) -> bool {
+    !dialect.federation || matches!(reports, Reports::Syntax(_))
 }
 
 /// Reads a schema as `read_schema` does, and in a subgraph its field sets, too.

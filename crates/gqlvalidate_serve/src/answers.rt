@@ -11,7 +11,7 @@ use gqlvalidate_inputs::word_paths::{expanded, schema_paths, views};
 use gqlvalidate_paths::Expansion;
 use gqlvalidate_paths::plain::plain;
 use gqlvalidate_runs::bounds::OF_SCHEMA;
-use gqlvalidate_runs::dialects::{SchemaTexts, dialect_texts, read_schema_in};
+use gqlvalidate_runs::dialects::{SchemaTexts, dialect_texts, read_schema_in, reads_parts_alike};
 use gqlvalidate_runs::json_format::{add_findings, begin_errors};
 use gqlvalidate_runs::json_lines::print_line;
 use gqlvalidate_runs::named_texts::{CountedSubject, NamedText, Subject};
@@ -21,9 +21,11 @@ use gqlvalidate_runs::{Finding, Texts, findings_of};
 use gqlvalidate_words::Dialect;
 use graphql_documents::documents::Schema;
 use graphql_frontend::{
-    ProjectReports, Reports, SchemaReading, SourceText, abandon,
+    ProjectReports, Reports, SchemaReading, SourceText, ValidationError, abandon,
 };
-use graphql_kept_projects::{Scope, add_further, all_reports_of_document, reports_of};
+use graphql_kept_projects::{
+    Scope, add_further, all_reports_of_document, all_reports_of_schema, reports_of,
+};
 use graphql_nodes::FileId;
 use graphql_parser::Bounds;
 use json::{Scratch, Writer};
@@ -124,7 +126,7 @@ fn serve_schema<R: Files + AllocGlobal + Clone + Drop, I: Read, O: Write, F: Wri
                 bounds: OF_SCHEMA,
                 ..allowance
             };
-            print_reports(rt.alloc(), &reports, subject, allowance, output)?;
+            print_reports(rt.alloc(), reports, subject, allowance, output)?;
             Ok(Status::Reported)
         }
         SchemaReading::LacksIntrospection => Err(Fault::LacksIntrospection),
@@ -616,10 +618,25 @@ fn add_errors(
     written
 }
 
+/// All that is reported of the texts of a schema in this dialect. The first list is this one.
+fn schema_lists(
+    alloc: Global,
+    of_schema: Subject<'_>,
+    reports: Reports,
+    dialect: Dialect,
+) -> Result<Vec<Reports>, ValidationError> {
+    if reads_parts_alike(&reports, dialect) {
+        return all_reports_of_schema(alloc, of_schema.sources, reports, OF_SCHEMA);
+    }
+    let mut lists = Vec::new(alloc);
+    lists.push(reports)?;
+    Ok(lists)
+}
+
 /// Prints the findings of a schema as a line.
 fn print_reports<O: Write>(
     alloc: Global,
-    reports: &Reports,
+    reports: Reports,
     subject: Subject<'_>,
     allowance: Allowance,
     output: &mut O,
@@ -628,9 +645,10 @@ fn print_reports<O: Write>(
         subject,
         of_schema: None,
     };
+    let lists = schema_lists(alloc, subject, reports, allowance.dialect)?;
     let mut json = Writer::new(Vec::new(alloc));
     json.begin_object()?;
-    add_errors(alloc, None, from_ref(reports), about, allowance, &mut json)?;
+    add_errors(alloc, None, &lists, about, allowance, &mut json)?;
     json.end_object()?;
     print_now(alloc, json, output)
 }

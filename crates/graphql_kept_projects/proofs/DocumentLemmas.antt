@@ -1,9 +1,9 @@
 -- All reports of a document.
-use Rattle.std.proofs.Common.{◌≡◌, ◌∙◌, List, [], ◌∷◌, ◌++◌, ap, refl, subst, sym}
+use Rattle.std.proofs.Common.{◌≡◌, ◌∙◌, List, [], ◌∷◌, ◌++◌, ap, arith, refl, subst, sym}
 use Rattle.std.specs.Prelude.{All, Any, Contains}
 use Rattle.std.specs.String.{string_bytes}
 use Rattle.std.proofs.lemmas.List.{append_assoc}
-use Rattle.std.proofs.lemmas.List.Elements.{All-append, All-weaker}
+use Rattle.std.proofs.lemmas.List.Elements.{All-append, All-cons, All-nil, All-weaker}
 use Rattle.graphql_documents.proofs.ListLemmas.{each_standing, only_one}
 use Rattle.graphql_documents.specs.declared.documents.schemas.Schema.{Schema}
 use Rattle.graphql_frontend.specs.declared.reports.Reports.{Reports}
@@ -42,12 +42,28 @@ part_among sources source part (i, within, is) (k, w, within', is', p) =
 -- parts of one of these texts
 pub parts_among : (sources : List SourceText) (source : SourceText) (old mid new : List LeftText) → Contains sources source → AddsParts sources old mid →
     AddsParts (source ∷ []) mid new → AddsParts sources old new
-parts_among sources source old mid new among (more, grown, each) (more', grown', each') =
-    (more ++ more', grown' ∙ ap (λ l. l ++ more') grown ∙ append_assoc old more more',
-    All-append (IsPartOfOne sources) more more' each (All-weaker (IsPartOfOne (source ∷ [])) (IsPartOfOne sources) (λ t part. part_among sources source t among part) more' each'))
+parts_among sources source old mid new among (more, grown, each) (more', grown', each') = (
+  more ++ more',
+  grown' ∙ ap (λ l. l ++ more') grown ∙ append_assoc old more more',
+  All-append (IsPartOfOne sources) more more' each (All-weaker (IsPartOfOne (source ∷ [])) (IsPartOfOne sources) (λ t part. part_among sources source t among part) more' each'),
+)
 
 -- a text with a part behind it
 pub more_parts : (whole : List SourceText) (part : LeftText) (source : SourceText) → source.file_id ≡ part.file_id → source.text.now ≡ string_bytes part.text →
     IsPartOfOne whole part → IsOneOrPart whole source
 more_parts whole part source file text (k, w, within, is, (same, start, end, bytes)) =
     (k, w, within, is, (file ∙ same, subst (IsAllOrPart w.text.now) (sym (text ∙ bytes)) (is_part start end)))
+
+-- one more part of a text
+pub one_more_part : (source : SourceText) (old mid new : List LeftText) (part : LeftText) → AddsParts (source ∷ []) old mid → new ≡ mid ++ part ∷ [] →
+    IsPartOf part source → AddsParts (source ∷ []) old new
+one_more_part source old mid new part (more, grown, each) pushed is =
+    let P = IsPartOfOne (source ∷ []) in (
+      more ++ part ∷ [],
+      pushed ∙ ap (λ l. l ++ part ∷ []) grown ∙ append_assoc old more (part ∷ []),
+      All-append P more (part ∷ []) each (All-cons P part [] (0, source, omega arith, refl, is) (All-nil P)),
+    )
+
+-- parts that are added to none
+pub parts_of_none : (sources : List SourceText) (old new : List LeftText) → old ≡ [] → AddsParts sources old new → All (IsPartOfOne sources) new
+parts_of_none sources old new none (more, grown, each) = subst (All (IsPartOfOne sources)) (sym (grown ∙ ap (λ l. l ++ more) none)) each

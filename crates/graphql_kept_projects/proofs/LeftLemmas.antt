@@ -1,17 +1,17 @@
 -- What is left of texts, step by step, and reports that are added.
 use Rattle.std.proofs.Common.{◌≡◌, ◌∙◌, Bool, filter, not, refl, ℕ, ◌+◌, ◌<◌, List, [], ◌∷◌, ◌++◌, None, Option, Some, Ok, Err, Result, ap, get_or, length, sym, subst, take}
 use Rattle.std.specs.List.{AllZip}
-use Rattle.std.specs.Prelude.{◌⊎◌, All, Contains, IfSome, OnOk, String}
+use Rattle.std.specs.Prelude.{◌⊎◌, All, Contains, IfSome, OnOk, String, flat_map}
 use Rattle.std.specs.String.{string_bytes}
 use Rattle.std.specs.declared.alloc.Global.{Global}
-use Rattle.std.proofs.lemmas.List.Elements.{All-cons, All-filter, All-nil, Contains-append_left}
+use Rattle.std.proofs.lemmas.List.Elements.{All-cons, All-contains, All-contains_itself, All-filter, All-nil, Contains-append_left}
 use Rattle.graphql_documents.proofs.ListLemmas.{more_is, only_one}
 use Rattle.graphql_frontend.specs.declared.texts.SourceText.{SourceText}
 use Rattle.graphql_documents.specs.declared.documents.schemas.Schema.{Schema}
 use Rattle.graphql_frontend.specs.Documents.{document_rules}
 use Rattle.graphql_frontend.specs.declared.reports.DocumentReports.{DocumentReports}
 use Rattle.graphql_frontend.specs.declared.reports.Reports.TheVariants.{Building, DocumentRules, FirstBuilding, FirstDocumentRules, FirstSchemaRules, Nesting, Reach, SchemaRules, Syntax, Work}
-use Rattle.graphql_kept_projects.specs.Left.{AreFurther, AreTrueOfFragments, AreTrueOfLeft, AreTrueOfOne, IsLeftOf, IsLess, IsSourceLeft, IsTextLeft, all_is_left, of_fragments, of_left, rest_text, some_is_left}
+use Rattle.graphql_kept_projects.specs.Left.{AreFurther, AreSomeOfOne, AreTrueOfFragments, AreTrueOfLeft, AreTrueOfOne, IsLeftOf, IsLess, IsSourceLeft, IsTextLeft, all_is_left, of_fragments, of_left, rest_text, some_is_left}
 use Rattle.graphql_kept_projects.specs.Rounds.{AddsKnown, is_doubtful_list}
 use Rattle.graphql_kept_reports.specs.declared.doubts.Doubts.{Doubts}
 use Rattle.graphql_kept_projects.specs.declared.kept.LeftText.{LeftText}
@@ -20,7 +20,9 @@ use Rattle.graphql_parser.specs.declared.bounds.Bounds.{Bounds}
 use Rattle.graphql_kept_reports.specs.Cuts.{IsKeptOf}
 use Rattle.graphql_kept_reports.specs.Kept.{Kept}
 use Rattle.graphql_kept_reports.specs.Reports.{KeepsReports}
-use Rattle.graphql_project_checking.proofs.TruthLemmas.{adds_so}
+use Rattle.graphql_kept_reports.specs.Unreached.{spreading}
+use Rattle.graphql_project_checking.specs.Truth.{AreAllTrue, AreTrueOf}
+use Rattle.graphql_project_checking.proofs.TruthLemmas.{adds_so, adds_then}
 
 -- one pair more
 pub zip_more : {A B : Type 0} (R : A → B → Type 0) (xs : List A) (ys : List B) (x : A) (y : B) → AllZip R xs ys → R x y → AllZip R (xs ++ x ∷ []) (ys ++ y ∷ [])
@@ -110,14 +112,43 @@ adds_round bounds schema read doubts further old mid new all fragments known =
     (adds_filtered (AreTrueOfLeft bounds schema read) (λ r. not (is_doubtful_list doubts r)) further mid new known all))
 
 -- the list with these reports on rules
+refuted : {X : Type 0} {x : X} → Some x ≡ None → ⊥
+refuted is = cc
+
 pub rules_in : (x : Reports) (reports : DocumentReports) → Some reports ≡ document_rules x → x ≡ DocumentRules reports
-rules_in (Syntax e) reports is = absurd (sym is)
-rules_in (Building l) reports is = absurd (sym is)
-rules_in (FirstBuilding l) reports is = absurd (sym is)
-rules_in (Nesting r) reports is = absurd (sym is)
-rules_in (Reach r) reports is = absurd (sym is)
-rules_in (Work r) reports is = absurd (sym is)
-rules_in (SchemaRules r) reports is = absurd (sym is)
-rules_in (FirstSchemaRules r) reports is = absurd (sym is)
-rules_in (DocumentRules r) reports is = sym (ap DocumentRules (some_injective is))
-rules_in (FirstDocumentRules l) reports is = absurd (sym is)
+rules_in (Syntax e) reports is = absurd (refuted is)
+rules_in (Building l) reports is = absurd (refuted is)
+rules_in (FirstBuilding l) reports is = absurd (refuted is)
+rules_in (Nesting r) reports is = absurd (refuted is)
+rules_in (Reach r) reports is = absurd (refuted is)
+rules_in (Work r) reports is = absurd (refuted is)
+rules_in (SchemaRules r) reports is = absurd (refuted is)
+rules_in (FirstSchemaRules r) reports is = absurd (refuted is)
+rules_in (DocumentRules r) reports is = cc
+rules_in (FirstDocumentRules l) reports is = absurd (refuted is)
+
+-- what a filter adds to nothing is of the list
+pub kept_among : {X : Type 0} (test : X → Bool) (xs items old new : List X) → old ≡ [] → items ≡ xs → new ≡ old ++ filter test items → All (Contains xs) new
+kept_among test xs items old new none is grown =
+    subst (All (Contains xs)) (sym (grown ∙ ap (λ l. l ++ filter test items) none ∙ ap (filter test) is)) (All-filter test (Contains xs) xs (All-contains_itself xs))
+
+-- what is true of operations that are added is true of fragments
+pub of_fragments_of : (bounds : Bounds) (schema : Schema) (read left : List SourceText) (further : SourceText) (names : List (List ℕ)) (lists old new : List Reports) →
+    AllZip IsSourceLeft read left → further.text.now ≡ flat_map spreading names → AreAllTrue bounds schema (further ∷ []) left lists →
+    KeepsReports (AreSomeOfOne lists) old new → KeepsReports (AreTrueOfFragments bounds schema read) old new
+of_fragments_of bounds schema read left further names lists old new zip text (known, each) adds =
+    adds_so (AreSomeOfOne lists) (AreTrueOfFragments bounds schema read) old new
+    (λ r (all, among, are). record {
+      names = names;
+      further = further;
+      text_is = text;
+      all = all;
+      are_true = record {
+        own = further ∷ [];
+        lent = left;
+        left = ((refl, all_is_left), zip);
+        known = known;
+        are = All-contains (AreTrueOf bounds schema (further ∷ []) left known) lists all each among;
+      };
+      are = are;
+    }) adds

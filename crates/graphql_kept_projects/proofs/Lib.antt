@@ -1,2 +1,3 @@
 mod DocumentLemmas
 mod LeftLemmas
+mod SchemaLemmas

@@ -8,6 +8,8 @@ mod kept;
 mod known;
 mod parts;
 pub mod rounds;
+mod schema_parts;
+mod schema_rounds;
 pub mod schemas;
 pub mod scopes;
 mod unreached;

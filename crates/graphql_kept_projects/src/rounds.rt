@@ -46,7 +46,9 @@ pub fn add_further(
     if faults.is_empty() {
         let unreached = unreached_in(alloc, &found.lists)?;
         let doubts = Doubts::new(alloc);
-        return add_unreached(alloc, schema, scope, &unreached, read, &doubts, bounds, found);
+        return add_unreached(
+            alloc, schema, scope, &unreached, read, &doubts, bounds, found,
+        );
     }
     add_all_certain(alloc, read, scope, &faults, bounds, found)?;
     let left = Left::of(alloc, read)?;
@@ -85,7 +87,9 @@ fn add_rounds(
         let doubts = doubts_of(alloc, read, &left)?;
         let further = check_left(alloc, schema, scope, &left, bounds)?;
         faults = faults_beside(alloc, &further, &doubts)?;
-        add_unreached_of(alloc, schema, scope, &further, &left, &doubts, bounds, found)?;
+        add_unreached_of(
+            alloc, schema, scope, &further, &left, &doubts, bounds, found,
+        )?;
         add_known(alloc, further, &doubts, found)?;
         if faults.is_empty() {
             break;
@@ -111,7 +115,9 @@ fn add_unreached_of(
 {
     let unreached = unreached_in(alloc, &further.lists)?;
     let sources = sources_of(alloc, left)?;
-    add_unreached(alloc, schema, scope, &unreached, &sources, doubts, bounds, found)
+    add_unreached(
+        alloc, schema, scope, &unreached, &sources, doubts, bounds, found,
+    )
 }
 
 /// Adds what these reports say keeps texts from being built.

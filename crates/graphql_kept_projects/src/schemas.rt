@@ -4,12 +4,15 @@ ghost use Rattle.std.specs.Prelude.{◌≡◌, ◌∷◌, All, IfOk, List};
 ghost use Rattle.graphql_frontend.specs.declared.reports.Reports as reports_type;
 ghost use Rattle.graphql_kept_projects.specs.Schemas.{AreFurtherOfSchema};
 
-use graphql_frontend::{Reports, SourceText, ValidationError};
+use crate::schema_parts::errors_of_parts;
+use crate::schema_rounds::reports_of_left;
+use graphql_frontend::{Reports, SourceText, SyntaxReport, ValidationError};
 use graphql_parser::Bounds;
 use std::alloc::Global;
 
-/// Reports all that is found in the texts of a schema that `read_schema` rejects. The first list is what it reports. If a text is no document, its
-/// parts are read as well, and if something cannot be built, the rest is validated. The only error is a failed allocation.
+/// Reports all that is found in the texts of a schema that `read_schema` rejects. The first list is what it reports. If a text is no document, the
+/// errors of its other parts come in one more list. If something cannot be built, what is left without it is read as a schema, in up to four rounds,
+/// and reports that could be false of the whole texts are not shown. The only error is a failed allocation.
 ///
 /// Specification: 2.2 Document; 3 Type System.
 pub fn all_reports_of_schema(
@@ -20,7 +23,42 @@ pub fn all_reports_of_schema(
 ) -> Result<Vec<Reports>, ValidationError>
     ensures { IfOk result (λ lists. (further : List reports_type.Reports) × (lists.items ≡ reports ∷ further) × All (AreFurtherOfSchema bounds sources.now) further) }
 {
-    let mut lists = Vec::new(alloc);
-    lists.push(reports)?;
+    let mut lists = further_reports(alloc, sources, &reports, bounds)?;
+    lists.insert(0, reports)?;
     Ok(lists)
+}
+
+/// The reports beside these first ones.
+fn further_reports(
+    alloc: Global,
+    sources: &[SourceText<'_>],
+    reports: &Reports,
+    bounds: Bounds,
+) -> Result<Vec<Reports>, ValidationError>
+    ensures { IfOk result (λ further. All (AreFurtherOfSchema bounds sources.now) further.items) }
+{
+    match reports {
+        Reports::Syntax(errors) => reports_of_parts(alloc, sources, errors, bounds),
+        Reports::Building(list) | Reports::FirstBuilding(list) => {
+            reports_of_left(alloc, sources, list, bounds)
+        }
+        _ => Ok(Vec::new(alloc)),
+    }
+}
+
+/// The errors of the parts of these texts, if there are any, beside these errors of the texts.
+fn reports_of_parts(
+    alloc: Global,
+    sources: &[SourceText<'_>],
+    errors: &[SyntaxReport],
+    bounds: Bounds,
+) -> Result<Vec<Reports>, ValidationError>
+    ensures { IfOk result (λ further. All (AreFurtherOfSchema bounds sources.now) further.items) }
+{
+    let mut further = Vec::new(alloc);
+    let errors = errors_of_parts(alloc, sources, errors, bounds)?;
+    if !errors.is_empty() {
+        further.push(Reports::Syntax(errors))?;
+    }
+    Ok(further)
 }

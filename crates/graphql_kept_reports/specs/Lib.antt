@@ -1,4 +1,5 @@
 pub mod Doubtful
+pub mod SchemaDoubtful
 pub mod Unreached
 pub use Rattle.graphql_diagnostics.specs.Diagnostics
 pub use Rattle.graphql_diagnostics.specs.Reports

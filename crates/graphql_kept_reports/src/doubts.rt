@@ -147,7 +147,7 @@ fn is_left_out(whole: &str, left: &str, token: Token) -> bool {
     whole.as_bytes().get(at) != left.as_bytes().get(at)
 }
 
-fn has_name(names: &BTreeSet<String>, name: &Name) -> bool
+pub(crate) fn has_name(names: &BTreeSet<String>, name: &Name) -> bool
     ensures { result ≡ contains_text names.now name.now.text }
 {
     names.contains(name.as_str())

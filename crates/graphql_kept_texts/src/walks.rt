@@ -7,11 +7,12 @@ use crate::cuts::Cut;
 use crate::faults::Faults;
 use crate::rooms::cut_at;
 use crate::selections::{Walk, cut_below, cut_selections, cut_set};
-use crate::variables::cut_variables;
-use graphql_nodes::{OperationType, SourceSpan};
-use graphql_trees::{
-    Definition, Document, FragmentDefinition, OperationDefinition, TypeDefinition,
+use crate::type_system::{
+    cut_directive, cut_schema, cut_schema_extension, cut_type, cut_type_extension,
 };
+use crate::variables::cut_variables;
+use graphql_nodes::OperationType;
+use graphql_trees::{Definition, Document, FragmentDefinition, OperationDefinition};
 use std::alloc::{AllocError, Global};
 
 /// The cuts that leave out of the text of a document what is at fault, in order:
@@ -20,12 +21,13 @@ use std::alloc::{AllocError, Global};
 /// - an inline fragment, or the definition of a fragment, that is at fault, or whose condition or name is
 /// - the spread of a fragment that is at fault
 /// - an operation that is at fault, or whose name is, and definitions of variables that are at fault
-/// - a definition of the type system that is at fault
+/// - a definition or an extension of the type system that is at fault, or whose name is
+/// - in another one a field, an input field, a value, a root operation, or a member or an interface with its `|` or `&`, whose name is at fault
 ///
 /// A set of which nothing is left has `__typename` in its place. If there is no room for it, or the operation is a subscription, what has the
-/// set is left out. The only error is a failed allocation.
+/// set is left out, as is an extension of which nothing is left. The only error is a failed allocation.
 ///
-/// Specification: 2.2 Document, 2.4 Selection Sets.
+/// Specification: 2.2 Document, 2.4 Selection Sets, 3 Type System.
 pub fn cuts_of(
     alloc: Global,
     text: &str,
@@ -62,33 +64,13 @@ fn cut_definition(
     match definition {
         Definition::Operation(operation) => cut_operation(walk, operation, cuts),
         Definition::Fragment(fragment) => cut_fragment(walk, fragment, cuts),
-        Definition::Schema(definition) | Definition::SchemaExtension(definition) => {
-            cut_if_at_fault(walk, definition.span, cuts)
+        Definition::Schema(definition) => cut_schema(walk.faults, definition, cuts),
+        Definition::SchemaExtension(extension) => {
+            cut_schema_extension(walk.faults, extension, cuts)
         }
-        Definition::Directive(definition) => cut_if_at_fault(walk, definition.span, cuts),
-        Definition::Type(definition) | Definition::TypeExtension(definition) => {
-            cut_if_at_fault(walk, span_of_type(definition), cuts)
-        }
-    }
-}
-
-fn cut_if_at_fault(walk: Walk<'_>, place: SourceSpan, cuts: &mut Vec<Cut>) -> Result<(), AllocError>
-    ensures { HasNothing walk.entry.faults.now → OnOk result (cuts.new.items ≡ cuts.old.items) }
-{
-    if walk.faults.has(place) {
-        cut_at(place, cuts)?;
-    }
-    Ok(())
-}
-
-fn span_of_type(definition: &TypeDefinition) -> SourceSpan {
-    match definition {
-        TypeDefinition::Scalar(definition) => definition.span,
-        TypeDefinition::Object(definition) => definition.span,
-        TypeDefinition::Interface(definition) => definition.span,
-        TypeDefinition::Union(definition) => definition.span,
-        TypeDefinition::Enum(definition) => definition.span,
-        TypeDefinition::InputObject(definition) => definition.span,
+        Definition::Directive(definition) => cut_directive(walk.faults, definition, cuts),
+        Definition::Type(definition) => cut_type(walk.faults, definition, cuts),
+        Definition::TypeExtension(extension) => cut_type_extension(walk.faults, extension, cuts),
     }
 }
 

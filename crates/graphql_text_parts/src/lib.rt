@@ -4,5 +4,7 @@
 mod groups;
 mod heads;
 pub mod parts;
+mod schema_heads;
 
-pub use parts::{parts_beside, text_of_part};
+pub use graphql_blanks::Part;
+pub use parts::{faulty_schema_parts_beside, has_no_token, parts_beside, text_of_part};

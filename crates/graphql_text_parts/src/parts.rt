@@ -1,10 +1,12 @@
 //! Parts of a text.
 
-ghost use Rattle.std.specs.Prelude.{◌≡◌, IfOk, IfSome, string_bytes};
+ghost use Rattle.std.specs.Prelude.{◌≡◌, [], IfOk, IfSome, IsTrue, string_bytes};
 ghost use Rattle.graphql_blanks.specs.Blanks.{part_text};
+ghost use Rattle.graphql_tokens.specs.Lexical.{AreTokens};
 
 use crate::groups::{Group, first_groups};
 use crate::heads::part_starts;
+use crate::schema_heads::schema_part_starts;
 use graphql_blanks::{Part, blank};
 use graphql_nodes::{FileId, ValidationError};
 use graphql_parser::{Bounds, SyntaxError, parse_document};
@@ -84,16 +86,31 @@ pub fn parts_beside(
     error: SyntaxError,
     bounds: Bounds,
 ) -> Result<Vec<Part>, ValidationError> {
-    let starts = part_starts(alloc, text)?;
-    if starts.len() < 2 || is_of_whole(error) {
+    if is_of_whole(error) {
         return Ok(Vec::new(alloc));
     }
-    let cut = Cut {
-        text,
-        starts: &starts,
-        bounds,
-    };
-    let read = read_parts(alloc, cut)?;
+    let starts = part_starts(alloc, text)?;
+    let read = read_parts(alloc, text, &starts, bounds)?;
+    others(alloc, &read, error.at(text))
+}
+
+/// The parts of the text of a schema, which is no document for this reason, that are no documents by themselves, but for the one in which the
+/// text's own error begins. A part begins at a line with a word that begins a definition of the type system, or with its description, and ends
+/// before blanks. The parts are in order. Of a text with many faults not all parts are found. The only error is a failed allocation.
+///
+/// Specification: 2.2 Document, 3 Type System.
+pub fn faulty_schema_parts_beside(
+    alloc: Global,
+    text: &str,
+    error: SyntaxError,
+    bounds: Bounds,
+) -> Result<Vec<Part>, ValidationError> {
+    if is_of_whole(error) {
+        return Ok(Vec::new(alloc));
+    }
+    let starts = schema_part_starts(alloc, text)?;
+    let mut read = read_parts(alloc, text, &starts, bounds)?;
+    read.retain(|it| !it.is_document);
     others(alloc, &read, error.at(text))
 }
 
@@ -105,10 +122,23 @@ fn is_of_whole(error: SyntaxError) -> bool {
     )
 }
 
-/// The parts that are documents or single, in order: each group that is none is cut in two.
-fn read_parts(alloc: Global, cut: Cut<'_>) -> Result<Vec<ReadPart>, ValidationError> {
+/// The parts that are documents or single, in order: each group that is none is cut in two. None, if the text has one part alone.
+fn read_parts(
+    alloc: Global,
+    text: &str,
+    starts: &[usize],
+    bounds: Bounds,
+) -> Result<Vec<ReadPart>, ValidationError> {
     let mut read = Vec::new(alloc);
-    let mut waiting = first_groups(alloc, cut.starts.len())?;
+    if starts.len() < 2 {
+        return Ok(read);
+    }
+    let cut = Cut {
+        text,
+        starts,
+        bounds,
+    };
+    let mut waiting = first_groups(alloc, starts.len())?;
     for _ in 0..MOST_TRIES {
         let Some(group) = waiting.pop() else {
             break;
@@ -150,7 +180,7 @@ fn reading_of(alloc: Global, cut: Cut<'_>, part: Part) -> Result<Reading, Valida
     let Some(text) = text_of_part(alloc, cut.text, part)? else {
         return Ok(Reading::Empty);
     };
-    if matches!(measure(text.as_str(), 0).stop, Stop::End) {
+    if has_no_token(text.as_str()) {
         return Ok(Reading::Empty);
     }
     match parse_document(alloc, NO_FILE, text.as_str(), cut.bounds) {
@@ -175,4 +205,13 @@ fn others(alloc: Global, read: &[ReadPart], at: usize) -> Result<Vec<Part>, Vali
         }
     }
     Ok(parts)
+}
+
+/// Whether the text has no token.
+///
+/// Specification: 2.1.6 Lexical Tokens.
+pub fn has_no_token(text: &str) -> bool
+    ensures { IsTrue result → AreTokens text.now [] }
+{
+    matches!(measure(text, 0).stop, Stop::End)
 }

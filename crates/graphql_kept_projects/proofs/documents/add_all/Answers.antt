@@ -16,5 +16,5 @@ loop-reports-preserved c =
       before.0 ++ x ∷ [],
       done_next all before.0 left rest x before.1 c.in-Some.ensures.steps.0,
       adds_then (Contains all) c.args.found.now.lists.items old new before.2
-      (adds_one (Contains all) old new x c.in_ok-push.ensures.lists (stands_next all before.0 left rest x before.1 c.in-Some.ensures.steps.0)),
+          (adds_one (Contains all) old new x c.in_ok-push.ensures.lists (stands_next all before.0 left rest x before.1 c.in-Some.ensures.steps.0)),
     )

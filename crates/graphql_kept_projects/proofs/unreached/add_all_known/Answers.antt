@@ -1,12 +1,18 @@
-use Rattle.std.proofs.Common.{◌++◌, ◌∷◌, []}
+use Rattle.std.proofs.Common.{◌++◌, ◌∷◌, ◌≡◌, [], rules}
 use Rattle.graphql_documents.proofs.ListLemmas.{done_next, stands_next}
 use Rattle.graphql_kept_projects.specs.Left.{AreSomeOfList, AreSomeOfOne}
-use Rattle.graphql_project_checking.proofs.TruthLemmas.{adds_so, adds_then}
+use Rattle.graphql_project_checking.proofs.TruthLemmas.{adds_nothing, adds_so, adds_then}
 use Rattle.graphql_kept_projects.proofs.unreached.add_all_known.Goals as goal
 
+pub loop-reports-init : goal.loop-reports-init
+loop-reports-init c =
+    let all = c.args.reported.lists.items in
+    let is : all ≡ c.into_iter-reports-iterator.result.rest.items = search rules in
+    ([], is, adds_nothing (AreSomeOfOne all) c.args.found.now.lists.items)
+
 -- a list about an operation
-pub loop-reports-preserved-then : goal.loop-reports-preserved-then
-loop-reports-preserved-then c =
+pub loop-reports-preserved-in-Continue-branch-2 : goal.loop-reports-preserved-in-Continue-branch-2
+loop-reports-preserved-in-Continue-branch-2 c =
     let all = c.args.reported.lists.items in
     let before = c.loop-reports.invariant in
     let x = c.in-Some.reports in
@@ -18,12 +24,12 @@ loop-reports-preserved-then c =
       before.0 ++ x ∷ [],
       done_next all before.0 left rest x before.1 c.in-Some.ensures.steps.0,
       adds_then (AreSomeOfOne all) c.args.found.now.lists.items old new before.2
-      (adds_so (AreSomeOfList x) (AreSomeOfOne all) old new (λ r are. (x, among, are)) c.in_ok-add_known.ensures),
+          (adds_so (AreSomeOfList x) (AreSomeOfOne all) old new (λ r are. (x, among, are)) c.in_ok-add_known.ensures),
     )
 
 -- another list
-pub loop-reports-preserved-else : goal.loop-reports-preserved-else
-loop-reports-preserved-else c =
+pub loop-reports-preserved : goal.loop-reports-preserved
+loop-reports-preserved c =
     let before = c.loop-reports.invariant in
     let x = c.in-Some.reports in (
       before.0 ++ x ∷ [],

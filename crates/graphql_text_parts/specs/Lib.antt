@@ -1,0 +1,1 @@
+pub use Rattle.graphql_tokens.specs.Lexical
