@@ -38,7 +38,7 @@ found_with : (limits : Limits) (schema : Schema) (text : List ℕ) (source : Sou
     AreFirstErrorsOf limits (Some schema) (unnamed source ∷ []) None (source ∷ []) lists object → ChecksWithin limits schema text true object
 found_with limits schema text source [] is all filled object errors = absurd (filled refl)
 found_with limits schema text source (first ∷ further) is (are_some reported each) filled object errors =
-    reports_some source is reported (record { further = further; each = each; is_object = errors })
+    reports_some source is reported (record { lists = first ∷ further; are = (further, refl, each); is_object = errors })
 
 -- without a list nothing is reported
 pub nothing_found : (limits : Limits) (schema : Schema) (text : List ℕ) (source : SourceText) (lists : Vec Reports Global) (answer : Bool) → IsTextOf text source →

@@ -1,5 +1,5 @@
 -- What is answered of bytes. Specification: 2.2 Document; 3 Type System; 5 Validation; 7.1.2 Errors.
-use Rattle.std.specs.Prelude.{◌≡◌, IsUtf8, ℕ, All, List, [], ◌∷◌, ◌++◌, Bool, true, false, Contains, None, Option, Some, codes, map}
+use Rattle.std.specs.Prelude.{◌≡◌, IsUtf8, ℕ, List, [], ◌∷◌, ◌++◌, Bool, true, false, Contains, None, Option, Some, codes, map}
 use Rattle.json.specs.Print.{print}
 use Rattle.json.specs.Token.{Token}
 use Rattle.graphql_documents.specs.declared.documents.schemas.Schema.{Schema}
@@ -8,7 +8,7 @@ use Rattle.graphql_report_formats.specs.Findings.Findings.{AreShown, all_listed}
 use Rattle.graphql_report_formats.specs.Findings.declared.findings.Findings.{Findings}
 use Rattle.graphql_report_formats.specs.JsonReports.{error_without_place, errors_object, object_begin, object_end}
 use Rattle.graphql_report_formats.specs.NamedTexts.{Text}
-use Rattle.graphql_kept_projects.specs.Documents.{AreFurtherOf}
+use Rattle.graphql_kept_projects.specs.Documents.{AreFurtherOf, AreWithFurther}
 use Rattle.graphql_kept_projects.specs.Schemas.{AreFurtherOfSchema}
 use Rattle.graphql_kept_projects.specs.Frontend.Documents.{ValidatesDocument}
 use Rattle.graphql_kept_projects.specs.Frontend.Schemas.{ReadsSchema}
@@ -48,11 +48,11 @@ pub record AreFirstErrorsOf (limits : Limits) (schema : Option Schema) (texts : 
   pub are_shown : AreShown schema sources limits.bounds (all_listed lists) limits.reports found
   pub object_is : object ≡ errors_object texts path found.shown.items
 
--- the object of a first list of reports and of further ones, each of which is such a list
+-- the object of lists of reports: of this one, and of further ones
 pub record IsObjectWith (IsFurther : Reports → Type 0) (IsObject : List Reports → List Token → Type 0) (first : Reports) (object : List Token) : Type 0 where
-  pub further : List Reports
-  pub each : All IsFurther further
-  pub is_object : IsObject (first ∷ further) object
+  pub lists : List Reports
+  pub are : AreWithFurther first IsFurther lists
+  pub is_object : IsObject lists object
 
 -- the object of all that is found in the texts of a schema that is rejected with these reports: these, and what is reported of what is left of the texts
 abbrev pub IsObjectOfRejected : Limits → List Text → Option (List ℕ) → List SourceText → Reports → List Token → Type 0
