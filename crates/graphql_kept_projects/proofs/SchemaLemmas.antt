@@ -110,7 +110,7 @@ source_is_made before old new left source made grown same text = subst (AreSourc
 
 pub source_is_left_out : (before : List LeftText) (sources : List SourceText) (left : LeftText) → AreSourcesOf before sources → {text : List ℕ} →
     text ≡ string_bytes left.text → AreTokens text [] → AreSourcesOf (before ++ left ∷ []) sources
-source_is_left_out before sources left made is none = left_out_more _ _ left made (subst (λ t. AreTokens t []) is none)
+source_is_left_out before sources left made is no_token = left_out_more _ _ left made (subst (λ t. AreTokens t []) is no_token)
 
 -- errors of parts of one of the texts
 pub errors_among : (bounds : Bounds) (whole : List SourceText) (source : SourceText) (old new : List SyntaxReport) → Contains whole source →
