@@ -102,13 +102,28 @@ fn add_all_known(
     let mut marks = marks_of(alloc, operations)?;
     let mut position = 0_usize;
     for reports in lists {
-        let mark = marks.remove(&position);
+        let is_marked = marks.remove(&position).is_some();
         position = position.saturating_add(1);
-        if mark.is_some() {
-            add_known(alloc, reports, doubts, found)?;
-        }
+        add_if(alloc, is_marked, reports, doubts, found)?;
     }
     Ok(())
+}
+
+/// Adds those reports that are known to be true of fragments of the whole texts, if the list is about an operation.
+fn add_if(
+    alloc: Global,
+    is_marked: bool,
+    reports: Reports,
+    doubts: &Doubts,
+    found: &mut ProjectReports,
+) -> Result<(), ValidationError>
+    ensures { OnOk result (KeepsReports (AreSomeOfList reports) found.old.lists.items found.new.lists.items) }
+{
+    if is_marked {
+        add_known(alloc, reports, doubts, found)
+    } else {
+        Ok(())
+    }
 }
 
 /// Adds those reports on rules that are known to be true of fragments of the whole texts.

@@ -10,29 +10,18 @@ loop-reports-init c =
     let is : all ≡ c.into_iter-reports-iterator.result.rest.items = search rules in
     ([], is, adds_nothing (AreSomeOfOne all) c.args.found.now.lists.items)
 
--- a list about an operation
-pub loop-reports-preserved-in-Continue-branch-2 : goal.loop-reports-preserved-in-Continue-branch-2
-loop-reports-preserved-in-Continue-branch-2 c =
+pub loop-reports-preserved : goal.loop-reports-preserved
+loop-reports-preserved c =
     let all = c.args.reported.lists.items in
     let before = c.loop-reports.invariant in
     let x = c.in-Some.reports in
     let left = c.loop-reports.reports-iterator.rest.items in
     let rest = c.next.new.self.rest.items in
     let old = c.loop-reports.found.lists.items in
-    let new = c.add_known.new.found.lists.items in
+    let new = c.add_if.new.found.lists.items in
     let among = stands_next all before.0 left rest x before.1 c.in-Some.ensures.steps.0 in (
       before.0 ++ x ∷ [],
       done_next all before.0 left rest x before.1 c.in-Some.ensures.steps.0,
       adds_then (AreSomeOfOne all) c.args.found.now.lists.items old new before.2
-          (adds_so (AreSomeOfList x) (AreSomeOfOne all) old new (λ r are. (x, among, are)) c.in_ok-add_known.ensures),
-    )
-
--- another list
-pub loop-reports-preserved : goal.loop-reports-preserved
-loop-reports-preserved c =
-    let before = c.loop-reports.invariant in
-    let x = c.in-Some.reports in (
-      before.0 ++ x ∷ [],
-      done_next c.args.reported.lists.items before.0 c.loop-reports.reports-iterator.rest.items c.next.new.self.rest.items x before.1 c.in-Some.ensures.steps.0,
-      before.2,
+          (adds_so (AreSomeOfList x) (AreSomeOfOne all) old new (λ r are. (x, among, are)) c.in_ok-add_if.ensures),
     )
