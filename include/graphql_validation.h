@@ -74,7 +74,8 @@ typedef struct {
      place; "file": "<built-in>" for a place in the definitions that every schema has, or the name of the file of a schema, if
      it has one; "related", if there are notes on other places: each has "message", "line", "column", "span" and, as above,
      "file"; and "help", if something helps: an array of strings.
-   Each fault comes once. Errors are in the order of files and places, those without a place first. */
+   Errors are all that is found, also beside a syntax error or what cannot be built: each fault once, in the order of files and
+   places, those without a place first. */
 
 /* A schema that is kept between calls. Begin with all bytes 0: graphql_schema schema = {0}; */
 typedef struct {
@@ -105,7 +106,7 @@ typedef struct {
   /* How much work the search for fields takes that cannot be merged. Default: 160000000 units, about a second. */
   size_t work;
   /* How many errors an answer has: the first ones. Default: all that are kept. Of each kind of report at most 1000 are kept,
-     with a megabyte of messages; if there are more, the last error has the rule "MoreReports". */
+     with a megabyte of messages; if there are more, the first error has the rule "MoreReports". */
   size_t max_reports;
 } graphql_options;
 

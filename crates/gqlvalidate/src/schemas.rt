@@ -1,6 +1,8 @@
 //! A schema that is validated for itself.
 
 use gqlvalidate_check::accounts::Account;
+use gqlvalidate_check::all_reports_of_schema;
+use gqlvalidate_check::bounds::OF_SCHEMA;
 use gqlvalidate_check::dialects::{SchemaTexts, dialect_texts, read_schema_in};
 use gqlvalidate_check::named_texts::NamedText;
 use gqlvalidate_check::presentations::Presentation;
@@ -69,7 +71,14 @@ fn check_texts<O: Write, F: Write>(
         }
         SchemaReading::Rejected(reports) => {
             let subject = schema_subject(&texts.shown, &texts.read);
-            reject(alloc, reports, subject, presentation, output, faults)
+            let lists = all_reports_of_schema(
+                alloc,
+                subject.sources,
+                reports,
+                OF_SCHEMA,
+                dialect.federation,
+            )?;
+            reject(alloc, &lists, subject, presentation, output, faults)
         }
         SchemaReading::LacksIntrospection => Err(Fault::LacksIntrospection),
     }

@@ -10,6 +10,7 @@ use gqlvalidate_sources::inputs::faults::Fault;
 use gqlvalidate_sources::inputs::sources::{shown_path, text_or_said};
 use gqlvalidate_sources::inputs::statuses::Status;
 use gqlvalidate_sources::runs::accounts::{Account, Extent, Whole};
+use gqlvalidate_sources::runs::bounds::OF_SCHEMA;
 use gqlvalidate_sources::runs::dialects::{SchemaTexts, dialect_texts, read_schema_in};
 use gqlvalidate_sources::runs::named_texts::{NamedText, Subject};
 use gqlvalidate_sources::runs::presentations::Presentation;
@@ -23,6 +24,7 @@ use gqlvalidate_watching::Kept;
 use gqlvalidate_words::{Dialect, Grouping};
 use graphql_documents::documents::Schema;
 use graphql_frontend::{ProjectReports, Reports, SchemaReading, validate_document};
+use graphql_kept_projects::all_reports_of_schema;
 use graphql_parser::Bounds;
 use std::alloc::Global;
 use std::io::{Read, Write};
@@ -110,7 +112,14 @@ fn check_against<R: Files + AllocGlobal, I: Read, O: Write, F: Write>(
         }
         SchemaReading::Rejected(reports) => {
             let subject = schema_subject(&schema_texts.shown, &schema_texts.read);
-            reject(rt.alloc(), reports, subject, presentation, output, faults)
+            let lists = all_reports_of_schema(
+                rt.alloc(),
+                subject.sources,
+                reports,
+                OF_SCHEMA,
+                paths.dialect.federation,
+            )?;
+            reject(rt.alloc(), &lists, subject, presentation, output, faults)
         }
         SchemaReading::LacksIntrospection => Err(Fault::LacksIntrospection),
     }

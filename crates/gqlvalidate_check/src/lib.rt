@@ -9,6 +9,7 @@ mod project_files;
 mod syntax;
 
 pub use expansions::{Words, check_words};
+pub use graphql_kept_projects::all_reports_of_schema;
 // The program takes these from here: `rt` follows each path from a crate down to another.
 pub use gqlvalidate_sources::runs::{
     accounts, bounds, dialects, named_texts, policies, presentations, schema_files, schema_reports,

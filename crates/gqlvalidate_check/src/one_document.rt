@@ -1,8 +1,9 @@
 //! Documents that are one document together, as clients write fragments in files of their own.
 
-ghost use Rattle.std.specs.Prelude.{◌≡◌, Ok, Option, Some};
+ghost use Rattle.std.specs.Prelude.{IfOk, Some};
 ghost use Rattle.graphql_frontend.specs.Documents.{ValidatesDocuments};
 ghost use Rattle.graphql_frontend.specs.Schemas.{IsUsable};
+ghost use Rattle.graphql_kept_projects.specs.Documents.{AreAllReports, AreFurtherOf};
 
 use crate::project_files::project_of;
 use gqlvalidate_sources::Paths;
@@ -15,7 +16,8 @@ use gqlvalidate_sources::runs::named_texts::{NamedText, Subject};
 use gqlvalidate_sources::runs::schema_files::{FileKind, ReadFiles, named_text, read_files};
 use gqlvalidate_sources::runs::schema_texts::sources_of;
 use graphql_documents::documents::Schema;
-use graphql_frontend::{Reports, SourceText, validate_documents};
+use graphql_frontend::{Reports, SourceText};
+use graphql_kept_projects::all_reports_of_documents;
 use graphql_parser::Bounds;
 use std::alloc::{AllocError, Global};
 use std::io::{Read, Write};
@@ -77,16 +79,17 @@ fn check_one<O: Write>(
     let named = named_documents(alloc, paths, texts)?;
     let sources = sources_of(alloc, &named)?;
     let subject = subject_of(&named, &sources);
-    match reports_of(alloc, schema, &sources, paths.bounds)? {
+    let lists = reports_of(alloc, schema, &sources, paths.bounds)?;
+    match lists.first() {
         None => {
             account.reject(alloc, &[], None, subject, paths.bounds, output)?;
             Ok(Status::Accepted)
         }
-        Some(reports) => {
-            let project = project_of(alloc, schema, &sources, &reports, paths.bounds)?;
+        Some(first) => {
+            let project = project_of(alloc, schema, &sources, first, paths.bounds)?;
             account.reject(
                 alloc,
-                [reports].as_slice(),
+                &lists,
                 project.as_ref(),
                 subject,
                 paths.bounds,
@@ -103,11 +106,12 @@ fn reports_of(
     schema: &Schema,
     sources: &[SourceText<'_>],
     bounds: Bounds,
-) -> Result<Option<Reports>, Fault>
+) -> Result<Vec<Reports>, Fault>
     requires { IsUsable schema.now }
-    ensures { (reports : Option Reports) → result ≡ Ok reports → ValidatesDocuments bounds (Some schema.now) sources.now reports }
+    ensures { IfOk result (λ lists. AreAllReports (ValidatesDocuments bounds (Some schema.now) sources.now)
+        (AreFurtherOf bounds schema.now sources.now) lists.items) }
 {
-    Ok(validate_documents(alloc, schema, sources, bounds)?)
+    Ok(all_reports_of_documents(alloc, schema, sources, bounds)?)
 }
 
 /// The texts with their paths, numbered behind those of the schema.

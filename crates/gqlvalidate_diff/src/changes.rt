@@ -10,6 +10,7 @@ use gqlvalidate_inputs::terminals::Terminal;
 use gqlvalidate_inputs::word_paths::{expanded, schema_paths, views};
 use gqlvalidate_paths::Expansion;
 use gqlvalidate_runs::accounts::{Account, Extent, Whole, print};
+use gqlvalidate_runs::bounds::OF_SCHEMA;
 use gqlvalidate_runs::dialects::{SchemaTexts, dialect_texts, read_schema_in};
 use gqlvalidate_runs::github::{Annotation, push_annotation};
 use gqlvalidate_runs::json_lines::print_line;
@@ -27,6 +28,7 @@ use graphql_change_kinds::{BreakingReason, Level, SchemaChange};
 use graphql_change_witnesses::confirmed_witness;
 use graphql_documents::documents::Schema;
 use graphql_frontend::{SchemaReading, abandon};
+use graphql_kept_projects::all_reports_of_schema;
 use graphql_parser::Bounds;
 use graphql_schema_comparison::{Comparison, compare_schemas};
 use graphql_schema_ways::Ways;
@@ -245,7 +247,14 @@ fn compare_from<R: Files + AllocGlobal, I: Read, O: Write, F: Write>(
         }
         SchemaReading::Rejected(reports) => {
             let presentation = compared.presentation;
-            reject(rt.alloc(), reports, subject, presentation, output, faults)
+            let lists = all_reports_of_schema(
+                rt.alloc(),
+                subject.sources,
+                reports,
+                OF_SCHEMA,
+                compared.dialect.federation,
+            )?;
+            reject(rt.alloc(), &lists, subject, presentation, output, faults)
         }
         SchemaReading::LacksIntrospection => Err(Fault::LacksIntrospection),
     }
@@ -277,7 +286,14 @@ fn compare_to<R: Files + AllocGlobal, I: Read, O: Write, F: Write>(
         }
         SchemaReading::Rejected(reports) => {
             let presentation = compared.presentation;
-            reject(rt.alloc(), reports, subject, presentation, output, faults)
+            let lists = all_reports_of_schema(
+                rt.alloc(),
+                subject.sources,
+                reports,
+                OF_SCHEMA,
+                compared.dialect.federation,
+            )?;
+            reject(rt.alloc(), &lists, subject, presentation, output, faults)
         }
         SchemaReading::LacksIntrospection => Err(Fault::LacksIntrospection),
     }

@@ -18,18 +18,17 @@ pub fn extent_of(named: &[NamedText<'_>]) -> Extent {
     }
 }
 
-/// Ends a run with the reports of a schema.
+/// Ends a run with the lists of reports of a schema.
 pub fn reject<O: Write, F: Write>(
     alloc: Global,
-    reports: Reports,
+    lists: &[Reports],
     subject: Subject<'_>,
     presentation: Presentation,
     output: &mut O,
     faults: &mut F,
 ) -> Result<Status, Fault> {
     let mut account = Account::new(alloc, presentation)?;
-    let reports = [reports];
-    account.report(alloc, reports.as_slice(), None, subject, OF_SCHEMA, output)?;
+    account.report(alloc, lists, None, subject, OF_SCHEMA, output)?;
     account.end(alloc, extent_of(subject.texts), output, faults)?;
     Ok(Status::Reported)
 }

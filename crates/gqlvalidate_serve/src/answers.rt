@@ -20,10 +20,10 @@ use gqlvalidate_runs::schema_texts::{schema_subject, sources_of};
 use gqlvalidate_runs::{Finding, Texts, findings_of};
 use gqlvalidate_words::Dialect;
 use graphql_documents::documents::Schema;
-use graphql_frontend::{
-    ProjectReports, Reports, SchemaReading, SourceText, abandon, validate_document,
+use graphql_frontend::{ProjectReports, Reports, SchemaReading, SourceText, abandon};
+use graphql_kept_projects::{
+    Scope, add_further, all_reports_of_document, all_reports_of_schema, reports_of,
 };
-use graphql_kept_projects::{Scope, add_further, reports_of};
 use graphql_nodes::FileId;
 use graphql_parser::Bounds;
 use json::{Scratch, Writer};
@@ -124,7 +124,7 @@ fn serve_schema<R: Files + AllocGlobal + Clone + Drop, I: Read, O: Write, F: Wri
                 bounds: OF_SCHEMA,
                 ..allowance
             };
-            print_reports(rt.alloc(), &reports, subject, allowance, output)?;
+            print_reports(rt.alloc(), reports, subject, allowance, output)?;
             Ok(Status::Reported)
         }
         SchemaReading::LacksIntrospection => Err(Fault::LacksIntrospection),
@@ -472,27 +472,10 @@ fn answer_alone(
         subject,
         of_schema: Some(known.of_schema),
     };
-    let found = reports_alone(alloc, schema, source, allowance.bounds)?;
-    let written = add_errors(alloc, Some(schema), &found.lists, about, allowance, json);
+    let found = all_reports_of_document(alloc, schema, source, allowance.bounds)?;
+    let written = add_errors(alloc, Some(schema), &found, about, allowance, json);
     drop(found);
     written
-}
-
-/// What is reported of a document that has all fragments itself, and of what is left of it without what cannot be built.
-fn reports_alone(
-    alloc: Global,
-    schema: &Schema,
-    source: SourceText<'_>,
-    bounds: Bounds,
-) -> Result<ProjectReports, Fault>
-    requires { IsUsable schema.now }
-{
-    let mut found = ProjectReports::new(alloc);
-    if let Some(reports) = validate_document(alloc, schema, source, bounds)? {
-        found.push(None, reports)?;
-    }
-    add_further(alloc, schema, from_ref(&source), ALONE, bounds, &mut found)?;
-    Ok(found)
 }
 
 /// What findings are about.
@@ -636,7 +619,7 @@ fn add_errors(
 /// Prints the findings of a schema as a line.
 fn print_reports<O: Write>(
     alloc: Global,
-    reports: &Reports,
+    reports: Reports,
     subject: Subject<'_>,
     allowance: Allowance,
     output: &mut O,
@@ -645,9 +628,16 @@ fn print_reports<O: Write>(
         subject,
         of_schema: None,
     };
+    let lists = all_reports_of_schema(
+        alloc,
+        subject.sources,
+        reports,
+        OF_SCHEMA,
+        allowance.dialect.federation,
+    )?;
     let mut json = Writer::new(Vec::new(alloc));
     json.begin_object()?;
-    add_errors(alloc, None, from_ref(reports), about, allowance, &mut json)?;
+    add_errors(alloc, None, &lists, about, allowance, &mut json)?;
     json.end_object()?;
     print_now(alloc, json, output)
 }

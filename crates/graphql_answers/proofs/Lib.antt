@@ -1,3 +1,4 @@
 pub mod AnswerLemmas
+mod DocumentLemmas
 mod FileLemmas
 mod SessionLemmas

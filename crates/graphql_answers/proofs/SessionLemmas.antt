@@ -4,15 +4,15 @@ use Rattle.json.specs.Print.{print}
 use Rattle.json.specs.Token.{Token}
 use Rattle.graphql_documents.specs.declared.documents.schemas.Schema.{Schema}
 use Rattle.graphql_nodes.specs.declared.spans.FileId.{FileId}
-use Rattle.graphql_frontend.specs.Schemas.{ReadsSchema}
-use Rattle.graphql_frontend.specs.Texts.{AreTextsOf, IsTextOf, document_file}
-use Rattle.graphql_frontend.specs.Verdicts.{holds, rejected, schema_is_read}
-use Rattle.graphql_frontend.specs.declared.schemas.SchemaReading.{SchemaReading}
-use Rattle.graphql_frontend.specs.declared.schemas.SchemaReading.TheVariants.{Accepted, Rejected, LacksIntrospection}
-use Rattle.graphql_frontend.specs.declared.texts.SourceText.{SourceText}
+use Rattle.graphql_kept_projects.specs.Frontend.Schemas.{ReadsSchema}
+use Rattle.graphql_kept_projects.specs.Frontend.Texts.{AreTextsOf, IsTextOf, document_file}
+use Rattle.graphql_kept_projects.specs.Frontend.Verdicts.{holds, rejected, schema_is_read}
+use Rattle.graphql_kept_projects.specs.Frontend.declared.schemas.SchemaReading.{SchemaReading}
+use Rattle.graphql_kept_projects.specs.Frontend.declared.schemas.SchemaReading.TheVariants.{Accepted, Rejected, LacksIntrospection}
+use Rattle.graphql_kept_projects.specs.Frontend.declared.texts.SourceText.{SourceText}
 use Rattle.graphql_report_formats.specs.NamedTexts.{Text, named_text, schema_path}
 use Rattle.graphql_report_formats.specs.declared.named_texts.NamedText.{NamedText}
-use Rattle.graphql_answers.specs.Answers.{AreFirstErrorsOf, ChecksWithin, Finds, FindsInSchema, IsRefusalOf, by_reading, built_in_path, by_verdict, default_limits, no_errors, reports_nothing, reports_some, schema_texts}
+use Rattle.graphql_answers.specs.Answers.{ChecksWithin, Finds, FindsInSchema, IsObjectOfRejected, IsRefusalOf, by_reading, built_in_path, by_verdict, default_limits, no_errors, reports_nothing, reports_some, schema_texts}
 use Rattle.graphql_answers.specs.Batches.{found_in_documents}
 use Rattle.graphql_answers.specs.Files.{built_in_text, file_text, name_of, sources_of, texts_of_files}
 use Rattle.graphql_answers.specs.Sessions.{FindsAgainst, FindsInFiles, IsObjectOfTexts, IsReadFrom, IsReadFromTexts, IsRefusalOfKept, by_checking, found_in_schema, has_no_schema, is_accepted, is_of_document, is_reported}
@@ -78,7 +78,7 @@ checked_alike text sources schema document are reads (reports_nothing source is 
     by_verdict no_errors sources source are is (schema_is_read schema reads (holds validates)) refl
 checked_alike text sources schema document are reads (reports_some source is validates errors) =
     by_verdict _ sources source are is (schema_is_read schema reads (rejected validates))
-    (record { schema = schema; reads = reads; validates = validates; are_errors = errors })
+    (record { schema = schema; reads = reads; validates = validates; is_object = errors })
 
 accepted : {texts : List NamedText} {schema : Schema} {json : List ℕ} → IsReadFromTexts default_limits texts (Some schema) json →
     ReadsSchema default_limits.bounds (sources_of texts) (Accepted schema)
@@ -114,8 +114,8 @@ reported_alike : (text : List ℕ) (texts : List NamedText) → AreTwo text text
     FindsInSchema text InSchema (print object)
 reported_alike text texts two (Accepted schema) object reads is = absurd is
 reported_alike text texts two (Rejected reports) object reads is = by_reading object (sources_of texts) (texts_alike text texts two) reads
-    (subst (λ p. AreFirstErrorsOf default_limits None (schema_texts (sources_of texts)) p (sources_of texts) reports object) (path_alike text texts two)
-    (subst (λ t. AreFirstErrorsOf default_limits None t (schema_path (map named_text texts)) (sources_of texts) reports object) (named_alike text texts two) is))
+    (subst (λ p. IsObjectOfRejected default_limits (schema_texts (sources_of texts)) p (sources_of texts) reports object) (path_alike text texts two)
+    (subst (λ t. IsObjectOfRejected default_limits t (schema_path (map named_text texts)) (sources_of texts) reports object) (named_alike text texts two) is))
 reported_alike text texts two LacksIntrospection object reads is = by_reading object (sources_of texts) (texts_alike text texts two) reads is
 
 texts_read : (text : List ℕ) (texts : List NamedText) → AreTwo text texts → {schema : Option Schema} {json : List ℕ} →

@@ -6,11 +6,11 @@ use Rattle.json.specs.Token.{Token, begin_array, end_array}
 use Rattle.json.specs.Written.{Written}
 use Rattle.graphql_documents.specs.declared.documents.schemas.Schema.{Schema}
 use Rattle.graphql_parser.specs.declared.bounds.TheConstants as bounds
-use Rattle.graphql_frontend.specs.Schemas.{ReadsSchema}
-use Rattle.graphql_frontend.specs.declared.schemas.SchemaReading.{SchemaReading}
-use Rattle.graphql_frontend.specs.declared.schemas.SchemaReading.TheVariants.{Accepted}
-use Rattle.graphql_frontend.specs.declared.texts.SourceText.{SourceText}
-use Rattle.graphql_frontend.specs.Texts.{AreTextsOf}
+use Rattle.graphql_kept_projects.specs.Frontend.Schemas.{ReadsSchema}
+use Rattle.graphql_kept_projects.specs.Frontend.declared.schemas.SchemaReading.{SchemaReading}
+use Rattle.graphql_kept_projects.specs.Frontend.declared.schemas.SchemaReading.TheVariants.{Accepted}
+use Rattle.graphql_kept_projects.specs.Frontend.declared.texts.SourceText.{SourceText}
+use Rattle.graphql_kept_projects.specs.Frontend.Texts.{AreTextsOf}
 use Rattle.graphql_answers.specs.Answers.{Checks, IsObjectOfReading, found_by_reading}
 use Rattle.graphql_answers.specs.declared.answers.Answer.{Answer}
 use Rattle.graphql_answers.specs.declared.answers.Found.{Found}

@@ -3,8 +3,8 @@ use Rattle.std.specs.Prelude.{◌==◌, ◌+◌, IsUtf8, ℕ, suc, List, [], ◌
 use Rattle.graphql_nodes.specs.declared.spans.FileId.{FileId}
 use Rattle.graphql_nodes.specs.declared.spans.TheConstants as spans
 use Rattle.graphql_schema_building.specs.declared.built_in.TheConstants as built_in
-use Rattle.graphql_frontend.specs.Texts.{schema_file}
-use Rattle.graphql_frontend.specs.declared.texts.SourceText.{SourceText}
+use Rattle.graphql_kept_projects.specs.Frontend.Texts.{schema_file}
+use Rattle.graphql_kept_projects.specs.Frontend.declared.texts.SourceText.{SourceText}
 use Rattle.graphql_report_formats.specs.NamedTexts.{Text}
 use Rattle.graphql_report_formats.specs.declared.named_texts.NamedText.{NamedText}
 use Rattle.graphql_answers.specs.Answers.{built_in_path}

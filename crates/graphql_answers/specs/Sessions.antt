@@ -5,13 +5,13 @@ use Rattle.std.specs.Option.{option_map}
 use Rattle.json.specs.Print.{print}
 use Rattle.json.specs.Token.{Token}
 use Rattle.graphql_documents.specs.declared.documents.schemas.Schema.{Schema}
-use Rattle.graphql_frontend.specs.Schemas.{IsUsable, ReadsSchema}
-use Rattle.graphql_frontend.specs.declared.schemas.SchemaReading.{SchemaReading}
-use Rattle.graphql_frontend.specs.declared.schemas.SchemaReading.TheVariants.{Accepted, Rejected, LacksIntrospection}
+use Rattle.graphql_kept_projects.specs.Frontend.Schemas.{IsUsable, ReadsSchema}
+use Rattle.graphql_kept_projects.specs.Frontend.declared.schemas.SchemaReading.{SchemaReading}
+use Rattle.graphql_kept_projects.specs.Frontend.declared.schemas.SchemaReading.TheVariants.{Accepted, Rejected, LacksIntrospection}
 use Rattle.graphql_report_formats.specs.NamedTexts.{named_text, schema_path}
 use Rattle.graphql_report_formats.specs.declared.named_texts.NamedText.{NamedText}
 use Rattle.graphql_schema_handles.specs.declared.sessions.Session.{Session}
-use Rattle.graphql_answers.specs.Answers.{AreFirstErrorsOf, ChecksWithin, IsErrorOfLack, IsRefusalOf, no_errors}
+use Rattle.graphql_answers.specs.Answers.{ChecksWithin, IsErrorOfLack, IsObjectOfRejected, IsRefusalOf, no_errors}
 use Rattle.graphql_answers.specs.Batches.{found_in_documents}
 use Rattle.graphql_answers.specs.Files.{sources_of, texts_of_files}
 use Rattle.graphql_answers.specs.declared.answers.Found.{Found}
@@ -44,7 +44,7 @@ IsUsableIfKept (Some schema) = IsUsable schema
 abbrev pub IsObjectOfTexts : Limits → List NamedText → SchemaReading → List Token → Type 0
 IsObjectOfTexts limits texts (Accepted _) object = ⊥
 IsObjectOfTexts limits texts (Rejected reports) object =
-    AreFirstErrorsOf limits None (map named_text texts) (schema_path (map named_text texts)) (sources_of texts) reports object
+    IsObjectOfRejected limits (map named_text texts) (schema_path (map named_text texts)) (sources_of texts) reports object
 IsObjectOfTexts limits texts LacksIntrospection object = IsErrorOfLack object
 
 -- what these texts come to: a schema, of which nothing is reported, or the JSON of what is reported

@@ -4,15 +4,16 @@ ghost use Rattle.std.specs.Prelude.{◌≡◌, ◌<◌, ◌++◌, length, IfErr,
 ghost use Rattle.graphql_answers.specs.Answers.{Checks};
 ghost use Rattle.graphql_answers.specs.Batches.{AppendsChecked, document_at, FindsInEach, found_in_documents, IsAnswerOnEach, IsNoText, IsRefusalOfDocuments, IsRefusalOfEach, start_of};
 ghost use Rattle.json.specs.Token.{Token};
-ghost use Rattle.graphql_frontend.specs.Schemas.{IsUsable};
+ghost use Rattle.graphql_kept_projects.specs.Frontend.Schemas.{IsUsable};
 
 use crate::answers::{Answer, Found, Refusal};
 use crate::limits::Limits;
 use crate::objects::{add_document, add_nothing, lack_of_introspection, reports_of_schema};
 use crate::texts::text_of;
 use graphql_documents::documents::Schema;
-use graphql_frontend::{
-    SchemaReading, document_source, read_schema, schema_sources, validate_document,
+use graphql_kept_projects::all_reports_of_document;
+use graphql_kept_projects::frontend::{
+    SchemaReading, document_source, read_schema, schema_sources,
 };
 use graphql_parser::Bounds;
 use json::Writer;
@@ -46,7 +47,7 @@ fn answer(alloc: Global, schema: &str, documents: Batch<'_>) -> Result<Answer, R
     let sources = schema_sources(schema);
     match read_schema(alloc, sources.as_slice(), Bounds::DEFAULT)? {
         SchemaReading::Accepted(schema) => answer_each(alloc, &schema, documents),
-        SchemaReading::Rejected(reports) => reports_of_schema(alloc, &reports, sources),
+        SchemaReading::Rejected(reports) => reports_of_schema(alloc, reports, sources),
         SchemaReading::LacksIntrospection => lack_of_introspection(alloc),
     }
 }
@@ -107,16 +108,13 @@ fn add_one(json: &mut Writer, alloc: Global, schema: &Schema, text: &str) -> Res
     ensures refused { IsOkUnless result Refusal.OutOfMemory }
 {
     let document = document_source(text);
-    match validate_document(alloc, schema, document, Bounds::DEFAULT)? {
-        None => {
-            add_nothing(json)?;
-            Ok(false)
-        }
-        Some(reports) => {
-            add_document(json, alloc, schema, &reports, document, Limits::DEFAULT)?;
-            Ok(true)
-        }
+    let lists = all_reports_of_document(alloc, schema, document, Bounds::DEFAULT)?;
+    if lists.is_empty() {
+        add_nothing(json)?;
+        return Ok(false);
     }
+    add_document(json, alloc, schema, &lists, document, Limits::DEFAULT)?;
+    Ok(true)
 }
 
 impl<'a> Batch<'a> {

@@ -8,7 +8,7 @@ use crate::limits::Limits;
 use crate::objects::{lack_of_introspection, reports_of_schema};
 use crate::sessions;
 use crate::texts::text_of;
-use graphql_frontend::{SchemaReading, read_schema, schema_sources};
+use graphql_kept_projects::frontend::{SchemaReading, read_schema, schema_sources};
 use graphql_parser::Bounds;
 use std::alloc::Global;
 
@@ -35,7 +35,7 @@ fn answer(alloc: Global, schema: &str, document: &str) -> Result<Answer, Refusal
         SchemaReading::Accepted(schema) => {
             sessions::answer(alloc, &schema, document, Limits::DEFAULT)
         }
-        SchemaReading::Rejected(reports) => reports_of_schema(alloc, &reports, sources),
+        SchemaReading::Rejected(reports) => reports_of_schema(alloc, reports, sources),
         SchemaReading::LacksIntrospection => lack_of_introspection(alloc),
     }
 }

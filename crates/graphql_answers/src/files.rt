@@ -6,7 +6,7 @@ ghost use Rattle.graphql_report_formats.specs.NamedTexts.{named_text, path_of};
 
 use crate::answers::Refusal;
 use crate::texts::text_of;
-use graphql_frontend::SourceText;
+use graphql_kept_projects::frontend::SourceText;
 use graphql_nodes::FileId;
 use graphql_report_formats::named_texts::NamedText;
 use graphql_report_formats::schema_texts::BUILT_IN_TEXT;

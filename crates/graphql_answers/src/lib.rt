@@ -16,5 +16,7 @@ pub use answers::{Answer, Found, Refusal};
 pub use batches::{Batch, validate_each};
 pub use documents::validate;
 pub use files::SchemaFile;
+pub use graphql_kept_projects::{check_part_of_project, check_project, frontend};
+pub use graphql_report_formats::{Finding, findings_of};
 pub use limits::Limits;
 pub use schemas::validate_schema;

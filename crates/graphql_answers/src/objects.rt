@@ -2,7 +2,7 @@
 
 ghost use Rattle.std.specs.Prelude.{◌≡◌, ◌++◌, [], ◌∷◌, IfOk, IsOkUnless, None, Some, map};
 ghost use Rattle.std.specs.Option.{option_copied};
-ghost use Rattle.graphql_answers.specs.Answers.{AreErrorsOf, AreFirstErrorsOf, IsErrorOfLack, error_of_lack, no_errors, schema_texts, unnamed};
+ghost use Rattle.graphql_answers.specs.Answers.{AreFirstErrorsOf, IsErrorOfLack, IsObjectOfRejected, default_limits, error_of_lack, no_errors, schema_texts, unnamed};
 ghost use Rattle.graphql_answers.specs.Objects.{AppendsOne, IsAnswer};
 ghost use Rattle.graphql_report_formats.specs.JsonReports.{Appends, errors_object};
 ghost use Rattle.graphql_report_formats.specs.NamedTexts.{named_text, path_of, texts_of};
@@ -12,13 +12,13 @@ use crate::answers::{Answer, Found, Refusal};
 use crate::limits::Limits;
 use crate::texts::{schema_texts, unnamed};
 use graphql_documents::documents::Schema;
-use graphql_frontend::{Reports, SourceText};
+use graphql_kept_projects::all_reports_of_schema;
+use graphql_kept_projects::frontend::{Reports, SourceText};
 use graphql_report_formats::named_texts::{CountedSubject, Subject, Texts};
 use graphql_report_formats::schema_texts::BUILT_IN_TEXT;
 use graphql_report_formats::{Finding, findings_of, json_format};
 use json::Writer;
 use std::alloc::Global;
-use std::slice::from_ref;
 
 /// The answer that nothing is reported of a schema, or of one document.
 pub(crate) fn nothing(alloc: Global) -> Result<Answer, Refusal>
@@ -40,13 +40,13 @@ pub(crate) fn add_nothing(json: &mut Writer) -> Result<(), Refusal>
     Ok(())
 }
 
-/// The answer that these are reported of a schema with these texts.
+/// The answer on a schema with these texts, which is rejected with these reports: all that is found.
 pub(crate) fn reports_of_schema(
     alloc: Global,
-    reports: &Reports,
+    reports: Reports,
     sources: [SourceText<'_>; 2],
 ) -> Result<Answer, Refusal>
-    ensures found { IfOk result (IsAnswer Found.InSchema (AreErrorsOf None (schema_texts sources.entry) None sources.entry reports.now)) }
+    ensures found { IfOk result (IsAnswer Found.InSchema (IsObjectOfRejected default_limits (schema_texts sources.entry) None sources.entry reports)) }
     ensures refused { IsOkUnless result Refusal.OutOfMemory }
 {
     let texts = schema_texts(sources);
@@ -58,18 +58,19 @@ pub(crate) fn reports_of_schema(
     reports_of_subject(alloc, reports, subject, Limits::DEFAULT)
 }
 
-/// The answer that these are reported of a schema, by the names of its texts.
+/// The answer on a schema that is rejected with these reports, by the names of its texts: all that is found.
 pub(crate) fn reports_of_subject(
     alloc: Global,
-    reports: &Reports,
+    reports: Reports,
     subject: Subject<'_>,
     limits: Limits,
 ) -> Result<Answer, Refusal>
-    ensures found { IfOk result (IsAnswer Found.InSchema (AreFirstErrorsOf limits None (map named_text subject.entry.texts.now) (path_of subject.entry.path) subject.entry.sources.now reports.now)) }
+    ensures found { IfOk result (IsAnswer Found.InSchema (IsObjectOfRejected limits (map named_text subject.entry.texts.now) (path_of subject.entry.path) subject.entry.sources.now reports)) }
     ensures refused { IsOkUnless result Refusal.OutOfMemory }
 {
+    let lists = all_reports_of_schema(alloc, subject.sources, reports, limits.bounds, false)?;
     let mut json = Writer::new(Vec::new(alloc));
-    add_reports(&mut json, alloc, None, reports, subject, limits)?;
+    add_reports(&mut json, alloc, None, &lists, subject, limits)?;
     Ok(answer(Found::InSchema, json))
 }
 
@@ -99,19 +100,19 @@ fn add_lack(json: &mut Writer) -> Result<(), Refusal>
     Ok(())
 }
 
-/// The answer that these are reported of a document with this text, which was validated against this schema.
+/// The answer that these lists are reported of a document with this text, which was validated against this schema.
 pub(crate) fn reports_of_document(
     alloc: Global,
     schema: &Schema,
-    reports: &Reports,
+    lists: &[Reports],
     document: SourceText<'_>,
     limits: Limits,
 ) -> Result<Answer, Refusal>
-    ensures found { IfOk result (IsAnswer Found.InDocuments (AreFirstErrorsOf limits (Some schema.now) (unnamed document.entry ∷ []) None (document.entry ∷ []) reports.now)) }
+    ensures found { IfOk result (IsAnswer Found.InDocuments (AreFirstErrorsOf limits (Some schema.now) (unnamed document.entry ∷ []) None (document.entry ∷ []) lists.now)) }
     ensures refused { IsOkUnless result Refusal.OutOfMemory }
 {
     let mut json = Writer::new(Vec::new(alloc));
-    add_document(&mut json, alloc, schema, reports, document, limits)?;
+    add_document(&mut json, alloc, schema, lists, document, limits)?;
     Ok(answer(Found::InDocuments, json))
 }
 
@@ -120,11 +121,11 @@ pub(crate) fn add_document(
     json: &mut Writer,
     alloc: Global,
     schema: &Schema,
-    reports: &Reports,
+    lists: &[Reports],
     document: SourceText<'_>,
     limits: Limits,
 ) -> Result<(), Refusal>
-    ensures added { AppendsOne result json.old json.new (AreFirstErrorsOf limits (Some schema.now) (unnamed document.entry ∷ []) None (document.entry ∷ []) reports.now) }
+    ensures added { AppendsOne result json.old json.new (AreFirstErrorsOf limits (Some schema.now) (unnamed document.entry ∷ []) None (document.entry ∷ []) lists.now) }
     ensures refused { IsOkUnless result Refusal.OutOfMemory }
 {
     let texts = [unnamed(document)];
@@ -134,26 +135,25 @@ pub(crate) fn add_document(
         texts: texts.as_slice(),
         sources: sources.as_slice(),
     };
-    add_reports(json, alloc, Some(schema), reports, subject, limits)
+    add_reports(json, alloc, Some(schema), lists, subject, limits)
 }
 
-/// Adds an object with the first findings of these reports.
+/// Adds an object with the first findings of these lists of reports.
 fn add_reports(
     json: &mut Writer,
     alloc: Global,
     schema: Option<&Schema>,
-    reports: &Reports,
+    lists: &[Reports],
     subject: Subject<'_>,
     limits: Limits,
 ) -> Result<(), Refusal>
-    ensures added { AppendsOne result json.old json.new (AreFirstErrorsOf limits (option_copied schema.entry) (map named_text subject.entry.texts.now) (path_of subject.entry.path) subject.entry.sources.now reports.now) }
+    ensures added { AppendsOne result json.old json.new (AreFirstErrorsOf limits (option_copied schema.entry) (map named_text subject.entry.texts.now) (path_of subject.entry.path) subject.entry.sources.now lists.now) }
     ensures refused { IsOkUnless result Refusal.OutOfMemory }
 {
     let Limits {
         bounds,
         reports: most,
     } = limits;
-    let lists = from_ref(reports);
     let findings = findings_of(alloc, schema, lists, subject.sources, bounds, most)?;
     add_shown(json, alloc, &findings.shown, subject)
 }

@@ -6,7 +6,7 @@ ghost use Rattle.graphql_answers.specs.Answers.{FindsInSchema, IsRefusalOf};
 use crate::answers::{Answer, Refusal};
 use crate::objects::{lack_of_introspection, nothing, reports_of_schema};
 use crate::texts::text_of;
-use graphql_frontend::{SchemaReading, read_schema, schema_sources};
+use graphql_kept_projects::frontend::{SchemaReading, read_schema, schema_sources};
 use graphql_parser::Bounds;
 use std::alloc::Global;
 
@@ -29,7 +29,7 @@ fn answer(alloc: Global, schema: &str) -> Result<Answer, Refusal>
     let sources = schema_sources(schema);
     match read_schema(alloc, sources.as_slice(), Bounds::DEFAULT)? {
         SchemaReading::Accepted(_schema) => nothing(alloc),
-        SchemaReading::Rejected(reports) => reports_of_schema(alloc, &reports, sources),
+        SchemaReading::Rejected(reports) => reports_of_schema(alloc, reports, sources),
         SchemaReading::LacksIntrospection => lack_of_introspection(alloc),
     }
 }

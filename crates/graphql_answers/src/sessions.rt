@@ -5,7 +5,7 @@ ghost use Rattle.graphql_answers.specs.Answers.{IsRefusalOf};
 ghost use Rattle.graphql_answers.specs.Files.{IsRefusalOfFiles};
 ghost use Rattle.graphql_answers.specs.Sessions.{FindsAgainst, FindsAgainstKept, FindsInFiles, IsReadFrom, IsReadFromTexts, IsRefusalOfKept, IsSharedWith, IsUsableIfKept, answer_in, found_in_schema, refusal_of_sharing, schema_in, schema_of};
 ghost use Rattle.graphql_answers.specs.Written.{written};
-ghost use Rattle.graphql_frontend.specs.Schemas.{IsUsable};
+ghost use Rattle.graphql_kept_projects.specs.Frontend.Schemas.{IsUsable};
 
 use crate::answers::{Answer, Found, Refusal};
 use crate::files::{SchemaFile, named_texts};
@@ -13,7 +13,8 @@ use crate::limits::Limits;
 use crate::objects::{lack_of_introspection, nothing, reports_of_document, reports_of_subject};
 use crate::texts::text_of;
 use graphql_documents::documents::Schema;
-use graphql_frontend::{SchemaReading, document_source, read_schema, validate_document};
+use graphql_kept_projects::all_reports_of_document;
+use graphql_kept_projects::frontend::{SchemaReading, document_source, read_schema};
 use graphql_report_formats::named_texts::NamedText;
 use graphql_report_formats::schema_texts::{schema_subject, sources_of};
 use graphql_schema_handles::handle::SchemaHandle;
@@ -89,7 +90,7 @@ fn session_of_texts(
         }
         SchemaReading::Rejected(reports) => {
             let subject = schema_subject(texts, &sources);
-            let answer = reports_of_subject(alloc, &reports, subject, limits)?;
+            let answer = reports_of_subject(alloc, reports, subject, limits)?;
             Ok(reported(answer))
         }
         SchemaReading::LacksIntrospection => {
@@ -200,10 +201,11 @@ pub(crate) fn answer(
     ensures refused { IsOkUnless result Refusal.OutOfMemory }
 {
     let document = document_source(text);
-    match validate_document(alloc, schema, document, limits.bounds)? {
-        None => nothing(alloc),
-        Some(reports) => reports_of_document(alloc, schema, &reports, document, limits),
+    let lists = all_reports_of_document(alloc, schema, document, limits.bounds)?;
+    if lists.is_empty() {
+        return nothing(alloc);
     }
+    reports_of_document(alloc, schema, &lists, document, limits)
 }
 
 /// Gives another handle the schema that this one keeps, without an answer. The schema is then in memory once, until both are

@@ -5,7 +5,7 @@ ghost use Rattle.graphql_answers.specs.Answers.{schema_texts, unnamed};
 ghost use Rattle.graphql_report_formats.specs.NamedTexts.{named_text};
 
 use crate::answers::Refusal;
-use graphql_frontend::SourceText;
+use graphql_kept_projects::frontend::SourceText;
 use graphql_report_formats::named_texts::NamedText;
 use graphql_report_formats::schema_texts::BUILT_IN_TEXT;
 

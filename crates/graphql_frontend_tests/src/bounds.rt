@@ -1,5 +1,5 @@
 use crate::documents::{reported, sources, texts_of_schema};
-use graphql_frontend::{
+use graphql_answers::frontend::{
     BUILT_IN_DEFINITIONS, Reports, SchemaReading, SourceText, read_schema,
     validate_standalone_document,
 };

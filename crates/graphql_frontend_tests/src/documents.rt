@@ -1,7 +1,9 @@
-ghost use Rattle.graphql_frontend.specs.Schemas.{IsUsable};
+ghost use Rattle.graphql_answers.specs.Frontend.Schemas.{IsUsable};
 
+use graphql_answers::frontend::{
+    Reports, SchemaReading, SourceText, read_schema, validate_documents,
+};
 use graphql_documents::documents::Schema;
-use graphql_frontend::{Reports, SchemaReading, SourceText, read_schema, validate_documents};
 use graphql_nodes::FileId;
 use graphql_parser::Bounds;
 use graphql_schema_building::BUILT_IN_DEFINITIONS;

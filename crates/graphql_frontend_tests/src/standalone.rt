@@ -1,5 +1,5 @@
 use crate::documents::lines;
-use graphql_frontend::{SourceText, validate_standalone_document};
+use graphql_answers::frontend::{SourceText, validate_standalone_document};
 use graphql_nodes::FileId;
 use graphql_parser::Bounds;
 

@@ -1,5 +1,5 @@
 use crate::documents::texts_of_schema;
-use graphql_frontend::{SourceText, Verdict, validate};
+use graphql_answers::frontend::{SourceText, Verdict, validate};
 use graphql_nodes::FileId;
 use graphql_parser::Bounds;
 use std::alloc::Global;

@@ -4,14 +4,14 @@ use Rattle.std.specs.List.{AllZip}
 use Rattle.std.specs.Prelude.{◌⊎◌, All, Contains, IfSome, OnOk, String, flat_map}
 use Rattle.std.specs.String.{string_bytes}
 use Rattle.std.specs.declared.alloc.Global.{Global}
-use Rattle.std.proofs.lemmas.List.Elements.{All-cons, All-contains, All-contains_itself, All-filter, All-nil, Contains-append_left}
+use Rattle.std.proofs.lemmas.List.Elements.{All-cons, All-contains, All-filter, All-nil, Contains-append_left}
 use Rattle.graphql_documents.proofs.ListLemmas.{more_is, only_one}
 use Rattle.graphql_frontend.specs.declared.texts.SourceText.{SourceText}
 use Rattle.graphql_documents.specs.declared.documents.schemas.Schema.{Schema}
 use Rattle.graphql_frontend.specs.Documents.{document_rules}
 use Rattle.graphql_frontend.specs.declared.reports.DocumentReports.{DocumentReports}
 use Rattle.graphql_frontend.specs.declared.reports.Reports.TheVariants.{Building, DocumentRules, FirstBuilding, FirstDocumentRules, FirstSchemaRules, Nesting, Reach, SchemaRules, Syntax, Work}
-use Rattle.graphql_kept_projects.specs.Left.{AreFurther, AreSomeOfOne, AreTrueOfFragments, AreTrueOfLeft, AreTrueOfOne, IsLeftOf, IsLess, IsSourceLeft, IsTextLeft, all_is_left, of_fragments, of_left, rest_text, some_is_left}
+use Rattle.graphql_kept_projects.specs.Left.{AreFurther, AreKnownOfOne, AreTrueOfFragments, AreTrueOfLeft, AreTrueOfOne, IsLeftOf, IsLess, IsSourceLeft, IsTextLeft, all_is_left, of_fragments, of_left, rest_text, some_is_left}
 use Rattle.graphql_kept_projects.specs.Rounds.{AddsKnown, is_doubtful_list}
 use Rattle.graphql_kept_reports.specs.declared.doubts.Doubts.{Doubts}
 use Rattle.graphql_kept_projects.specs.declared.kept.LeftText.{LeftText}
@@ -127,28 +127,28 @@ rules_in (FirstSchemaRules r) reports is = absurd (refuted is)
 rules_in (DocumentRules r) reports is = cc
 rules_in (FirstDocumentRules l) reports is = absurd (refuted is)
 
--- what a filter adds to nothing is of the list
-pub kept_among : {X : Type 0} (test : X → Bool) (xs items old new : List X) → old ≡ [] → items ≡ xs → new ≡ old ++ filter test items → All (Contains xs) new
-kept_among test xs items old new none is grown =
-    subst (All (Contains xs)) (sym (grown ∙ ap (λ l. l ++ filter test items) none ∙ ap (filter test) is)) (All-filter test (Contains xs) xs (All-contains_itself xs))
+-- what a filter adds to nothing
+pub filtered : {X : Type 0} (test : X → Bool) (xs items old new : List X) → old ≡ [] → items ≡ xs → new ≡ old ++ filter test items → new ≡ filter test xs
+filtered test xs items old new none is grown = grown ∙ ap (λ l. l ++ filter test items) none ∙ ap (filter test) is
 
 -- what is true of operations that are added is true of fragments
-pub of_fragments_of : (bounds : Bounds) (schema : Schema) (read left : List SourceText) (further : SourceText) (names : List (List ℕ)) (lists old new : List Reports) →
-    AllZip IsSourceLeft read left → further.text.now ≡ flat_map spreading names → AreAllTrue bounds schema (further ∷ []) left lists →
-    KeepsReports (AreSomeOfOne lists) old new → KeepsReports (AreTrueOfFragments bounds schema read) old new
-of_fragments_of bounds schema read left further names lists old new zip text (known, each) adds =
-    adds_so (AreSomeOfOne lists) (AreTrueOfFragments bounds schema read) old new
+pub of_fragments_of : (bounds : Bounds) (schema : Schema) (read left : List SourceText) (added : SourceText) (names : List (List ℕ)) (doubts : Doubts) (lists old new : List Reports) →
+    AllZip IsSourceLeft read left → added.text.now ≡ flat_map spreading names → AreAllTrue bounds schema (added ∷ []) left lists →
+    KeepsReports (AreKnownOfOne doubts added.file_id lists) old new → KeepsReports (AreTrueOfFragments bounds schema read) old new
+of_fragments_of bounds schema read left added names doubts lists old new zip text (known, each) adds =
+    adds_so (AreKnownOfOne doubts added.file_id lists) (AreTrueOfFragments bounds schema read) old new
     (λ r (all, among, are). record {
       names = names;
-      further = further;
+      added = added;
       text_is = text;
       all = all;
       are_true = record {
-        own = further ∷ [];
+        own = added ∷ [];
         lent = left;
         left = ((refl, all_is_left), zip);
         known = known;
-        are = All-contains (AreTrueOf bounds schema (further ∷ []) left known) lists all each among;
+        are = All-contains (AreTrueOf bounds schema (added ∷ []) left known) lists all each among;
       };
+      doubts = doubts;
       are = are;
     }) adds

@@ -1,5 +1,5 @@
 -- What is left of the texts of a schema.
-use Rattle.std.proofs.Common.{◌≡◌, ◌∙◌, ℕ, ◌+◌, ◌<◌, List, [], ◌∷◌, ◌++◌, None, Option, Some, arith, get_or, length, refl, sym, subst, take}
+use Rattle.std.proofs.Common.{◌≡◌, ◌∙◌, ℕ, ◌+◌, ◌<◌, List, [], ◌∷◌, ◌++◌, None, Option, Some, append-nil, append_assoc, arith, get_or, length, refl, sym, subst, take}
 use Rattle.std.specs.Prelude.{All, Contains, IfSome}
 use Rattle.std.proofs.lemmas.List.Elements.{All-append, All-cons, All-nil}
 use Rattle.std.specs.List.{AllZip}
@@ -15,8 +15,10 @@ use Rattle.graphql_frontend.specs.declared.reports.Reports.{Reports}
 use Rattle.graphql_frontend.specs.declared.texts.SyntaxReport.{SyntaxReport}
 use Rattle.graphql_kept_projects.specs.Documents.{IsAllOrPart, IsTextOrPart, is_part}
 use Rattle.graphql_kept_projects.specs.Left.{IsLeftOf, IsTextLeft}
-use Rattle.graphql_kept_projects.specs.Schemas.{AreCertainOfSome, AreMadeOf, AreSourcesOf, AreTextsLeft, AreTrueOfLeftSchema, IsErrorOfPart, RejectsLeft, next_is_left_out, next_is_made, none}
+use Rattle.graphql_kept_projects.specs.Schemas.{AreCertainOfSome, AreMadeOf, AreSourcesOf, AreTextsLeft, AreTrueOfLeftSchema, IsErrorOfPart, IsInDoubt, RejectsLeft, next_is_left_out, next_is_made, none}
 use Rattle.graphql_kept_reports.specs.Reports.{KeepsReports}
+use Rattle.graphql_kept_reports.specs.BuildingRule.{BuildingRule}
+use Rattle.graphql_kept_reports.specs.SchemaCuts.{AreDoubtsOf}
 use Rattle.graphql_kept_reports.specs.declared.schema_doubts.SchemaDoubts.{SchemaDoubts}
 use Rattle.graphql_parser.specs.declared.bounds.Bounds.{Bounds}
 use Rattle.graphql_project_checking.proofs.TruthLemmas.{adds_so, any_among}
@@ -58,11 +60,27 @@ texts_left (s ∷ ss) (l ∷ ls) sources zip (next_is_left_out no_token rest) =
     next_is_left_out (record { left = string_bytes l.text; is_left = zip.0.is_left; no_token = no_token }) (texts_left ss ls sources zip.1 rest)
 
 -- what is certain of what is left is true of it
-pub adds_certain : (bounds : Bounds) (whole : List SourceText) (doubts : SchemaDoubts) (reports : Option Reports) (old new : List Reports) →
-    IfSome reports (RejectsLeft bounds whole) → KeepsReports (AreCertainOfSome doubts reports) old new → KeepsReports (AreTrueOfLeftSchema bounds whole) old new
-adds_certain bounds whole doubts reports old new rejects =
-    adds_so (AreCertainOfSome doubts reports) (AreTrueOfLeftSchema bounds whole) old new
-    (λ r (all, is, certain). record { all = all; rejects = subst (λ (o : Option Reports). IfSome o (RejectsLeft bounds whole)) is rejects; doubts = doubts; certain = certain })
+pub adds_certain : (bounds : Bounds) (whole : List SourceText) (first : List BuildingRule) (doubts : SchemaDoubts) (reports : Option Reports) (old new : List Reports) →
+    IsInDoubt first doubts → IfSome reports (RejectsLeft bounds whole) → KeepsReports (AreCertainOfSome doubts reports) old new →
+    KeepsReports (AreTrueOfLeftSchema bounds whole first) old new
+adds_certain bounds whole first doubts reports old new in_doubt rejects =
+    adds_so (AreCertainOfSome doubts reports) (AreTrueOfLeftSchema bounds whole first) old new
+    (λ r (all, is, certain). record {
+      all = all;
+      rejects = subst (λ (o : Option Reports). IfSome o (RejectsLeft bounds whole)) is rejects;
+      doubts = doubts;
+      in_doubt = in_doubt;
+      certain = certain;
+    })
+
+-- what the first rules say is in doubt, and nothing else yet
+pub first_in_doubt : (first : List BuildingRule) (doubts : SchemaDoubts) → AreDoubtsOf first doubts → IsInDoubt first doubts
+first_in_doubt first doubts are = ([], subst (λ l. AreDoubtsOf l doubts) (sym (append-nil first)) are)
+
+-- more is in doubt
+pub in_doubt_more : (first : List BuildingRule) (old new : SchemaDoubts) (more : List BuildingRule) → IsInDoubt first old →
+    ((found : List BuildingRule) → AreDoubtsOf found old → AreDoubtsOf (found ++ more) new) → IsInDoubt first new
+in_doubt_more first old new more (later, are) adds = (later ++ more, subst (λ l. AreDoubtsOf l new) (append_assoc first later more) (adds (first ++ later) are))
 
 -- an error of a part of one of the texts
 pub part_among : (bounds : Bounds) (whole : List SourceText) (source : SourceText) → Contains whole source → (e : SyntaxReport) →

@@ -1,5 +1,5 @@
 -- What is left of texts without what cannot be built, and reports that are true of it. Specification: 2.2 Document; 5 Validation
-use Rattle.std.specs.Prelude.{◌≡◌, ◌∷◌, ◌++◌, ◌⊎◌, All, Contains, List, [], None, Option, Some, String, flat_map, ℕ}
+use Rattle.std.specs.Prelude.{◌≡◌, ◌∷◌, ◌++◌, ◌⊎◌, All, Contains, List, [], None, Option, Some, String, filter, flat_map, ℕ}
 use Rattle.std.specs.List.{AllZip}
 use Rattle.std.specs.String.{string_bytes}
 use Rattle.std.specs.declared.alloc.Global.{Global}
@@ -17,7 +17,9 @@ use Rattle.graphql_kept_projects.specs.declared.kept.Left.{Left}
 use Rattle.graphql_kept_projects.specs.declared.kept.LeftText.{LeftText}
 use Rattle.graphql_kept_reports.specs.DiagnosticList.{DiagnosticList}
 use Rattle.graphql_kept_reports.specs.Diagnostics.{entries}
-use Rattle.graphql_kept_reports.specs.Unreached.{spreading}
+use Rattle.graphql_kept_reports.specs.Unreached.{is_known_of_fragment, spreading}
+use Rattle.graphql_kept_reports.specs.declared.doubts.Doubts.{Doubts}
+use Rattle.graphql_kept_reports.specs.FileId.{FileId}
 
 -- what is left of a text in which some parts are blank, or `__typename`: after one step or several
 pub data IsLeftOf (text : List ℕ) : List ℕ → Type 0 where
@@ -76,23 +78,30 @@ pub record AreTrueOfOne (bounds : Bounds) (read : List SourceText) (reports : Re
   pub validated : ValidatesDocument bounds None source (Some (DocumentRules all))
   pub are : AreSomeOf all reports
 
--- the reports are some of these on rules of documents
-abbrev pub AreSomeOfList : Reports → Reports → Type 0
-AreSomeOfList (DocumentRules all) reports = AreSomeOf all reports
-AreSomeOfList _ reports = ⊥
+-- the reports are exactly those of these, on rules of validation, that are known to be true of fragments by themselves
+pub record AreKnownOf (doubts : Doubts) (added : FileId) (all : DocumentReports) (reports : Reports) : Type 0 where
+  pub rules : DiagnosticList
+  pub are : AreRules rules reports
+  pub known : entries rules ≡ filter (is_known_of_fragment doubts added) (entries all.rules)
 
--- they are some of one of these lists
-abbrev pub AreSomeOfOne : List Reports → Reports → Type 0
-AreSomeOfOne lists reports = (all : Reports) × Contains lists all × AreSomeOfList all reports
+-- the same of these reports, if they are on rules of documents
+abbrev pub AreKnownOfList : Doubts → FileId → Reports → Reports → Type 0
+AreKnownOfList doubts added (DocumentRules all) reports = AreKnownOf doubts added all reports
+AreKnownOfList doubts added _ reports = ⊥
 
--- the reports are some of those on what is left of these texts, and on operations of a further text that each spread one fragment alone
+-- the same of one of these lists
+abbrev pub AreKnownOfOne : Doubts → FileId → List Reports → Reports → Type 0
+AreKnownOfOne doubts added lists reports = (all : Reports) × Contains lists all × AreKnownOfList doubts added all reports
+
+-- the reports are known to be true of fragments, among those on what is left of these texts, and on operations of an added text that each spread one fragment alone
 pub record AreTrueOfFragments (bounds : Bounds) (schema : Schema) (read : List SourceText) (reports : Reports) : Type 0 where
   pub names : List (List ℕ)
-  pub further : SourceText
-  pub text_is : further.text.now ≡ flat_map spreading names
+  pub added : SourceText
+  pub text_is : added.text.now ≡ flat_map spreading names
   pub all : Reports
-  pub are_true : AreTrueOfLeft bounds schema (further ∷ read) all
-  pub are : AreSomeOfList all reports
+  pub are_true : AreTrueOfLeft bounds schema (added ∷ read) all
+  pub doubts : Doubts
+  pub are : AreKnownOfList doubts added.file_id all reports
 
 -- the reports are true of what is left of these texts; or they are some of those on one of them as a document without a schema, or on fragments by themselves
 pub data AreFurther (bounds : Bounds) (schema : Schema) (read : List SourceText) (reports : Reports) : Type 0 where

@@ -1,5 +1,5 @@
 -- Reports on what is left of the texts of a schema, and on their parts. Specification: 2.2 Document; 3 Type System
-use Rattle.std.specs.Prelude.{◌≡◌, ◌∷◌, All, Bool, IsTrue, List, [], Option, Some, Vec, false, filter, not, true, ℕ}
+use Rattle.std.specs.Prelude.{◌≡◌, ◌∷◌, ◌++◌, All, Bool, IsTrue, List, [], Option, Some, Vec, false, filter, not, true, ℕ}
 use Rattle.std.specs.String.{string_bytes}
 use Rattle.std.specs.declared.alloc.Global.{Global}
 use Rattle.graphql_frontend.specs.Schemas.{ReadsSchema}
@@ -14,6 +14,8 @@ use Rattle.graphql_kept_projects.specs.Documents.{IsOneOrPart}
 use Rattle.graphql_kept_projects.specs.Left.{IsLeftOf, IsSourceLeft}
 use Rattle.graphql_kept_projects.specs.declared.kept.LeftText.{LeftText}
 use Rattle.graphql_kept_reports.specs.Diagnostics.{entries}
+use Rattle.graphql_kept_reports.specs.BuildingRule.{BuildingRule}
+use Rattle.graphql_kept_reports.specs.SchemaCuts.{AreDoubtsOf, rules_of}
 use Rattle.graphql_kept_reports.specs.SchemaDoubtful.{has_doubtful_of_schema, is_certain_of_schema}
 use Rattle.graphql_kept_reports.specs.declared.schema_doubts.SchemaDoubts.{SchemaDoubts}
 use Rattle.graphql_parser.specs.declared.bounds.Bounds.{Bounds}
@@ -64,11 +66,23 @@ pub data AreCertainOfSchema (doubts : SchemaDoubts) : Reports → Reports → Ty
 abbrev pub AreCertainOfSome : SchemaDoubts → Option Reports → Reports → Type 0
 AreCertainOfSome doubts reports certain = (all : Reports) × (reports ≡ Some all) × AreCertainOfSchema doubts all certain
 
--- the reports are true of what is left of these texts: they are among those for which that is rejected
-pub record AreTrueOfLeftSchema (bounds : Bounds) (whole : List SourceText) (reports : Reports) : Type 0 where
+-- the rules that these reports on building say are broken
+abbrev pub building_rules : Reports → List BuildingRule
+building_rules (Building list) = rules_of list
+building_rules (FirstBuilding list) = rules_of list
+building_rules _ = []
+
+-- the doubts are those of what these rules say is left out, and perhaps others beside them
+abbrev pub IsInDoubt : List BuildingRule → SchemaDoubts → Type 0
+IsInDoubt first doubts = (later : List BuildingRule) × AreDoubtsOf (first ++ later) doubts
+
+-- the reports are true of what is left of these texts: they are among those for which that is rejected. None could be false of the whole texts, by what these
+-- rules say is left out, and perhaps later ones
+pub record AreTrueOfLeftSchema (bounds : Bounds) (whole : List SourceText) (first : List BuildingRule) (reports : Reports) : Type 0 where
   pub all : Reports
   pub rejects : RejectsLeft bounds whole all
   pub doubts : SchemaDoubts
+  pub in_doubt : IsInDoubt first doubts
   pub certain : AreCertainOfSchema doubts all reports
 
 -- the error is that of a text that is one of these or a part of one
@@ -77,7 +91,7 @@ pub record IsErrorOfPart (bounds : Bounds) (whole : List SourceText) (report : S
   pub is_part : IsOneOrPart whole part
   pub is_error : IsErrorOf bounds part report
 
--- the reports are true of what is left of these texts, or each is the syntax error of a part of one of them
-pub data AreFurtherOfSchema (bounds : Bounds) (whole : List SourceText) : Reports → Type 0 where
-  of_left : {reports : Reports} → AreTrueOfLeftSchema bounds whole reports → AreFurtherOfSchema bounds whole reports
-  of_parts : {errors : Vec SyntaxReport Global} → All (IsErrorOfPart bounds whole) errors.items → AreFurtherOfSchema bounds whole (Syntax errors)
+-- the reports are true of what is left of these texts without what the first ones say, or each is the syntax error of a part of one of the texts
+pub data AreFurtherOfSchema (bounds : Bounds) (whole : List SourceText) (first : Reports) : Reports → Type 0 where
+  of_left : {reports : Reports} → AreTrueOfLeftSchema bounds whole (building_rules first) reports → AreFurtherOfSchema bounds whole first reports
+  of_parts : {errors : Vec SyntaxReport Global} → All (IsErrorOfPart bounds whole) errors.items → AreFurtherOfSchema bounds whole first (Syntax errors)

@@ -1,12 +1,14 @@
 //! Rounds in which the texts of a schema are read without what cannot be built.
 
 ghost use Rattle.std.specs.Prelude.{◌≡◌, ◌∷◌, ◌++◌, [], All, IfOk, IfSome, List, OnOk};
+ghost use Rattle.graphql_kept_reports.specs.BuildingRule as building_rule;
 ghost use Rattle.graphql_frontend.specs.declared.reports.Reports.TheVariants.{SchemaRules};
 ghost use Rattle.graphql_frontend.specs.declared.texts.SourceText as source_text;
 ghost use Rattle.graphql_kept_projects.specs.Left.{IsLeft};
 ghost use Rattle.graphql_kept_projects.specs.declared.kept.LeftText as left_text;
 ghost use Rattle.graphql_kept_reports.specs.Reports.{KeepsReports};
-ghost use Rattle.graphql_kept_projects.specs.Schemas.{AreCertainOfSchema, AreCertainOfSome, AreSourcesOf, AreTrueOfLeftSchema, RejectsLeft, are_certain};
+ghost use Rattle.graphql_kept_reports.specs.SchemaCuts.{AreDoubtsOf, rules_of};
+ghost use Rattle.graphql_kept_projects.specs.Schemas.{AreCertainOfSchema, AreCertainOfSome, AreSourcesOf, AreTrueOfLeftSchema, IsInDoubt, RejectsLeft, are_certain};
 
 use crate::kept::{Left, LeftText, left_without};
 use graphql_frontend::{
@@ -31,7 +33,7 @@ pub(crate) fn reports_of_left(
     reports: &BuildingReportList,
     bounds: Bounds,
 ) -> Result<Vec<Reports>, ValidationError>
-    ensures { IfOk result (λ further. All (AreTrueOfLeftSchema bounds whole.now) further.items) }
+    ensures { IfOk result (λ further. All (AreTrueOfLeftSchema bounds whole.now (rules_of reports.now)) further.items) }
 {
     let mut doubts = SchemaDoubts::new(alloc);
     let faults = faults_of(alloc, reports, &mut doubts)?;
@@ -52,7 +54,8 @@ fn add_rounds(
     further: &mut Vec<Reports>,
 ) -> Result<(), ValidationError>
     requires { IsLeft whole.now left }
-    ensures { OnOk result (KeepsReports (AreTrueOfLeftSchema bounds whole.now) further.old.items further.new.items) }
+    ensures { (first : List building_rule.BuildingRule) → IsInDoubt first doubts →
+        OnOk result (KeepsReports (AreTrueOfLeftSchema bounds whole.now first) further.old.items further.new.items) }
 {
     for _ in 0..MOST_ROUNDS {
         left = left_without(alloc, &faults, bounds, left)?;
@@ -71,7 +74,9 @@ fn faults_of(
     alloc: Global,
     reports: &BuildingReportList,
     doubts: &mut SchemaDoubts,
-) -> Result<Faults, AllocError> {
+) -> Result<Faults, AllocError>
+    ensures { (found : List building_rule.BuildingRule) → AreDoubtsOf found doubts.old → OnOk result (AreDoubtsOf (found ++ rules_of reports.now) doubts.new) }
+{
     let mut faults = Faults::new(alloc);
     add_faults(alloc, reports, &mut faults)?;
     doubts.add(alloc, reports)?;
@@ -83,7 +88,9 @@ fn faults_beside(
     alloc: Global,
     reports: &Option<Reports>,
     doubts: &mut SchemaDoubts,
-) -> Result<Faults, AllocError> {
+) -> Result<Faults, AllocError>
+    ensures { (first : List building_rule.BuildingRule) → IsInDoubt first doubts.old → OnOk result (IsInDoubt first doubts.new) }
+{
     match reports {
         Some(Reports::Building(list) | Reports::FirstBuilding(list)) => {
             faults_of(alloc, list, doubts)

@@ -4,7 +4,7 @@ ghost use Rattle.std.specs.Prelude.{◌≡◌, [], ◌∷◌, IfOk, List, OnOk};
 ghost use Rattle.std.specs.List.{AllZip};
 ghost use Rattle.graphql_frontend.specs.Schemas.{IsUsable};
 ghost use Rattle.graphql_frontend.specs.declared.texts.SourceText as source_text;
-ghost use Rattle.graphql_kept_projects.specs.Left.{AreSomeOf, AreSomeOfList, AreSomeOfOne, AreTrueOfFragments, IsSourceLeft};
+ghost use Rattle.graphql_kept_projects.specs.Left.{AreKnownOf, AreKnownOfList, AreKnownOfOne, AreTrueOfFragments, IsSourceLeft};
 ghost use Rattle.graphql_kept_reports.specs.Reports.{KeepsReports};
 ghost use Rattle.graphql_project_checking.specs.Truth.{AreAllTrue};
 
@@ -66,7 +66,7 @@ pub(crate) fn add_unreached(
         text: text.as_str(),
     };
     let reported = reports_beside(alloc, schema, scope, added, left, bounds)?;
-    add_all_known(alloc, reported, doubts, found)
+    add_all_known(alloc, reported, doubts, ADDED, found)
 }
 
 /// What is reported of the operations of a text, which may spread the fragments of these.
@@ -94,9 +94,10 @@ fn add_all_known(
     alloc: Global,
     reported: ProjectReports,
     doubts: &Doubts,
+    added: FileId,
     found: &mut ProjectReports,
 ) -> Result<(), ValidationError>
-    ensures { OnOk result (KeepsReports (AreSomeOfOne reported.lists.items) found.old.lists.items found.new.lists.items) }
+    ensures { OnOk result (KeepsReports (AreKnownOfOne doubts.now added reported.lists.items) found.old.lists.items found.new.lists.items) }
 {
     let (lists, operations) = reported.into_parts();
     let mut marks = marks_of(alloc, operations)?;
@@ -104,7 +105,7 @@ fn add_all_known(
     for reports in lists {
         let is_marked = marks.remove(&position).is_some();
         position = position.saturating_add(1);
-        add_if(alloc, is_marked, reports, doubts, found)?;
+        add_if(alloc, is_marked, reports, doubts, added, found)?;
     }
     Ok(())
 }
@@ -115,12 +116,13 @@ fn add_if(
     is_marked: bool,
     reports: Reports,
     doubts: &Doubts,
+    added: FileId,
     found: &mut ProjectReports,
 ) -> Result<(), ValidationError>
-    ensures { OnOk result (KeepsReports (AreSomeOfList reports) found.old.lists.items found.new.lists.items) }
+    ensures { OnOk result (KeepsReports (AreKnownOfList doubts.now added reports) found.old.lists.items found.new.lists.items) }
 {
     if is_marked {
-        add_known(alloc, reports, doubts, found)
+        add_known(alloc, reports, doubts, added, found)
     } else {
         Ok(())
     }
@@ -131,12 +133,13 @@ fn add_known(
     alloc: Global,
     reports: Reports,
     doubts: &Doubts,
+    added: FileId,
     found: &mut ProjectReports,
 ) -> Result<(), ValidationError>
-    ensures { OnOk result (KeepsReports (AreSomeOfList reports) found.old.lists.items found.new.lists.items) }
+    ensures { OnOk result (KeepsReports (AreKnownOfList doubts.now added reports) found.old.lists.items found.new.lists.items) }
 {
     match reports.into_document_rules() {
-        Some(reports) => add_known_rules(alloc, reports, doubts, found),
+        Some(reports) => add_known_rules(alloc, reports, doubts, added, found),
         None => Ok(()),
     }
 }
@@ -145,13 +148,14 @@ fn add_known_rules(
     alloc: Global,
     reports: DocumentReports,
     doubts: &Doubts,
+    added: FileId,
     found: &mut ProjectReports,
 ) -> Result<(), ValidationError>
-    ensures { OnOk result (KeepsReports (AreSomeOf reports) found.old.lists.items found.new.lists.items) }
+    ensures { OnOk result (KeepsReports (AreKnownOf doubts.now added reports) found.old.lists.items found.new.lists.items) }
 {
     let DocumentReports { rules, .. } = reports;
     let mut known = DiagnosticList::with_hash_seed(alloc, rules.hash_seed());
-    add_known_of_fragments(rules.into_entries(), doubts, ADDED, &mut known)?;
+    add_known_of_fragments(rules.into_entries(), doubts, added, &mut known)?;
     push_rules(alloc, known, found)
 }
 

@@ -1,4 +1,5 @@
 pub mod Doubtful
+pub mod SchemaCuts
 pub mod SchemaDoubtful
 pub mod Unreached
 pub use Rattle.graphql_diagnostics.specs.Diagnostics
@@ -6,3 +7,5 @@ pub use Rattle.graphql_diagnostics.specs.Reports
 pub use Rattle.graphql_kept_texts.specs.Cuts
 pub use Rattle.graphql_kept_texts.specs.declared.kept.Kept
 pub use Rattle.graphql_diagnostics.specs.declared.lists.DiagnosticList
+pub use Rattle.graphql_building_reports.specs.declared.rules.BuildingRule
+pub use Rattle.graphql_nodes.specs.declared.spans.FileId

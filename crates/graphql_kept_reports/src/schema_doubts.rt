@@ -1,6 +1,9 @@
 //! Which reports on what is left of the texts of a schema could be false of the whole texts.
 
-ghost use Rattle.std.specs.Prelude.{◌≡◌};
+ghost use Rattle.std.specs.Prelude.{◌≡◌, ◌||◌, ◌++◌, [], List, OnOk};
+ghost use Rattle.std.specs.Option.{option_copied};
+ghost use Rattle.graphql_building_reports.specs.declared.rules.BuildingRule as building_rule;
+ghost use Rattle.graphql_kept_reports.specs.SchemaCuts.{AddsDoubts, AreDoubtsOf, HasAlso, cut_directive, cut_fields, cut_type, cuts_input, cuts_schema, rules_of};
 ghost use Rattle.graphql_kept_reports.specs.SchemaDoubtful.{could_be_false, has_cut_fields, implementation_could_be_false, is_cut_element, is_doubtful_of_schema, value_could_be_false};
 
 use crate::doubts::has_name;
@@ -30,7 +33,9 @@ pub struct SchemaDoubts {
 
 impl SchemaDoubts {
     /// Nothing is left out.
-    pub fn new(alloc: Global) -> SchemaDoubts {
+    pub fn new(alloc: Global) -> SchemaDoubts
+        ensures { AreDoubtsOf [] result }
+    {
         SchemaDoubts {
             types: BTreeSet::new(alloc),
             fields: BTreeSet::new(alloc),
@@ -42,60 +47,25 @@ impl SchemaDoubts {
     }
 
     /// Adds what these reports say keeps texts from making a schema: it is left out. The only error is a failed allocation.
-    pub fn add(&mut self, alloc: Global, reports: &BuildingReportList) -> Result<(), AllocError> {
+    pub fn add(&mut self, alloc: Global, reports: &BuildingReportList) -> Result<(), AllocError>
+        ensures { (found : List building_rule.BuildingRule) → AreDoubtsOf found self.old → OnOk result (AreDoubtsOf (found ++ rules_of reports.now) self.new) }
+    {
         for report in reports.iter().as_slice() {
             self.add_rule(alloc, &report.rule)?;
         }
         Ok(())
     }
 
-    fn add_rule(&mut self, alloc: Global, rule: &BuildingRule) -> Result<(), AllocError> {
-        match rule {
-            BuildingRule::TypeDefinitionCollision { name, .. }
-            | BuildingRule::OrphanTypeExtension { name }
-            | BuildingRule::TypeExtensionKindMismatch { name, .. }
-            | BuildingRule::BuiltInTypeExtension { name }
-            | BuildingRule::ImplementedNonInterface { name, .. } => {
-                self.has_types = true;
-                self.has_inputs = true;
-                add_name(alloc, name.as_str(), &mut self.types)
-            }
-            BuildingRule::DirectiveDefinitionCollision { name, .. } => {
-                self.has_inputs = true;
-                add_name(alloc, name.as_str(), &mut self.directives)
-            }
-            BuildingRule::MemberNameCollision {
-                kind,
-                type_name,
-                ..
-            } => self.add_field(alloc, *kind, type_name),
-            BuildingRule::SchemaDefinitionCollision { .. }
-            | BuildingRule::OrphanSchemaExtension
-            | BuildingRule::DuplicateRootOperation { .. } => {
-                self.has_schema = true;
-                Ok(())
-            }
-            _ => Ok(()),
-        }
-    }
-
-    /// A member of the type is left out.
-    fn add_field(
-        &mut self,
-        alloc: Global,
-        kind: TypeKind,
-        type_name: &Name,
-    ) -> Result<(), AllocError> {
-        match kind {
-            TypeKind::Object | TypeKind::Interface => {
-                add_name(alloc, type_name.as_str(), &mut self.fields)
-            }
-            TypeKind::InputObject => {
-                self.has_inputs = true;
-                add_name(alloc, type_name.as_str(), &mut self.fields)
-            }
-            TypeKind::Scalar | TypeKind::Union | TypeKind::Enum => Ok(()),
-        }
+    fn add_rule(&mut self, alloc: Global, rule: &BuildingRule) -> Result<(), AllocError>
+        ensures { OnOk result (AddsDoubts rule.now self.old self.new) }
+    {
+        add_cut(alloc, cut_type(rule), &mut self.types)?;
+        add_cut(alloc, cut_fields(rule), &mut self.fields)?;
+        add_cut(alloc, cut_directive(rule), &mut self.directives)?;
+        self.has_types = either(self.has_types, cut_type(rule).is_some());
+        self.has_inputs = either(self.has_inputs, cuts_input(rule));
+        self.has_schema = either(self.has_schema, cuts_schema(rule));
+        Ok(())
     }
 
     /// Whether the report on what is left could be false of the whole: it says what a type, a directive or the schema lacks, or is not, and
@@ -211,4 +181,93 @@ impl SchemaDoubts {
     {
         has_name(&self.types, name) || has_name(&self.fields, name)
     }
+}
+
+/// Adds a name to these, if there is one.
+fn add_cut(
+    alloc: Global,
+    name: Option<&Name>,
+    names: &mut BTreeSet<String>,
+) -> Result<(), AllocError>
+    ensures { OnOk result (HasAlso (option_copied name.entry) names.old names.new) }
+{
+    match name {
+        Some(name) => add_name(alloc, name.as_str(), names),
+        None => Ok(()),
+    }
+}
+
+fn either(one: bool, other: bool) -> bool
+    ensures { result ≡ (one || other) }
+{
+    one || other
+}
+
+/// The type of which the rule says that something is left out.
+fn cut_type(rule: &BuildingRule) -> Option<&Name>
+    ensures { option_copied result ≡ cut_type rule.now }
+{
+    match rule {
+        BuildingRule::TypeDefinitionCollision { name, .. }
+        | BuildingRule::OrphanTypeExtension { name }
+        | BuildingRule::TypeExtensionKindMismatch { name, .. }
+        | BuildingRule::BuiltInTypeExtension { name }
+        | BuildingRule::ImplementedNonInterface { name, .. } => Some(name),
+        _ => None,
+    }
+}
+
+/// The object, interface or input object of which the rule says that a field is left out.
+fn cut_fields(rule: &BuildingRule) -> Option<&Name>
+    ensures { option_copied result ≡ cut_fields rule.now }
+{
+    match rule {
+        BuildingRule::MemberNameCollision {
+            kind: TypeKind::Object | TypeKind::Interface | TypeKind::InputObject,
+            type_name,
+            ..
+        } => Some(type_name),
+        _ => None,
+    }
+}
+
+/// The directive of which the rule says that a definition is left out.
+fn cut_directive(rule: &BuildingRule) -> Option<&Name>
+    ensures { option_copied result ≡ cut_directive rule.now }
+{
+    match rule {
+        BuildingRule::DirectiveDefinitionCollision { name, .. } => Some(name),
+        _ => None,
+    }
+}
+
+/// Whether the rule says that something is left out which values may be of.
+fn cuts_input(rule: &BuildingRule) -> bool
+    ensures { result ≡ cuts_input rule.now }
+{
+    matches!(
+        rule,
+        BuildingRule::TypeDefinitionCollision { .. }
+            | BuildingRule::OrphanTypeExtension { .. }
+            | BuildingRule::TypeExtensionKindMismatch { .. }
+            | BuildingRule::BuiltInTypeExtension { .. }
+            | BuildingRule::ImplementedNonInterface { .. }
+            | BuildingRule::DirectiveDefinitionCollision { .. }
+            | BuildingRule::MemberNameCollision {
+                kind: TypeKind::InputObject,
+                ..
+            }
+    )
+}
+
+/// Whether the rule says that something of the schema's definition is left out.
+fn cuts_schema(rule: &BuildingRule) -> bool
+    ensures { result ≡ cuts_schema rule.now }
+{
+    matches!(
+        rule,
+        BuildingRule::SchemaDefinitionCollision { .. }
+            | BuildingRule::OrphanSchemaExtension
+            | BuildingRule::DuplicateRootOperation { .. }
+    )
 }

@@ -94,6 +94,18 @@ const ANSWERS: &[(&str, &str, &str)] = &[
         "{ a(b: 01) }",
         "{\"errors\":[{\"message\":\"invalid number\",\"locations\":[{\"line\":1,\"column\":8}],\"extensions\":{\"rule\":\"Syntax\",\"span\":{\"start\":7,\"end\":7},\"help\":[\"a number has no zeros before its first digit\"]}}]}",
     ),
+    // Another definition of a text that is no document.
+    (
+        "type Query { a(b: Int): Int }",
+        "query A { a(c: 1) }\nquery B { a(b: 01) }",
+        "{\"errors\":[{\"message\":\"the argument `c` is not supported by `Query.a`\",\"locations\":[{\"line\":1,\"column\":13}],\"extensions\":{\"rule\":\"UndefinedArgument\",\"span\":{\"start\":12,\"end\":16},\"help\":[\"did you mean `b`?\"]}},{\"message\":\"invalid number\",\"locations\":[{\"line\":2,\"column\":16}],\"extensions\":{\"rule\":\"Syntax\",\"span\":{\"start\":35,\"end\":35},\"help\":[\"a number has no zeros before its first digit\"]}}]}",
+    ),
+    // What is beside a field that cannot be built.
+    (
+        "type Query { a(b: Int): Int }",
+        "{ other a(c: 1) }",
+        "{\"errors\":[{\"message\":\"type `Query` does not have a field `other`\",\"locations\":[{\"line\":1,\"column\":3}],\"extensions\":{\"rule\":\"UndefinedField\",\"span\":{\"start\":2,\"end\":7}}},{\"message\":\"the argument `c` is not supported by `Query.a`\",\"locations\":[{\"line\":1,\"column\":11}],\"extensions\":{\"rule\":\"UndefinedArgument\",\"span\":{\"start\":10,\"end\":14},\"help\":[\"did you mean `b`?\"]}}]}",
+    ),
 ];
 
 #[test]
@@ -106,6 +118,20 @@ fn each_fault_is_answered_once_and_in_order(rt: HostRuntime) {
             json,
         );
     }
+}
+
+/// A type that is defined again hides no other fault.
+#[test]
+fn each_fault_of_a_schema_is_answered(rt: HostRuntime) {
+    let schema = b"type Query { a: Int }\ntype Query { b: Int }\ntype A { c: Nope }";
+    let json =
+        "{\"errors\":[{\"message\":\"the type `Query` is defined multiple times in the schema\",\"locations\":[{\"line\":2,\"column\":6}],\"extensions\":{\"rule\":\"TypeDefinitionCollision\",\"span\":{\"start\":27,\"end\":32},\"related\":[{\"message\":\"first here\",\"line\":1,\"column\":6,\"span\":{\"start\":5,\"end\":10}}]}},{\"message\":\"cannot find type `Nope` in this document\",\"locations\":[{\"line\":3,\"column\":13}],\"extensions\":{\"rule\":\"UndefinedDefinition\",\"span\":{\"start\":56,\"end\":60}}}]}";
+    is_answer(
+        &rt,
+        validate_schema(rt.alloc(), schema),
+        Found::InSchema,
+        json,
+    );
 }
 
 /// The documents lie one behind another.

@@ -1,9 +1,11 @@
-ghost use Rattle.graphql_frontend.specs.Schemas.{IsUsable};
+ghost use Rattle.graphql_answers.specs.Frontend.Schemas.{IsUsable};
 
 use crate::documents::texts_of_schema;
+use graphql_answers::frontend::{
+    Reports, SchemaReading, SourceText, read_schema, validate_document,
+};
+use graphql_answers::{Finding, findings_of};
 use graphql_documents::documents::Schema;
-use graphql_findings::{Finding, findings_of};
-use graphql_frontend::{Reports, SchemaReading, SourceText, read_schema, validate_document};
 use graphql_nodes::{FileId, SourceSpan};
 use graphql_parser::Bounds;
 use std::alloc::Global;

@@ -1,7 +1,7 @@
 use crate::documents::texts_of_schema;
-use graphql_frontend::{FileId, Reports, SchemaReading, SourceText, read_schema};
+use graphql_answers::frontend::{FileId, Reports, SchemaReading, SourceText, read_schema};
+use graphql_answers::{check_part_of_project, check_project};
 use graphql_parser::Bounds;
-use graphql_project_checking::{check_part_of_project, check_project};
 use graphql_shown_reports::shown_reports;
 use std::alloc::Global;
 use std::fmt::Write;

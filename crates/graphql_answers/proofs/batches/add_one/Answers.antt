@@ -1,23 +1,24 @@
-use Rattle.std.proofs.Common.{Some, subst}
-use Rattle.graphql_frontend.specs.Documents.{ValidatesDocument}
-use Rattle.graphql_parser.specs.declared.bounds.TheConstants as bounds
-use Rattle.graphql_answers.specs.Answers.{no_errors, reports_nothing, reports_some}
+use Rattle.std.proofs.Common.{[], ◌∷◌, None, Some, subst}
+use Rattle.graphql_answers.specs.Answers.{AreFirstErrorsOf, default_limits, no_errors, unnamed}
+use Rattle.graphql_answers.proofs.DocumentLemmas.{nothing_found, something_found}
 use Rattle.graphql_answers.proofs.batches.add_one.Goals as goal
 
-pub returns-in_ok-add_nothing-in-None-clause-checks : goal.returns-in_ok-add_nothing-in-None-clause-checks
-returns-in_ok-add_nothing-in-None-clause-checks c = (
+pub returns-then-is_empty-clause-checks : goal.returns-then-is_empty-clause-checks
+returns-then-is_empty-clause-checks c = (
   no_errors,
-  reports_nothing c.document_source-document.result c.document_source-document.ensures
-      (subst (ValidatesDocument bounds.Bounds.DEFAULT (Some c.args.schema.now) c.document_source-document.result) c.in-None.is c.in_ok-validate_document.ensures),
-  c.in_ok-add_nothing-in-None.ensures.added.appended,
+  nothing_found default_limits c.args.schema.now c.args.text.now c.document_source-document.result c.in_ok-lists.lists c.is_empty.result
+      c.document_source-document.ensures c.in_ok-lists.ensures c.is_empty.ensures c.if-is_empty.true,
+  c.in_ok-add_nothing.ensures.added.appended,
 )
 
-pub returns-in_ok-add_document-in-Some-clause-checks : goal.returns-in_ok-add_document-in-Some-clause-checks
-returns-in_ok-add_document-in-Some-clause-checks c =
-    let added = c.in_ok-add_document-in-Some.ensures.added.appended in (
+pub returns-clause-checks : goal.returns-clause-checks
+returns-clause-checks c =
+    let added = c.in_ok-add_document.ensures.added.appended in
+    let schema = c.args.schema.now in
+    let source = c.document_source-document.result in (
       added.0,
-      reports_some c.document_source-document.result c.document_source-document.ensures
-          (subst (ValidatesDocument bounds.Bounds.DEFAULT (Some c.args.schema.now) c.document_source-document.result) c.in-Some.is c.in_ok-validate_document.ensures)
-          added.1,
+      something_found default_limits schema c.args.text.now source c.in_ok-lists.lists c.is_empty.result c.document_source-document.ensures
+          c.in_ok-lists.ensures c.is_empty.ensures c.if-is_empty.false added.0
+          (subst (λ l. AreFirstErrorsOf default_limits (Some schema) (unnamed source ∷ []) None (source ∷ []) l added.0) c.deref.ensures.value added.1),
       added.2,
     )

@@ -1,10 +1,10 @@
 use Rattle.std.proofs.Common.{None, sym, subst, refl}
 use Rattle.std.proofs.lemmas.Result.{IfOk-weaker}
 use Rattle.graphql_parser.specs.declared.bounds.TheConstants as bounds
-use Rattle.graphql_frontend.specs.Schemas.{ReadsSchema}
-use Rattle.graphql_frontend.specs.declared.schemas.SchemaReading.TheVariants as reading
+use Rattle.graphql_kept_projects.specs.Frontend.Schemas.{ReadsSchema}
+use Rattle.graphql_kept_projects.specs.Frontend.declared.schemas.SchemaReading.TheVariants as reading
 use Rattle.graphql_answers.specs.declared.answers.Found.TheVariants.{InSchema}
-use Rattle.graphql_answers.specs.Answers.{AreErrorsOf, IsErrorOfLack, schema_texts}
+use Rattle.graphql_answers.specs.Answers.{IsErrorOfLack, IsObjectOfRejected, default_limits, schema_texts}
 use Rattle.graphql_answers.specs.Batches.{FindsInEach, IsRefusalOfDocuments, found_in_documents, lacks_memory, schema_is_accepted, schema_is_reported}
 use Rattle.graphql_answers.proofs.AnswerLemmas.{handed_on, memory_of, told}
 use Rattle.graphql_answers.proofs.batches.answer.Goals as goal
@@ -28,7 +28,8 @@ pub returns-in-Rejected-clause-found : goal.returns-in-Rejected-clause-found
 returns-in-Rejected-clause-found c =
     let sources = c.schema_sources-sources.result in
     let reads = subst (ReadsSchema bounds.Bounds.DEFAULT c.as_slice.result.now) c.in-Rejected.is c.in_ok-schema.ensures.reads in
-    told (FindsInEach c.args.schema.now c.args.documents.bytes.now c.args.documents.ends.now) c.reports_of_schema.result InSchema (AreErrorsOf None (schema_texts sources) None sources c.in-Rejected.reports) c.reports_of_schema.ensures.found
+    told (FindsInEach c.args.schema.now c.args.documents.bytes.now c.args.documents.ends.now) c.reports_of_schema.result InSchema
+    (IsObjectOfRejected default_limits (schema_texts sources) None sources c.in-Rejected.reports) c.reports_of_schema.ensures.found
     (λ object is. schema_is_reported object sources c.schema_sources-sources.ensures
     (subst (λ l. ReadsSchema bounds.Bounds.DEFAULT l (reading.Rejected c.in-Rejected.reports)) c.as_slice.ensures reads) refl is)
 

@@ -1,15 +1,12 @@
 use Rattle.std.proofs.Common.{◌≡◌, ◌++◌, map, refl, rules, subst}
-use Rattle.std.specs.Option.{option_copied}
 use Rattle.std.specs.Prelude.{OnOk}
 use Rattle.std.proofs.lemmas.Result.{on_ok_weaker}
-use Rattle.graphql_findings.specs.Findings.{AreShown, all_listed}
 use Rattle.graphql_report_formats.specs.JsonReports.{errors_object}
 use Rattle.graphql_report_formats.specs.NamedTexts.{named_text, path_of}
 use Rattle.graphql_answers.proofs.objects.add_reports.Goals as goal
 
 pub returns-clause-added : goal.returns-clause-added
 returns-clause-added c =
-    let limits = c.args.limits in
     let subject = c.args.subject in
     let findings = c.in_ok-findings.findings in
     let object_of = errors_object (map named_text subject.texts.now) (path_of subject.path) in
@@ -23,8 +20,7 @@ returns-clause-added c =
             object,
             record {
               found = findings;
-              are_shown = subst (λ l. AreShown (option_copied c.args.schema) subject.sources.now limits.bounds (all_listed l) limits.reports findings)
-                  c.from_ref-lists.ensures.value c.in_ok-findings.ensures;
+              are_shown = c.in_ok-findings.ensures;
               object_is = refl;
             },
             e,

@@ -1,6 +1,6 @@
 use Rattle.std.proofs.Common.{◌++◌, ◌∷◌, ◌≡◌, [], rules}
 use Rattle.graphql_documents.proofs.ListLemmas.{done_next, stands_next}
-use Rattle.graphql_kept_projects.specs.Left.{AreSomeOfList, AreSomeOfOne}
+use Rattle.graphql_kept_projects.specs.Left.{AreKnownOfList, AreKnownOfOne}
 use Rattle.graphql_project_checking.proofs.TruthLemmas.{adds_nothing, adds_so, adds_then}
 use Rattle.graphql_kept_projects.proofs.unreached.add_all_known.Goals as goal
 
@@ -8,7 +8,7 @@ pub loop-reports-init : goal.loop-reports-init
 loop-reports-init c =
     let all = c.args.reported.lists.items in
     let is : all ≡ c.into_iter-reports-iterator.result.rest.items = search rules in
-    ([], is, adds_nothing (AreSomeOfOne all) c.args.found.now.lists.items)
+    ([], is, adds_nothing (AreKnownOfOne c.args.doubts.now c.args.added all) c.args.found.now.lists.items)
 
 pub loop-reports-preserved : goal.loop-reports-preserved
 loop-reports-preserved c =
@@ -22,6 +22,6 @@ loop-reports-preserved c =
     let among = stands_next all before.0 left rest x before.1 c.in-Some.ensures.steps.0 in (
       before.0 ++ x ∷ [],
       done_next all before.0 left rest x before.1 c.in-Some.ensures.steps.0,
-      adds_then (AreSomeOfOne all) c.args.found.now.lists.items old new before.2
-          (adds_so (AreSomeOfList x) (AreSomeOfOne all) old new (λ r are. (x, among, are)) c.in_ok-add_if.ensures),
+      adds_then (AreKnownOfOne c.args.doubts.now c.args.added all) c.args.found.now.lists.items old new before.2
+          (adds_so (AreKnownOfList c.args.doubts.now c.args.added x) (AreKnownOfOne c.args.doubts.now c.args.added all) old new (λ r are. (x, among, are)) c.in_ok-add_if.ensures),
     )

@@ -1,6 +1,6 @@
 use Rattle.std.proofs.Common.{◌≡◌, ◌++◌, List}
 use Rattle.graphql_frontend.specs.declared.reports.Reports.{Reports}
-use Rattle.graphql_kept_projects.specs.Left.{AreSomeOfOne}
+use Rattle.graphql_kept_projects.specs.Left.{AreKnownOfOne}
 use Rattle.graphql_kept_reports.specs.Reports.{KeepsReports}
 use Rattle.graphql_kept_projects.proofs.unreached.add_all_known.Given as goal
 
@@ -8,4 +8,4 @@ use Rattle.graphql_kept_projects.proofs.unreached.add_all_known.Given as goal
 abbrev pub invariant-loop-reports : goal.invariant-loop-reports
 invariant-loop-reports l =
     (done : List Reports) × (l.fn.reported.lists.items ≡ done ++ l.reports-iterator.rest.items) ×
-    KeepsReports (AreSomeOfOne l.fn.reported.lists.items) l.initial.found.lists.items l.found.lists.items
+    KeepsReports (AreKnownOfOne l.fn.doubts l.fn.added l.fn.reported.lists.items) l.initial.found.lists.items l.found.lists.items
