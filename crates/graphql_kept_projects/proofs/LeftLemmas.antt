@@ -111,10 +111,10 @@ adds_round bounds schema read doubts further old mid new all fragments known =
     (adds_so (AreTrueOfLeft bounds schema read) One mid new (λ r true. of_left true)
     (adds_filtered (AreTrueOfLeft bounds schema read) (λ r. not (is_doubtful_list doubts r)) further mid new known all))
 
--- the list with these reports on rules
-refuted : {X : Type 0} {x : X} → Some x ≡ None → ⊥
+pub refuted : {X : Type 0} {x : X} → Some x ≡ None → ⊥
 refuted is = cc
 
+-- the list with these reports on rules
 pub rules_in : (x : Reports) (reports : DocumentReports) → Some reports ≡ document_rules x → x ≡ DocumentRules reports
 rules_in (Syntax e) reports is = absurd (refuted is)
 rules_in (Building l) reports is = absurd (refuted is)

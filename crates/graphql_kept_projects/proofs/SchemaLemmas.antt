@@ -1,6 +1,6 @@
 -- What is left of the texts of a schema.
-use Rattle.std.proofs.Common.{◌≡◌, ◌∙◌, ℕ, ◌+◌, ◌<◌, List, [], ◌∷◌, ◌++◌, None, Option, Some, append-nil, append_assoc, arith, get_or, length, refl, sym, subst, take}
-use Rattle.std.specs.Prelude.{All, Contains, IfSome}
+use Rattle.std.proofs.Common.{◌≡◌, ◌∙◌, ℕ, ◌+◌, ◌<◌, List, [], ◌∷◌, ◌++◌, None, Option, Some, ap, append-nil, append_assoc, arith, get_or, inl, inr, length, refl, sym, subst, take}
+use Rattle.std.specs.Prelude.{◌⊎◌, All, Contains, IfSome}
 use Rattle.std.proofs.lemmas.List.Elements.{All-append, All-cons, All-nil}
 use Rattle.std.specs.List.{AllZip}
 use Rattle.std.specs.String.{string_bytes}
@@ -15,12 +15,14 @@ use Rattle.graphql_frontend.specs.declared.reports.Reports.{Reports}
 use Rattle.graphql_frontend.specs.declared.texts.SyntaxReport.{SyntaxReport}
 use Rattle.graphql_kept_projects.specs.Documents.{IsAllOrPart, IsTextOrPart, is_part}
 use Rattle.graphql_kept_projects.specs.Left.{IsLeftOf, IsTextLeft}
-use Rattle.graphql_kept_projects.specs.Schemas.{AreCertainOfSome, AreMadeOf, AreSourcesOf, AreTextsLeft, AreTrueOfLeftSchema, IsErrorOfPart, IsInDoubt, RejectsLeft, next_is_left_out, next_is_made, none}
+use Rattle.graphql_kept_projects.specs.Schemas.{AreCertainOfSome, AreMadeOf, AreSourcesOf, AreTextsLeft, AreTrueOfLeftSchema, IsErrorOfPart, IsInDoubt, RejectsLeft, building_rules, next_is_left_out, next_is_made, none}
 use Rattle.graphql_kept_reports.specs.Reports.{KeepsReports}
 use Rattle.graphql_kept_reports.specs.BuildingRule.{BuildingRule}
-use Rattle.graphql_kept_reports.specs.SchemaCuts.{AreDoubtsOf}
+use Rattle.graphql_kept_reports.specs.SchemaCuts.{AreDoubtsOf, rules_of}
+use Rattle.graphql_kept_reports.specs.declared.BuildingReportList.{BuildingReportList}
 use Rattle.graphql_kept_reports.specs.declared.schema_doubts.SchemaDoubts.{SchemaDoubts}
 use Rattle.graphql_parser.specs.declared.bounds.Bounds.{Bounds}
+use Rattle.graphql_kept_projects.proofs.LeftLemmas.{refuted}
 use Rattle.graphql_project_checking.proofs.TruthLemmas.{adds_so, any_among}
 use Rattle.graphql_text_parts.specs.Lexical.{AreTokens}
 use Rattle.graphql_kept_projects.specs.declared.kept.LeftText.{LeftText}
@@ -73,6 +75,11 @@ adds_certain bounds whole first doubts reports old new in_doubt rejects =
       certain = certain;
     })
 
+-- the rules of reports on building
+pub rules_in_building : (reports : Reports) (list : BuildingReportList) → (reports ≡ Building list) ⊎ (reports ≡ FirstBuilding list) → rules_of list ≡ building_rules reports
+rules_in_building reports list (inl is) = ap building_rules (sym is)
+rules_in_building reports list (inr is) = ap building_rules (sym is)
+
 -- what the first rules say is in doubt, and nothing else yet
 pub first_in_doubt : (first : List BuildingRule) (doubts : SchemaDoubts) → AreDoubtsOf first doubts → IsInDoubt first doubts
 first_in_doubt first doubts are = ([], subst (λ l. AreDoubtsOf l doubts) (sym (append-nil first)) are)
@@ -106,9 +113,6 @@ error_in_part bounds source part start end report same text is_error = record {
 }
 
 -- the list with these reports on rules
-refuted : {X : Type 0} {x : X} → Some x ≡ None → ⊥
-refuted is = cc
-
 pub schema_rules_in : (x : Reports) (reports : SchemaReports) → Some reports ≡ schema_rules x → x ≡ SchemaRules reports
 schema_rules_in (Syntax e) reports is = absurd (refuted is)
 schema_rules_in (Building l) reports is = absurd (refuted is)

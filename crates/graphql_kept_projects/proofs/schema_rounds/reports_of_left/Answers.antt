@@ -8,6 +8,6 @@ use Rattle.graphql_kept_projects.proofs.schema_rounds.reports_of_left.Goals as g
 pub returns : goal.returns
 returns c =
     let first = rules_of c.args.reports.now in
-    let in_doubt = first_in_doubt first c.in_ok-faults.new.doubts (c.in_ok-faults.ensures [] c.new-doubts.ensures) in
+    let in_doubt = first_in_doubt first _ (c.in_ok-faults.ensures [] c.new-doubts.ensures) in
     all_added (AreTrueOfLeftSchema c.args.bounds c.args.whole.now first) c.new-further.result.items c.add_rounds.new.further.items
     (c.in_ok-add_rounds.ensures first in_doubt) c.new-further.ensures.items

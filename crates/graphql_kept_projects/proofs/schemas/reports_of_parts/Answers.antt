@@ -7,8 +7,8 @@ use Rattle.graphql_kept_projects.proofs.schemas.reports_of_parts.Goals.{else-not
 use Rattle.graphql_kept_projects.proofs.schemas.reports_of_parts.Goals as goal
 
 pub returns : goal.returns
-returns c =
-    let P = AreFurtherOfSchema c.args.bounds c.args.sources.now in
+returns c = λ first.
+    let P = AreFurtherOfSchema c.args.bounds c.args.sources.now first in
     let list = Syntax c.in_ok-errors.errors in
     elim c.if-not-is_empty.branch [
       | then-not-is_empty+in_ok-push w ↦ subst (λ (v : _). All P v.items) (sym w.further-is)
