@@ -91,7 +91,7 @@ pub record IsErrorOfPart (bounds : Bounds) (whole : List SourceText) (report : S
   pub is_part : IsOneOrPart whole part
   pub is_error : IsErrorOf bounds part report
 
--- the reports are true of what is left of these texts without what the first ones say, or each is the syntax error of a part of one of the texts
+-- the reports are true of what is left of these texts, and not in doubt after the first ones; or each is the syntax error of a part of one of the texts
 pub data AreFurtherOfSchema (bounds : Bounds) (whole : List SourceText) (first : Reports) : Reports → Type 0 where
   of_left : {reports : Reports} → AreTrueOfLeftSchema bounds whole (building_rules first) reports → AreFurtherOfSchema bounds whole first reports
   of_parts : {errors : Vec SyntaxReport Global} → All (IsErrorOfPart bounds whole) errors.items → AreFurtherOfSchema bounds whole first (Syntax errors)

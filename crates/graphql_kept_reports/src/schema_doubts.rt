@@ -241,7 +241,7 @@ fn cut_directive(rule: &BuildingRule) -> Option<&Name>
     }
 }
 
-/// Whether the rule says that something is left out which values may be of.
+/// Whether the rule says that something of a type or a directive is left out, or a field of an input object.
 fn cuts_input(rule: &BuildingRule) -> bool
     ensures { result ≡ cuts_input rule.now }
 {
