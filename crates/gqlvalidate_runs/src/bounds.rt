@@ -11,6 +11,9 @@ const LEAST_KEPT: usize = 1_000;
 /// How many bytes the messages of an answer may have, for each report that is kept.
 const BYTES_FOR_EACH: usize = 1_000;
 
+/// How many bytes the messages of a document from a file may have, 256 MiB: a name of a megabyte may be in each of thousands of reports.
+const MOST_BYTES: usize = 1 << 28;
+
 /// The bounds of a schema from files: all reports are kept.
 pub const OF_SCHEMA: Bounds = Bounds {
     tokens: usize::MAX,
@@ -22,7 +25,7 @@ pub const OF_SCHEMA: Bounds = Bounds {
 };
 
 /// The bounds of documents from files, as the command line says; a document may have any number of tokens, and all reports are
-/// kept.
+/// kept whose messages have at most 256 MiB together.
 pub fn bounds_of(limits: Limits) -> Bounds
     ensures depth { result.depth ≡ limits.depth }
     ensures reach { result.reach ≡ limits.reach }
@@ -34,7 +37,7 @@ pub fn bounds_of(limits: Limits) -> Bounds
         reach: limits.reach,
         work: limits.work,
         reports: usize::MAX,
-        report_bytes: usize::MAX,
+        report_bytes: MOST_BYTES,
     }
 }
 

@@ -3,6 +3,7 @@
 #![tactic(auto)]
 
 pub mod bounds;
+pub mod build_error_messages;
 pub mod build_errors;
 pub mod data;
 pub mod details;
@@ -10,6 +11,7 @@ pub mod lists;
 pub mod names;
 
 pub use bounds::ReportBound;
+pub use build_error_messages::BuildErrorMessage;
 pub use build_errors::BuildError;
 pub use data::DiagnosticData;
 pub use details::Details;

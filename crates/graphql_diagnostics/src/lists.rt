@@ -1,5 +1,5 @@
 use super::bounds::ReportBound;
-use super::details::Details;
+use super::details::{CountedMessage, Details};
 use graphql_hash_seeds::HashSeed;
 use graphql_nodes::{SourceSpan, ValidationError};
 use std::alloc::Global;
@@ -62,7 +62,7 @@ impl DiagnosticList {
     ghost use Rattle.std.specs.Slice.Iter.{iter_rest};
     ghost use Rattle.graphql_diagnostics.specs.Diagnostics.{entries, allocator_of, has_more_of, hash_seed_of, room_of};
     ghost use Rattle.graphql_diagnostics.specs.Bounds.{LeavesRoom};
-    ghost use Rattle.graphql_diagnostics.specs.Messages.{details_text};
+    ghost use Rattle.graphql_diagnostics.specs.BuildErrorMessages.{counted_message};
     ghost use Rattle.graphql_hash_seeds.specs.Seeds.{seed_of};
 
     /// A list of no reports, which grows by this allocator. Names are hashed by the default seed.
@@ -135,7 +135,7 @@ impl DiagnosticList {
         ensures err { OnErr result (entries self.new ≡ entries self.old) }
         ensures allocator { allocator_of self.new ≡ allocator_of self.old }
         ensures hash_seed { hash_seed_of self.new ≡ hash_seed_of self.old }
-        ensures room { OnOk result (LeavesRoom (entries self.old) (room_of self.old) (details_text details) (room_of self.new)) }
+        ensures room { OnOk result (LeavesRoom (entries self.old) (room_of self.old) (counted_message details) (room_of self.new)) }
         ensures refused_room { OnErr result (room_of self.new ≡ room_of self.old) }
         ensures no_more { OnOk result ((has_more_of self.old ≡ false) × (has_more_of self.new ≡ false)) }
     {
@@ -147,7 +147,7 @@ impl DiagnosticList {
 
     /// What the list may keep beside this diagnostic. If its bound does not admit it, the list has more from now on.
     fn room_beside(&mut self, details: &Details) -> Result<Option<ReportBound>, ValidationError>
-        ensures room { IfOk result (LeavesRoom (entries self.old) (room_of self.old) (details_text details.now)) }
+        ensures room { IfOk result (LeavesRoom (entries self.old) (room_of self.old) (counted_message details.now)) }
         ensures no_more { OnOk result ((has_more_of self.old ≡ false) × (has_more_of self.new ≡ false)) }
         ensures stays { (self.new.entries ≡ self.old.entries) × (self.new.hash_seed ≡ self.old.hash_seed) × (self.new.room ≡ self.old.room) }
     {
@@ -155,7 +155,7 @@ impl DiagnosticList {
             let Some(bound) = self.room else {
                 return Ok(None);
             };
-            if let Some(left) = bound.after(details) {
+            if let Some(left) = bound.after(CountedMessage(details)) {
                 return Ok(Some(left));
             }
             if self.entries.is_empty() {

@@ -14,6 +14,8 @@ const SCHEMA: &str = "type Query { a: Int q: Query }";
 const VALUES: &str =
     "scalar S input I { a: Int } input R { b: Int! c: Int! d: Int! } type Query { s(s: S): Int i(i: I): Int r(r: R): Int }";
 
+const SUBSCRIBED: &str = "type Query { a: Int } type Subscription { a: Int }";
+
 /// Texts of a schema and of a document, how many reports are kept, how many bytes their messages may have, and what is reported.
 const REPORTS: &[(&str, &str, usize, usize, &str)] = &[
     (
@@ -64,6 +66,20 @@ const REPORTS: &[(&str, &str, usize, usize, &str)] = &[
         2,
         0,
         "1:7 UnusedVariable\nMoreReports\n",
+    ),
+    (
+        SUBSCRIBED,
+        "subscription Long { a @skip(if: true) a @skip(if: true) }",
+        2,
+        136,
+        "1:22 SubscriptionUsesConditionalSelection\n1:40 SubscriptionUsesConditionalSelection\n",
+    ),
+    (
+        SUBSCRIBED,
+        "subscription Long { a @skip(if: true) a @skip(if: true) }",
+        2,
+        135,
+        "1:22 SubscriptionUsesConditionalSelection\nMoreReports\n",
     ),
     (
         "type Query { a: X b: Y }",

@@ -1,4 +1,3 @@
-pub mod BuildErrorMessages
 pub mod RuleNames
 pub mod Shown
 pub mod ShownTexts

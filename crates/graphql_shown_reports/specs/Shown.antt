@@ -16,7 +16,7 @@ use Rattle.graphql_diagnostics.specs.declared.data.DiagnosticData.TheVariants as
 use Rattle.graphql_diagnostics.specs.declared.details.Details.{Details}
 use Rattle.graphql_diagnostics.specs.declared.details.Details.TheVariants.{Diagnostic, Build, RecursionLimit}
 use Rattle.graphql_diagnostics.specs.declared.lists.DiagnosticEntry.{DiagnosticEntry}
-use Rattle.graphql_shown_reports.specs.BuildErrorMessages.{build_error_message}
+use Rattle.graphql_diagnostics.specs.BuildErrorMessages.{build_error_message}
 use Rattle.graphql_shown_reports.specs.RuleNames.{building_name, details_name}
 use Rattle.graphql_shown_reports.specs.ShownTexts.{IsShownText}
 use Rattle.graphql_frontend.specs.declared.reports.Reports.{Reports}

@@ -1,7 +1,6 @@
 //! What is reported of texts, as it is shown: with the name of a rule, a message and places.
 #![tactic(auto)]
 
-pub mod build_error_messages;
 pub mod rule_names;
 pub mod shown;
 pub mod shown_texts;

@@ -7,11 +7,12 @@ ghost use Rattle.graphql_frontend.specs.declared.reports.Reports.TheVariants as 
 ghost use Rattle.graphql_frontend.specs.declared.texts.SourceText as source_text;
 ghost use Rattle.graphql_shown_reports.specs.Shown.{Shows, ShowsBuilding, ShowsEntry, ShowsMisuse, ShowsMore, ShowsNesting, ShowsReach, ShowsRepetition, ShowsSyntax, ShowsThatMore, ShowsWork, build_error_original, building_original, details_message, details_original, diagnostic_original, error_end, error_span, listed, narrow, once_if, path_limit, text_of, validation_message};
 
-use crate::build_error_messages::BuildErrorMessage;
 use crate::rule_names::{building_rule, details_rule};
 use crate::shown_texts::{shown_copy, shown_text};
 use graphql_building_reports::{BuildingReport, BuildingReportList, BuildingRule};
-use graphql_diagnostics::{BuildError, Details, DiagnosticData, DiagnosticEntry, DiagnosticList};
+use graphql_diagnostics::{
+    BuildError, BuildErrorMessage, Details, DiagnosticData, DiagnosticEntry, DiagnosticList,
+};
 use graphql_frontend::reports::{DocumentReports, Reports, SchemaReports};
 use graphql_frontend::texts::{SourceText, SyntaxReport};
 use graphql_frontend::work::WorkReport;

@@ -2,9 +2,10 @@
 
 ghost use Rattle.std.specs.Prelude.{◌≡◌, Some};
 ghost use Rattle.graphql_diagnostics.specs.Messages.{name_or_anon_text};
-ghost use Rattle.graphql_shown_reports.specs.BuildErrorMessages.{build_error_message, subscription_text};
+ghost use Rattle.graphql_diagnostics.specs.BuildErrorMessages.{build_error_message, subscription_text};
 
-use graphql_diagnostics::{BuildError, NameOrAnon};
+use crate::build_errors::BuildError;
+use crate::names::NameOrAnon;
 use graphql_nodes::Name;
 use std::fmt;
 

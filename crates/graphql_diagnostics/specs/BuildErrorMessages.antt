@@ -3,6 +3,9 @@ use Rattle.std.specs.Prelude.{ℕ, List, ◌++◌, codes, Option, None, Some, st
 use Rattle.graphql_coordinates.specs.Coordinates.{field_argument_text, type_attribute_text}
 use Rattle.graphql_diagnostics.specs.declared.build_errors.BuildError.{BuildError}
 use Rattle.graphql_diagnostics.specs.declared.build_errors.BuildError.TheVariants as error
+use Rattle.graphql_diagnostics.specs.Messages.{details_text}
+use Rattle.graphql_diagnostics.specs.declared.details.Details.{Details}
+use Rattle.graphql_diagnostics.specs.declared.details.Details.TheVariants.{Build}
 use Rattle.graphql_documents.specs.TypeReferences.{type_text}
 use Rattle.graphql_nodes.specs.Names.{NameText}
 use Rattle.graphql_nodes.specs.OperationTypes.{operation_type_text}
@@ -32,3 +35,8 @@ build_error_message (error.ConflictingFieldArgument alias original_location orig
 build_error_message (error.ConflictingFieldType alias original_location original original_type conflicting_location conflicting conflicting_type) =
     codes "fields \"" ++ (alias.text ++ (codes "\" conflict: " ++ (type_attribute_text original ++ (codes " is of type " ++ (type_text original_type ++ (codes " and " ++
     (type_attribute_text conflicting ++ (codes " of type " ++ type_text conflicting_type))))))))
+
+-- what counts of a diagnostic where a list has a bound: its message, or of a broken rule of building the one that texts are shown
+abbrev pub counted_message : Details → List ℕ
+counted_message (Build e) = build_error_message e
+counted_message details = details_text details

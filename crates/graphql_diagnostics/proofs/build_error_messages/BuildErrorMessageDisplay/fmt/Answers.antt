@@ -1,5 +1,5 @@
 use Rattle.std.proofs.Common.{rules}
-use Rattle.graphql_shown_reports.proofs.build_error_messages.BuildErrorMessageDisplay.fmt.Goals as goal
+use Rattle.graphql_diagnostics.proofs.build_error_messages.BuildErrorMessageDisplay.fmt.Goals as goal
 
 pub returns-in-SubscriptionUsesIntrospection-clause-writes : goal.returns-in-SubscriptionUsesIntrospection-clause-writes
 returns-in-SubscriptionUsesIntrospection-clause-writes g c = rw c.in-SubscriptionUsesIntrospection.is (search rules)
