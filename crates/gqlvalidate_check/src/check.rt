@@ -5,7 +5,7 @@ ghost use Rattle.graphql_frontend.specs.Documents.{ValidatesDocument};
 ghost use Rattle.graphql_frontend.specs.Schemas.{AcceptsOnlyUsableSchemas, IsUsable};
 
 use crate::one_document::check_together;
-use crate::project_files::{check_files, project_of, report_beside};
+use crate::project_files::{check_files, cuts_beside, project_of, report_cut};
 use gqlvalidate_sources::inputs::faults::Fault;
 use gqlvalidate_sources::inputs::sources::{shown_path, text_or_said};
 use gqlvalidate_sources::inputs::statuses::Status;
@@ -320,7 +320,12 @@ fn check_text<O: Write>(
             Ok(Status::Accepted)
         }
         Some(reports) => {
-            if report_beside(alloc, schema, document, &reports, bounds, account, output)? {
+            if let Some(cuts) = cuts_beside(alloc, document, &reports, bounds)? {
+                // The project reports these again: both would take twice the memory.
+                drop(reports);
+                let count = report_cut(alloc, schema, document, &cuts, bounds, account, output);
+                drop(cuts);
+                count?;
                 return Ok(Status::Reported);
             }
             let sources = [document.source];

@@ -177,39 +177,31 @@ fn check_cut<O: Write>(
     report_found(alloc, &found, project, paths, account, output)
 }
 
-/// Reports what is wrong with a document of which this is reported, and which may have other faults: with its parts, what can be built of it, and fragments
-/// that no operation reaches. False, if it has no other faults, or if no part of its text can be read besides.
-pub fn report_beside<O: Write>(
+/// The parts that are cut out of the text of a document of which this is reported, if the document may have other faults. `None`, if it has none, or if no
+/// part of its text can be read besides.
+pub fn cuts_beside(
     alloc: Global,
-    schema: &Schema,
     document: NamedText<'_>,
     reports: &Reports,
     bounds: Bounds,
-    account: &mut Account<'_>,
-    output: &mut O,
-) -> Result<bool, Fault>
-    requires { IsUsable schema.now }
-{
-    let cuts = match reports {
+) -> Result<Option<Cuts>, Fault> {
+    match reports {
         Reports::Syntax(errors) => {
             let mut cuts = BTreeMap::new(alloc);
             add_cuts(alloc, &[document.source], errors, bounds, &mut cuts)?;
             if cuts.is_empty() {
-                return Ok(false);
+                return Ok(None);
             }
-            cuts
+            Ok(Some(cuts))
         }
-        _ if may_hide_faults(reports) => BTreeMap::new(alloc),
-        _ => return Ok(false),
-    };
-    let reported = report_cut(alloc, schema, document, &cuts, bounds, account, output);
-    drop(cuts);
-    reported?;
-    Ok(true)
+        _ if may_hide_faults(reports) => Ok(Some(BTreeMap::new(alloc))),
+        _ => Ok(None),
+    }
 }
 
-/// Reports what is wrong with the definitions of a document, and of the parts of its text.
-fn report_cut<O: Write>(
+/// Reports what is wrong with the definitions of a document, and of the parts of its text: with what can be built of it, and fragments that no operation
+/// reaches. The answer is how many reports there are.
+pub fn report_cut<O: Write>(
     alloc: Global,
     schema: &Schema,
     document: NamedText<'_>,

@@ -71,7 +71,7 @@ pub fn validate_document(
     match parse_document(alloc, source.file_id, source.text, bounds) {
         Ok(tree) => {
             let hash_seed = HashSeed::of_text(source.text);
-            validate_tree(alloc, hash_seed, schema, &tree, bounds, source.text.len())
+            validate_tree(alloc, hash_seed, schema, tree, bounds, source.text.len())
         }
         Err(error) => report_syntax(alloc, source.file_id, error),
     }
@@ -91,7 +91,7 @@ pub fn validate_standalone_document(
     match parse_document(alloc, source.file_id, source.text, bounds) {
         Ok(tree) => {
             let hash_seed = HashSeed::of_text(source.text);
-            validate_standalone_tree(alloc, hash_seed, &tree, bounds, source.text.len())
+            validate_standalone_tree(alloc, hash_seed, tree, bounds, source.text.len())
         }
         Err(error) => report_syntax(alloc, source.file_id, error),
     }
@@ -136,7 +136,7 @@ pub fn validate_documents(
             alloc,
             hash_seed_of(sources),
             schema,
-            &document,
+            document,
             bounds,
             bytes_of(sources)?,
         )
@@ -173,23 +173,25 @@ fn joined(alloc: Global, documents: Vec<Document>) -> Result<Document, Validatio
     })
 }
 
-/// Validates the document of a tree, its names hashed by this seed. Its texts have so many bytes.
+/// Validates the document of a tree, its names hashed by this seed. Its texts have so many bytes. The tree takes no memory while the
+/// document that was built of it is validated.
 fn validate_tree(
     alloc: Global,
     hash_seed: HashSeed,
     schema: &Schema,
-    tree: &Document,
+    tree: Document,
     bounds: Bounds,
     bytes: usize,
 ) -> Result<Option<Reports>, ValidationError>
     requires { IsUsable schema.now }
-    ensures { IfOk result (JudgesTree bounds bytes (Some schema.now) tree.now) }
+    ensures { IfOk result (JudgesTree bounds bytes (Some schema.now) tree) }
 {
     let mut reports = BuildingReportList::with_bound(alloc, hash_seed, report_bound(bounds));
-    match check_document(&mut reports, schema, tree) {
+    match check_document(&mut reports, schema, &tree) {
         Ok(()) => {
             if reports.is_empty() {
-                let document = build_document(alloc, hash_seed, schema, tree)?;
+                let document = build_document(alloc, hash_seed, schema, &tree)?;
+                drop(tree);
                 validate_built(alloc, Some(schema), &document, bounds, bytes)
             } else {
                 Ok(Some(Reports::Building(reports)))
@@ -219,17 +221,18 @@ fn first_building_reports(
 fn validate_standalone_tree(
     alloc: Global,
     hash_seed: HashSeed,
-    tree: &Document,
+    tree: Document,
     bounds: Bounds,
     bytes: usize,
 ) -> Result<Option<Reports>, ValidationError>
-    ensures { IfOk result (JudgesTree bounds bytes None tree.now) }
+    ensures { IfOk result (JudgesTree bounds bytes None tree) }
 {
     let mut reports = BuildingReportList::with_bound(alloc, hash_seed, report_bound(bounds));
-    match check_standalone_document(&mut reports, tree) {
+    match check_standalone_document(&mut reports, &tree) {
         Ok(()) => {
             if reports.is_empty() {
-                let document = build_standalone_document(alloc, hash_seed, tree)?;
+                let document = build_standalone_document(alloc, hash_seed, &tree)?;
+                drop(tree);
                 validate_built(alloc, None, &document, bounds, bytes)
             } else {
                 Ok(Some(Reports::Building(reports)))

@@ -13,7 +13,7 @@ pub returns-in_ok-document-in-Ok : goal.returns-in_ok-document-in-Ok
 returns-in_ok-document-in-Ok c =
     let none : reports_of c.check_standalone_document.new.reports ≡ [] = search rules in
     let document = c.in_ok-document-in-Ok.document in
-    if_ok (JudgesDocument c.args.bounds c.args.bytes None document) (JudgesTree c.args.bounds c.args.bytes None c.args.tree.now)
+    if_ok (JudgesDocument c.args.bounds c.args.bytes None document) (JudgesTree c.args.bounds c.args.bytes None c.args.tree)
     (λ reports judged. is_built document (silent _ _ _ _ c.in-Ok.ensures c.with_bound-reports.ensures.empty none)
     c.in_ok-document-in-Ok.ensures.says tt judged)
     c.validate_built.result c.validate_built.ensures
@@ -26,4 +26,4 @@ returns-else-is_empty c =
 
 pub returns-in-Err : goal.returns-in-Err
 returns-in-Err c =
-    c.first_building_reports.ensures c.args.bytes None c.args.tree.now (kept _ _ _ c.in-Err.ensures c.with_bound-reports.ensures.empty)
+    c.first_building_reports.ensures c.args.bytes None c.args.tree (kept _ _ _ c.in-Err.ensures c.with_bound-reports.ensures.empty)

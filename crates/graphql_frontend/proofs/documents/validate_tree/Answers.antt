@@ -15,9 +15,9 @@ returns-in_ok-document-in-Ok c =
     let none : reports_of c.check_document.new.reports ≡ [] = search rules in
     let document = c.in_ok-document-in-Ok.document in
     let says = c.in_ok-document-in-Ok.ensures.says in
-    if_ok (JudgesDocument c.args.bounds c.args.bytes (Some c.args.schema.now) document) (JudgesTree c.args.bounds c.args.bytes (Some c.args.schema.now) c.args.tree.now)
+    if_ok (JudgesDocument c.args.bounds c.args.bytes (Some c.args.schema.now) document) (JudgesTree c.args.bounds c.args.bytes (Some c.args.schema.now) c.args.tree)
     (λ reports judged. is_built document (silent _ _ _ _ c.in-Ok.ensures c.with_bound-reports.ensures.empty none) says
-    (document_is_built c.args.schema.now c.args.tree.now document says c.requires.names c.requires.output_fields) judged)
+    (document_is_built c.args.schema.now c.args.tree document says c.requires.names c.requires.output_fields) judged)
     c.validate_built.result c.validate_built.ensures
 
 pub returns-else-is_empty : goal.returns-else-is_empty
@@ -28,4 +28,4 @@ returns-else-is_empty c =
 
 pub returns-in-Err : goal.returns-in-Err
 returns-in-Err c =
-    c.first_building_reports.ensures c.args.bytes (Some c.args.schema.now) c.args.tree.now (kept _ _ _ c.in-Err.ensures c.with_bound-reports.ensures.empty)
+    c.first_building_reports.ensures c.args.bytes (Some c.args.schema.now) c.args.tree (kept _ _ _ c.in-Err.ensures c.with_bound-reports.ensures.empty)
