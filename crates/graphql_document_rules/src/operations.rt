@@ -108,6 +108,8 @@ fn validate_and_merge(
             undecided.push(*operation)?;
         }
     }
+    // What merging by sets has found takes much memory, and merging by pairs does not need it.
+    drop(merging);
     if undecided.is_empty() {
         return Ok(true);
     }

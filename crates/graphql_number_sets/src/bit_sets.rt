@@ -84,8 +84,21 @@ impl BitSet {
         ensures length { OnOk result (count ≤ vec_len self.new.words) }
         ensures words { (place : ℕ) → word_at self.new.words.items place ≡ word_at self.old.words.items place }
     {
+        self.reserve_words(count)?;
         while self.words.len() < count {
             self.words.push(0)?;
+        }
+        Ok(())
+    }
+
+    /// Makes room for so many words. If this takes more memory, there is at most an eighth to spare, because large sets are many.
+    fn reserve_words(&mut self, count: usize) -> Result<(), ValidationError>
+        ensures { self.new.words.items ≡ self.old.words.items }
+    {
+        let length = self.words.len();
+        let further = count.saturating_sub(length);
+        if further > 0 {
+            self.words.reserve_exact(further.max(length / 8))?;
         }
         Ok(())
     }

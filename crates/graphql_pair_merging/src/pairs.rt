@@ -174,6 +174,7 @@ impl<'s, 'doc> PairPass<'s, 'doc> {
         let fields = self.fields_around(joined.ends.as_slice(), joined.all.as_slice())?;
         work.spend(units_of(fields.len()))?;
         let groups = group_fields(self.alloc, self.hash_seed, &fields, GroupedBy::ResponseKey)?;
+        drop(fields);
         let keys = names_of(self.alloc, &groups)?;
         self.look_by_keys(waiting, work, &groups, &keys)
     }
