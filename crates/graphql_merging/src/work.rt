@@ -1,10 +1,14 @@
 //! How much a merger may still examine, and why a walk over lists of fields is interrupted.
 
+ghost use Rattle.std.specs.Prelude.{◌≤◌, ◌+◌, length};
+
 use super::groups::Pass;
 use super::numbered_fields::NumberedField;
 use graphql_documents::documents::Argument;
 use graphql_nodes::{Node, SourceSpan, ValidationError};
+use graphql_steps::Steps;
 use std::alloc::{AllocError, AllocFailed};
+use std::sync::ledger::Ledger;
 
 /// Why a walk over lists of fields does not come to its end.
 #[derive(Clone, Copy, Debug, PartialEq, Eq)]
@@ -57,20 +61,24 @@ pub(crate) struct Work {
 }
 
 impl Work {
-    ghost use Rattle.std.specs.Prelude.{◌≡◌, IfErr, None};
-    ghost use Rattle.graphql_merging.specs.Works.{IsUnbounded};
+    ghost use Rattle.std.specs.Prelude.{◌≡◌, ◌≤◌, ◌+◌, IfErr, None, OnOk};
+    ghost use Rattle.graphql_merging.specs.NumberedFields.{lists_of};
+    ghost use Rattle.graphql_merging.specs.Works.{IsUnbounded, Spends, weight};
     ghost use Rattle.graphql_merging.specs.declared.work.Interruption.TheVariants.{OutOfMemory};
 
     /// So much may be gone through and compared, or anything.
     pub(crate) fn new(bound: Option<usize>) -> Work
-        ensures { bound ≡ None → IsUnbounded result }
+        ensures unbounded { bound ≡ None → IsUnbounded result }
+        ensures left { result.left ≡ bound }
     {
         Work { left: bound }
     }
 
     /// Counts so many units more. Where they are more than are left, none is left.
     pub(crate) fn count(&mut self, units: usize) -> Result<(), Interruption>
-        ensures { IsUnbounded self.old → IsUnbounded self.new × IfErr result (λ e. e ≡ OutOfMemory) }
+        ensures unbounded { IsUnbounded self.old → IsUnbounded self.new × IfErr result (λ e. e ≡ OutOfMemory) }
+        ensures spends { OnOk result (Spends self.old self.new units) }
+        ensures left { Spends self.old self.new 0 }
     {
         let Some(left) = self.left else {
             return Ok(());
@@ -84,31 +92,38 @@ impl Work {
     }
 
     /// Counts the arguments that are compared where fields are put together in these groups in this pass.
-    pub(crate) fn count_arguments(
+    pub(crate) fn count_arguments<L: Ledger>(
         &mut self,
         pass: Pass,
         groups: &[Vec<NumberedField<'_>>],
+        steps: &mut Steps<L>,
     ) -> Result<(), Interruption>
-        ensures { IsUnbounded self.old → IsUnbounded self.new × IfErr result (λ e. e ≡ OutOfMemory) }
+        ensures unbounded { IsUnbounded self.old → IsUnbounded self.new × IfErr result (λ e. e ≡ OutOfMemory) }
+        ensures left { Spends self.old self.new 0 }
+        ensures steps { steps.new ≤ steps.old + weight (lists_of groups.now) }
     {
         if pass == Pass::Shapes || self.left.is_none() {
             return Ok(());
         }
         for group in groups {
-            self.count(compared_bytes(group) / 4)?;
+            steps.take(1);
+            self.count(compared_bytes(group, steps) / 4)?;
         }
         Ok(())
     }
 }
 
 /// How many bytes of arguments are read when the first of these fields is compared with each other one.
-fn compared_bytes(group: &[NumberedField<'_>]) -> usize {
+fn compared_bytes<L: Ledger>(group: &[NumberedField<'_>], steps: &mut Steps<L>) -> usize
+    ensures { steps.new ≤ steps.old + length group.now }
+{
     let Some((first, rest)) = group.split_first() else {
         return 0;
     };
     let of_first = written_bytes(&first.field.value.arguments);
     let mut sum = 0_usize;
     for field in rest {
+        steps.take(1);
         sum = sum
             .saturating_add(of_first)
             .saturating_add(written_bytes(&field.field.value.arguments));

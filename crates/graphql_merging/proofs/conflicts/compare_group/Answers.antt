@@ -23,7 +23,7 @@ no_fields [] none = refl
 no_fields (x ∷ xs) none = absurd (omega arith)
 
 pub returns-in_default-clause-conflicts : goal.returns-in_default-clause-conflicts
-returns-in_default-clause-conflicts c =
+returns-in_default-clause-conflicts g c =
     let schema = c.args.schema.now in
     let pass = pass_of c.args.pass in
     let reports = entries c.args.diagnostics.now in
@@ -31,16 +31,17 @@ returns-in_default-clause-conflicts c =
     (empty_compared schema pass reports)
 
 pub loop-field-init : goal.loop-field-init
-loop-field-init c = record {
+loop-field-init g c = record {
   reports = compared_none c.args.schema.now (pass_of c.args.pass) (plain.selection_of c.in_ok-first.first.selection) (entries c.args.diagnostics.now);
   comparisons = sym (counted_none (pass_of c.args.pass) c.args.examined.now.comparisons c.args.examined.now.small);
   lists = refl;
   read = c.in_ok-first.ensures.read;
   selection = refl;
+  steps = omega arith;
 }
 
 pub returns-in_err-compare-clause-truth : goal.returns-in_err-compare-clause-truth
-returns-in_err-compare-clause-truth c =
+returns-in_err-compare-clause-truth g c =
     let schema = c.args.schema.now in
     let pass = pass_of c.args.pass in
     let first = selection_of c.in-Some.first.now in
@@ -53,7 +54,7 @@ returns-in_err-compare-clause-truth c =
     (subst (λ (s : FieldSelection). Appends (ConflictsWith schema pass s (listed (take i rest))) (entries c.args.diagnostics.now) (entries c.loop-field.diagnostics)) first_is c.loop-field.invariant.reports))
 
 pub loop-field-preserved : goal.loop-field-preserved
-loop-field-preserved c =
+loop-field-preserved g c =
     let schema = c.args.schema.now in
     let pass = pass_of c.args.pass in
     let first = plain.selection_of c.in_ok-first.first.selection in
@@ -77,10 +78,11 @@ loop-field-preserved c =
       lists = c.compare.ensures.lists ∙ c.loop-field.invariant.lists;
       read = c.in_ok-compare.ensures.read;
       selection = c.compare.ensures.selection ∙ c.loop-field.invariant.selection;
+      steps = omega (arith, c.loop-field.invariant.steps, c.take.ensures);
     }
 
 pub returns-clause-conflicts : goal.returns-clause-conflicts
-returns-clause-conflicts c =
+returns-clause-conflicts g c =
     let schema = c.args.schema.now in
     let pass = pass_of c.args.pass in
     let first = selection_of c.in-Some.first.now in
@@ -95,7 +97,7 @@ returns-clause-conflicts c =
     (subst (λ (s : FieldSelection). Appends (ConflictsWith schema pass s (listed (take i rest))) (entries c.args.diagnostics.now) (entries c.loop-field.diagnostics)) first_is c.loop-field.invariant.reports)))
 
 pub returns-clause-truth : goal.returns-clause-truth
-returns-clause-truth c =
+returns-clause-truth g c =
     let schema = c.args.schema.now in
     let pass = pass_of c.args.pass in
     let first = selection_of c.in-Some.first.now in
