@@ -1,5 +1,5 @@
 -- How much groups weigh: each field two at most, for itself and for its group.
-use Rattle.std.proofs.Common.{◌≡◌, ℕ, ◌+◌, ◌*◌, ◌<◌, ◌≤◌, Bool, true, false, cond, drop, fold, get_or, length, take, List, [], ◌∷◌, ◌++◌, Option, Some, None, Vec, ap, map, refl, subst, sym, ◌∙◌, arith}
+use Rattle.std.proofs.Common.{◌≡◌, ℕ, ◌+◌, ◌*◌, ◌<◌, ◌≤◌, Bool, true, false, cond, drop, fold, get_or, length, take, List, [], ◌∷◌, ◌++◌, Option, Some, None, Vec, ap, subst, sym, ◌∙◌, arith}
 use Rattle.std.specs.Prelude.{unwrap_or}
 use Rattle.std.specs.Borrow.{Bor}
 use Rattle.std.specs.Map.{lookup}

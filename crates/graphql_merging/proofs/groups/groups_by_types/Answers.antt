@@ -1,11 +1,11 @@
-use Rattle.std.proofs.Common.{◌≡◌, ◌+◌, ◌++◌, ◌∷◌, List, Vec, append_assoc, ap, arith, length, subst, sym, ◌∙◌}
+use Rattle.std.proofs.Common.{◌++◌, Vec, append_assoc, ap, arith, subst, sym, ◌∙◌}
 use Rattle.std.specs.Prelude.{flat_map}
 use Rattle.std.specs.declared.alloc.Global.{Global}
 use Rattle.std.proofs.lemmas.List.Elements.{All-head, All-tail}
 use Rattle.graphql_specification.specs.MergedSets.{groups_on, objects_of}
 use Rattle.graphql_merging.specs.NumberedFields.{AreGroupsNumbered, listed, lists_of}
 use Rattle.graphql_merging.specs.declared.numbered_fields.NumberedField.{NumberedField}
-use Rattle.graphql_merging.specs.Works.{Pays, weight}
+use Rattle.graphql_merging.specs.Works.{weight}
 use Rattle.graphql_merging.proofs.NumberedGroupLemmas.{IsGroupNumbered, values_numbered}
 use Rattle.graphql_merging.proofs.GroupLemmas.{lists_viewed}
 use Rattle.graphql_merging.proofs.WeightLemmas.{weight_first}

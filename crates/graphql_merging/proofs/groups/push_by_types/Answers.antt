@@ -1,4 +1,4 @@
-use Rattle.std.proofs.Common.{◌≡◌, ◌≤◌, ◌+◌, ◌*◌, ◌++◌, ap, arith, length, subst, sym, ◌∙◌}
+use Rattle.std.proofs.Common.{◌≤◌, ◌*◌, ◌++◌, ap, arith, length, subst, sym, ◌∙◌}
 use Rattle.graphql_merging.specs.NumberedFields.{AreNumberedIn, listed, lists_of}
 use Rattle.std.proofs.lemmas.List.{length-map}
 use Rattle.graphql_merging.specs.NumberedFields.{selection_of}

@@ -1,4 +1,4 @@
-use Rattle.std.proofs.Common.{◌≡◌, ◌+◌, ◌++◌, ◌∷◌, [], append_assoc, ap, arith, length, subst, sym, ◌∙◌, map, Vec}
+use Rattle.std.proofs.Common.{◌++◌, ◌∷◌, [], append_assoc, ap, arith, subst, sym, ◌∙◌, map, Vec}
 use Rattle.std.specs.declared.alloc.Global.{Global}
 use Rattle.std.proofs.lemmas.List.{append-nil, length-append, length-map}
 use Rattle.std.proofs.lemmas.List.Elements.{All-head, All-tail}

@@ -18,7 +18,8 @@ use Rattle.graphql_merging.specs.Groups.{pass_of}
 use Rattle.graphql_merging.specs.Passes.{GoesBelow, IsConflict, counted}
 use Rattle.graphql_merging.specs.Stages.{examined_lists, stage_of}
 use Rattle.graphql_merging.proofs.PassLemmas.{below_cut, below_examined, parent_known, below_leaves, below_none, below_then, list_examined}
-use Rattle.graphql_merging.proofs.WeightLemmas.{weight_more}
+use Rattle.graphql_merging.specs.Works.{weight}
+use Rattle.graphql_merging.proofs.WeightLemmas.{weight_more, weight_within}
 use Rattle.graphql_merging.proofs.PassStepLemmas.{conflicts_true, count_at_limit, count_below_limit, counted_groups, each_group, expansion_known, group_among, new_unknown, no_items, not_reachable, some_items}
 use Rattle.graphql_laws.proofs.FieldContentsLaws.{same_fields_itself}
 use Rattle.graphql_merging.proofs.passes.MergingPass.+merging.Goals as goal
@@ -71,7 +72,7 @@ examine-loop-group-preserved g t c =
       cost = λ bounded.
           let before = c.loop-group.invariant.cost bounded in
           let paid = c.in_ok-examine_below.ensures.cost before.0 in
-          (paid.0, omega (arith, before.1, c.take-2.ensures, paid.1, ap length c.deref-in-loop-group.ensures.value, weight_more groups i item c.loop-group-test.true c.group-item.is));
+          (paid.0, omega (arith, before.1, c.take-in-loop-group.ensures, paid.1, ap length c.deref-in-loop-group.ensures.value, weight_more groups i item c.loop-group-test.true c.group-item.is));
       known = c.in_ok-examine_below.ensures.known;
       below = subst (λ g. GoesBelow S F pass g (stage_of c.compare_groups.new.examined c.args.depth.now c.compare_groups.new.diagnostics)
           (stage_of c.examine_below.new.examined c.examine_below.new.depth c.examine_below.new.diagnostics))
@@ -85,6 +86,55 @@ examine-loop-group-preserved g t c =
           (subst (λ l. IsGroup S above pass (listed l)) (sym c.deref-in-loop-group.ensures.value)
           (group_among (IsGroup S above pass) groups item all (i, c.loop-group-test.true, sym c.group-item.is))));
     }
+
+pub examine-returns-in_err-examine_below-clause-cost : goal.examine-returns-in_err-examine_below-clause-cost
+examine-returns-in_err-examine_below-clause-cost g t c bounded =
+    let groups = c.deref-group-items.result.now in
+    let i = c.loop-group.group-index in
+    let made = c.in_ok-groups.ensures.spare bounded in
+    let counted = c.count_arguments.ensures.left made.0 in
+    let before = c.loop-group.invariant.cost counted.0 in
+    let paid = c.examine_below.ensures.cost before.0 in
+    (paid.0, omega (
+      arith,
+      made.1,
+      c.take.ensures,
+      c.len.ensures ∙ c.args.list.fields.ok.0,
+      counted.1,
+      c.count_arguments.ensures.steps,
+      c.compare_groups.ensures.steps,
+      before.1,
+      c.take-in-loop-group.ensures,
+      paid.1,
+      ap length c.deref.ensures.value,
+      ap (λ l. weight (lists_of l)) c.deref-2.ensures.value,
+      ap (λ l. weight (lists_of l)) c.deref-3.ensures.value,
+      ap (λ l. weight (lists_of l)) c.deref-group-items.ensures.value,
+      ap length c.deref-in-loop-group.ensures.value,
+      weight_more groups i c.group-item.result c.loop-group-test.true c.group-item.is,
+      weight_within groups (i + 1),
+    ))
+
+pub examine-returns-clause-cost : goal.examine-returns-clause-cost
+examine-returns-clause-cost g t c bounded =
+    let made = c.in_ok-groups.ensures.spare bounded in
+    let counted = c.count_arguments.ensures.left made.0 in
+    let below = c.loop-group.invariant.cost counted.0 in
+    (below.0, omega (
+      arith,
+      made.1,
+      c.take.ensures,
+      c.len.ensures ∙ c.args.list.fields.ok.0,
+      counted.1,
+      c.count_arguments.ensures.steps,
+      c.compare_groups.ensures.steps,
+      below.1,
+      ap length c.deref.ensures.value,
+      ap (λ l. weight (lists_of l)) c.deref-2.ensures.value,
+      ap (λ l. weight (lists_of l)) c.deref-3.ensures.value,
+      ap (λ l. weight (lists_of l)) c.deref-group-items.ensures.value,
+      weight_within c.deref-group-items.result.now c.loop-group.group-index,
+    ))
 
 pub examine-returns-clause-examines : goal.examine-returns-clause-examines
 examine-returns-clause-examines g t c =
@@ -154,7 +204,7 @@ examine_below-returns-then-check_and_increment-clause-examines g t c =
     (c.check_and_increment.ensures.reachable.0 c.if-check_and_increment.true ∙ c.requires.limit) refl refl at.0 (at.1 ∙ ap (λ n. n + 1) c.requires.limit) refl
 
 pub examine_below-examine-requires : goal.examine_below-examine-requires
-examine_below-examine-requires g t c =
+examine_below-examine-requires g t c = λ κs outlives.
     let old = stage_of c.args.examined.now c.args.depth.now c.args.diagnostics.now in
     let down = stage_of c.args.examined.now c.check_and_increment.new.self c.args.diagnostics.now in
     let below = count_below_limit c.check_and_increment.result old.depth down.depth (count_limit c.args.depth.now) old.highest down.highest
@@ -163,13 +213,16 @@ examine_below-examine-requires g t c =
     let within : old.depth < merging_depth_limit = not_reachable c.check_and_increment.result old.depth (count_limit c.args.depth.now) c.check_and_increment.ensures.reachable c.if-check_and_increment.false c.args.depth.now.within c.requires.limit in (
       omega (arith, step, within, c.decreases),
       (
-        c.check_and_increment.ensures.limit ∙ c.requires.limit,
+        outlives,
         (
-          c.in_ok-list.ensures.numbers,
+          c.check_and_increment.ensures.limit ∙ c.requires.limit,
           (
-            c.requires.known,
-            new_unknown (examined_lists c.args.examined.now) (listed c.in_ok-list.list.fields.items)
-                (λ any. let known = c.knows.ensures.1 any in let no : ⊥ = cc in no),
+            c.in_ok-list.ensures.numbers,
+            (
+              c.requires.known,
+              new_unknown (examined_lists c.args.examined.now) (listed c.in_ok-list.list.fields.items)
+                  (λ any. let known = c.knows.ensures.1 any in let no : ⊥ = cc in no),
+            ),
           ),
         ),
       ),
