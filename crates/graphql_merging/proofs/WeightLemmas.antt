@@ -1,5 +1,5 @@
 -- How much groups weigh: each field two at most, for itself and for its group.
-use Rattle.std.proofs.Common.{◌≡◌, ℕ, ◌+◌, ◌*◌, ◌<◌, ◌≤◌, Bool, true, false, cond, drop, fold, get_or, length, take, List, [], ◌∷◌, ◌++◌, Option, Some, None, Vec, ap, subst, sym, ◌∙◌, arith}
+use Rattle.std.proofs.Common.{◌≡◌, ℕ, ◌+◌, ◌*◌, ◌<◌, ◌≤◌, Bool, true, false, cond, drop, fold, get_or, length, take, List, [], ◌∷◌, ◌++◌, Option, Some, None, Vec, ap, subst, sum_by, sym, ◌∙◌, arith}
 use Rattle.std.specs.Prelude.{unwrap_or}
 use Rattle.std.specs.Borrow.{Bor}
 use Rattle.std.specs.Map.{lookup}
@@ -16,7 +16,9 @@ use Rattle.graphql_specification.specs.Merging.{FieldSelection}
 use Rattle.graphql_merging.specs.Groups.{NamedFields, by_keys, by_objects, fields_under, with_field, with_field_if, with_keyed, with_owned}
 use Rattle.graphql_merging.specs.NumberedFields.{listed, lists_of, selection_of}
 use Rattle.graphql_merging.specs.NumberedGroups.{named_fields}
-use Rattle.graphql_merging.specs.Works.{weight}
+use Rattle.graphql_merging.specs.Works.{arguments_compared, compared_in, count_of_arguments, weight}
+use Rattle.graphql_merging.specs.declared.groups.Pass.{Pass}
+use Rattle.graphql_merging.specs.declared.groups.Pass.TheVariants.{NamesAndArguments, Shapes}
 use Rattle.graphql_merging.specs.declared.numbered_fields.NumberedField.{NumberedField}
 use Rattle.graphql_merging.proofs.GroupLemmas.{keyed, owned}
 
@@ -58,6 +60,71 @@ weight_within groups i =
     let sum : weight (lists_of (take i groups) ++ lists_of (drop i groups)) ≡ weight (lists_of (take i groups)) + weight (lists_of (drop i groups)) =
     sum_by-append (λ l. 1 + length l) (lists_of (take i groups)) (lists_of (drop i groups)) in
     omega (arith, ap weight parts, sum)
+
+-- one more field is compared with the first
+pub compared_more : (pass : Pass) (x : FieldSelection) (ys : List FieldSelection) (y : FieldSelection) →
+    compared_in pass (x ∷ (ys ++ y ∷ [])) ≡ compared_in pass (x ∷ ys) + compared_in pass (x ∷ y ∷ [])
+compared_more Shapes x ys y = omega arith
+compared_more NamesAndArguments x ys y = sum_by-append (λ z. count_of_arguments x + count_of_arguments z) ys (y ∷ [])
+
+-- the first fields that are compared with one have no more arguments than all
+pub compared_within : (pass : Pass) (x : FieldSelection) (ys zs : List FieldSelection) → compared_in pass (x ∷ ys) ≤ compared_in pass (x ∷ (ys ++ zs))
+compared_within Shapes x ys zs = omega arith
+compared_within NamesAndArguments x ys zs = omega (arith, sum_by-append (λ z. count_of_arguments x + count_of_arguments z) ys zs)
+
+-- a pass reads the arguments of fields that are compared, or none
+pub compared_at_most : (pass : Pass) (fields : List FieldSelection) → compared_in pass fields ≤ arguments_compared fields
+compared_at_most Shapes fields = omega arith
+compared_at_most NamesAndArguments fields = omega arith
+
+-- for shapes no arguments are read
+pub none_compared : (lists : List (List FieldSelection)) → sum_by (compared_in Shapes) lists ≡ 0
+none_compared [] = omega arith
+none_compared (list ∷ lists) = omega (arith, sum_by-cons (compared_in Shapes) list lists, none_compared lists)
+
+-- one more field is compared with one that has so many arguments
+pub more_arguments : (n : ℕ) (fields : List NumberedField) (i : ℕ) (x : NumberedField) → i < length fields → x ≡ get_or fields i x →
+    sum_by (λ y. n + count_of_arguments y) (listed (take (i + 1) fields)) ≡ sum_by (λ y. n + count_of_arguments y) (listed (take i fields)) + (n + count_of_arguments (selection_of x))
+more_arguments n fields i x within stands =
+    let each = λ (y : FieldSelection). n + count_of_arguments y in
+    let more : listed (take (i + 1) fields) ≡ listed (take i fields) ++ selection_of x ∷ [] =
+    ap listed (more_is fields i x within stands) ∙ map-append selection_of (take i fields) (x ∷ []) in
+    let both : sum_by each (listed (take i fields) ++ selection_of x ∷ []) ≡ sum_by each (listed (take i fields)) + sum_by each (selection_of x ∷ []) =
+    sum_by-append each (listed (take i fields)) (selection_of x ∷ []) in
+    let one : sum_by each (selection_of x ∷ []) ≡ each (selection_of x) + sum_by each [] = sum_by-cons each (selection_of x) [] in
+    omega (arith, ap (sum_by each) more, both, one)
+
+-- a field that has at most so many arguments is compared with others
+pub arguments_at_most : (n : ℕ) (x : FieldSelection) (ys : List FieldSelection) → count_of_arguments x ≤ n →
+    arguments_compared (x ∷ ys) ≤ sum_by (λ y. n + count_of_arguments y) ys
+arguments_at_most n x [] few = omega arith
+arguments_at_most n x (y ∷ ys) few =
+    let first : sum_by (λ z. count_of_arguments x + count_of_arguments z) (y ∷ ys) ≡ count_of_arguments x + count_of_arguments y + arguments_compared (x ∷ ys) =
+    sum_by-cons (λ z. count_of_arguments x + count_of_arguments z) y ys in
+    let most : sum_by (λ z. n + count_of_arguments z) (y ∷ ys) ≡ n + count_of_arguments y + sum_by (λ z. n + count_of_arguments z) ys =
+    sum_by-cons (λ z. n + count_of_arguments z) y ys in
+    omega (arith, few, first, most, arguments_at_most n x ys few)
+
+-- the arguments of one more of the groups
+pub arguments_more : (pass : Pass) (groups : List (Vec NumberedField Global)) (i : ℕ) (group : Vec NumberedField Global) → i < length groups → group ≡ get_or groups i group →
+    sum_by (compared_in pass) (lists_of (take (i + 1) groups)) ≡ sum_by (compared_in pass) (lists_of (take i groups)) + compared_in pass (listed group.items)
+arguments_more pass groups i group within stands =
+    let more : lists_of (take (i + 1) groups) ≡ lists_of (take i groups) ++ listed group.items ∷ [] =
+    ap lists_of (more_is groups i group within stands) ∙ map-append (λ g. listed g.items) (take i groups) (group ∷ []) in
+    let both : sum_by (compared_in pass) (lists_of (take i groups) ++ listed group.items ∷ []) ≡ sum_by (compared_in pass) (lists_of (take i groups)) + sum_by (compared_in pass) (listed group.items ∷ []) =
+    sum_by-append (compared_in pass) (lists_of (take i groups)) (listed group.items ∷ []) in
+    let one : sum_by (compared_in pass) (listed group.items ∷ []) ≡ compared_in pass (listed group.items) + sum_by (compared_in pass) [] = sum_by-cons (compared_in pass) (listed group.items) [] in
+    omega (arith, ap (sum_by (compared_in pass)) more, both, one)
+
+-- the first of the groups have no more arguments than all
+pub arguments_within : (pass : Pass) (groups : List (Vec NumberedField Global)) (i : ℕ) →
+    sum_by (compared_in pass) (lists_of (take i groups)) ≤ sum_by (compared_in pass) (lists_of groups)
+arguments_within pass groups i =
+    let parts : lists_of groups ≡ lists_of (take i groups) ++ lists_of (drop i groups) =
+    ap lists_of (sym (take-append-drop i groups)) ∙ map-append (λ (g : Vec NumberedField Global). listed g.items) (take i groups) (drop i groups) in
+    let sum : sum_by (compared_in pass) (lists_of (take i groups) ++ lists_of (drop i groups)) ≡ sum_by (compared_in pass) (lists_of (take i groups)) + sum_by (compared_in pass) (lists_of (drop i groups)) =
+    sum_by-append (compared_in pass) (lists_of (take i groups)) (lists_of (drop i groups)) in
+    omega (arith, ap (sum_by (compared_in pass)) parts, sum)
 
 -- the groups from one on
 pub weight_first : (group : Vec NumberedField Global) (groups : List (Vec NumberedField Global)) →

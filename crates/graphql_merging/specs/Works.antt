@@ -1,6 +1,8 @@
 -- The work of merging, and the steps that it pays for.
-use Rattle.std.specs.Prelude.{◌≡◌, ◌≤◌, ◌+◌, ◌*◌, ℕ, IsSome, List, None, length, sum_by, unwrap_or}
+use Rattle.std.specs.Prelude.{◌≡◌, ◌≤◌, ◌+◌, ◌*◌, ℕ, IsSome, List, [], ◌∷◌, None, length, sum_by, unwrap_or}
 use Rattle.graphql_specification.specs.Merging.{FieldSelection}
+use Rattle.graphql_merging.specs.declared.groups.Pass.{Pass}
+use Rattle.graphql_merging.specs.declared.groups.Pass.TheVariants.{NamesAndArguments, Shapes}
 use Rattle.graphql_merging.specs.declared.work.Work.{Work}
 
 -- any number of fields may be listed
@@ -23,6 +25,20 @@ Spends work work_then units = IsBounded work → IsBounded work_then × (left_in
 abbrev pub Pays : (work work_then : Work) (steps steps_then beside : ℕ) → Type 0
 Pays work work_then steps steps_then beside =
     IsBounded work → IsBounded work_then × (steps_then + 26 * left_in work_then ≤ steps + 26 * left_in work + beside)
+
+-- how many arguments a field has
+abbrev pub count_of_arguments : FieldSelection → ℕ
+count_of_arguments x = length x.field.value.value.arguments.items
+
+-- how many arguments are read when the first of some fields is compared with each other one
+abbrev pub arguments_compared : List FieldSelection → ℕ
+arguments_compared [] = 0
+arguments_compared (x ∷ xs) = sum_by (λ y. count_of_arguments x + count_of_arguments y) xs
+
+-- the same in a pass: none for shapes
+abbrev pub compared_in : Pass → List FieldSelection → ℕ
+compared_in Shapes fields = 0
+compared_in NamesAndArguments fields = arguments_compared fields
 
 -- one for each list of fields, and one for each field in it
 abbrev pub weight : List (List FieldSelection) → ℕ

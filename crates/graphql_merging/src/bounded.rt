@@ -15,8 +15,8 @@ use std::sync::ledger::{Blank, Ledger};
 ///
 /// The work is the number of selections that are gone past to list the fields that come together, once for shapes and once for
 /// names and arguments, even if the same list was examined before. A field on an abstract type counts again for each object type
-/// whose group it is copied into. If arguments are compared, each four bytes of them count as a selection, those of the first
-/// field of a group at each comparison.
+/// whose group it is copied into. If arguments are compared, each four bytes of them count as a selection, and each argument as
+/// at least one; those of the first field of a group count at each comparison.
 ///
 /// Specification: 5.3.2 Field Selection Merging.
 #[derive(Drop)]
@@ -129,8 +129,8 @@ impl<'s, 'doc> BoundedMerging<'s, 'doc> {
     }
 
     /// Does what `validate_operation` does, and counts its steps: with a bound, at most 26 for each unit of work that it counts, and
-    /// two more. A step is a selection or a set that it goes past, a field that it looks up, puts into a group or copies, a group, or two fields that
-    /// it compares, whatever their arguments. Numbering the contents of the operation takes no steps.
+    /// two more. A step is a selection or a set that it goes past, a field that it looks up, puts into a group, copies or compares, a
+    /// group, or an argument that it compares. Numbering the contents of the operation takes no steps.
     ///
     /// Specification: 5.3.2 Field Selection Merging.
     pub fn validate_operation_in_steps<L: Ledger>(

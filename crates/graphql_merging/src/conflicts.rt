@@ -11,7 +11,7 @@ ghost use Rattle.graphql_merging.specs.NumberedFields.{listed, lists_of};
 ghost use Rattle.graphql_field_conflicts.specs.FieldSelections as plain;
 ghost use Rattle.graphql_merging.specs.Groups.{pass_of};
 ghost use Rattle.graphql_merging.specs.Passes.{IsConflictAmong, counted};
-ghost use Rattle.graphql_merging.specs.Works.{weight};
+ghost use Rattle.graphql_merging.specs.Works.{compared_in, weight};
 
 use super::examined::Examined;
 use super::groups::Pass;
@@ -38,7 +38,7 @@ pub(crate) fn compare_groups<'doc, L: Ledger>(
     ensures comparisons { OnOk result (examined.new.comparisons ≡ counted (pass_of pass) examined.old.comparisons (sum_by (λ group. length group - 1) (lists_of groups.now))) }
     ensures lists { examined.new.lists ≡ examined.old.lists }
     ensures truth { KeepsReports (IsConflictAmong schema.now (pass_of pass) (lists_of groups.now)) (entries diagnostics.old) (entries diagnostics.new) }
-    ensures steps { steps.new ≤ steps.old + weight (lists_of groups.now) }
+    ensures steps { steps.new ≤ steps.old + weight (lists_of groups.now) + sum_by (compared_in pass) (lists_of groups.now) }
 {
     for group in groups {
         steps.take(1);
@@ -60,7 +60,7 @@ fn compare_group<'doc, L: Ledger>(
     ensures comparisons { OnOk result (examined.new.comparisons ≡ counted (pass_of pass) examined.old.comparisons (length (listed group.now) - 1)) }
     ensures lists { examined.new.lists ≡ examined.old.lists }
     ensures truth { KeepsReports (IsConflictAmong schema.now (pass_of pass) (listed group.now ∷ [])) (entries diagnostics.old) (entries diagnostics.new) }
-    ensures steps { steps.new ≤ steps.old + length group.now }
+    ensures steps { steps.new ≤ steps.old + length group.now + compared_in pass (listed group.now) }
 {
     let Some((first, rest)) = group.split_first() else {
         return Ok(());
@@ -76,19 +76,21 @@ fn compare_group<'doc, L: Ledger>(
             pass,
             &mut first,
             field.selection(),
+            steps,
         )?;
     }
     Ok(())
 }
 
 /// Compares a field with the first of its group, and reports it if they do not agree.
-fn compare<'doc>(
+fn compare<'doc, L: Ledger>(
     diagnostics: &mut DiagnosticList,
     examined: &mut Examined<'doc>,
     schema: &Schema,
     pass: Pass,
     first: &mut FirstField<'doc>,
     field: FieldSelection<'doc>,
+    steps: &mut Steps<L>,
 ) -> Result<(), ValidationError>
     requires { HasRead first.old }
     ensures reports { ComparesField result schema.now (pass_of pass) (plain.selection_of first.old.selection) (plain.selection_of field.entry) diagnostics.old diagnostics.new }
@@ -96,6 +98,7 @@ fn compare<'doc>(
     ensures lists { examined.new.lists ≡ examined.old.lists }
     ensures read { OnOk result (HasRead first.new) }
     ensures selection { first.new.selection ≡ first.old.selection }
+    ensures steps { steps.new ≤ steps.old + compared_in pass (plain.selection_of first.old.selection ∷ plain.selection_of field.entry ∷ []) }
 {
     match pass {
         Pass::Shapes => {
@@ -104,10 +107,14 @@ fn compare<'doc>(
             }
             report_types(diagnostics, first.selection, field)
         }
-        Pass::NamesAndArguments => match first.find_conflict(field)? {
-            None => Ok(()),
-            Some(conflict) => report_conflict(diagnostics, first.selection, field, conflict),
-        },
+        Pass::NamesAndArguments => {
+            steps.take(first.selection.field.value.arguments.len());
+            steps.take(field.field.value.arguments.len());
+            match first.find_conflict(field)? {
+                None => Ok(()),
+                Some(conflict) => report_conflict(diagnostics, first.selection, field, conflict),
+            }
+        }
     }
 }
 

@@ -1,4 +1,4 @@
-use Rattle.std.proofs.Common.{◌≡◌, ℕ, ◌+◌, ◌∷◌, ◌++◌, [], List, ap, arith, drop, length, refl, subst, sym, take, ◌∙◌}
+use Rattle.std.proofs.Common.{◌≡◌, ℕ, ◌+◌, ◌≤◌, ◌∷◌, ◌++◌, [], List, ap, arith, drop, length, refl, subst, sym, take, ◌∙◌}
 use Rattle.std.proofs.lemmas.List.{length-append, map-append, take-append-drop, take_all}
 use Rattle.graphql_documents.proofs.ListLemmas.{more_is}
 use Rattle.graphql_diagnostics.specs.Diagnostics.{entries}
@@ -11,6 +11,8 @@ use Rattle.graphql_field_conflicts.specs.FieldSelections as plain
 use Rattle.graphql_merging.specs.NumberedFields.{listed, selection_of}
 use Rattle.graphql_merging.specs.Groups.{pass_of}
 use Rattle.graphql_merging.specs.Passes.{IsConflictAmong, counted}
+use Rattle.graphql_merging.specs.Works.{compared_in}
+use Rattle.graphql_merging.proofs.WeightLemmas.{compared_more, compared_within}
 use Rattle.graphql_merging.specs.declared.numbered_fields.NumberedField.{NumberedField}
 use Rattle.graphql_merging.proofs.conflicts.compare_group.Goals as goal
 
@@ -39,6 +41,51 @@ loop-field-init g c = record {
   selection = refl;
   steps = omega arith;
 }
+
+pub returns-in_err-compare-clause-steps : goal.returns-in_err-compare-clause-steps
+returns-in_err-compare-clause-steps g c =
+    let first = plain.selection_of c.in_ok-first.first.selection in
+    let first_is : first ≡ selection_of c.in-Some.first.now = ap plain.selection_of c.in_ok-first.ensures.selection ∙ c.selection.ensures in
+    let rest = c.in-Some.rest.now in
+    let i = c.loop-field.field-index in
+    let x = c.field-item.result in
+    let done = listed (take i rest) in
+    let one : listed (take (i + 1) rest) ≡ done ++ selection_of x ∷ [] =
+    ap listed (more_is rest i x c.loop-field-test.true c.field-item.is) ∙ map-append selection_of (take i rest) (x ∷ []) in
+    let taken : c.compare.new.steps ≤ c.take.new.self + compared_in c.args.pass (first ∷ selection_of x ∷ []) =
+    subst (λ y. c.compare.new.steps ≤ c.take.new.self + compared_in c.args.pass (first ∷ y ∷ [])) c.selection-in-loop-field.ensures
+    (subst (λ (s : FieldSelection). c.compare.new.steps ≤ c.take.new.self + compared_in c.args.pass (s ∷ plain.selection_of c.selection-in-loop-field.result ∷ []))
+    (ap plain.selection_of c.loop-field.invariant.selection) c.compare.ensures.steps) in
+    omega (
+      arith,
+      c.loop-field.invariant.steps,
+      c.take.ensures,
+      taken,
+      c.loop-field-test.true,
+      ap (λ l. compared_in c.args.pass (first ∷ l)) one,
+      compared_more c.args.pass first done (selection_of x),
+      compared_within c.args.pass first (listed (take (i + 1) rest)) (listed (drop (i + 1) rest)),
+      ap (λ l. compared_in c.args.pass (first ∷ l)) (parts (i + 1) rest),
+      ap length c.in-Some.ensures.cases.0,
+      ap (λ l. compared_in c.args.pass (listed l)) c.in-Some.ensures.cases.0,
+      ap (λ s. compared_in c.args.pass (s ∷ listed rest)) first_is,
+    )
+
+pub returns-clause-steps : goal.returns-clause-steps
+returns-clause-steps g c =
+    let first = plain.selection_of c.in_ok-first.first.selection in
+    let first_is : first ≡ selection_of c.in-Some.first.now = ap plain.selection_of c.in_ok-first.ensures.selection ∙ c.selection.ensures in
+    let rest = c.in-Some.rest.now in
+    let i = c.loop-field.field-index in
+    omega (
+      arith,
+      c.loop-field.invariant.steps,
+      c.loop-field.auto.field-index-end,
+      ap (λ l. compared_in c.args.pass (first ∷ listed l)) (take_all i rest c.loop-field-test.false),
+      ap length c.in-Some.ensures.cases.0,
+      ap (λ l. compared_in c.args.pass (listed l)) c.in-Some.ensures.cases.0,
+      ap (λ s. compared_in c.args.pass (s ∷ listed rest)) first_is,
+    )
 
 pub returns-in_err-compare-clause-truth : goal.returns-in_err-compare-clause-truth
 returns-in_err-compare-clause-truth g c =
@@ -78,7 +125,12 @@ loop-field-preserved g c =
       lists = c.compare.ensures.lists ∙ c.loop-field.invariant.lists;
       read = c.in_ok-compare.ensures.read;
       selection = c.compare.ensures.selection ∙ c.loop-field.invariant.selection;
-      steps = omega (arith, c.loop-field.invariant.steps, c.take.ensures);
+      steps =
+          let taken : c.compare.new.steps ≤ c.take.new.self + compared_in c.args.pass (first ∷ selection_of x ∷ []) =
+          subst (λ y. c.compare.new.steps ≤ c.take.new.self + compared_in c.args.pass (first ∷ y ∷ [])) c.selection-in-loop-field.ensures
+          (subst (λ (s : FieldSelection). c.compare.new.steps ≤ c.take.new.self + compared_in c.args.pass (s ∷ plain.selection_of c.selection-in-loop-field.result ∷ []))
+          (ap plain.selection_of c.loop-field.invariant.selection) c.compare.ensures.steps) in
+          omega (arith, c.loop-field.invariant.steps, c.take.ensures, taken, ap (λ l. compared_in c.args.pass (first ∷ l)) one, compared_more c.args.pass first done (selection_of x));
     }
 
 pub returns-clause-conflicts : goal.returns-clause-conflicts

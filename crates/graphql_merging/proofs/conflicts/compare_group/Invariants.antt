@@ -1,4 +1,4 @@
-use Rattle.std.proofs.Common.{◌≡◌, ◌+◌, length, take}
+use Rattle.std.proofs.Common.{◌≡◌, ◌≤◌, ◌+◌, ◌∷◌, length, take}
 use Rattle.graphql_diagnostics.specs.Diagnostics.{entries}
 use Rattle.graphql_specification.specs.MergedSets.{ConflictsWith}
 use Rattle.graphql_diagnostics.specs.Reports.{Appends}
@@ -7,6 +7,7 @@ use Rattle.graphql_field_conflicts.specs.FirstFields.{HasRead}
 use Rattle.graphql_merging.specs.NumberedFields.{listed}
 use Rattle.graphql_merging.specs.Groups.{pass_of}
 use Rattle.graphql_merging.specs.Passes.{counted}
+use Rattle.graphql_merging.specs.Works.{compared_in}
 use Rattle.graphql_merging.proofs.conflicts.compare_group.Given as goal
 
 abbrev pub invariant-loop-field : goal.invariant-loop-field
@@ -16,5 +17,5 @@ invariant-loop-field g l = record {
   lists : l.examined.lists ≡ l.initial.examined.lists;
   read : HasRead l.first;
   selection : l.first.selection ≡ l.initial.first.selection;
-  steps : l.steps ≡ l.initial.steps + l.field-index;
+  steps : l.steps ≤ l.initial.steps + l.field-index + compared_in l.pass (plain.selection_of l.initial.first.selection ∷ listed (take l.field-index l.rest));
 }

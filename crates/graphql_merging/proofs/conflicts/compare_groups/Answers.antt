@@ -14,10 +14,11 @@ use Rattle.graphql_diagnostics.specs.declared.lists.DiagnosticEntry.{DiagnosticE
 use Rattle.graphql_documents.specs.declared.documents.schemas.Schema.{Schema}
 use Rattle.graphql_merging.proofs.ConflictLemmas.{kept_among}
 use Rattle.graphql_merging.proofs.PassLemmas.{conflicts_then, counted_none, counted_then}
-use Rattle.graphql_merging.proofs.WeightLemmas.{weight_more, weight_within}
+use Rattle.graphql_merging.proofs.WeightLemmas.{arguments_more, arguments_within, weight_more, weight_within}
 use Rattle.graphql_merging.specs.NumberedFields.{listed, lists_of}
 use Rattle.graphql_merging.specs.Groups.{pass_of}
 use Rattle.graphql_merging.specs.Passes.{IsConflictAmong, counted}
+use Rattle.graphql_merging.specs.Works.{compared_in}
 use Rattle.graphql_merging.specs.declared.numbered_fields.NumberedField.{NumberedField}
 use Rattle.graphql_merging.proofs.conflicts.compare_groups.Goals as goal
 
@@ -77,7 +78,8 @@ loop-group-preserved g c =
           (whole schema pass groups group _ _ (i, c.loop-group-test.true, sym c.group-item.is)
           (subst (λ l. KeepsReports (IsConflictAmong schema pass (listed l ∷ [])) mid new) c.deref.ensures.value c.compare_group.ensures.truth));
       steps = omega (arith, c.loop-group.invariant.steps, c.take.ensures, c.compare_group.ensures.steps, ap length c.deref.ensures.value,
-          weight_more groups i group c.loop-group-test.true c.group-item.is);
+          weight_more groups i group c.loop-group-test.true c.group-item.is, arguments_more c.args.pass groups i group c.loop-group-test.true c.group-item.is,
+          ap (λ l. compared_in c.args.pass (listed l)) c.deref.ensures.value);
     }
 
 pub returns-in_err-compare_group-clause-steps : goal.returns-in_err-compare_group-clause-steps
@@ -85,4 +87,6 @@ returns-in_err-compare_group-clause-steps g c =
     let groups = c.args.groups.now in
     let i = c.loop-group.group-index in
     omega (arith, c.loop-group.invariant.steps, c.take.ensures, c.compare_group.ensures.steps, ap length c.deref.ensures.value,
-    weight_more groups i c.group-item.result c.loop-group-test.true c.group-item.is, weight_within groups (i + 1))
+    weight_more groups i c.group-item.result c.loop-group-test.true c.group-item.is, weight_within groups (i + 1),
+    arguments_more c.args.pass groups i c.group-item.result c.loop-group-test.true c.group-item.is, arguments_within c.args.pass groups (i + 1),
+    ap (λ l. compared_in c.args.pass (listed l)) c.deref.ensures.value)

@@ -18,7 +18,7 @@ use Rattle.graphql_merging.specs.Groups.{pass_of}
 use Rattle.graphql_merging.specs.Passes.{GoesBelow, IsConflict, counted}
 use Rattle.graphql_merging.specs.Stages.{examined_lists, stage_of}
 use Rattle.graphql_merging.proofs.PassLemmas.{below_cut, below_examined, parent_known, below_leaves, below_none, below_then, list_examined}
-use Rattle.graphql_merging.specs.Works.{weight}
+use Rattle.graphql_merging.specs.Works.{compared_in, weight}
 use Rattle.graphql_merging.proofs.WeightLemmas.{weight_more, weight_within}
 use Rattle.graphql_merging.proofs.PassStepLemmas.{conflicts_true, count_at_limit, count_below_limit, counted_groups, each_group, expansion_known, group_among, new_unknown, no_items, not_reachable, some_items}
 use Rattle.graphql_laws.proofs.FieldContentsLaws.{same_fields_itself}
@@ -92,7 +92,7 @@ examine-returns-in_err-examine_below-clause-cost g t c bounded =
     let groups = c.deref-group-items.result.now in
     let i = c.loop-group.group-index in
     let made = c.in_ok-groups.ensures.spare bounded in
-    let counted = c.count_arguments.ensures.left made.0 in
+    let counted = c.in_ok-count_arguments.ensures.spends made.0 in
     let before = c.loop-group.invariant.cost counted.0 in
     let paid = c.examine_below.ensures.cost before.0 in
     (paid.0, omega (
@@ -109,6 +109,8 @@ examine-returns-in_err-examine_below-clause-cost g t c bounded =
       ap length c.deref.ensures.value,
       ap (λ l. weight (lists_of l)) c.deref-2.ensures.value,
       ap (λ l. weight (lists_of l)) c.deref-3.ensures.value,
+      ap (λ l. sum_by (compared_in c.args.self.now.pass) (lists_of l)) c.deref-2.ensures.value,
+      ap (λ l. sum_by (compared_in c.args.self.now.pass) (lists_of l)) c.deref-3.ensures.value,
       ap (λ l. weight (lists_of l)) c.deref-group-items.ensures.value,
       ap length c.deref-in-loop-group.ensures.value,
       weight_more groups i c.group-item.result c.loop-group-test.true c.group-item.is,
@@ -118,7 +120,7 @@ examine-returns-in_err-examine_below-clause-cost g t c bounded =
 pub examine-returns-clause-cost : goal.examine-returns-clause-cost
 examine-returns-clause-cost g t c bounded =
     let made = c.in_ok-groups.ensures.spare bounded in
-    let counted = c.count_arguments.ensures.left made.0 in
+    let counted = c.in_ok-count_arguments.ensures.spends made.0 in
     let below = c.loop-group.invariant.cost counted.0 in
     (below.0, omega (
       arith,
@@ -132,6 +134,8 @@ examine-returns-clause-cost g t c bounded =
       ap length c.deref.ensures.value,
       ap (λ l. weight (lists_of l)) c.deref-2.ensures.value,
       ap (λ l. weight (lists_of l)) c.deref-3.ensures.value,
+      ap (λ l. sum_by (compared_in c.args.self.now.pass) (lists_of l)) c.deref-2.ensures.value,
+      ap (λ l. sum_by (compared_in c.args.self.now.pass) (lists_of l)) c.deref-3.ensures.value,
       ap (λ l. weight (lists_of l)) c.deref-group-items.ensures.value,
       weight_within c.deref-group-items.result.now c.loop-group.group-index,
     ))
