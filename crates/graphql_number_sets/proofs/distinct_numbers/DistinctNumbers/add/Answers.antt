@@ -3,13 +3,13 @@ use Rattle.graphql_number_sets.proofs.NumberLemmas.{added, exact_again, popped}
 use Rattle.graphql_number_sets.proofs.distinct_numbers.DistinctNumbers.add.Goals as goal
 
 pub returns-clause-exact : goal.returns-clause-exact
-returns-clause-exact c =
+returns-clause-exact g c =
     added c.args.self.now (record { numbers = c.push.new.self; members = c.insert.new.self }) c.args.number c.requires
     (λ in'. let no : true ≡ false = sym ((c.requires.members c.args.number).1 in') ∙ sym c.contains.ensures ∙ c.if-contains.false in let no : ⊥ = cc in no)
     c.in_ok-push.ensures.items c.in_default.ensures.added
 
 pub returns-in-Err-clause-exact : goal.returns-in-Err-clause-exact
-returns-in-Err-clause-exact c =
+returns-in-Err-clause-exact g c =
     let old = c.args.self.now.numbers in
     let same : c.pop.new.self.items ≡ old.items =
     popped old.items c.push.new.self.items c.pop.new.self.items c.args.number (vec_len c.push.new.self - 1) c.in_ok-push.ensures.items c.pop.ensures.rest
