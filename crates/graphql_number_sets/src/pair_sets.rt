@@ -46,8 +46,8 @@ impl PairSet {
 
     /// Chooses some of the numbers as ends, so that of each two numbers that are no pair, either way round, at least one is an
     /// end. An end is no pair with itself, or with one of the numbers that are no ends. There are no ends if each two numbers
-    /// are a pair. The only error is a failed allocation. For each of the numbers it takes at most a step for each word of a
-    /// row, and eleven; and once two for each word of a row.
+    /// are a pair. The only error is a failed allocation. For each of the numbers it takes at most three steps for each 64
+    /// numbers that a pair may have, and thirteen.
     pub fn ends<L: Ledger>(
         &self,
         alloc: Global,
@@ -59,7 +59,7 @@ impl PairSet {
         ensures exact { IfOk result AreExact }
         ensures ends { IfOk result (λ ends. AreEnds self.now (numbers_of numbers.now) (numbers_of ends)) }
         ensures fits { IfOk result (λ ends. FitsBelow (vec_len self.now.rows) ends.members) }
-        ensures cost { steps.new ≤ steps.old + length (numbers_of numbers.now) * (vec_len self.now.rows / 64 + 11) + 2 * (vec_len self.now.rows / 64 + 1) }
+        ensures cost { steps.new ≤ steps.old + length (numbers_of numbers.now) * (3 * (vec_len self.now.rows / 64) + 13) }
     {
         let mut paired = self.known(alloc, &numbers.numbers, steps)?;
         let mut ends = DistinctNumbers::new(alloc);
@@ -81,7 +81,7 @@ impl PairSet {
         ensures exact { IfOk result AreExact }
         ensures known { IfOk result (λ known. AreKnown self.now numbers.now (numbers_of known)) }
         ensures fits { IfOk result (λ known. FitsBelow (vec_len self.now.rows) known.members) }
-        ensures cost { steps.new ≤ steps.old + 7 * length numbers.now + (vec_len self.now.rows / 64 + 1) }
+        ensures cost { steps.new ≤ steps.old + length numbers.now * (vec_len self.now.rows / 64 + 8) }
     {
         match self.cliques.around(numbers, steps) {
             Some(clique) => those_in(alloc, numbers, clique, steps),
@@ -228,7 +228,7 @@ fn those_in<L: Ledger>(
     ensures exact { IfOk result AreExact }
     ensures among { IfOk result (λ those. (number : ℕ) → Contains (numbers_of those) number → Contains numbers.now number × (has set.now number ≡ true)) }
     ensures fits { (bound : ℕ) → All (λ number. number < bound) numbers.now → IfOk result (λ those. FitsBelow bound those.members) }
-    ensures cost { (bound : ℕ) → All (λ number. number < bound) numbers.now → steps.new ≤ steps.old + 3 * length numbers.now + (bound / 64 + 1) }
+    ensures cost { (bound : ℕ) → All (λ number. number < bound) numbers.now → steps.new ≤ steps.old + length numbers.now * (bound / 64 + 4) }
 {
     let mut those = DistinctNumbers::new(alloc);
     for number in numbers {

@@ -6,6 +6,7 @@ abbrev pub invariant-loop-number : goal.invariant-loop-number
 invariant-loop-number g l = record {
   exact : AreExact l.those;
   words : (bound : ℕ) → All (λ n. n < bound) l.numbers → words_of l.those.members ≤ bound / 64 + 1;
+  each : (bound : ℕ) → All (λ n. n < bound) l.numbers → words_of l.those.members ≤ l.number-index * (bound / 64 + 1);
   cost : l.steps ≤ l.initial.steps + 3 * l.number-index + words_of l.those.members;
   among : (n : ℕ) → Contains (numbers_of l.those) n → Contains l.numbers n × (has l.set n ≡ true);
 }

@@ -12,8 +12,14 @@ loop-number-init g c =
       paired = c.in_ok-paired.ensures.exact;
       ends = c.new-ends.ensures.exact;
       paired_fits = c.in_ok-paired.ensures.fits;
+      ends_each = omega (arith, c.new-ends.ensures.words);
       ends_fits = omega (arith, c.new-ends.ensures.words);
-      cost = omega (arith, c.known.ensures.cost, ap length c.deref-number-items.ensures.value, ap length c.deref.ensures.value, c.new-ends.ensures.words);
+      cost = omega (
+        arith,
+        c.known.ensures.cost,
+        c.new-ends.ensures.words,
+        mul-le-mul_right (c.args.self.now.rows.len / 64 + 8) (le_of_eq (ap length c.deref.ensures.value ∙ sym (ap length c.deref-number-items.ensures.value))),
+      );
       placing = placing_begins c.args.self.now numbers (numbers_of c.in_ok-paired.paired) (numbers_of c.new-ends.result)
           (subst (λ l. AreKnown c.args.self.now l (numbers_of c.in_ok-paired.paired)) c.deref.ensures.value c.in_ok-paired.ensures.known) c.new-ends.ensures.numbers;
     }
@@ -36,6 +42,7 @@ loop-number-preserved g c =
       paired = c.place.ensures.paired;
       ends = c.place.ensures.ends;
       paired_fits = omega (arith, c.loop-number.invariant.paired_fits, c.place.ensures.paired_words, within);
+      ends_each = omega (arith, c.loop-number.invariant.ends_each, c.place.ensures.ends_words, within);
       ends_fits = omega (arith, c.loop-number.invariant.ends_fits, c.place.ensures.ends_words, within);
       cost = omega (arith, c.loop-number.invariant.cost, c.loop-number.invariant.paired_fits, c.place.ensures.paired_words, c.place.ensures.cost, within);
       placing = placing_more c.args.self.now numbers (take i xs) (take (i + 1) xs) number (take_more xs i 0 c.loop-number-test.true)
@@ -46,13 +53,21 @@ loop-number-preserved g c =
 
 pub returns-clause-cost : goal.returns-clause-cost
 returns-clause-cost g c =
-    let word = c.args.self.now.rows.len / 64 + 4 in
+    let row = c.args.self.now.rows.len / 64 in
     let many = ap length c.deref-number-items.ensures.value in
-    omega (arith, many, c.loop-number.invariant.cost, c.loop-number.invariant.ends_fits, mul-le-mul_right word (le_of_eq many), mul-le-mul_right word c.loop-number.auto.number-index-end)
+    omega (
+      arith,
+      many,
+      c.loop-number.invariant.cost,
+      c.loop-number.invariant.ends_each,
+      mul-le-mul_right row (le_of_eq many),
+      mul-le-mul_right row c.loop-number.auto.number-index-end,
+      c.loop-number.auto.number-index-end,
+    )
 
 pub returns-in_err-place-clause-cost : goal.returns-in_err-place-clause-cost
 returns-in_err-place-clause-cost g c =
-    let word = c.args.self.now.rows.len / 64 + 4 in
+    let row = c.args.self.now.rows.len / 64 in
     let many = ap length c.deref-number-items.ensures.value in
     let below = λ (n : ℕ). n < c.args.self.now.rows.len in
     let within = All-get_or below c.deref-number-items.result.now c.loop-number.number-index 0 c.loop-number-test.true (subst (All below) (sym c.deref-number-items.ensures.value) c.requires.within) in
@@ -61,13 +76,13 @@ returns-in_err-place-clause-cost g c =
       many,
       c.loop-number.invariant.cost,
       c.loop-number.invariant.paired_fits,
-      c.loop-number.invariant.ends_fits,
+      c.loop-number.invariant.ends_each,
       c.place.ensures.paired_words,
       c.place.ensures.ends_words,
       c.place.ensures.cost,
       within,
-      mul-le-mul_right word (le_of_eq many),
-      mul-le-mul_right word c.loop-number-test.true,
+      mul-le-mul_right row (le_of_eq many),
+      mul-le-mul_right row c.loop-number-test.true,
     )
 
 pub returns-clause-ends : goal.returns-clause-ends
